@@ -1,0 +1,86 @@
+-- What an index's entries say, and which lists of them are an index.
+use Rattle.std.specs.Prelude.{◌≡◌, ◌≢◌, ℕ, ◌<◌, ◌+◌, ◌-◌, ◌⊎◌, Bool, List, [], length, take, map, Option, Some, None, option_map, unwrap_or, All, AllPairs, slice_get, ⊤}
+use Rattle.std.specs.List.{slice_index_or}
+use Rattle.std.specs.Str.{bytes_eq}
+use Rattle.std.specs.Ordering.{nat_cmp, ordering_then}
+use Rattle.std.specs.Cmp.Lexicographic.{slice_cmp}
+use Rattle.std.specs.declared.cmp.Ordering.{Ordering}
+use Rattle.std.specs.declared.cmp.Ordering.TheVariants.{Less}
+use Rattle.bstr.specs.Owned.{bstring_bytes}
+use Rattle.status_index.specs.declared.entry.Entry.{Entry}
+use Rattle.status_index.specs.declared.entry.PathStorage.{PathStorage}
+use Rattle.status_index.specs.declared.entry.NewEntry.{NewEntry}
+use Rattle.status_index.specs.declared.stat.Stat.{Stat}
+use Rattle.status_index.specs.declared.id.ObjectId.{ObjectId}
+use Rattle.status_index.specs.declared.flags.Flags.{Flags}
+use Rattle.status_index.specs.declared.mode.Mode.{Mode}
+use Rattle.status_index.specs.declared.state.IndexError.{IndexError}
+use Rattle.status_index.specs.declared.state.IndexError.TheVariants.{EmptyPath, NotAscending, MixedHash, Memory}
+use Rattle.status_index.specs.FlagBits.{stage_of_bits}
+use Rattle.status_index.specs.BlobId.{id_kind}
+
+-- the stage of an entry
+abbrev pub stage_of : Entry → ℕ
+stage_of e = stage_of_bits e.flags.0
+
+-- the path that a storage has for an entry, or the empty one
+abbrev pub path_in : PathStorage → Entry → List ℕ
+path_in backing e = unwrap_or (option_map bstring_bytes (slice_get backing.paths.items e.path)) []
+
+-- what an index says of one entry
+pub record Listed : Type 0 where
+  pub path : List ℕ
+  pub stat : Stat
+  pub id : ObjectId
+  pub flags : Flags
+  pub mode : Mode
+
+-- an entry with its path
+pub record IndexEntry : Type 0 where
+  pub path : List ℕ
+  pub entry : Entry
+
+abbrev pub index_entry : PathStorage → Entry → IndexEntry
+index_entry backing e = record { path = path_in backing e; entry = e }
+
+abbrev pub index_entries : PathStorage → List Entry → List IndexEntry
+index_entries backing = map (index_entry backing)
+
+abbrev pub listed : IndexEntry → Listed
+listed e = record { path = e.path; stat = e.entry.stat; id = e.entry.id; flags = e.entry.flags; mode = e.entry.mode }
+
+abbrev pub listed_new : NewEntry → Listed
+listed_new e = record { path = bstring_bytes e.path; stat = e.stat; id = e.id; flags = e.flags; mode = e.mode }
+
+-- by the paths' bytes, a proper prefix first, and then by stage
+abbrev pub entry_cmp : Listed → Listed → Ordering
+entry_cmp a b = ordering_then (slice_cmp nat_cmp a.path b.path) (nat_cmp (stage_of_bits a.flags.0) (stage_of_bits b.flags.0))
+
+-- no path is empty, the entries ascend strictly, and their ids are of one kind
+pub record IsIndex (es : List Listed) : Type 0 where
+  pub named : All (λ e. 0 < length e.path) es
+  pub ascending : AllPairs (λ a b. entry_cmp a b ≡ Less) es
+  pub one_kind : AllPairs (λ a b. id_kind a.id ≡ id_kind b.id) es
+
+-- the entry at a place has an empty path
+abbrev pub IsUnnamed : List Listed → ℕ → Type 0
+IsUnnamed es at = (d : Listed) → (slice_index_or es at d).path ≡ []
+
+-- the entry at a place isn't above its predecessor
+abbrev pub IsOutOfOrder : List Listed → ℕ → Type 0
+IsOutOfOrder es at = (0 < at) × ((d : Listed) → entry_cmp (slice_index_or es (at - 1) d) (slice_index_or es at d) ≢ Less)
+
+-- the id at a place is of another kind than that of entry 0
+abbrev pub IsOfOtherKind : List Listed → ℕ → Type 0
+IsOfOtherKind es at = (d : Listed) → id_kind (slice_index_or es at d).id ≢ id_kind (slice_index_or es 0 d).id
+
+-- the place is in the list, and the entries before it are an index
+abbrev pub IsFirstAt : List Listed → ℕ → Type 0
+IsFirstAt es at = (at < length es) × IsIndex (take at es)
+
+-- when a list of entries is refused: at the lowest place at which it is no index, and there for the first reason
+abbrev pub IsRefusal : List Listed → IndexError → Type 0
+IsRefusal es (EmptyPath at) = IsFirstAt es at × IsUnnamed es at
+IsRefusal es (NotAscending at) = IsFirstAt es at × (IsUnnamed es at → ⊥) × IsOutOfOrder es at
+IsRefusal es (MixedHash at) = IsFirstAt es at × (IsUnnamed es at → ⊥) × (IsOutOfOrder es at → ⊥) × IsOfOtherKind es at
+IsRefusal es Memory = ⊤

@@ -1,0 +1,11 @@
+-- What the bits of an entry's flags say.
+use Rattle.std.specs.Prelude.{ℕ, ◌/◌, ◌%◌, ◌==◌, Bool, not}
+use Rattle.std.specs.Int.RustNames.{bit_and}
+
+-- the stage, in the two bits 0x3000
+abbrev pub stage_of_bits : ℕ → ℕ
+stage_of_bits bits = bits / 0x1000 % 4
+
+-- whether one of these flags is set
+abbrev pub has_bits : ℕ → ℕ → Bool
+has_bits bits flags = not (bit_and bits flags == 0)

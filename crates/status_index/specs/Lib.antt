@@ -1,0 +1,10 @@
+pub mod BlobId
+pub mod Content
+pub mod DefaultOptions
+pub mod Entries
+pub mod FlagBits
+pub mod Mode
+pub mod NodeStat
+pub mod Stat
+pub mod States
+pub mod Stretch

@@ -1,0 +1,26 @@
+-- The stretch of an index whose paths begin with a prefix.
+use Rattle.std.specs.Prelude.{◌≡◌, ℕ, ◌<◌, ◌≤◌, ◌-◌, nat_eq, Bool, true, false, List, length, take, drop, Option, Some, None, All}
+use Rattle.std.specs.List.{starts_with}
+use Rattle.std.specs.declared.ops.Range.{Range}
+use Rattle.status_index.specs.Entries.{IndexEntry}
+
+-- whether an entry's path begins with the prefix
+abbrev pub is_under : List ℕ → IndexEntry → Bool
+is_under prefix e = starts_with nat_eq e.path prefix
+
+-- the part of a list from place a up to place b
+abbrev pub part_of : {X : Type 0} → List X → ℕ → ℕ → List X
+part_of xs a b = take (b - a) (drop a xs)
+
+-- just the entries from place a up to place b begin with the prefix
+pub record IsStretch (es : List IndexEntry) (prefix : List ℕ) (a b : ℕ) : Type 0 where
+  pub order : a ≤ b
+  pub inside : b ≤ length es
+  pub before : All (λ e. is_under prefix e ≡ false) (take a es)
+  pub within : All (λ e. is_under prefix e ≡ true) (part_of es a b)
+  pub after : All (λ e. is_under prefix e ≡ false) (drop b es)
+
+-- the stretch, or None just where a prefix that isn't empty begins no path
+abbrev pub IsPrefixed : List IndexEntry → List ℕ → Option (Range ℕ) → Type 0
+IsPrefixed es prefix None = (0 < length prefix) × All (λ e. is_under prefix e ≡ false) es
+IsPrefixed es prefix (Some r) = IsStretch es prefix r.start r.end × (0 < length prefix → r.start < r.end)

@@ -1,0 +1,60 @@
+//! Bytes that are text by convention, owned.
+
+ghost use Rattle.std.specs.Prelude.{◌≡◌, IfOk};
+
+use bstr::BStr;
+use std::alloc::{AllocError, Global};
+use std::fmt;
+use std::marker::Model;
+
+/// Bytes that are text by convention, as a path or a message: what a clause compares is the bytes alone.
+#[derive(Drop)]
+pub struct ByteText {
+    bytes: Vec<u8>,
+}
+
+impl Model for ByteText {
+    ghost use Rattle.std.specs.Prelude.{List, ℕ};
+
+    ghost Value = { List ℕ };
+
+    ghost view = { λ t. t.bytes.items };
+}
+
+impl ByteText {
+    /// The text of these bytes, with no copy.
+    pub fn new(bytes: Vec<u8>) -> ByteText
+        ensures { result ≡ bytes.items }
+    {
+        ByteText { bytes }
+    }
+
+    /// A copy of these bytes.
+    pub fn from_slice(alloc: Global, bytes: &[u8]) -> Result<ByteText, AllocError>
+        ensures { IfOk result (λ t. t ≡ bytes.now) }
+    {
+        let bytes = Vec::from_slice(alloc, bytes)?;
+        Ok(ByteText { bytes })
+    }
+
+    /// The bytes.
+    pub fn as_bytes(&self) -> &[u8]
+        ensures { result.now ≡ self.now }
+    {
+        self.bytes.as_slice()
+    }
+}
+
+impl fmt::Display for ByteText {
+    fn fmt<W: fmt::Write>(&self, f: &mut fmt::Formatter<W>) -> fmt::Result {
+        let text = BStr::new(self.as_bytes());
+        write!(f, "{text}")
+    }
+}
+
+impl fmt::Debug for ByteText {
+    fn fmt<W: fmt::Write>(&self, f: &mut fmt::Formatter<W>) -> fmt::Result {
+        let text = BStr::new(self.as_bytes());
+        write!(f, "{text:?}")
+    }
+}

@@ -1,0 +1,60 @@
+//! What an index says of an entry beside its content.
+
+ghost use Rattle.std.specs.Prelude.{◌≡◌};
+ghost use Rattle.status_index.specs.FlagBits.{stage_of_bits};
+
+use bitflags::{Flag, bitflag_items};
+
+/// What an index says of an entry beside its content: a set of flags, and the stage in two bits (this library's own
+/// places of bits).
+#[derive(Clone, Copy, Debug, Default, PartialEq, Eq, PartialOrd, Ord)]
+pub struct Flags(u32);
+
+bitflag_items! {
+    impl Flags: u32 {
+        const UPTODATE = 0x1;
+        const SKIP_WORKTREE = 0x2;
+        const FSMONITOR_VALID = 0x4;
+        const INTENT_TO_ADD = 0x8;
+        const ASSUME_VALID = 0x10;
+        const STAGE = 0x3000;
+    }
+}
+
+impl bitflags::Flags for Flags {
+    ghost use Rattle.std.specs.Prelude.{⊤, [], ◌∷◌, codes};
+
+    type Bits = u32;
+
+    ghost exact = { ⊤ };
+
+    ghost table = { (codes "UPTODATE", 0x1) ∷ (codes "SKIP_WORKTREE", 0x2) ∷ (codes "FSMONITOR_VALID", 0x4) ∷ (codes "INTENT_TO_ADD", 0x8) ∷ (codes "ASSUME_VALID", 0x10) ∷ (codes "STAGE", 0x3000) ∷ [] };
+
+    ghost set_of = { λ f. f.0 };
+
+    fn flags<'a>() -> &'a [Flag<Flags>] {
+        Flags::FLAGS
+    }
+
+    fn bits(&self) -> u32 {
+        self.0
+    }
+
+    fn from_bits_retain(bits: u32) -> Flags {
+        Flags(bits)
+    }
+}
+
+impl Flags {
+    /// The flag that puts an entry at this stage: 0 for a plain entry, 1 to 3 for the sides of a conflict.
+    pub fn from_stage(stage: u32) -> Flags {
+        Flags((stage % 4) * 0x1000)
+    }
+
+    /// The stage: 0 for a plain entry, 1 to 3 for the sides of a conflict.
+    pub fn stage(self) -> u32
+        ensures { result ≡ stage_of_bits self.0 }
+    {
+        self.0 / 0x1000 % 4
+    }
+}

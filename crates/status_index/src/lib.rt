@@ -1,0 +1,24 @@
+//! A git index, and what a worktree tells of a file: the values that a status is made of.
+#![tactic(auto)]
+
+pub mod byte_text;
+pub mod entry;
+pub mod fault;
+pub mod flags;
+pub mod id;
+pub mod metadata;
+pub mod mode;
+pub mod reader;
+pub mod stat;
+pub mod state;
+
+pub use byte_text::ByteText;
+pub use entry::{Entry, NewEntry, PathStorage};
+pub use fault::Fault;
+pub use flags::Flags;
+pub use id::{HashKind, ObjectId};
+pub use metadata::{Metadata, NodeKind, TimeError};
+pub use mode::{EntryKind, Mode};
+pub use reader::ReadBytes;
+pub use stat::{Moment, Stat, Time};
+pub use state::{IndexError, State};

@@ -1,0 +1,106 @@
+//! What an index keeps of a file's metadata, and when it may be trusted.
+
+ghost use Rattle.std.specs.Prelude.{◌≡◌};
+ghost use Rattle.status_index.specs.Stat.{time_agrees, owner_agrees, stat_agrees, is_racy};
+
+/// A stamp of a file: seconds since 1970 and nanoseconds.
+#[derive(Clone, Copy, Debug, Default, PartialEq, Eq, PartialOrd, Ord)]
+pub struct Time {
+    /// The seconds since 1970.
+    pub secs: u32,
+    /// The nanoseconds within the second.
+    pub nsecs: u32,
+}
+
+/// A moment, ordered by seconds and then by nanoseconds.
+#[derive(Clone, Copy, Debug, Default, PartialEq, Eq, PartialOrd, Ord)]
+pub struct Moment {
+    /// The seconds since 1970.
+    pub secs: u32,
+    /// The nanoseconds within the second.
+    pub nsecs: u32,
+}
+
+/// What an index entry keeps of a file's metadata (git's index format, `struct stat` data).
+#[derive(Clone, Copy, Debug, Default, PartialEq, Eq, PartialOrd, Ord)]
+pub struct Stat {
+    /// When the content was last changed.
+    pub mtime: Time,
+    /// When the metadata was last changed.
+    pub ctime: Time,
+    /// The device.
+    pub dev: u32,
+    /// The inode.
+    pub ino: u32,
+    /// The owner.
+    pub uid: u32,
+    /// The owner's group.
+    pub gid: u32,
+    /// The low 32 bits of the length. 0 at a content that isn't empty marks an entry that has to be compared.
+    pub size: u32,
+}
+
+/// Which parts of two stats have to be equal (git's `core.trustctime` and `core.checkStat`).
+#[derive(Clone, Copy, Debug, PartialEq, Eq, Hash)]
+pub struct Options {
+    /// Whether `ctime` counts.
+    pub trust_ctime: bool,
+    /// Whether owner, inode and, where `use_nsec` is on, nanoseconds count.
+    pub check_stat: bool,
+    /// Whether nanoseconds count, together with `check_stat`.
+    pub use_nsec: bool,
+    /// Whether the device counts, together with `check_stat`.
+    pub use_stdev: bool,
+}
+
+impl Default for Options {
+    ghost use Rattle.std.specs.Prelude.{◌≡◌};
+    ghost use Rattle.status_index.specs.DefaultOptions.{default_options};
+
+    ghost is_default = { λ o. o ≡ default_options };
+
+    fn default() -> Options {
+        Options {
+            trust_ctime: true,
+            check_stat: true,
+            use_nsec: false,
+            use_stdev: false,
+        }
+    }
+}
+
+/// Equal seconds, and equal nanoseconds where these count.
+fn times_agree(a: Time, b: Time, options: Options) -> bool
+    ensures { result ≡ time_agrees options a b }
+{
+    a.secs == b.secs && (!(options.check_stat && options.use_nsec) || a.nsecs == b.nsecs)
+}
+
+/// Equal inode, group and owner, and equal device where that counts.
+fn owners_agree(a: &Stat, b: &Stat, options: Options) -> bool
+    ensures { result ≡ owner_agrees options a.now b.now }
+{
+    a.ino == b.ino && a.gid == b.gid && a.uid == b.uid && (!options.use_stdev || a.dev == b.dev)
+}
+
+impl Stat {
+    /// Whether the two stats agree in all that `options` counts.
+    pub fn matches(&self, other: &Stat, options: Options) -> bool
+        ensures { result ≡ stat_agrees options self.now other.now }
+    {
+        times_agree(self.mtime, other.mtime, options)
+            && self.size == other.size
+            && (!options.trust_ctime || times_agree(self.ctime, other.ctime, options))
+            && (!options.check_stat || owners_agree(self, other, options))
+    }
+
+    /// Whether a write in the same moment as `timestamp` or after it may hide behind this stat ("racy git").
+    pub fn is_racy(&self, timestamp: Moment, options: Options) -> bool
+        ensures { result ≡ is_racy options timestamp self.now }
+    {
+        if timestamp.secs != self.mtime.secs {
+            return timestamp.secs < self.mtime.secs;
+        }
+        !(options.check_stat && options.use_nsec) || timestamp.nsecs <= self.mtime.nsecs
+    }
+}
