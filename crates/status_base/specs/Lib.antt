@@ -1,0 +1,9 @@
+pub mod Converted
+pub mod Found
+pub mod Lawful
+pub mod LinkCheck
+pub mod Listing
+pub mod MemoryTree
+pub mod Outcomes
+pub mod Paths
+pub mod Submodules

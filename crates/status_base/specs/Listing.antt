@@ -1,0 +1,10 @@
+-- What a listing shows.
+use Rattle.std.specs.Prelude.{ℕ, List, map, Option, option_map}
+use Rattle.std.specs.Global.{Vec}
+use Rattle.bstr.specs.declared.bstring.BString.{BString}
+use Rattle.bstr.specs.Owned.{bstring_bytes}
+use Rattle.status_base.specs.declared.fscache.Stat.{Stat}
+
+-- the names with their stats
+abbrev pub listing_of : Option (Vec (BString × Stat)) → Option (List (List ℕ × Stat))
+listing_of = option_map (λ v. map (λ p. (bstring_bytes p.0, p.1)) v.items)

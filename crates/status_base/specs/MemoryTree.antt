@@ -1,0 +1,128 @@
+-- A worktree in memory: its nodes, its planted faults, and what it answers.
+use Rattle.std.specs.Prelude.{◌≡◌, ◌⊎◌, ℕ, Bool, true, false, ◌||◌, List, [], ◌∷◌, length, take, Option, Some, None, is_some, Result, Ok, Err, if◌then◌else◌, refl}
+use Rattle.std.specs.List.{list_any}
+use Rattle.std.specs.Ordering.{nat_cmp}
+use Rattle.std.specs.Cmp.Lexicographic.{slice_cmp}
+use Rattle.std.specs.FinMap as map
+use Rattle.status_index.specs.Content.{Content}
+use Rattle.status_index.specs.declared.fault.Fault.{Fault}
+use Rattle.status_index.specs.declared.fault.Fault.TheVariants as faults
+use Rattle.status_index.specs.declared.metadata.Metadata.{Metadata}
+use Rattle.status_index.specs.declared.metadata.NodeKind.{NodeKind}
+use Rattle.status_index.specs.declared.metadata.NodeKind.TheVariants as kinds
+use Rattle.status_base.specs.Paths.{odd_component, directories, lies_above}
+
+-- a node, and the bytes that it delivers: a file's content or a link's target
+pub record Placed : Type 0 where
+  pub metadata : Metadata
+  pub bytes : List ℕ
+
+-- the faults that are planted at a path; a read's stands behind a number of bytes
+pub record Planted : Type 0 where
+  pub lstat : Option Fault
+  pub opening : Option Fault
+  pub read_link : Option Fault
+  pub read : Option (ℕ × Fault)
+
+abbrev pub PathMap : Type 0 → Type 0
+PathMap A = map.FinMap (slice_cmp nat_cmp) A
+
+pub record Tree : Type 0 where
+  pub nodes : PathMap Placed
+  pub planted : PathMap Planted
+
+abbrev pub no_faults : Planted
+no_faults = record { lstat = None; opening = None; read_link = None; read = None }
+
+abbrev pub planted_or_none : Option Planted → Planted
+planted_or_none (Some p) = p
+planted_or_none None = no_faults
+
+abbrev pub planted_at : Tree → List ℕ → Planted
+planted_at tree path = planted_or_none (map.get tree.planted path)
+
+-- whether a node lies below a path
+abbrev pub has_below : Tree → List ℕ → Bool
+has_below tree path = list_any (lies_above path) (map.keys tree.nodes)
+
+abbrev pub is_no_directory_kind : NodeKind → Bool
+is_no_directory_kind kinds.Directory = false
+is_no_directory_kind kinds.File = true
+is_no_directory_kind kinds.Link = true
+is_no_directory_kind kinds.Other = true
+
+abbrev pub is_no_directory : Option Placed → Bool
+is_no_directory (Some p) = is_no_directory_kind p.metadata.kind
+is_no_directory None = false
+
+-- whether a proper prefix of a path has a node that isn't a directory
+abbrev pub has_file_above : Tree → List ℕ → Bool
+has_file_above tree path = list_any (λ d. is_no_directory (map.get tree.nodes d)) (directories path)
+
+-- a directory that was not put
+abbrev pub bare_directory : Metadata
+bare_directory = record {
+  kind = kinds.Directory;
+  len = 0;
+  executable = false;
+  mtime = Some (record { secs = 0; nsecs = 0 });
+  ctime = Some (record { secs = 0; nsecs = 0 });
+  dev = 0;
+  ino = 0;
+  uid = 0;
+  gid = 0;
+}
+
+-- why nothing is told of a path without a node
+abbrev pub absence : Tree → List ℕ → Fault
+absence tree path = if has_file_above tree path then faults.NotADirectory else faults.NotFound
+
+-- a planted fault, before any other answer
+abbrev pub or_planted : {A : Type 0} → Option Fault → Result A Fault → Result A Fault
+or_planted (Some f) answer = Err f
+or_planted None answer = answer
+
+abbrev pub lstat_of_node : Tree → List ℕ → Option Placed → Result Metadata Fault
+lstat_of_node tree path (Some p) = Ok p.metadata
+lstat_of_node tree path None = if has_below tree path then Ok bare_directory else Err (absence tree path)
+
+-- lstat: the planted fault; the node; a directory that was not put; else why nothing is there
+abbrev pub lstat_in : Tree → List ℕ → Result Metadata Fault
+lstat_in tree path = or_planted (planted_at tree path).lstat (lstat_of_node tree path (map.get tree.nodes path))
+
+-- bytes, then the fault that is planted behind some of them (or in place of the end), or the end
+abbrev pub content_of : List ℕ → Option (ℕ × Fault) → Content
+content_of bytes None = record { bytes = bytes; fault = None }
+content_of bytes (Some p) = record { bytes = take p.0 bytes; fault = Some p.1 }
+
+-- the fault of a call on a path that has no node
+abbrev pub without_node : {A : Type 0} → Tree → List ℕ → Result A Fault
+without_node tree path = Err (if has_below tree path then faults.Other 0 else absence tree path)
+
+abbrev pub open_of_kind : Content → NodeKind → Result Content Fault
+open_of_kind content kinds.File = Ok content
+open_of_kind content kinds.Link = Err (faults.Other 0)
+open_of_kind content kinds.Directory = Err (faults.Other 0)
+open_of_kind content kinds.Other = Err (faults.Other 0)
+
+abbrev pub open_of_node : Tree → List ℕ → Option Placed → Result Content Fault
+open_of_node tree path (Some p) = open_of_kind (content_of p.bytes (planted_at tree path).read) p.metadata.kind
+open_of_node tree path None = without_node tree path
+
+-- opening: the planted fault; the file; Other(0) for any other node or directory; else as lstat
+abbrev pub open_in : Tree → List ℕ → Result Content Fault
+open_in tree path = or_planted (planted_at tree path).opening (open_of_node tree path (map.get tree.nodes path))
+
+abbrev pub target_of_kind : List ℕ → NodeKind → Result (List ℕ) Fault
+target_of_kind target kinds.Link = Ok target
+target_of_kind target kinds.File = Err (faults.Other 0)
+target_of_kind target kinds.Directory = Err (faults.Other 0)
+target_of_kind target kinds.Other = Err (faults.Other 0)
+
+abbrev pub target_of_node : Tree → List ℕ → Option Placed → Result (List ℕ) Fault
+target_of_node tree path (Some p) = target_of_kind p.bytes p.metadata.kind
+target_of_node tree path None = without_node tree path
+
+-- reading a link: the planted fault; the link's target; Other(0) for any other node or directory; else as lstat
+abbrev pub target_in : Tree → List ℕ → Result (List ℕ) Fault
+target_in tree path = or_planted (planted_at tree path).read_link (target_of_node tree path (map.get tree.nodes path))

@@ -1,0 +1,40 @@
+-- Paths, with `/` between components.
+use Rattle.std.specs.Prelude.{ℕ, zero, suc, ◌+◌, ◌==◌, ◌<◌, nat_lt, nat_eq, Bool, true, false, ◌&&◌, ◌||◌, List, [], ◌∷◌, ◌++◌, length, take, find, Option, Some, None, slice_index, if◌then◌else◌}
+use Rattle.std.specs.List.{slice_split, starts_with}
+use Rattle.std.specs.Str.{bytes_eq}
+
+abbrev pub is_slash : ℕ → Bool
+is_slash b = b == 47
+
+-- the parts between the slashes
+abbrev pub components : List ℕ → List (List ℕ)
+components path = slice_split is_slash path
+
+-- whether a component is empty, `.` or `..`
+abbrev pub is_odd : List ℕ → Bool
+is_odd [] = true
+is_odd (a ∷ []) = a == 46
+is_odd (a ∷ b ∷ []) = a == 46 && b == 46
+is_odd (a ∷ b ∷ c ∷ rest) = false
+
+-- the leftmost component that is empty, `.` or `..`
+abbrev pub odd_component : List ℕ → Option (List ℕ)
+odd_component path = find is_odd (components path)
+
+-- the fronts of at most n bytes that a slash follows, the shortest first
+abbrev pub directories_below : List ℕ → ℕ → List (List ℕ)
+directories_below path zero = []
+directories_below path (suc n) = directories_below path n ++ (if is_slash (slice_index path n) then take n path ∷ [] else [])
+
+-- the proper directory prefixes of a path, the shortest first
+abbrev pub directories : List ℕ → List (List ℕ)
+directories path = directories_below path (length path)
+
+-- whether a path stands below a directory
+abbrev pub lies_above : List ℕ → List ℕ → Bool
+lies_above directory path = starts_with nat_eq path (directory ++ 47 ∷ [])
+
+-- a path below a root; the path alone where the root is empty
+abbrev pub joined : List ℕ → List ℕ → List ℕ
+joined [] path = path
+joined (b ∷ root) path = (b ∷ root) ++ 47 ∷ path

@@ -1,0 +1,6 @@
+//! The index: its entries, their stats, modes, flags and ids.
+
+pub use status_index::{
+    Entry, EntryKind, Flags, HashKind, IndexError, Mode, Moment, NewEntry, ObjectId, PathStorage,
+    Stat, State, Time, mode, stat,
+};

@@ -1,0 +1,38 @@
+//! Listings of directories.
+
+ghost use Rattle.std.specs.Prelude.{◌≡◌, List, ℕ, Option, None, IfOk};
+ghost use Rattle.bstr.specs.BStr.{bstr_bytes};
+ghost use Rattle.status_base.specs.Listing.{listing_of};
+ghost use Rattle.status_base.specs.declared.fscache.Stat.{Stat as ListedStat};
+
+use crate::fscache;
+use bstr::{BStr, BString};
+use std::alloc::AllocError;
+
+/// What a listing of a directory gives: names with their stats, or None where the directory can't be listed.
+pub type Listing = Option<Vec<(BString, fscache::Stat)>>;
+
+/// Listings of directories, by paths from the worktree's root. The root's path is empty.
+pub trait Lister {
+    /// The names in each directory, with their stats.
+    ghost listing: { Self → List ℕ → Option (List (List ℕ × ListedStat)) };
+
+    /// Lists a directory.
+    ///
+    /// # Errors
+    /// Want of memory.
+    fn list(&self, directory: BStr<'_>) -> Result<Listing, AllocError>
+        ensures { IfOk result (λ l. listing_of l ≡ listing self.now (bstr_bytes directory.entry)) };
+}
+
+/// No directory can be listed.
+#[derive(Clone, Copy, Debug, Default, PartialEq, Eq)]
+pub struct NoLister;
+
+impl Lister for NoLister {
+    ghost listing = { λ _ _. None };
+
+    fn list(&self, _directory: BStr<'_>) -> Result<Listing, AllocError> {
+        Ok(None)
+    }
+}

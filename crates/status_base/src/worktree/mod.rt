@@ -1,0 +1,19 @@
+//! The worktree, and the interfaces that a caller of a status hands in.
+//!
+//! Each interface has a meaning, which the trait's ghost members name; an implementation answers by it whatever its
+//! state, or answers want of memory.
+
+pub mod filter;
+pub mod lister;
+pub mod objects;
+pub mod pathspec;
+pub mod submodule;
+pub mod tree;
+
+pub use filter::{NoFilter, ToGit, ToGitOutcome};
+pub use lister::{Lister, Listing, NoLister};
+pub use objects::{Find, FindError};
+pub use pathspec::{AllPaths, Pathspec};
+pub use status_index::{ByteText, Fault, Metadata, NodeKind, ReadBytes, TimeError};
+pub use submodule::{NoSubmodules, SubmoduleFault, SubmoduleStatus};
+pub use tree::Worktree;

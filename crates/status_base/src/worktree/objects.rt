@@ -1,0 +1,34 @@
+//! Blobs by their ids.
+
+ghost use Rattle.std.specs.Prelude.{◌≡◌, List, ℕ, Result};
+ghost use Rattle.status_index.specs.declared.id.ObjectId.{ObjectId as BlobName};
+ghost use Rattle.status_base.specs.declared.worktree.objects.FindError.{FindError as NotFound};
+
+use status_index::ObjectId;
+use thiserror::Error;
+
+/// Why a blob was not found.
+#[derive(Clone, Copy, Debug, PartialEq, Eq, Error)]
+pub enum FindError {
+    /// There is no blob of that id.
+    #[error("missing object")]
+    Missing,
+    /// Memory ran out.
+    #[error("Out of memory")]
+    Memory,
+}
+
+/// Blobs by their ids.
+pub trait Find {
+    ghost use Rattle.status_base.specs.Found.{IsFound};
+
+    /// The content of each blob, or why there is none.
+    ghost found: { Self → BlobName → Result (List ℕ) NotFound };
+
+    /// Reads a blob, in place of what `buffer` held.
+    ///
+    /// # Errors
+    /// Missing where there is no blob of that id. After an error what `buffer` holds is left open.
+    fn find_blob(&self, id: &ObjectId, buffer: &mut Vec<u8>) -> Result<(), FindError>
+        ensures { IsFound (found self.now id.now) result buffer.new.items };
+}

@@ -1,0 +1,52 @@
+//! The status of a submodule.
+
+ghost use Rattle.std.specs.Prelude.{◌≡◌, List, ℕ, Option, None, Result, Ok};
+ghost use Rattle.bstr.specs.BStr.{bstr_bytes};
+ghost use Rattle.status_index.specs.declared.entry.Entry.{Entry as IndexedEntry};
+
+use bstr::BStr;
+use status_index::{ByteText, Entry};
+
+/// Why the status of a submodule could not be told.
+#[derive(Debug, Drop)]
+pub struct SubmoduleFault {
+    /// What went wrong.
+    pub text: ByteText,
+}
+
+/// The status of submodules.
+pub trait SubmoduleStatus {
+    ghost use Rattle.status_base.specs.Submodules.{IsSubmoduleAnswer};
+
+    /// How a submodule changed.
+    type Output;
+
+    /// How the submodule of an entry at a path changed, or the text of a fault.
+    ghost meaning: { Self → IndexedEntry → List ℕ → Result (Option Self.Output) (List ℕ) };
+
+    /// How the submodule of `entry` at `path` changed. None where it didn't.
+    ///
+    /// # Errors
+    /// Where that can't be told, in words of its own.
+    fn status(
+        &mut self,
+        entry: &Entry,
+        path: BStr<'_>,
+    ) -> Result<Option<Self::Output>, SubmoduleFault>
+        ensures answer { IsSubmoduleAnswer (meaning self.old entry.now (bstr_bytes path.entry)) result }
+        ensures same { meaning self.new ≡ meaning self.old };
+}
+
+/// Submodules that never change.
+#[derive(Clone, Copy, Debug, Default, PartialEq, Eq)]
+pub struct NoSubmodules;
+
+impl SubmoduleStatus for NoSubmodules {
+    type Output = ();
+
+    ghost meaning = { λ _ _ _. Ok None };
+
+    fn status(&mut self, _entry: &Entry, _path: BStr<'_>) -> Result<Option<()>, SubmoduleFault> {
+        Ok(None)
+    }
+}

@@ -1,0 +1,51 @@
+//! The worktree: what `lstat`, opening and reading a link answer.
+
+ghost use Rattle.std.specs.Prelude.{IsTrue, Bool, List, ℕ, Result};
+ghost use Rattle.bstr.specs.BStr.{bstr_bytes};
+ghost use Rattle.status_index.specs.Content.{Content};
+ghost use Rattle.status_index.specs.declared.fault.Fault.{Fault as WorktreeFault};
+ghost use Rattle.status_index.specs.declared.metadata.Metadata.{Metadata as NodeMetadata};
+ghost use Rattle.status_base.specs.Lawful.{IsAnswer, IsOpened, IsTarget};
+
+use bstr::BStr;
+use status_index::{Fault, Metadata, ReadBytes};
+
+/// A worktree, by paths from its root with `/` between components. It either tells its nodes, and then its answers are
+/// those of three functions from paths, or tells nothing, as a folder of a real disk.
+pub trait Worktree {
+    /// A file that was opened.
+    type File: ReadBytes;
+
+    /// Whether it tells its nodes.
+    ghost tells: { Self → Bool };
+
+    /// What `lstat` answers.
+    ghost lstat_of: { Self → List ℕ → Result NodeMetadata WorktreeFault };
+
+    /// What opening answers: what can then be read.
+    ghost open_of: { Self → List ℕ → Result Content WorktreeFault };
+
+    /// What reading a link answers: its target.
+    ghost target_of: { Self → List ℕ → Result (List ℕ) WorktreeFault };
+
+    /// What is at a path. A link is not followed.
+    ///
+    /// # Errors
+    /// The worktree's fault.
+    fn lstat(&self, path: BStr<'_>) -> Result<Metadata, Fault>
+        ensures { IsTrue (tells self.now) → IsAnswer (lstat_of self.now (bstr_bytes path.entry)) result };
+
+    /// Opens the file at a path for reading.
+    ///
+    /// # Errors
+    /// The worktree's fault.
+    fn open(&self, path: BStr<'_>) -> Result<Self::File, Fault>
+        ensures { IsTrue (tells self.now) → IsOpened Self.File.left (open_of self.now (bstr_bytes path.entry)) result };
+
+    /// Reads the target of the link at a path, in place of what `target` held. After an error `target` is empty.
+    ///
+    /// # Errors
+    /// The worktree's fault.
+    fn read_link(&self, path: BStr<'_>, target: &mut Vec<u8>) -> Result<(), Fault>
+        ensures { IsTrue (tells self.now) → IsTarget (target_of self.now (bstr_bytes path.entry)) result target.new.items };
+}
