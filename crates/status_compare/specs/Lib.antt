@@ -1,0 +1,4 @@
+pub mod Blobs
+pub mod Errors
+pub mod Reading
+pub mod Streams

@@ -1,0 +1,84 @@
+-- What a comparer can learn of an entry's file and blob, and what it counts.
+use Rattle.std.specs.Prelude.{◌≡◌, ◌⊎◌, ℕ, ◌+◌, Bool, true, false, not, ◌||◌, ◌&&◌, List, length, Option, Some, None, Result, Ok, Err}
+use Rattle.status_index.specs.Content.{Content, saturate}
+use Rattle.status_index.specs.declared.fault.Fault.{Fault}
+use Rattle.status_base.specs.Converted.{Converted, refused, same, other}
+use Rattle.status_base.specs.declared.worktree.objects.FindError.{FindError}
+use Rattle.status_compare.specs.declared.error.Error.{Error}
+use Rattle.status_compare.specs.declared.error.Error.TheVariants.{Memory}
+use Rattle.status_compare.specs.declared.stream.Stream.{Stream}
+use Rattle.status_compare.specs.Errors.{error_of, find_error_of}
+use Rattle.status_compare.specs.Streams.{whole, stream_left, stream_taken}
+
+-- what comes of reading an entry's file: an error; bytes, then the end or a fault, with or without a known size; or a
+-- link's target, whose bytes are counted at once
+pub data Reading : Type 0 where
+  fails : Error → Reading
+  streams : Content → Option ℕ → Reading
+  target : List ℕ → Reading
+
+-- the reading of the file, and the entry's blob
+pub record Meaning : Type 0 where
+  pub file : Reading
+  pub blob : Result (List ℕ) Error
+
+-- how much was read: bytes of files, files, bytes of blobs, blobs
+pub record ReadCounts : Type 0 where
+  pub bytes : ℕ
+  pub files : ℕ
+  pub object_bytes : ℕ
+  pub objects : ℕ
+
+abbrev pub no_reads : ReadCounts
+no_reads = record { bytes = 0; files = 0; object_bytes = 0; objects = 0 }
+
+abbrev pub with_bytes : ReadCounts → ℕ → ReadCounts
+with_bytes k n = record k { bytes = saturate (k.bytes + n) }
+
+abbrev pub with_file : ReadCounts → ReadCounts
+with_file k = record k { files = saturate (k.files + 1) }
+
+abbrev pub with_object : ReadCounts → ℕ → ReadCounts
+with_object k n = record k { object_bytes = saturate (k.object_bytes + n); objects = saturate (k.objects + 1) }
+
+-- what making a stream counts: one file, and a link's target at once
+abbrev pub counts_at_stream : Reading → ReadCounts → ReadCounts
+counts_at_stream (fails e) k = k
+counts_at_stream (streams content size) k = with_file k
+counts_at_stream (target bytes) k = with_file (with_bytes k (length bytes))
+
+-- the stream that is meant: its content and size, and whether it counts; the error that is meant; or want of memory
+abbrev pub IsReading : {F : Type 0} → (F → Option Content) → Reading → Result (Stream F) Error → Type 0
+IsReading left (streams content size) (Ok s) = (stream_left left s ≡ Some content) × (s.size ≡ size) × (stream_taken s ≡ Some 0)
+IsReading left (target bytes) (Ok s) = (stream_left left s ≡ Some (whole bytes)) × (s.size ≡ None) × (stream_taken s ≡ None)
+IsReading left (fails e) (Ok s) = ⊥
+IsReading left (fails e) (Err x) = (x ≡ e) ⊎ (x ≡ Memory)
+IsReading left (streams _ _) (Err x) = x ≡ Memory
+IsReading left (target _) (Err x) = x ≡ Memory
+
+-- the answer that is meant, or want of memory
+abbrev pub IsMeant : {A : Type 0} → Result A Error → Result A Error → Type 0
+IsMeant meant answer = (answer ≡ meant) ⊎ (answer ≡ Err Memory)
+
+abbrev pub target_reading : Result (List ℕ) Fault → Reading
+target_reading (Ok bytes) = target bytes
+target_reading (Err f) = fails (error_of f)
+
+-- an unchanged file's size is known, as the node's length
+abbrev pub converted_reading : ℕ → Content → Converted → Reading
+converted_reading len content same = streams content (Some len)
+converted_reading len content (other bytes) = streams (whole bytes) None
+converted_reading len content (refused f) = fails (error_of f)
+
+abbrev pub file_reading : (Content → Converted) → ℕ → Result Content Fault → Reading
+file_reading conversion len (Ok content) = converted_reading len content (conversion content)
+file_reading conversion len (Err f) = fails (error_of f)
+
+-- the reading of a node: a link's target where links count, else the file, converted
+abbrev pub node_reading : Bool → (Content → Converted) → ℕ → Result Content Fault → Result (List ℕ) Fault → Reading
+node_reading true conversion len opened linked = target_reading linked
+node_reading false conversion len opened linked = file_reading conversion len opened
+
+abbrev pub blob_reading : Result (List ℕ) FindError → Result (List ℕ) Error
+blob_reading (Ok bytes) = Ok bytes
+blob_reading (Err e) = Err (find_error_of e)

@@ -1,0 +1,12 @@
+//! How a file of a worktree is compared with what an index entry names.
+#![tactic(auto)]
+
+pub mod compare;
+pub mod error;
+pub mod read_data;
+pub mod stream;
+
+pub use compare::CompareBlobs;
+pub use error::Error;
+pub use read_data::ReadData;
+pub use stream::Stream;

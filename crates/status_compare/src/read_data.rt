@@ -1,0 +1,48 @@
+//! What a comparer may read.
+
+ghost use Rattle.std.specs.Prelude.{◌≡◌, Option, IfSome, IfOk, OnOk, length};
+ghost use Rattle.status_compare.specs.Reading.{Meaning, ReadCounts, IsReading, counts_at_stream, with_bytes, with_object};
+ghost use Rattle.status_compare.specs.Blobs.{IsBlob};
+
+use crate::error::Error;
+use crate::stream::Stream;
+use status_base::worktree::ReadBytes;
+
+/// What a comparer may read of one entry: the file as git would store it, and the blob. Nothing is read before it is
+/// asked for.
+pub trait ReadData {
+    /// The file that a stream reads.
+    type File: ReadBytes;
+
+    /// What there is to be read. None for a reader that tells nothing.
+    ghost means: { Self → Option Meaning };
+
+    /// How much was read.
+    ghost counts: { Self → ReadCounts };
+
+    /// The entry's blob, read into `buffer`.
+    ///
+    /// # Errors
+    /// Find where there is no such blob.
+    fn read_blob<'a>(&mut self, buffer: &'a mut Vec<u8>) -> Result<&'a [u8], Error>
+        ensures blob { IfSome (means self.old) (λ m. IsBlob m.blob result) }
+        ensures same_meaning { means self.new ≡ means self.old }
+        ensures counts { IfOk result (λ b. counts self.new ≡ with_object (counts self.old) (length b.now)) };
+
+    /// The worktree's file as git would store it. Where it was converted, or is a link's target, it is in `buffer`.
+    ///
+    /// # Errors
+    /// A fault of the worktree or of the filter.
+    fn stream_worktree_file<'a>(
+        &mut self,
+        buffer: &'a mut Vec<u8>,
+    ) -> Result<Stream<'a, Self::File>, Error>
+        ensures stream { IfSome (means self.old) (λ m. IsReading Self.File.left m.file result) }
+        ensures same_meaning { means self.new ≡ means self.old }
+        ensures counts { OnOk result (IfSome (means self.old) (λ m. counts self.new ≡ counts_at_stream m.file (counts self.old))) };
+
+    /// Adds the bytes that a stream counted.
+    fn counted(&mut self, bytes: u64)
+        ensures same_meaning { means self.new ≡ means self.old }
+        ensures counts { counts self.new ≡ with_bytes (counts self.old) bytes };
+}
