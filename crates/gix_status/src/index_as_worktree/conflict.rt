@@ -1,0 +1,1 @@
+//! Which conflict the stages of a path name.

@@ -1,0 +1,12 @@
+//! The status of an index against a worktree.
+
+pub mod conflict;
+pub mod recorder;
+pub mod traits;
+pub mod types;
+
+pub use recorder::{Record, Recorder};
+pub use types::{
+    Capabilities, Change, Conflict, ConflictIndexEntry, Context, EntryStatus, Error, Options,
+    Outcome, VisitEntry,
+};

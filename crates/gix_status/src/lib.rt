@@ -1,0 +1,6 @@
+//! How a git worktree differs from an index.
+#![tactic(auto)]
+
+pub mod index_as_worktree;
+
+pub use status_base::{fscache, index, worktree};
