@@ -1,3 +1,10 @@
 pub mod Conflicts
+pub mod Considered
+pub mod Counts
+pub mod Decisions
 pub mod Outcomes
+pub mod Pieces
+pub mod Query
+pub mod Records
+pub mod Status
 pub mod Visits

@@ -1,6 +1,8 @@
 //! The status of an index against a worktree.
 
 pub mod conflict;
+pub mod decide;
+pub mod piece;
 pub mod recorder;
 pub mod traits;
 pub mod types;

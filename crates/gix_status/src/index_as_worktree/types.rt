@@ -60,6 +60,15 @@ pub enum EntryStatus<T, U> {
     IntentToAdd,
 }
 
+/// What is told of the entry at a place of the whole index.
+#[derive(Debug, Drop)]
+pub struct Finding<T, U> {
+    /// The entry's place in the whole index.
+    pub entry_index: usize,
+    /// What is told of it.
+    pub status: EntryStatus<T, U>,
+}
+
 /// Which sides of a merge have a path: the stages that the index has for it.
 #[derive(Clone, Copy, Debug, PartialEq, Eq, PartialOrd, Ord)]
 pub enum Conflict {

@@ -1,0 +1,62 @@
+-- Parts of the considered entries, and what they give.
+use Rattle.std.specs.Prelude.{◌≡◌, ◌⊎◌, ℕ, ◌+◌, ◌-◌, ◌<◌, ◌≤◌, Bool, false, true, IsTrue, List, [], length, take, drop, All, AllPairs, Option, Result, Ok, Err}
+use Rattle.std.specs.List.{slice_index_or, list_any}
+use Rattle.status_index.specs.Entries.{IndexEntry}
+use Rattle.status_index.specs.Stretch.{part_of}
+use Rattle.status_compare.specs.declared.error.Error.{Error}
+use Rattle.status_compare.specs.declared.error.Error.TheVariants.{Memory}
+use Rattle.gix_status.specs.declared.index_as_worktree.piece.End.{End}
+use Rattle.gix_status.specs.declared.index_as_worktree.piece.End.TheVariants.{Whole, Cut, Faulty}
+use Rattle.gix_status.specs.declared.index_as_worktree.piece.Piece.{Piece}
+use Rattle.gix_status.specs.declared.index_as_worktree.types.Finding.{Finding}
+use Rattle.gix_status.specs.declared.index_as_worktree.types.Outcome.{Outcome}
+use Rattle.gix_status.specs.Considered.{same_path, takes_over}
+use Rattle.gix_status.specs.Counts.{Counts, counts_in, counts_of_outcome, reads_in, reads_of_outcome, TellsReads}
+use Rattle.gix_status.specs.Query.{Query}
+use Rattle.gix_status.specs.Records.{verdict, records_in, faults_in}
+
+-- no path has entries on both sides of place k
+abbrev pub IsCut : List IndexEntry → ℕ → Type 0
+IsCut es k = All (λ d. All (λ r. same_path d r ≡ false) (drop k es)) (take k es)
+
+-- each number is at most n
+pub record IsWithin (n : ℕ) (k : Counts) : Type 0 where
+  pub processed : k.processed ≤ n
+  pub skipped_by_flags : k.skipped_by_flags ≤ n
+  pub skipped_by_pathspec : k.skipped_by_pathspec ≤ n
+  pub lstat_calls : k.lstat_calls ≤ n
+  pub racy_clean : k.racy_clean ≤ n
+  pub to_update : k.to_update ≤ n
+
+module _ {T U : Type 0} (q : Query T U) where
+  -- the records and counts of the considered entries from place `from` up to place `at`, none of which gives a fault;
+  -- the first considered entry is at place `start` of the whole index
+  pub record IsAsMeant (start : ℕ) (es : List IndexEntry) (from at : ℕ) (findings : List (Finding T U)) (o : Outcome) : Type 0 where
+    pub records : findings ≡ records_in q es (start + from) (part_of es from at)
+    pub counts : counts_of_outcome o ≡ counts_in q es (part_of es from at)
+    pub reads : TellsReads q → reads_of_outcome o ≡ reads_in q (part_of es from at)
+    pub clear : faults_in q es (part_of es from at) ≡ []
+
+  -- the same where the worktree tells its nodes; over any worktree the findings ascend and are of these entries
+  pub record IsDone (tells : Bool) (start : ℕ) (es : List IndexEntry) (from at : ℕ) (findings : List (Finding T U)) (o : Outcome) : Type 0 where
+    pub low : from ≤ at
+    pub high : at ≤ length es
+    pub few : IsWithin (at - from) (counts_of_outcome o)
+    pub placed : All (λ f. (start + from ≤ f.entry_index) × (f.entry_index < start + at)) findings
+    pub ascending : AllPairs (λ a b. a.entry_index < b.entry_index) findings
+    pub meant : IsTrue tells → IsAsMeant start es from at findings o
+
+  -- the error is what the entry at a place gives, or want of memory
+  abbrev pub IsFaultAt : List IndexEntry → ℕ → Error → Type 0
+  IsFaultAt es at x = ((d : IndexEntry) → verdict q es (slice_index_or es at d) ≡ Err x) ⊎ (x ≡ Memory)
+
+  -- a piece ends at its last entry, before an entry, or at an entry that gives a fault or was refused memory
+  abbrev pub IsThrough : Bool → List IndexEntry → ℕ → ℕ → End → Type 0
+  IsThrough tells es to reached Whole = reached ≡ to
+  IsThrough tells es to reached Cut = reached < to
+  IsThrough tells es to reached (Faulty x) = (reached < to) × (IsTrue tells → IsFaultAt es reached x)
+
+  -- the findings and counts of the entries from `from` on, up to where the piece ended
+  pub record IsPiece (tells : Bool) (start : ℕ) (es : List IndexEntry) (from to : ℕ) (p : Piece T U) : Type 0 where
+    pub done : IsDone tells start es from p.reached p.findings.items p.outcome
+    pub through : IsThrough tells es to p.reached p.end
