@@ -1,6 +1,6 @@
 -- Entries in whose place others stand, and what stays of an index then.
 use Rattle.std.proofs.Common.{refl, inl, inr, ◌≡◌, ℕ, ◌<◌, List, length, map, slice_index_or, slice_set, sym, ap, ◌∙◌, arith, length-set}
-use Rattle.std.proofs.lemmas.List.{length-map, get_or-map, get_or_read, get_or-set_same, get_or-set_other, map-set}
+use Rattle.std.proofs.lemmas.List.{length-map, get_or-map, get_or-set_same, get_or-set_other, map-set}
 use Rattle.std.proofs.lemmas.Bool.{cases_eq}
 use Rattle.status_index.specs.declared.entry.Entry.{Entry}
 use Rattle.status_index.specs.declared.entry.PathStorage.{PathStorage}

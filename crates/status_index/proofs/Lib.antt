@@ -1,2 +1,4 @@
 pub mod Indexes
+pub mod Refusals
+pub mod Storages
 pub mod Stretches

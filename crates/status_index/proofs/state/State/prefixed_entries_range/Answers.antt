@@ -1,4 +1,4 @@
-use Rattle.std.proofs.Common.{◌<◌, length, arith, rules}
+use Rattle.std.proofs.Common.{◌<◌, length, arith}
 use Rattle.std.proofs.lemmas.List.{length-map}
 use Rattle.status_index.specs.Entries.{index_entry}
 use Rattle.status_index.specs.States.{index_of, entries_of, backing_of}
