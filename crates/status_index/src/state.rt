@@ -236,6 +236,7 @@ impl State {
     pub fn set_stat(&mut self, i: usize, stat: Stat)
         requires { i < length (entries_of self.old) }
         ensures entries { ChangesAt (with_stat stat) i (entries_of self.old) (entries_of self.new) }
+        ensures len { length (entries_of self.new) ≡ length (entries_of self.old) }
         ensures index { ChangesAt (at_its_path (with_stat stat)) i (index_of self.old) (index_of self.new) }
         ensures backing { backing_of self.new ≡ backing_of self.old }
         ensures timestamp { timestamp_of self.new ≡ timestamp_of self.old }
@@ -247,6 +248,7 @@ impl State {
     pub fn smudge(&mut self, i: usize)
         requires { i < length (entries_of self.old) }
         ensures entries { ChangesAt smudged i (entries_of self.old) (entries_of self.new) }
+        ensures len { length (entries_of self.new) ≡ length (entries_of self.old) }
         ensures index { ChangesAt (at_its_path smudged) i (index_of self.old) (index_of self.new) }
         ensures backing { backing_of self.new ≡ backing_of self.old }
         ensures timestamp { timestamp_of self.new ≡ timestamp_of self.old }
@@ -263,3 +265,6 @@ impl State {
         self.timestamp = timestamp;
     }
 }
+
+#[cfg(test)]
+mod tests;
