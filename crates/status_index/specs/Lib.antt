@@ -3,8 +3,11 @@ pub mod Content
 pub mod DefaultOptions
 pub mod Entries
 pub mod FlagBits
+pub mod HasherState
 pub mod Mode
 pub mod NodeStat
+pub mod ReadAll
 pub mod Stat
 pub mod States
+pub mod StreamId
 pub mod Stretch

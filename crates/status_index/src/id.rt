@@ -1,7 +1,19 @@
 //! Ids of objects.
 
 ghost use Rattle.std.specs.Prelude.{◌≡◌, ◌↔◌, IsTrue, []};
-ghost use Rattle.status_index.specs.BlobId.{id_kind, id_bytes, id_from_bytes, null_id, blob_id};
+ghost use Rattle.status_index.specs.BlobId.{id_kind, id_bytes, id_from_bytes, null_id, blob_id, is_empty_blob};
+
+// SHA-1 of the empty blob.
+const EMPTY_SHA1: [u8; 20] = [
+    0xe6, 0x9d, 0xe2, 0x9b, 0xb2, 0xd1, 0xd6, 0x43, 0x4b, 0x8b, 0x29, 0xae, 0x77, 0x5a, 0xd8, 0xc2,
+    0xe4, 0x8c, 0x53, 0x91,
+];
+
+// SHA-256 of the empty blob.
+const EMPTY_SHA256: [u8; 32] = [
+    0x47, 0x3a, 0x0f, 0x4c, 0x3b, 0xe8, 0xa9, 0x36, 0x81, 0xa2, 0x67, 0xe3, 0xb1, 0xe9, 0xa7, 0xdc,
+    0xda, 0x11, 0x85, 0x43, 0x6f, 0xe1, 0x41, 0xf7, 0x74, 0x91, 0x20, 0xa3, 0x03, 0x72, 0x18, 0x13,
+];
 
 /// How ids are made: the digests of FIPS 180-4.
 #[derive(Clone, Copy, Debug, PartialEq, Eq, PartialOrd, Ord, Hash)]
@@ -70,5 +82,23 @@ impl ObjectId {
         ensures { IsTrue result ↔ (self.now ≡ null_id (id_kind self.now)) }
     {
         *self == ObjectId::null(self.kind())
+    }
+
+    /// The id of the blob with no bytes. It is a constant: nothing is hashed.
+    #[tactic(auto, using(crate::proofs::EmptyBlob::empty_ids))]
+    pub fn empty_blob(kind: HashKind) -> ObjectId
+        ensures { result ≡ blob_id kind [] }
+    {
+        match kind {
+            HashKind::Sha1 => ObjectId::Sha1(EMPTY_SHA1),
+            HashKind::Sha256 => ObjectId::Sha256(EMPTY_SHA256),
+        }
+    }
+
+    /// Whether it is the id of the blob with no bytes, of its own kind.
+    pub fn is_empty_blob(&self) -> bool
+        ensures { result ≡ is_empty_blob self.now }
+    {
+        *self == ObjectId::empty_blob(self.kind())
     }
 }

@@ -1,0 +1,2 @@
+pub mod EmptyBlob
+pub mod ReaderPlace

@@ -1,0 +1,34 @@
+//! Reading to the end.
+
+ghost use Rattle.std.specs.Prelude.{◌≡◌, ◌-◌, length, take, OnOk};
+ghost use Rattle.status_index.specs.Content.{CountsMore};
+ghost use Rattle.status_index.specs.ReadAll.{ReadsAll};
+
+use crate::fault::Fault;
+use crate::reader::ReadBytes;
+
+#[cfg(test)]
+pub(crate) mod tests;
+
+// How many bytes one read asks for.
+pub(crate) const CHUNK_LEN: usize = 4096;
+
+/// Appends all that the reader has left.
+///
+/// # Errors
+///
+/// The reader's fault, and `Memory`. No read is tried again, and the bytes that came before stay appended.
+pub fn read_all<R: ReadBytes>(reader: &mut R, into: &mut Vec<u8>) -> Result<(), Fault>
+    ensures all { ReadsAll (R.left reader.old) (R.left reader.new) into.old.items into.new.items result }
+    ensures kept { take (length into.old.items) into.new.items ≡ into.old.items }
+    ensures counted { OnOk result (CountsMore (R.taken reader.old) (R.taken reader.new) (length into.new.items - length into.old.items)) }
+{
+    let mut chunk = [0u8; CHUNK_LEN];
+    'chunks: loop {
+        let taken = reader.read_bytes(&mut chunk)?;
+        if taken == 0 {
+            return Ok(());
+        }
+        into.extend_from_slice(&chunk[..taken])?;
+    }
+}
