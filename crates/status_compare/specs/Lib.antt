@@ -1,4 +1,6 @@
 pub mod Blobs
 pub mod Errors
+pub mod FaultKinds
 pub mod Reading
+pub mod StreamCounts
 pub mod Streams
