@@ -3,10 +3,14 @@
 
 pub mod compare;
 pub mod error;
+pub mod fast_eq;
+pub mod hash_eq;
 pub mod read_data;
 pub mod stream;
 
 pub use compare::CompareBlobs;
 pub use error::Error;
+pub use fast_eq::FastEq;
+pub use hash_eq::HashEq;
 pub use read_data::ReadData;
 pub use stream::Stream;

@@ -1,11 +1,13 @@
 //! A worktree's file as git would store it, to be read in pieces.
 
-ghost use Rattle.std.specs.Prelude.{◌≡◌, ℕ, ◌<◌, ◌≤◌, [], ◌++◌, length, take, Option, None, Some, true, option_map};
-ghost use Rattle.status_compare.specs.FaultKinds.{kind_of};
-ghost use Rattle.status_compare.specs.StreamCounts.{counted_with, count_told};
+ghost use Rattle.std.specs.Prelude.{◌≡◌, ℕ, ◌<◌, ◌≤◌, [], ◌++◌, length, take, Option, None, Some, true, option_map, OnOk, ◌-◌};
+ghost use Rattle.status_index.specs.ReadAll.{ReadsAll};
+ghost use Rattle.status_compare.specs.FaultKinds.{kind_of, known_bytes, IsKindOf};
+ghost use Rattle.status_compare.specs.StreamCounts.{count_after, counted_with, count_told};
 ghost use Rattle.status_compare.specs.Streams.{stream_left, stream_taken, outcome_buffer};
 
 use status_base::worktree::{Fault, ReadBytes, ToGitOutcome};
+use status_index::read_all;
 use std::io;
 
 /// A worktree's file as git would store it, to be read in pieces or, where it is in memory, as a slice.
@@ -46,9 +48,7 @@ impl<'a, F> Stream<'a, F> {
             return None;
         };
         let bytes: &'a [u8] = bytes;
-        if self.counts {
-            self.counted = self.counted.saturating_add(bytes.len() as u64);
-        }
+        self.count(bytes.len());
         Some(bytes)
     }
 
@@ -64,6 +64,15 @@ impl<'a, F> Stream<'a, F> {
         ensures { result ≡ count_told self.now }
     {
         if self.counts { self.counted } else { 0 }
+    }
+
+    // Counts bytes that were handed out, where the stream counts.
+    fn count(&mut self, count: usize)
+        ensures { self.new ≡ record self.old { counted = count_after self.old.counts self.old.counted count } }
+    {
+        if self.counts {
+            self.counted = self.counted.saturating_add(count as u64);
+        }
     }
 }
 
@@ -91,10 +100,31 @@ impl<'a, F: ReadBytes> ReadBytes for Stream<'a, F> {
             ToGitOutcome::Unchanged(file) => file.read_bytes(buffer)?,
             ToGitOutcome::Buffer(bytes) => take_front(bytes, buffer),
         };
-        if self.counts {
-            self.counted = self.counted.saturating_add(count as u64);
-        }
+        self.count(count);
         Ok(count)
+    }
+}
+
+impl<'a, F: ReadBytes> Stream<'a, F> {
+    /// Appends all that is left to `into`, and counts it.
+    ///
+    /// # Errors
+    /// The file's fault, and Memory. The bytes that came before stay appended, and aren't counted.
+    pub(crate) fn read_rest(&mut self, into: &mut Vec<u8>) -> Result<(), Fault>
+        ensures all { ReadsAll (stream_left F.left self.old) (stream_left F.left self.new) into.old.items into.new.items result }
+        ensures same_counts { self.new.counts ≡ self.old.counts }
+        ensures counted { OnOk result (self.new.counted ≡ count_after self.old.counts self.old.counted (length into.new.items - length into.old.items)) }
+    {
+        let before = into.len();
+        match &mut self.source {
+            ToGitOutcome::Unchanged(file) => read_all(file, into)?,
+            ToGitOutcome::Buffer(bytes) => {
+                into.extend_from_slice(bytes)?;
+                *bytes = &[];
+            }
+        }
+        self.count(into.len() - before);
+        Ok(())
     }
 }
 
@@ -114,10 +144,19 @@ fn kind_of(fault: Fault) -> io::ErrorKind
     }
 }
 
-impl<'a, F: ReadBytes> io::Read for Stream<'a, F> {
-    ghost remaining = { λ s. option_map (λ l. l.bytes) (stream_left F.left s) };
+ghost use Rattle.std.specs.Prelude.{IfErr, IfSome};
+ghost use Rattle.std.specs.Io.{ReadsAtMost};
+ghost use Rattle.std.specs.Io.KnownBytes.{ReadConsumes};
+ghost use Rattle.std.specs.IoError.{error_kind};
 
-    fn read(&mut self, buffer: &mut [u8]) -> io::Result<usize> {
+impl<'a, F: ReadBytes> io::Read for Stream<'a, F> {
+    ghost remaining = { λ s. known_bytes (stream_left F.left s) };
+
+    fn read(&mut self, buffer: &mut [u8]) -> io::Result<usize>
+        ensures bound { ReadsAtMost result buffer.new }
+        ensures bytes { ReadConsumes (known_bytes (stream_left F.left self.old)) (known_bytes (stream_left F.left self.new)) result buffer.new }
+        ensures kind { IfErr result (λ e. IfSome (stream_left F.left self.old) (λ l. IsKindOf l (error_kind e))) }
+    {
         match self.read_bytes(buffer) {
             Ok(count) => Ok(count),
             Err(fault) => Err(io::Error::from(kind_of(fault))),
