@@ -1,6 +1,7 @@
 pub mod Blobs
 pub mod Comparers
 pub mod Errors
+pub mod FastAgrees
 pub mod FaultKinds
 pub mod Reading
 pub mod StreamCounts

@@ -2,6 +2,7 @@
 
 ghost use Rattle.std.specs.Prelude.{◌≡◌, Some};
 ghost use Rattle.status_compare.specs.Comparers.{fast_answer, counts_after_fast, size_decides};
+ghost use Rattle.status_compare.specs.FastAgrees.{FastAgrees};
 
 use crate::compare::CompareBlobs;
 use crate::error::Error;
@@ -46,3 +47,10 @@ fn size_decides(entry: &Entry, size: u64) -> bool
     u64::from(entry.stat.size) != size % (1 << 32)
         && (entry.id.is_empty_blob() || entry.stat.size != 0)
 }
+
+/// A law: both comparisons tell a change of a file, or neither does. It holds where the file delivers as many bytes as its
+/// length, nothing converts it, the contents at hand have ids of their own, and the entry keeps its content's size or 0.
+#[tactic(auto, using(crate::proofs::Agree::agrees))]
+pub fn fast_agrees_with_hash(entry: &Entry)
+    ensures { FastAgrees entry.now }
+{}
