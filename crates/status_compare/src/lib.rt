@@ -2,6 +2,7 @@
 #![tactic(auto)]
 
 pub mod compare;
+pub mod entry_reader;
 pub mod error;
 pub mod fast_eq;
 pub mod hash_eq;
@@ -9,6 +10,7 @@ pub mod read_data;
 pub mod stream;
 
 pub use compare::CompareBlobs;
+pub use entry_reader::{EntryReader, Reads};
 pub use error::Error;
 pub use fast_eq::FastEq;
 pub use hash_eq::HashEq;
