@@ -1,15 +1,12 @@
 -- The directories above a path, and its components.
-use Rattle.std.proofs.Common.{◌≡◌, ◌⊎◌, ℕ, zero, suc, ◌+◌, ◌-◌, ◌<◌, ◌≤◌, Bool, true, false, cond, ltb, IsTrue, List, [], ◌∷◌, ◌++◌, length, take, drop, get_or, find, position, Option, Some, None, Result, Ok, Err, Contains, slice_index, refl, sym, ◌∙◌, ap, subst, inl, inr, arith, rules, add-one, append_assoc, if◌then◌else◌}
-use Rattle.std.specs.List.{slice_split, position_or_len, All, before_first, after_first}
-use Rattle.std.proofs.lemmas.Grind.{common_steps}
-use Rattle.std.proofs.lemmas.List.{take_rest, append-nil}
+use Rattle.std.proofs.Common.{◌≡◌, ℕ, zero, suc, ◌+◌, ◌<◌, ◌≤◌, Bool, true, false, cond, ltb, IsTrue, List, [], ◌∷◌, ◌++◌, length, take, drop, position, Option, Some, None, Result, Err, Contains, slice_index, refl, sym, ◌∙◌, ap, subst, inl, inr, arith, add-one, append_assoc, if◌then◌else◌}
+use Rattle.std.specs.List.{slice_split, position_or_len}
+use Rattle.std.proofs.lemmas.List.{append-nil, length-append}
 use Rattle.std.proofs.lemmas.List.Splits.{slice_split_none, slice_split_first}
 use Rattle.std.proofs.lemmas.List.Sums.{fails_before_first, position_or_len_is}
 use Rattle.std.proofs.lemmas.List.Quantifiers.{position-Some}
 use Rattle.std.proofs.lemmas.Bool.{cases_lt, ltb-false}
 use Rattle.std.proofs.lemmas.List.Elements.{Contains-append_right, All-from_get_or}
-use Rattle.std.proofs.lemmas.Bool.Decides.{nat_tests}
-use Rattle.bstr.specs.BStr.{bstr_bytes}
 use Rattle.status_index.specs.declared.fault.Fault.{Fault}
 use Rattle.status_index.specs.declared.fault.Fault.TheVariants as faults
 use Rattle.status_index.specs.declared.metadata.Metadata.{Metadata}
@@ -18,10 +15,10 @@ use Rattle.status_base.specs.declared.stack.error.StackError.{StackError}
 use Rattle.status_base.specs.declared.stack.error.StackError.TheVariants.{EmptyPath, NotNormal, ThroughLink, Memory}
 use Rattle.status_base.specs.declared.stack.error.StackError.TheVariants as errors
 use Rattle.status_base.specs.Paths.{is_slash, components, directories, directories_below, odd_component}
-use Rattle.status_base.specs.LinkCheck.{LinkCheck, Barrier, accepted, empty_path, not_normal, through_link, faulty, decided, barrier_of, leftmost_barrier, check_of_normal, link_check}
+use Rattle.status_base.specs.LinkCheck.{LinkCheck, Barrier, accepted, decided, barrier_of, leftmost_barrier, check_of_normal, link_check}
 use Rattle.status_base.specs.CheckState.{IsClear, IsClearBelow}
 use Rattle.status_base.specs.Verified.{IsRefused, IsNamed, IsChecked, accepting_absent}
-use Rattle.status_base.specs.Stopped.{IsBarrier, IsOfDirectory, IsStop, IsBarredAt, OnReached}
+use Rattle.status_base.specs.Stopped.{IsOfDirectory, IsStop, IsBarredAt, OnReached}
 
 one_open : (lstat : List ℕ → Result Metadata Fault) (directory : List ℕ) (slash : Bool) (others : List (List ℕ)) → (IsTrue slash → barrier_of (lstat directory) ≡ None) → leftmost_barrier lstat ((if slash then directory ∷ [] else []) ++ others) ≡ leftmost_barrier lstat others
 one_open lstat directory true others clear = ap (λ (v : Option Barrier). decided directory v (leftmost_barrier lstat others)) (clear refl)
@@ -47,12 +44,14 @@ directories_last path n slash =
 pub directories_split : (path : List ℕ) (at n : ℕ) → at < n → IsTrue (is_slash (slice_index path at)) → (others : List (List ℕ)) × (directories_below path n ≡ directories_below path at ++ take at path ∷ others)
 directories_split path at zero below slash = absurd (omega arith)
 directories_split path at (suc n) below slash =
-    elim (cases_lt at n) [ inl earlier ↦ (let split = directories_split path at n earlier slash in
-      let last : List (List ℕ) = (if is_slash (slice_index path n) then take n path ∷ [] else []) in
-      (split.0 ++ last, ap (λ (v : List (List ℕ)). v ++ last) split.1 ∙ append_assoc (directories_below path at) (take at path ∷ split.0) last))
-    | inr later ↦ (let same : n ≡ at = omega arith in
-      let P : ℕ → Type 0 = λ m. directories_below path (suc m) ≡ directories_below path at ++ take at path ∷ [] in
-      ([], subst P (sym same) (directories_last path at slash))) ]
+    elim (cases_lt at n) [
+      | inl earlier ↦ (let split = directories_split path at n earlier slash in
+          let last : List (List ℕ) = (if is_slash (slice_index path n) then take n path ∷ [] else []) in
+          (split.0 ++ last, ap (λ (v : List (List ℕ)). v ++ last) split.1 ∙ append_assoc (directories_below path at) (take at path ∷ split.0) last))
+      | inr later ↦ (let same : n ≡ at = omega arith in
+          let P : ℕ → Type 0 = λ m. directories_below path (suc m) ≡ directories_below path at ++ take at path ∷ [] in
+          ([], subst P (sym same) (directories_last path at slash)))
+    ]
 
 pub directories_contain : (path : List ℕ) (at : ℕ) → at < length path → IsTrue (is_slash (slice_index path at)) → Contains (directories path) (take at path)
 directories_contain path at within slash =
@@ -121,6 +120,22 @@ components_none path none =
     let past = none_past (ltb (position_or_len is_slash path) (length path)) (position_or_len is_slash path) none in
     let far = ltb-false (position_or_len is_slash path) (length path) past in
     slice_split_none is_slash path (All-from_get_or (λ (b : ℕ). is_slash b ≡ false) path 0 (λ k within. fails_before_first is_slash path k 0 (omega arith)))
+
+-- the directories are no fewer further on
+pub length-directories : (path : List ℕ) (at n : ℕ) → at ≤ n → length (directories_below path at) ≤ length (directories_below path n)
+length-directories path at zero below = let same : at ≡ 0 = omega arith in rw same (omega arith)
+length-directories path at (suc n) below =
+    elim (cases_lt n at) [
+      | inl later ↦ (let same : at ≡ suc n = omega arith in rw same (omega arith))
+      | inr earlier ↦ omega (arith, length-directories path at n earlier, length-append (directories_below path n) (if is_slash (slice_index path n) then take n path ∷ [] else []))
+    ]
+
+-- one more where a slash follows
+pub length-directories-more : (path : List ℕ) (at : ℕ) → IsTrue (is_slash (slice_index path at)) → length (directories_below path (at + 1)) ≡ length (directories_below path at) + 1
+length-directories-more path at slash =
+    ap (λ (n : ℕ). length (directories_below path n)) (add-one at)
+    ∙ ap length (directories_last path at slash)
+    ∙ length-append (directories_below path at) (take at path ∷ [])
 
 -- where nothing is there
 pub absent_accepted : {A : Type 0} (check : LinkCheck) (result : Result A StackError) → result ≡ Err (errors.Fault faults.NotFound) → IsChecked check result → accepting_absent check ≡ accepted

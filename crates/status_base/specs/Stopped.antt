@@ -1,6 +1,5 @@
 -- Where the way to a path is barred.
-use Rattle.std.specs.Prelude.{◌≡◌, ◌<◌, ℕ, Bool, IsTrue, List, length, take, Option, Some, None, Result, Ok, Err, slice_index}
-use Rattle.bstr.specs.declared.bstr.BStr.{BStr}
+use Rattle.std.specs.Prelude.{◌≡◌, ◌<◌, ℕ, IsTrue, List, length, take, Option, Some, None, Result, Ok, Err, slice_index}
 use Rattle.bstr.specs.BStr.{bstr_bytes}
 use Rattle.status_index.specs.declared.fault.Fault.{Fault}
 use Rattle.status_index.specs.declared.metadata.Metadata.{Metadata}
@@ -8,8 +7,8 @@ use Rattle.status_base.specs.declared.stack.Stop.{Stop}
 use Rattle.status_base.specs.declared.stack.error.StackError.{StackError}
 use Rattle.status_base.specs.declared.stack.error.StackError.TheVariants.{EmptyPath, NotNormal, ThroughLink, Memory}
 use Rattle.status_base.specs.declared.stack.error.StackError.TheVariants as errors
-use Rattle.status_base.specs.Paths.{is_slash, joined}
-use Rattle.status_base.specs.LinkCheck.{LinkCheck, Barrier, accepted, decided, barrier_of}
+use Rattle.status_base.specs.Paths.{is_slash}
+use Rattle.status_base.specs.LinkCheck.{Barrier, accepted, decided, barrier_of}
 use Rattle.status_base.specs.CheckState.{IsClear, IsClearBelow}
 use Rattle.status_base.specs.Verified.{IsRefused}
 

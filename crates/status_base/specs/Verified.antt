@@ -1,5 +1,5 @@
 -- What a check for links answers.
-use Rattle.std.specs.Prelude.{◌≡◌, ◌⊎◌, ◌<◌, ◌≤◌, ℕ, Bool, IsTrue, List, [], length, Contains, OnOk, Some, None, Option, Result, Ok, Err}
+use Rattle.std.specs.Prelude.{◌≡◌, ◌⊎◌, ◌<◌, ◌≤◌, ◌+◌, ℕ, Bool, IsTrue, List, [], length, Contains, OnOk, Some, None, Result, Ok, Err}
 use Rattle.bstr.specs.declared.bstr.BStr.{BStr}
 use Rattle.bstr.specs.BStr.{bstr_bytes}
 use Rattle.status_index.specs.declared.fault.Fault.{Fault}
@@ -63,12 +63,13 @@ pub record IsNormal (path : List ℕ) : Type 0 where
   pub even : odd_component path ≡ None
 
 -- a check after a query
-pub record IsAfterQuery (tells : Bool) (lstat : List ℕ → Result Metadata Fault) (old new : CheckState) : Type 0 where
+pub record IsAfterQuery (tells : Bool) (lstat : List ℕ → Result Metadata Fault) (query : List ℕ) (old new : CheckState) : Type 0 where
   pub root : new.root ≡ old.root
   pub clear : IsTrue tells → IsClear lstat old.path → IsClear lstat new.path
   pub looks : old.looks ≤ new.looks
+  pub few : new.looks ≤ old.looks + length (directories query)
 
 -- a check after a query that was answered by its path only where each directory above is open
 pub record IsAfterVerified {A E : Type 0} (tells : Bool) (lstat : List ℕ → Result Metadata Fault) (query : List ℕ) (result : Result A E) (old new : CheckState) : Type 0 where
   pub path : OnOk result (new.path ≡ query)
-  pub after : IsAfterQuery tells lstat old new
+  pub after : IsAfterQuery tells lstat query old new

@@ -3,17 +3,18 @@
 ghost use Rattle.std.specs.Prelude.{◌≡◌, ◌≤◌, ◌<◌, ◌+◌, IsTrue, List, [], ◌∷◌, length, take, drop, option_map, IfOk, OnOk, IfErr, IfSome, vec_len, position};
 ghost use Rattle.std.specs.Option.{option_map_or};
 ghost use Rattle.bstr.specs.BStr.{bstr_bytes};
-ghost use Rattle.status_base.specs.Paths.{is_slash, components, is_odd, odd_component, joined};
+ghost use Rattle.status_base.specs.Paths.{is_slash, components, is_odd, odd_component, directories, joined};
 ghost use Rattle.status_base.specs.LinkCheck.{link_check, barrier_of};
 ghost use Rattle.status_base.specs.CheckState.{IsClear};
 ghost use Rattle.status_base.specs.Stopped.{IsWay, IsStop, IsBarrier, IsOfDirectory};
 
 mod error;
-
-pub use error::StackError;
+#[cfg(test)]
+mod tests;
 
 use crate::worktree::{Fault, NodeKind, Worktree};
 use bstr::{BStr, BString};
+pub use error::StackError;
 use std::alloc::{AllocError, Global};
 use std::marker::Model;
 
@@ -105,12 +106,12 @@ impl SymlinkCheck {
     ) -> Result<BStr<'s>, StackError<'p>>
         ensures answer { IsTrue (W.tells worktree.now) → IsClear (W.lstat_of worktree.now) self.old.path
             → IsVerified (accepting_absent (link_check (W.lstat_of worktree.now) (bstr_bytes path.entry)))
-                (joined self.old.root (bstr_bytes path.entry)) result }
+            (joined self.old.root (bstr_bytes path.entry)) result }
         ensures named { IfErr result (IsNamed (bstr_bytes path.entry)) }
         ensures normal { OnOk result (IsNormal (bstr_bytes path.entry)) }
         ensures joined { IfOk result (λ answer. bstr_bytes answer ≡ joined self.old.root (bstr_bytes path.entry)) }
         ensures* rests { sem 𝓛 (Rests the_row self.entry
-            (IsAfterQuery (W.tells worktree.now) (W.lstat_of worktree.now) self.old)) }
+            (IsAfterQuery (W.tells worktree.now) (W.lstat_of worktree.now) (bstr_bytes path.entry) self.old)) }
     {
         match self.parts.verify(worktree, path.as_bytes()) {
             Ok(()) => Ok(BStr::new(self.parts.buffer.as_slice())),
@@ -158,7 +159,7 @@ impl Parts {
         ensures normal { OnReached result (IsNormal path.now) }
         ensures joined { OnReached result (self.new.buffer.items ≡ joined (bstring_bytes self.old.root) path.now) }
         ensures tested { OnOk result ((state_of self.new).path ≡ path.now) }
-        ensures after { IsAfterQuery (W.tells worktree.now) (W.lstat_of worktree.now) (state_of self.old) (state_of self.new) }
+        ensures after { IsAfterQuery (W.tells worktree.now) (W.lstat_of worktree.now) path.now (state_of self.old) (state_of self.new) }
     {
         if path.is_empty() {
             return Err(StackError::EmptyPath);
@@ -211,14 +212,11 @@ struct Stop<'p> {
 }
 
 /// The leftmost proper directory prefix of a path that is a link or has a fault. Each `lstat` is counted.
-fn first_barrier<'p, W: Worktree>(
-    worktree: &W,
-    path: &'p [u8],
-    looks: &mut u64,
-) -> Option<Stop<'p>>
+fn first_barrier<'p, W: Worktree>(worktree: &W, path: &'p [u8], looks: &mut u64) -> Option<Stop<'p>>
     ensures way { IsTrue (W.tells worktree.now) → IsWay (W.lstat_of worktree.now) path.now result }
     ensures stop { IfSome result (IsStop path.now) }
     ensures looks { looks.old ≤ looks.new }
+    ensures few { looks.new ≤ looks.old + length (directories path.now) }
 {
     for (at, byte) in path.iter().enumerate() {
         if *byte == b'/' {

@@ -1,4 +1,4 @@
-use Rattle.std.proofs.Common.{◌≡◌, ℕ, ◌+◌, List, ◌∷◌, take, drop, ap, ◌∙◌, sym}
+use Rattle.std.proofs.Common.{ℕ, ◌+◌, List, ◌∷◌, take, ap, ◌∙◌, sym}
 use Rattle.std.proofs.lemmas.List.{take_rest}
 use Rattle.status_base.specs.Paths.{components}
 use Rattle.status_base.proofs.LinkLemmas.{components_at, components_none}
