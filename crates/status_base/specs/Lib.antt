@@ -1,9 +1,13 @@
+pub mod CheckState
 pub mod Converted
 pub mod Found
 pub mod Lawful
+pub mod Kept
 pub mod LinkCheck
 pub mod Listing
 pub mod MemoryTree
 pub mod Outcomes
 pub mod Paths
+pub mod Stopped
 pub mod Submodules
+pub mod Verified
