@@ -4,6 +4,8 @@ pub mod Lawful
 pub mod LinkCheck
 pub mod Listing
 pub mod MemoryTree
+pub mod Nodes
 pub mod Outcomes
 pub mod Paths
 pub mod Submodules
+pub mod Trees

@@ -1,0 +1,4 @@
+pub mod AnyPath
+pub mod FileReads
+pub mod PathFronts
+pub mod Placed
