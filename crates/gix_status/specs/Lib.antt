@@ -1,3 +1,4 @@
+pub mod Asked
 pub mod Conflicts
 pub mod Considered
 pub mod Counts

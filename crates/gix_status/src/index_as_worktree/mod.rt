@@ -2,6 +2,7 @@
 
 pub mod conflict;
 pub mod decide;
+pub mod entry_status;
 pub mod feed;
 pub mod piece;
 pub mod recorder;
