@@ -1,1 +1,2 @@
+pub mod Considering
 pub mod Feeding
