@@ -49,12 +49,13 @@ module _ (prefix : List ℕ) where
       let here : p y ≡ true = All-head (λ e. p e ≡ true) y ys w in
       let any : list_any p (front ++ (y ∷ ys ++ back)) ≡ true = any_behind p front y (ys ++ back) here in
       let kept : filter p (front ++ (y ∷ ys ++ back)) ≡ y ∷ ys =
-          filter-append p front (y ∷ ys ++ back) ∙ ap (λ (l : List IndexEntry). l ++ filter p (y ∷ ys ++ back)) (filter_none p front f)
-          ∙ filter-append p (y ∷ ys) back ∙ ap (λ (l : List IndexEntry). l ++ filter p back) (filter_all p (y ∷ ys) w)
-          ∙ ap (λ (l : List IndexEntry). (y ∷ ys) ++ l) (filter_none p back k) ∙ append-nil (y ∷ ys) in
-      let place = position_behind p front y (ys ++ back) f here in
-      (sym (ap (λ b. cond b (filter p (front ++ (y ∷ ys ++ back))) (front ++ (y ∷ ys ++ back))) any ∙ kept),
-       sym (ap (λ b. cond b (position_or_len p (front ++ (y ∷ ys ++ back))) 0) any ∙ place))
+      filter-append p front (y ∷ ys ++ back) ∙ ap (λ (l : List IndexEntry). l ++ filter p (y ∷ ys ++ back)) (filter_none p front f)
+      ∙ filter-append p (y ∷ ys) back ∙ ap (λ (l : List IndexEntry). l ++ filter p back) (filter_all p (y ∷ ys) w)
+      ∙ ap (λ (l : List IndexEntry). (y ∷ ys) ++ l) (filter_none p back k) ∙ append-nil (y ∷ ys) in
+      let place = position_behind p front y (ys ++ back) f here in (
+        sym (ap (λ b. cond b (filter p (front ++ (y ∷ ys ++ back))) (front ++ (y ∷ ys ++ back))) any ∙ kept),
+        sym (ap (λ b. cond b (position_or_len p (front ++ (y ∷ ys ++ back))) 0) any ∙ place),
+      )
 
   none_of : (xs : List IndexEntry) → prefix ≡ [] → All (λ e. is_under prefix e ≡ false) xs → xs ≡ []
   none_of [] e h = refl

@@ -10,4 +10,6 @@ pub mod Query
 pub mod Recorded
 pub mod Records
 pub mod Status
+pub mod StatusTheorem
 pub mod Visits
+pub mod Worked
