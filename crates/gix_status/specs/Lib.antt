@@ -7,4 +7,5 @@ pub mod Pieces
 pub mod Query
 pub mod Records
 pub mod Status
+pub mod StatusTable
 pub mod Visits

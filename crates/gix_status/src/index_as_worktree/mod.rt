@@ -2,6 +2,7 @@
 
 pub mod conflict;
 pub mod decide;
+pub mod laws;
 pub mod piece;
 pub mod recorder;
 pub mod traits;
