@@ -67,44 +67,44 @@ module _ {T U : Type 0} (q : Query T U) (e : IndexEntry) where
   case_directory : (n : Metadata) → check_of q e ≡ accepted → node_of q e ≡ Ok n → n.kind ≡ kinds.Directory → (b : Bool) → is_submodule e.entry.mode ≡ b → case_of q e ≡ at_directory b
   case_directory n h told kind b mode = case_at (Ok n) h told ∙ (ap (λ (k : NodeKind). case_of_found q e (found_kind n k)) kind ∙ ap at_directory mode)
 
-  case_gone : IsGone q e → case_of q e ≡ status.gone
+  pub case_gone : IsGone q e → case_of q e ≡ status.gone
   case_gone (by_link p h) = ap at_check h
   case_gone (on_the_way f h absent) = ap at_check h ∙ ap (case_of_found q e) (found_absent f absent)
   case_gone (at_the_path f h told absent) = case_at (Err f) h told ∙ ap (case_of_found q e) (found_absent f absent)
   case_gone (by_directory n h told kind mode) = case_directory n h told kind false mode
 
-  case_refused : (f : Fault) → IsRefused q e f → case_of q e ≡ status.fails f
+  pub case_refused : (f : Fault) → IsRefused q e f → case_of q e ≡ status.fails f
   case_refused f (unnamed h name) = ap at_check h ∙ ap (λ (g : Fault). status.fails g) (sym name)
   case_refused f (oddly_named component h name) = ap at_check h ∙ ap (λ (g : Fault). status.fails g) (sym name)
   case_refused f (barred h other) = ap at_check h ∙ ap (case_of_found q e) (found_other f other)
   case_refused f (untold h told other) = case_at (Err f) h told ∙ ap (case_of_found q e) (found_other f other)
 
-  case_in_submodule : IsInSubmodule q e → case_of q e ≡ status.in_submodule (q.submodule e.entry e.path)
+  pub case_in_submodule : IsInSubmodule q e → case_of q e ≡ status.in_submodule (q.submodule e.entry e.path)
   case_in_submodule r = case_directory r.node r.clear r.told r.directory true r.submodule
 
   case_present : (n : Metadata) → IsPresent q e n → (b : Bool) → has_flag e INTENT_TO_ADD ≡ b → case_of q e ≡ at_intent n b
   case_present n p b flag = case_at (Ok n) p.clear p.told ∙ (ap (case_of_found q e) (found_no_directory n p.no_directory) ∙ ap (at_intent n) flag)
 
-  case_added : IsAdded q e → case_of q e ≡ status.added
+  pub case_added : IsAdded q e → case_of q e ≡ status.added
   case_added r = case_present r.node r.present true r.intended
 
-  case_unstamped : IsUnstamped q e → case_of q e ≡ status.unstamped
+  pub case_unstamped : IsUnstamped q e → case_of q e ≡ status.unstamped
   case_unstamped r = case_present r.node r.present false r.not_intended ∙ ap (case_of_stat q e r.node) r.unknown
 
-  abbrev change_of : Metadata → Option ModeChange
+  abbrev pub change_of : Metadata → Option ModeChange
   change_of n = mode_change q.symlink q.executable_bit e.entry.mode n
 
   case_stamped : (n : Metadata) (s : Stat) → IsStamped q e n s → case_of q e ≡ case_of_change q e n s (change_of n)
   case_stamped n s p = case_present n p.present false p.not_intended ∙ ap (case_of_stat q e n) p.known
 
-  case_retyped : (mode : Mode) → IsRetyped q e mode → case_of q e ≡ status.retyped mode
+  pub case_retyped : (mode : Mode) → IsRetyped q e mode → case_of q e ≡ status.retyped mode
   case_retyped mode r = case_stamped r.node r.stat r.stamped ∙ ap (case_of_change q e r.node r.stat) r.other_type
 
   case_same : (n : Metadata) (s : Stat) (x : Bool) → IsStamped q e n s → SameType q e n x → case_of q e ≡ case_of_content q e n s x (trusted q e s) (racy q e s)
   case_same n s true p same = case_stamped n s p ∙ ap (case_of_change q e n s) same
   case_same n s false p same = case_stamped n s p ∙ ap (case_of_change q e n s) same
 
-  case_unchanged : IsUnchanged q e → case_of q e ≡ status.unchanged
+  pub case_unchanged : IsUnchanged q e → case_of q e ≡ status.unchanged
   case_unchanged r =
       case_same r.node r.stat false r.stamped r.same
       ∙ (ap (λ (b : Bool). case_of_content q e r.node r.stat false b (racy q e r.stat)) r.trusted_stat
@@ -118,7 +118,7 @@ module _ {T U : Type 0} (q : Query T U) (e : IndexEntry) where
   content_compared n s false true false (inr (inl h)) = cc
   content_compared n s false true false (inr (inr h)) = cc
 
-  case_compared : (n : Metadata) (s : Stat) (x : Bool) → IsCompared q e n s x → (a : Result (Option T) Error) → comparison q e n ≡ a
+  pub case_compared : (n : Metadata) (s : Stat) (x : Bool) → IsCompared q e n s x → (a : Result (Option T) Error) → comparison q e n ≡ a
       → case_of q e ≡ status.compared x (trusted q e s) (racy q e s) s a
   case_compared n s x p a h =
       case_same n s x p.stamped p.same_type

@@ -1,1 +1,2 @@
 pub mod LawTable
+pub mod LawRows

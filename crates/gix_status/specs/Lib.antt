@@ -2,6 +2,7 @@ pub mod Conflicts
 pub mod Considered
 pub mod Counts
 pub mod Decisions
+pub mod Laws
 pub mod Outcomes
 pub mod Pieces
 pub mod Query
