@@ -1,2 +1,3 @@
-pub mod LawTable
+pub mod LawChanges
 pub mod LawRows
+pub mod LawTable

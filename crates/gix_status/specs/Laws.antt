@@ -9,15 +9,17 @@ use Rattle.status_index.specs.declared.stat.Stat.{Stat}
 use Rattle.status_index.specs.declared.entry.Entry.{Entry}
 use Rattle.status_index.specs.Entries.{IndexEntry, IsIndex, listed, stage_of}
 use Rattle.status_compare.specs.declared.error.Error.{Error}
+use Rattle.status_compare.specs.Reading.{no_reads}
 use Rattle.gix_status.specs.declared.index_as_worktree.types.Change.TheVariants.{Modification}
 use Rattle.gix_status.specs.declared.index_as_worktree.types.Conflict.{Conflict}
 use Rattle.gix_status.specs.declared.index_as_worktree.types.EntryStatus.TheVariants as statuses
 use Rattle.gix_status.specs.Conflicts.{conflict_of, places_of, kept_of}
 use Rattle.gix_status.specs.Considered.{same_path, is_skipped, is_over, stages_from}
+use Rattle.gix_status.specs.Counts.{is_compared_case, reads_of}
 use Rattle.gix_status.specs.Pieces.{IsCut}
 use Rattle.gix_status.specs.Query.{Query}
 use Rattle.gix_status.specs.Records.{verdict, records_of, faults_in, first_fault}
-use Rattle.gix_status.specs.Status.{changed, status_of}
+use Rattle.gix_status.specs.Status.{case_of, changed, status_of}
 use Rattle.gix_status.specs.StatusTable.{IsPresent, IsStamped, trusted, racy, HasChange}
 
 -- the modes of directories
@@ -57,6 +59,10 @@ module _ {T U : Type 0} (q : Query T U) where
   -- only where executability counts
   abbrev pub ExecutableLaw : Type 0
   ExecutableLaw = (e : IndexEntry) (c : Option T) (zero : Bool) → status_of q e ≡ changed (Modification true c zero) → IsTrue q.executable_bit × IsOtherExecutable e
+
+  -- of a directory's entry the comparer isn't asked, and nothing is read
+  abbrev pub UnreadLaw : Type 0
+  UnreadLaw = (e : IndexEntry) → IsDirectoryMode e.entry.mode → IsFalse (is_compared_case (case_of q e)) × (reads_of q e ≡ no_reads)
 
   -- the records ascend strictly
   abbrev pub AscendLaw : Type 0

@@ -2,6 +2,7 @@
 
 ghost use Rattle.std.specs.Prelude.{◌≡◌};
 ghost use Rattle.status_index.specs.Entries.{IndexEntry};
+ghost use Rattle.gix_status.specs.Laws.{ModificationLaw, UnreadLaw, ExecutableLaw};
 ghost use Rattle.gix_status.specs.Query.{Query};
 ghost use Rattle.gix_status.specs.StatusTable.{Row, IsInRow, StatusTable};
 
@@ -18,4 +19,21 @@ pub fn rows_cover<T: Drop, U: Drop>()
 /// No entry falls in two rows of the status table.
 pub fn rows_exclude<T: Drop, U: Drop>()
     ensures { (q : Query T U) (e : IndexEntry) (a b : Row) → IsInRow q e a → IsInRow q e b → a ≡ b }
+{}
+
+/// A modification is of the executability, the content or both. The size is to be set to zero only with a change of
+/// content, and only where the entry's stat agrees with the node's and may hide a write.
+pub fn modification_has_a_change<T: Drop, U: Drop>()
+    ensures { (q : Query T U) → ModificationLaw q }
+{}
+
+/// Of a submodule's or a directory's entry the comparer isn't asked, and no content is read.
+pub fn directories_are_not_read<T: Drop, U: Drop>()
+    ensures { (q : Query T U) → UnreadLaw q }
+{}
+
+/// An executable change comes only where executability counts, and of a regular file that is executable where the
+/// entry's mode isn't, or the other way round.
+pub fn executable_change_is_of_a_file<T: Drop, U: Drop>()
+    ensures { (q : Query T U) → ExecutableLaw q }
 {}
