@@ -1,3 +1,6 @@
 pub mod LawChanges
+pub mod LawConflicts
+pub mod LawCuts
+pub mod LawRecords
 pub mod LawRows
 pub mod LawTable
