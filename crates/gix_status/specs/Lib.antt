@@ -6,6 +6,7 @@ pub mod Decisions
 pub mod Fed
 pub mod Laws
 pub mod Outcomes
+pub mod PieceFed
 pub mod Pieces
 pub mod Query
 pub mod Recorded
@@ -13,5 +14,7 @@ pub mod Records
 pub mod Status
 pub mod StatusTable
 pub mod StatusTheorem
+pub mod Steps
+pub mod Sums
 pub mod Visits
 pub mod Worked

@@ -9,6 +9,7 @@ pub mod piece;
 pub mod recorder;
 pub mod traits;
 pub mod types;
+pub mod work;
 
 pub use recorder::{Record, Recorder};
 pub use types::{
