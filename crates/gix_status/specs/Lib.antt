@@ -7,4 +7,6 @@ pub mod Pieces
 pub mod Query
 pub mod Records
 pub mod Status
+pub mod Steps
+pub mod Sums
 pub mod Visits

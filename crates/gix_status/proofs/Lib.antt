@@ -1,0 +1,9 @@
+pub mod Ascents
+pub mod Conflicted
+pub mod Dones
+pub mod Groups
+pub mod Heads
+pub mod Nexts
+pub mod Parts
+pub mod RunLists
+pub mod Runs
