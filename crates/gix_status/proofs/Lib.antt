@@ -1,8 +1,16 @@
 pub mod Ascents
 pub mod Conflicted
+pub mod Considering
 pub mod Dones
+pub mod Feeding
 pub mod Groups
 pub mod Heads
+pub mod LawChanges
+pub mod LawConflicts
+pub mod LawCuts
+pub mod LawRecords
+pub mod LawRows
+pub mod LawTable
 pub mod Nexts
 pub mod Parts
 pub mod RunLists

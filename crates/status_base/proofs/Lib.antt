@@ -1,0 +1,6 @@
+pub mod AnyPath
+pub mod Contents
+pub mod FileReads
+pub mod LinkLemmas
+pub mod PathFronts
+pub mod Placed
