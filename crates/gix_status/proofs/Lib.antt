@@ -3,8 +3,8 @@ pub mod Conflicted
 pub mod Considering
 pub mod Dones
 pub mod Feeding
-pub mod Working
 pub mod Groups
+pub mod Heads
 pub mod LawChanges
 pub mod LawConflicts
 pub mod LawCuts
@@ -15,3 +15,4 @@ pub mod Nexts
 pub mod Parts
 pub mod RunLists
 pub mod Runs
+pub mod Working
