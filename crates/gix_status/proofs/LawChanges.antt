@@ -6,7 +6,6 @@ use Rattle.status_index.specs.declared.metadata.NodeKind.{NodeKind}
 use Rattle.status_index.specs.declared.metadata.NodeKind.TheVariants as kinds
 use Rattle.status_index.specs.declared.mode.Mode.{Mode}
 use Rattle.status_index.specs.declared.mode.Mode.TheVariants as modes
-use Rattle.status_index.specs.declared.mode.Change.{Change as ModeChange}
 use Rattle.status_index.specs.declared.mode.Change.TheVariants.{TypeChange, ExecutableBit}
 use Rattle.status_index.specs.declared.stat.Stat.{Stat}
 use Rattle.status_index.specs.Entries.{IndexEntry}
@@ -16,13 +15,13 @@ use Rattle.status_compare.specs.Reading.{ReadCounts, no_reads}
 use Rattle.gix_status.specs.declared.index_as_worktree.types.Change.TheVariants as changes
 use Rattle.gix_status.specs.declared.index_as_worktree.types.EntryStatus.{EntryStatus}
 use Rattle.gix_status.specs.Counts.{is_compared_case, is_looked_at, reads_of, reads_of_case, reads_of_found}
-use Rattle.gix_status.specs.Laws.{IsDirectoryMode, HidesWrites, IsChange, ModificationLaw, IsOtherExecutable, ExecutableLaw, UnreadLaw}
+use Rattle.gix_status.specs.Laws.{IsDirectoryMode, IsChange, ModificationLaw, ExecutableLaw, UnreadLaw}
 use Rattle.gix_status.specs.Query.{Query}
 use Rattle.gix_status.specs.Status as status
 use Rattle.gix_status.specs.Status.{Case, answer, changed, case_of, found, status_of}
-use Rattle.gix_status.specs.StatusTable.{Row, gone, refused, in_submodule, added, unstamped, retyped, unchanged, failed, modified, to_update, SameType, trusted, racy, IsCompared, comparison, HasChange, IsInRow, StatusTable}
+use Rattle.gix_status.specs.StatusTable.{Row, gone, refused, in_submodule, added, unstamped, retyped, unchanged, failed, modified, to_update, SameType, trusted, racy, IsCompared, HasChange, IsInRow}
 use Rattle.gix_status.proofs.LawRows.{row_of}
-use Rattle.gix_status.proofs.LawTable.{change_of, case_gone, case_refused, case_in_submodule, case_added, case_unstamped, case_retyped, case_unchanged, case_compared, status_table}
+use Rattle.gix_status.proofs.LawTable.{change_of, case_gone, case_refused, case_in_submodule, case_added, case_unstamped, case_retyped, case_unchanged, status_table}
 
 module _ {T U : Type 0} where
   -- two answers that a modification isn't

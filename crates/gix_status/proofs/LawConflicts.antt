@@ -1,10 +1,9 @@
 -- A path has one conflict, and its head tells it.
-use Rattle.std.proofs.Common.{◌≡◌, ◌⊎◌, ◌∙◌, inl, inr, refl, sym, ap, ℕ, ◌<◌, ◌≤◌, ◌/◌, ◌%◌, Bool, true, false, not, ◌&&◌, ◌||◌, cond, List, [], ◌∷◌, ◌++◌, length, take, drop, get_or, map, reverse, Option, Some, None, is_some, option_map, Result, Ok, Err, if◌then◌else◌, nat_lt, nat_le, ◌==◌, arith, eq-eqb, Ordering, IsTrue, IsFalse}
-use Rattle.std.specs.List.{All, AllPairs, filter, find, list_any}
+use Rattle.std.proofs.Common.{◌≡◌, ◌⊎◌, ◌∙◌, inl, inr, refl, sym, ap, ℕ, ◌<◌, Bool, true, false, not, ◌&&◌, ◌||◌, cond, List, [], ◌∷◌, length, get_or, map, reverse, Option, Some, None, is_some, option_map, Result, Ok, if◌then◌else◌, nat_lt, nat_le, ◌==◌, arith, eq-eqb, Ordering}
+use Rattle.std.specs.List.{filter, find, list_any}
 use Rattle.std.specs.Ordering.{nat_cmp, ordering_then, is_eq}
 use Rattle.std.specs.Cmp.Lexicographic.{slice_cmp}
 use Rattle.std.specs.declared.cmp.Ordering.TheVariants.{Less, Equal, Greater}
-use Rattle.std.specs.Str.{bytes_eq}
 use Rattle.std.proofs.lemmas.Bool.{and_from, cases_eq, or_right, lt-ltb, le-leb, ne_eqb}
 use Rattle.std.proofs.lemmas.Bool.Decides.{nat_tests}
 use Rattle.std.proofs.lemmas.List.{get_or-map, length-map}
@@ -19,7 +18,7 @@ use Rattle.gix_status.specs.declared.index_as_worktree.types.Conflict.{Conflict}
 use Rattle.gix_status.specs.declared.index_as_worktree.types.Conflict.TheVariants.{BothDeleted, AddedByUs, DeletedByThem, AddedByThem, DeletedByUs, BothAdded, BothModified}
 use Rattle.gix_status.specs.declared.index_as_worktree.types.EntryStatus.{EntryStatus}
 use Rattle.gix_status.specs.declared.index_as_worktree.types.EntryStatus.TheVariants as statuses
-use Rattle.gix_status.specs.Conflicts.{conflict_named, conflict_of, entry_of_stage, has_stage, kept_of, places_of}
+use Rattle.gix_status.specs.Conflicts.{conflict_named, conflict_of, has_stage, kept_of, places_of}
 use Rattle.gix_status.specs.Considered.{is_skipped, is_over, same_path, stages_from, takes_over}
 use Rattle.gix_status.specs.Laws.{HeadLaw, OneConflictLaw, TellsConflict, conflict_run}
 use Rattle.gix_status.specs.Query.{Query}
@@ -60,20 +59,20 @@ module _ {T U : Type 0} (q : Query T U) (es : List IndexEntry) where
   over_gives_nothing : (e : IndexEntry) → is_over q es e ≡ true → verdict q es e ≡ Ok None
   over_gives_nothing e h =
       ap (λ (b : Bool). if b then Ok None else (if stage_of e.entry == 0 then status_of q e else Ok (conflict_status (map (λ d. d.entry) (stages_from es e)))))
-          (or_right (is_skipped q e) (is_over q es e) h)
+      (or_right (is_skipped q e) (is_over q es e) h)
 
   taken_over : (a b : IndexEntry) → same_path a b ≡ true → is_skipped q a ≡ false → 0 < stage_of a.entry → stage_of a.entry < stage_of b.entry → takes_over q a b ≡ true
   taken_over a b same skipped staged less =
       four (not (is_skipped q a)) (same_path a b) (nat_lt 0 (stage_of a.entry)) (nat_lt (stage_of a.entry) (stage_of b.entry))
-          (not_false (is_skipped q a) skipped) same (lt-ltb 0 (stage_of a.entry) staged) (lt-ltb (stage_of a.entry) (stage_of b.entry) less)
+      (not_false (is_skipped q a) skipped) same (lt-ltb 0 (stage_of a.entry) staged) (lt-ltb (stage_of a.entry) (stage_of b.entry) less)
 
   later_nothing : IsIndex (map listed es) → (i j : ℕ) (d : IndexEntry) → i < j → j < length es → same_path (get_or es i d) (get_or es j d) ≡ true
       → is_skipped q (get_or es i d) ≡ false → 0 < stage_of (get_or es i d).entry → verdict q es (get_or es j d) ≡ Ok None
   later_nothing index i j d h k same skipped staged =
       let within : i < length es = omega arith in
       over_gives_nothing (get_or es j d)
-          (list_any_at (λ c. takes_over q c (get_or es j d)) es i d within
-              (taken_over (get_or es i d) (get_or es j d) same skipped staged (stages_ascend (get_or es i d) (get_or es j d) same (in_order es index i j d h k))))
+      (list_any_at (λ c. takes_over q c (get_or es j d)) es i d within
+      (taken_over (get_or es i d) (get_or es j d) same skipped staged (stages_ascend (get_or es i d) (get_or es j d) same (in_order es index i j d h k))))
 
 pub one_conflict_law : {T U : Type 0} (q : Query T U) → OneConflictLaw q
 one_conflict_law q es index = λ i j d h k same skipped staged. later_nothing q es index i j d h k same skipped staged
@@ -116,7 +115,7 @@ has_own_stage es i d h =
     ∙ (any_map (λ c. c.entry) (λ c. stage_of c == own) (stages_from es e)
     ∙ (any_filter (λ (c : IndexEntry). stage_of c.entry == own) (λ c. same_path c e && nat_le own (stage_of c.entry)) es
     ∙ list_any_at (λ c. same_path c e && nat_le own (stage_of c.entry) && (stage_of c.entry == own)) es i d h
-        (three (same_path e e) (nat_le own own) (own == own) ((bytes_eq-Decides e.path e.path).1 refl) (le-leb own own (omega arith)) (eq-eqb own own refl))))
+    (three (same_path e e) (nat_le own own) (own == own) ((bytes_eq-Decides e.path e.path).1 refl) (le-leb own own (omega arith)) (eq-eqb own own refl))))
 
 abbrev SomeConflict : Bool → Bool → Bool → Type 0
 SomeConflict a b c = (s : Conflict) × (conflict_named a b c ≡ Some s)
@@ -177,4 +176,4 @@ module _ {T U : Type 0} (q : Query T U) (es : List IndexEntry) (e : IndexEntry) 
 pub head_law : {T U : Type 0} (q : Query T U) → HeadLaw q
 head_law q es i d h staged skipped over =
     tells_conflict q es (get_or es i d) staged skipped over
-        (conflict_at (conflict_run es (get_or es i d)) (stage_of (get_or es i d).entry) staged (low_stage (get_or es i d).entry) (has_own_stage es i d h))
+    (conflict_at (conflict_run es (get_or es i d)) (stage_of (get_or es i d).entry) staged (low_stage (get_or es i d).entry) (has_own_stage es i d h))

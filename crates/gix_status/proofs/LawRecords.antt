@@ -1,5 +1,5 @@
 -- The records ascend, and the fault before which there is none is the first.
-use Rattle.std.proofs.Common.{◌≡◌, ◌∙◌, refl, sym, ap, ℕ, ◌+◌, ◌<◌, ◌≤◌, List, [], ◌∷◌, ◌++◌, length, take, drop, get_or, Option, Some, None, Result, Ok, Err, arith}
+use Rattle.std.proofs.Common.{◌≡◌, ◌∙◌, sym, ap, ℕ, ◌+◌, ◌<◌, ◌≤◌, List, [], ◌∷◌, ◌++◌, length, take, drop, get_or, Option, Some, None, Result, Ok, Err, arith}
 use Rattle.std.specs.List.{filter_map, cons_option, slice_get, All, AllPairs}
 use Rattle.std.proofs.lemmas.List.{drop_more, take-append-drop}
 use Rattle.std.proofs.lemmas.List.Elements.{All-nil, All-cons, All-weaker, filter_map-append}
@@ -10,7 +10,7 @@ use Rattle.gix_status.specs.declared.index_as_worktree.types.EntryStatus.{EntryS
 use Rattle.gix_status.specs.declared.index_as_worktree.types.Finding.{Finding}
 use Rattle.gix_status.specs.Laws.{AscendLaw, FaultLaw}
 use Rattle.gix_status.specs.Query.{Query}
-use Rattle.gix_status.specs.Records.{fault_by, faults_in, first_fault, record_by, records_in, verdict}
+use Rattle.gix_status.specs.Records.{fault_by, faults_in, record_by, records_in, verdict}
 
 module _ {T U : Type 0} where
   -- the records are of places from i on
@@ -29,7 +29,7 @@ module _ {T U : Type 0} where
   ascend_cons : (i : ℕ) (v : Result (Option (EntryStatus T U)) Error) (rest : List (Finding T U)) → All (IsFrom (i + 1)) rest → AllPairs Ascends rest → AllPairs Ascends (record_by i v ++ rest)
   ascend_cons i (Ok (Some s)) rest h k =
       AllPairs-cons Ascends (record { entry_index = i; status = s }) rest
-          (All-weaker (IsFrom (i + 1)) (Ascends (record { entry_index = i; status = s })) (λ f l. omega arith) rest h) k
+      (All-weaker (IsFrom (i + 1)) (Ascends (record { entry_index = i; status = s })) (λ f l. omega arith) rest h) k
   ascend_cons i (Ok None) rest h k = k
   ascend_cons i (Err x) rest h k = k
 

@@ -1,32 +1,26 @@
 -- The rows of the status table cover all entries, and no entry is in two; what follows for modifications and reading.
-use Rattle.std.proofs.Common.{◌≡◌, ◌⊎◌, ◌∙◌, inl, inr, refl, sym, ap, ℕ, Bool, true, false, not, ◌&&◌, List, Option, Some, None, is_some, Result, Ok, Err, IsTrue, IsFalse, cond}
-use Rattle.std.proofs.lemmas.Bool.{cases_Bool, false≢true, and_parts}
+use Rattle.std.proofs.Common.{◌≡◌, ◌⊎◌, ◌∙◌, inl, inr, refl, sym, ap, Bool, true, false, Option, Some, None, Result, Ok, Err}
+use Rattle.std.proofs.lemmas.Bool.{false≢true}
 use Rattle.status_index.specs.declared.fault.Fault.{Fault}
 use Rattle.status_index.specs.declared.fault.Fault.TheVariants as faults
 use Rattle.status_index.specs.declared.metadata.Metadata.{Metadata}
 use Rattle.status_index.specs.declared.metadata.NodeKind.{NodeKind}
 use Rattle.status_index.specs.declared.metadata.NodeKind.TheVariants as kinds
-use Rattle.status_index.specs.declared.mode.Mode.{Mode}
-use Rattle.status_index.specs.declared.mode.Mode.TheVariants as modes
 use Rattle.status_index.specs.declared.mode.Change.{Change as ModeChange}
 use Rattle.status_index.specs.declared.mode.Change.TheVariants.{TypeChange, ExecutableBit}
 use Rattle.status_index.specs.declared.stat.Stat.{Stat}
 use Rattle.status_index.specs.declared.flags.TheConstants.Flags.{INTENT_TO_ADD}
 use Rattle.status_index.specs.Entries.{IndexEntry}
-use Rattle.status_index.specs.Mode.{is_submodule, mode_change, mode_change_at, other_type, other_executable}
+use Rattle.status_index.specs.Mode.{is_submodule}
 use Rattle.status_index.specs.NodeStat.{stat_of}
 use Rattle.status_base.specs.LinkCheck.{LinkCheck, accepted, empty_path, not_normal, through_link, faulty}
 use Rattle.status_compare.specs.declared.error.Error.{Error}
-use Rattle.gix_status.specs.declared.index_as_worktree.types.Change.{Change}
-use Rattle.gix_status.specs.declared.index_as_worktree.types.Change.TheVariants as changes
-use Rattle.gix_status.specs.declared.index_as_worktree.types.EntryStatus.{EntryStatus}
-use Rattle.gix_status.specs.declared.index_as_worktree.types.EntryStatus.TheVariants as statuses
 use Rattle.gix_status.specs.Considered.{has_flag}
 use Rattle.gix_status.specs.Query.{Query}
 use Rattle.gix_status.specs.Status as status
 use Rattle.gix_status.specs.Status.{Case, changed, case_of, status_of}
-use Rattle.gix_status.specs.StatusTable.{Row, gone, refused, in_submodule, added, unstamped, retyped, unchanged, failed, modified, to_update, IsAbsence, check_of, node_of, by_link, on_the_way, at_the_path, by_directory, unnamed, oddly_named, barred, untold, IsInSubmodule, IsPresent, IsStamped, SameType, trusted, racy, IsCompared, comparison, HasChange, StatusTable, IsInRow}
-use Rattle.gix_status.proofs.LawTable.{change_of, case_gone, case_refused, case_in_submodule, case_added, case_unstamped, case_retyped, case_unchanged, case_compared, status_table}
+use Rattle.gix_status.specs.StatusTable.{Row, gone, refused, in_submodule, added, unstamped, retyped, unchanged, failed, modified, to_update, IsAbsence, check_of, node_of, by_link, on_the_way, at_the_path, by_directory, unnamed, oddly_named, barred, untold, IsPresent, IsStamped, SameType, trusted, racy, IsCompared, comparison, HasChange, IsInRow}
+use Rattle.gix_status.proofs.LawTable.{change_of, case_gone, case_refused, case_in_submodule, case_added, case_unstamped, case_retyped, case_unchanged, case_compared}
 
 is_absence : Fault → Bool
 is_absence faults.NotFound = true

@@ -1,6 +1,5 @@
 -- The status table holds, its rows cover all entries, and no entry is in two.
 use Rattle.std.proofs.Common.{◌≡◌, ◌⊎◌, ◌∙◌, inl, inr, refl, sym, ap, ℕ, Bool, true, false, ◌&&◌, List, Option, Some, None, is_some, Result, Ok, Err, IsTrue, IsFalse, if◌then◌else◌}
-use Rattle.std.proofs.lemmas.Bool.{cases_Bool}
 use Rattle.status_index.specs.declared.fault.Fault.{Fault}
 use Rattle.status_index.specs.declared.fault.Fault.TheVariants as faults
 use Rattle.status_index.specs.declared.metadata.Metadata.{Metadata}
@@ -8,13 +7,12 @@ use Rattle.status_index.specs.declared.metadata.NodeKind.{NodeKind}
 use Rattle.status_index.specs.declared.metadata.NodeKind.TheVariants as kinds
 use Rattle.status_index.specs.declared.mode.Mode.{Mode}
 use Rattle.status_index.specs.declared.mode.Change.{Change as ModeChange}
-use Rattle.status_index.specs.declared.mode.Change.TheVariants.{TypeChange, ExecutableBit}
 use Rattle.status_index.specs.declared.stat.Stat.{Stat}
 use Rattle.status_index.specs.declared.flags.TheConstants.Flags.{INTENT_TO_ADD}
 use Rattle.status_index.specs.Entries.{IndexEntry}
 use Rattle.status_index.specs.Mode.{is_submodule, mode_change}
 use Rattle.status_index.specs.NodeStat.{stat_of}
-use Rattle.status_base.specs.LinkCheck.{LinkCheck, accepted, empty_path, not_normal, through_link, faulty}
+use Rattle.status_base.specs.LinkCheck.{LinkCheck, accepted}
 use Rattle.status_compare.specs.declared.error.Error.{Error}
 use Rattle.gix_status.specs.declared.index_as_worktree.types.Change.TheVariants as changes
 use Rattle.gix_status.specs.declared.index_as_worktree.types.EntryStatus.{EntryStatus}
@@ -22,7 +20,7 @@ use Rattle.gix_status.specs.Considered.{has_flag}
 use Rattle.gix_status.specs.Query.{Query}
 use Rattle.gix_status.specs.Status as status
 use Rattle.gix_status.specs.Status.{Case, Found, found_fault, found_kind, found_node, found_by, found, answer, changed, case_of, case_of_found, case_of_stat, case_of_change, case_of_content, status_of}
-use Rattle.gix_status.specs.StatusTable.{Row, gone, refused, in_submodule, added, unstamped, retyped, unchanged, failed, modified, to_update, IsAbsence, check_of, node_of, IsGone, by_link, on_the_way, at_the_path, by_directory, IsRefused, unnamed, oddly_named, barred, untold, IsInSubmodule, IsPresent, IsAdded, IsUnstamped, IsStamped, IsRetyped, SameType, trusted, racy, IsUnchanged, IsCompared, comparison, HasChange, SubmoduleRow, StatusTable, IsInRow}
+use Rattle.gix_status.specs.StatusTable.{IsAbsence, check_of, node_of, IsGone, by_link, on_the_way, at_the_path, by_directory, IsRefused, unnamed, oddly_named, barred, untold, IsInSubmodule, IsPresent, IsAdded, IsUnstamped, IsStamped, IsRetyped, SameType, trusted, racy, IsUnchanged, IsCompared, comparison, HasChange, SubmoduleRow, StatusTable}
 
 found_absent : (f : Fault) → IsAbsence f → found_fault f ≡ status.nothing
 found_absent f (inl h) = ap found_fault h

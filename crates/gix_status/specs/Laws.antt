@@ -1,5 +1,5 @@
 -- Laws of the definitions.
-use Rattle.std.specs.Prelude.{◌≡◌, ◌⊎◌, ℕ, ◌<◌, Bool, true, List, [], length, take, drop, map, All, AllPairs, Option, Some, None, option_map, is_some, Result, Ok, Err, IsTrue, IsFalse}
+use Rattle.std.specs.Prelude.{◌≡◌, ◌⊎◌, ℕ, ◌<◌, Bool, true, List, [], length, take, drop, map, All, AllPairs, Option, Some, None, option_map, is_some, Ok, Err, IsTrue, IsFalse}
 use Rattle.std.specs.List.{slice_index_or}
 use Rattle.status_index.specs.declared.metadata.Metadata.{Metadata}
 use Rattle.status_index.specs.declared.metadata.NodeKind.TheVariants as kinds

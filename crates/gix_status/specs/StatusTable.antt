@@ -28,13 +28,19 @@ IsAbsence f = (f ≡ faults.NotFound) ⊎ (f ≡ faults.NotADirectory)
 
 -- the rows of the table
 pub data Row : Type 0 where
+  -- nothing is there, or a directory in place of a file
   gone : Row
+  -- a fault keeps the path from being looked at
   refused : Row
+  -- a directory at a submodule's entry
   in_submodule : Row
+  -- a node at an entry that is to be added; a node of which a stamp isn't known; a node of another type
   added : Row
   unstamped : Row
   retyped : Row
+  -- a stat that settles it
   unchanged : Row
+  -- one that doesn't: the comparer fails; there is a change of executability or of content; there is none
   failed : Row
   modified : Row
   to_update : Row

@@ -41,30 +41,25 @@ pub fn executable_change_is_of_a_file<T: Drop, U: Drop>()
 /// The records stand in the order of the index, one an entry at most.
 pub fn records_ascend<T: Drop, U: Drop>()
     ensures { (q : Query T U) → AscendLaw q }
-{
-}
+{}
 
 /// Where no path has entries on both sides of a place, each side of the index can be worked on by itself.
 pub fn cut_separates<T: Drop, U: Drop>()
     ensures { (q : Query T U) → CutLaw q }
-{
-}
+{}
 
 /// An entry's fault is the first of the index where the entries before it give none.
 pub fn fault_is_first<T: Drop, U: Drop>()
     ensures { (q : Query T U) → FaultLaw q }
-{
-}
+{}
 
 /// A path has one record of a conflict: after an entry with a stage that isn't skipped no entry of its path gives
 /// anything.
 pub fn one_conflict_a_path<T: Drop, U: Drop>()
     ensures { (q : Query T U) → OneConflictLaw q }
-{
-}
+{}
 
 /// An entry with a stage that is neither skipped nor over tells a conflict.
 pub fn head_tells_a_conflict<T: Drop, U: Drop>()
     ensures { (q : Query T U) → HeadLaw q }
-{
-}
+{}
