@@ -9,7 +9,7 @@ ghost use Rattle.gix_status.specs.Conflicts.{kept_of, run_at};
 ghost use Rattle.gix_status.specs.Considered.{is_flagged, same_path};
 ghost use Rattle.gix_status.specs.Counts.{counts_of_outcome, reads_of_outcome};
 ghost use Rattle.gix_status.specs.Decisions.{reads_of_decided};
-ghost use Rattle.gix_status.specs.Pieces.{IsCut, IsPiece};
+ghost use Rattle.gix_status.specs.Pieces.{IsCut, IsPiece, IsUncut};
 ghost use Rattle.gix_status.specs.Records.{conflict_status, record_by};
 ghost use Rattle.gix_status.specs.Steps.{IsFresh, IsStep, processed_counts, decided_counts};
 ghost use Rattle.gix_status.specs.Sums.{IsOfEntries, plus_reads};
@@ -105,6 +105,7 @@ pub(crate) fn work_piece<D: Decide>(
     requires end { IsCut (index_entries backing.now entries.now) to }
     ensures piece { IsPiece (D.query decide.old) (D.tells decide.old) start (index_entries backing.now entries.now) from to result }
     ensures alone { IsOfEntries result.outcome }
+    ensures uncut { IsUncut result.end }
     ensures same { D.query decide.new ≡ D.query decide.old }
     ensures tells { D.tells decide.new ≡ D.tells decide.old }
 {

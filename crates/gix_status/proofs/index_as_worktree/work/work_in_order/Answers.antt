@@ -47,7 +47,7 @@ feed_piece-requires g c κs =
     let piece = piece_kept q (g.D.Decide.query c.loop-at.decide) tells (g.D.Decide.tells c.loop-at.decide) c.loop-at.invariant.query c.loop-at.invariant.tells c.args.start es at to p c.work_piece-piece.ensures.piece in
     let len = length-map (part_of c.args.entries.now c.args.start c.args.end) (index_entry c.args.backing.now) in
     let fits : c.args.start + length es ≤ length c.args.entries.now =
-        omega (arith, len, length-take (c.args.end - c.args.start) (drop c.args.start c.args.entries.now), length-drop c.args.start c.args.entries.now, c.requires.order, c.requires.inside) in
+    omega (arith, len, length-take (c.args.end - c.args.start) (drop c.args.start c.args.entries.now), length-drop c.args.start c.args.entries.now, c.requires.order, c.requires.inside) in
     ((refl, tt), (piece_placed q tells c.args.start es c.args.entries.now c.args.backing.now at to p fits piece, c.work_piece-piece.ensures.uncut))
 
 pub absorb-requires : goal.absorb-requires
@@ -62,7 +62,7 @@ absorb-requires g c =
     let way = c.loop-at.invariant.way in
     let len = length-map (part_of c.args.entries.now c.args.start c.args.end) (index_entry c.args.backing.now) in
     let few : length es < 2 ^ 64 =
-        omega (arith, len, length-take (c.args.end - c.args.start) (drop c.args.start c.args.entries.now), c.ranges.end.fits) in
+    omega (arith, len, length-take (c.args.end - c.args.start) (drop c.args.start c.args.entries.now), c.ranges.end.fits) in
     rw c.in-Ok.ensures.1 (sums_fit q tells c.args.start es 0 at p.reached way.told p.findings.items c.loop-at.total p.outcome way.done piece.done few way.alone c.work_piece-piece.ensures.alone)
 
 pub returns-in-Err : goal.returns-in-Err
