@@ -12,7 +12,9 @@ pub mod LawRecords
 pub mod LawRows
 pub mod LawTable
 pub mod Nexts
+pub mod NoThread
 pub mod Parts
 pub mod RunLists
 pub mod Runs
+pub mod StatusProof
 pub mod Working

@@ -20,6 +20,10 @@ use Rattle.gix_status.specs.Visits.{Visit, finding_of, IsFaithful}
 abbrev pub IsBeginning : {A : Type 0} → List A → List A → Type 0
 IsBeginning {A} front all = (rest : List A) × (front ++ rest ≡ all)
 
+-- the comparer never answers that a thread was refused
+abbrev pub NeverSpawns : {T U : Type 0} → Query T U → Type 0
+NeverSpawns q = (e : IndexEntry) (n : Metadata) → q.compared e.entry n.len (meaning q e n) ≢ Err SpawnThread
+
 module _ {T U : Type 0} (q : Query T U) (entries : List Entry) (backing : PathStorage) where
   -- all entries with their paths, those of them that are considered, and the place of the first of these
   abbrev pub all_entries : List IndexEntry
@@ -52,10 +56,6 @@ module _ {T U : Type 0} (q : Query T U) (entries : List Entry) (backing : PathSt
     pub here : (d : IndexEntry) → verdict q considered_entries (slice_index_or considered_entries place d) ≡ Err e
     pub records : told ≡ records_in q considered_entries start_of (take place considered_entries)
 
-  -- the comparer never answers that a thread was refused
-  abbrev pub NeverSpawns : Type 0
-  NeverSpawns = (e : IndexEntry) (n : Metadata) → q.compared e.entry n.len (meaning q e n) ≢ Err SpawnThread
-
   -- what was told, by whether the worktree tells its nodes, whether there is an interrupt flag, and the thread limit
   pub record IsStatus (tells has_flag : Bool) (limit : Option ℕ) (old : List (Visit T U)) (result : Result Outcome Error) (new : List (Visit T U)) : Type 0 where
     pub more : List (Visit T U)
@@ -74,4 +74,4 @@ module _ {T U : Type 0} (q : Query T U) (entries : List Entry) (backing : PathSt
     -- without a flag it isn't interrupted
     pub uninterrupted : has_flag ≡ false → IfOk result (λ o. o.interrupted ≡ false)
     -- with limit 1 no thread is refused
-    pub alone : IsTrue tells → limit ≡ Some 1 → NeverSpawns → result ≢ Err SpawnThread
+    pub alone : IsTrue tells → limit ≡ Some 1 → NeverSpawns q → result ≢ Err SpawnThread
