@@ -1,1 +1,2 @@
+pub mod EntryCases
 pub mod Feeding
