@@ -4,6 +4,7 @@ use Rattle.status_index.specs.declared.fault.Fault.{Fault}
 use Rattle.status_index.specs.declared.fault.Fault.TheVariants as faults
 use Rattle.status_index.specs.declared.metadata.Metadata.{Metadata}
 use Rattle.status_index.specs.Entries.{IndexEntry}
+use Rattle.status_index.specs.Stat.{is_racy}
 use Rattle.status_index.specs.declared.stat.Stat.{Stat}
 use Rattle.bstr.specs.declared.bstr.BStr.{BStr}
 use Rattle.bstr.specs.BStr.{bstr_bytes}
@@ -22,12 +23,17 @@ use Rattle.gix_status.specs.Counts.{is_accepted, is_racy_case, is_compared_case,
 use Rattle.gix_status.specs.Decisions.{IsDecided, reads_of_decided}
 use Rattle.gix_status.specs.EntryParts.{IsSite, IsOfCase, IsCaseDecided}
 use Rattle.gix_status.specs.Query.{Query}
-use Rattle.gix_status.specs.Status.{Found, found_by, refused, Case, compared, answer, found, meaning, case_of_found, case_of_content}
+use Rattle.gix_status.specs.Status.{Found, found_by, refused, present, Case, compared, answer, found, meaning, is_trusted, case_of_found, case_of_content}
 
 -- a site that was found by an equal check
 pub site_at : (meant check : LinkCheck) (node : Result Metadata Fault) (r : Result Site Error) → check ≡ meant → IsSite (found_by meant node) (is_accepted meant) r → IsSite (found_by check node) (is_accepted check) r
 site_at meant check node r same h =
     let P : LinkCheck → Type 0 = λ k. IsSite (found_by k node) (is_accepted k) r in subst P (sym same) h
+
+-- a node that was found
+pub site_node : (found : Found) (asked : Bool) (site : Site) (n : Metadata) → site ≡ sites.Node n → IsSite found asked (Ok site) → (found ≡ present n) × (asked ≡ true)
+site_node found asked site n same h =
+    let P : Site → Type 0 = λ s. IsSite found asked (Ok s) in subst P same h
 
 -- a path that isn't normal
 pub site_odd : (error : StackError) (check : LinkCheck) (node : Result Metadata Fault)
@@ -50,6 +56,9 @@ site_odd stacks.Memory check node (inr e) same = let f = e.1 in absurd (cc)
 pub told_counts : (counted : Option ReadCounts) → IsTrue (is_some counted) → counted ≡ Some (unwrap_or counted no_reads)
 told_counts (Some k) told = refl
 told_counts None told = absurd (cc)
+
+pub true_false : (b : Bool) → b ≡ true → b ≡ false → ⊥
+true_false b up down = cc
 
 pub and_true : (b : Bool) → (b && true) ≡ b
 and_true true = refl
@@ -82,6 +91,18 @@ module _ {T U : Type 0} where
     asks_comparer n s false true true h = refl
     asks_comparer n s false true false h = absurd (h refl refl refl)
 
+    -- the comparer's change decides
+    pub compared_of_case : (n : Metadata) (s : Stat) (x trusted racy : Bool) (change : Option T) (counted : Option ReadCounts) (d : Decided T U)
+        → trusted ≡ is_trusted q e s → racy ≡ is_racy q.stat_options q.timestamp s → (trusted ≡ true → racy ≡ false → x ≡ false → ⊥)
+        → q.compared e.entry n.len (meaning q e n) ≡ Ok change → IsOfCase e.path (compared x trusted racy s (Ok change)) true counted d
+        → IsOfCase e.path (case_of_content q e n s x (is_trusted q e s) (is_racy q.stat_options q.timestamp s)) true counted d
+    compared_of_case n s x trusted racy change counted d same_trusted same_racy asks answers h =
+        let P : Case T U → Type 0 = λ k. IsOfCase e.path k true counted d in
+        let asked : case_of_content q e n s x trusted racy ≡ compared x trusted racy s (Ok change) = asks_comparer n s x trusted racy asks ∙ ap (λ (r : Result (Option T) Error). compared x trusted racy s r) answers in
+        let Q : Bool → Type 0 = λ t. P (case_of_content q e n s x t (is_racy q.stat_options q.timestamp s)) in
+        let R : Bool → Type 0 = λ r. P (case_of_content q e n s x trusted r) in
+        subst Q same_trusted (subst R same_racy (subst P (sym asked) h))
+
     abbrev reads_at : Found → ReadCounts
     reads_at f = if is_compared_case (case_of_found q e f) then reads_of_found q e f else no_reads
 
@@ -94,9 +115,9 @@ module _ {T U : Type 0} where
       asked = h.asked ∙ sym lstat;
       racy = h.racy ∙ sym (ap (λ (x : Found). is_racy_case (case_of_found q e x)) same);
       reads = λ told_all.
-        let P : Option ReadCounts → Type 0 = λ c. IfSome c (λ k. reads_of_decided d ≡ (if is_compared_case (case_of_found q e f) then k else no_reads)) in
-        let here : reads_of_decided d ≡ reads_at f = subst P (tells told_all) h.reads in
-        here ∙ sym (ap reads_at same);
+          let P : Option ReadCounts → Type 0 = λ c. IfSome c (λ k. reads_of_decided d ≡ (if is_compared_case (case_of_found q e f) then k else no_reads)) in
+          let here : reads_of_decided d ≡ reads_at f = subst P (tells told_all) h.reads in
+          here ∙ sym (ap reads_at same);
     }
     is_decided f told counted (Err x) same lstat tells (inl h) = inl (ap (λ (y : Found). answer e.path (case_of_found q e y)) same ∙ h)
     is_decided f told counted (Err x) same lstat tells (inr h) = inr h

@@ -113,8 +113,15 @@ impl<'w, W: Worktree, C, S, O, P, T> Decider<'w, W, C, S, O, P, T> {
     }
 }
 
-impl<'w, W: Worktree, C: CompareBlobs, S: SubmoduleStatus, O: Find, P: Pathspec, T: ToGit>
-    Decider<'w, W, C, S, O, P, T>
+impl<'w, W: Worktree, C: CompareBlobs, S: SubmoduleStatus, O: Find, P: Pathspec, T: ToGit> Decider<
+    'w,
+    W,
+    C,
+    S,
+    O,
+    P,
+    T,
+>
 where
     C::Output: Drop,
     S::Output: Drop,
@@ -187,13 +194,7 @@ where
             return Ok(unread(None, true));
         }
         let comparison = self.compare(entry, path, node)?;
-        Ok(decision_of(
-            comparison,
-            stat,
-            executable_bit_changed,
-            trusted,
-            racy,
-        ))
+        Ok(decision_of(comparison, stat, executable_bit_changed, trusted, racy))
     }
 
     /// Compares an entry's content with its node's.
@@ -238,6 +239,7 @@ where
     ghost use Rattle.gix_status.specs.Asked.{query_of};
 
     type Content = C::Output;
+
     type Submodule = S::Output;
 
     ghost tells = { λ d. W.tells d.worktree.now };
@@ -274,11 +276,7 @@ where
 ///
 /// # Errors
 /// The path isn't normal, or another fault than that nothing is there.
-fn find<W: Worktree>(
-    worktree: &W,
-    check: &mut SymlinkCheck,
-    path: BStr<'_>,
-) -> Result<Site, Error>
+fn find<W: Worktree>(worktree: &W, check: &mut SymlinkCheck, path: BStr<'_>) -> Result<Site, Error>
     ensures site { IsTrue (W.tells worktree.now) → IsClear (W.lstat_of worktree.now) check.old.path
         → IsSite (found_by (link_check (W.lstat_of worktree.now) (bstr_bytes path.entry)) (W.lstat_of worktree.now (bstr_bytes path.entry)))
         (is_accepted (link_check (W.lstat_of worktree.now) (bstr_bytes path.entry))) result }
@@ -351,7 +349,9 @@ fn compare_node<W: Worktree, C: CompareBlobs, O: Find, T: ToGit>(
     let is_link = reads_link(entry.mode, node.kind, symlink);
     // Reborrowed, so that what the reader holds is of one lifetime.
     let path = BStr::new(&*path);
-    let mut reader = EntryReader::new(&*worktree, &*filter, &*objects, entry.id, path, is_link, node.len);
+    let mut reader = EntryReader::new(
+        &*worktree, &*filter, &*objects, entry.id, path, is_link, node.len,
+    );
     let change = compare.compare_blobs(alloc, entry, node.len, &mut reader, buffer)?;
     let reads = reader.reads();
     Ok(Comparison { change, reads })
@@ -396,8 +396,7 @@ fn reads_link(mode: Mode, kind: NodeKind, symlink: bool) -> bool
 fn is_trusted(entry: &Entry, stat: &Stat, options: stat::Options) -> bool
     ensures { result ≡ (stat_agrees options stat.now entry.now.stat && same_bool (is_empty_blob entry.now.id) (entry.now.stat.size == 0)) }
 {
-    stat.matches(&entry.stat, options)
-        && entry.id.is_empty_blob() == (entry.stat.size == 0)
+    stat.matches(&entry.stat, options) && entry.id.is_empty_blob() == (entry.stat.size == 0)
 }
 
 /// A decision for which nothing was read.
