@@ -2,6 +2,7 @@ pub mod Ascents
 pub mod Conflicted
 pub mod Considering
 pub mod Dones
+pub mod EntryCases
 pub mod Feeding
 pub mod Groups
 pub mod Heads

@@ -1,0 +1,123 @@
+-- The cases of an entry's decision.
+use Rattle.std.proofs.Common.{◌≡◌, ◌⊎◌, inl, inr, refl, sym, ap, ◌∙◌, subst, ℕ, Bool, true, false, not, ◌&&◌, List, Option, Some, None, is_some, unwrap_or, Result, Ok, Err, IfSome, IsTrue, if◌then◌else◌}
+use Rattle.status_index.specs.declared.fault.Fault.{Fault}
+use Rattle.status_index.specs.declared.fault.Fault.TheVariants as faults
+use Rattle.status_index.specs.declared.metadata.Metadata.{Metadata}
+use Rattle.status_index.specs.Entries.{IndexEntry}
+use Rattle.status_index.specs.Stat.{is_racy}
+use Rattle.status_index.specs.declared.stat.Stat.{Stat}
+use Rattle.bstr.specs.declared.bstr.BStr.{BStr}
+use Rattle.bstr.specs.BStr.{bstr_bytes}
+use Rattle.status_base.specs.declared.stack.error.StackError.{StackError}
+use Rattle.status_base.specs.declared.stack.error.StackError.TheVariants as stacks
+use Rattle.status_base.specs.LinkCheck.{LinkCheck, empty_path, not_normal}
+use Rattle.status_base.specs.Verified.{IsRefused}
+use Rattle.status_compare.specs.declared.error.Error.{Error}
+use Rattle.status_compare.specs.declared.error.Error.TheVariants as errors
+use Rattle.status_compare.specs.Reading.{ReadCounts, no_reads}
+use Rattle.gix_status.specs.declared.index_as_worktree.entry_status.Site.{Site}
+use Rattle.gix_status.specs.declared.index_as_worktree.entry_status.Site.TheVariants as sites
+use Rattle.gix_status.specs.declared.index_as_worktree.decide.Decided.{Decided}
+use Rattle.gix_status.specs.declared.index_as_worktree.types.EntryStatus.{EntryStatus}
+use Rattle.gix_status.specs.Counts.{is_accepted, is_racy_case, is_compared_case, asks_lstat, reads_of_found, TellsReads}
+use Rattle.gix_status.specs.Decisions.{IsDecided, reads_of_decided}
+use Rattle.gix_status.specs.EntryParts.{IsSite, IsOfCase, IsCaseDecided}
+use Rattle.gix_status.specs.Query.{Query}
+use Rattle.gix_status.specs.Status.{Found, found_by, refused, present, Case, compared, answer, found, meaning, is_trusted, case_of_found, case_of_content}
+
+-- a site that was found by an equal check
+pub site_at : (meant check : LinkCheck) (node : Result Metadata Fault) (r : Result Site Error) → check ≡ meant → IsSite (found_by meant node) (is_accepted meant) r → IsSite (found_by check node) (is_accepted check) r
+site_at meant check node r same h =
+    let P : LinkCheck → Type 0 = λ k. IsSite (found_by k node) (is_accepted k) r in subst P (sym same) h
+
+-- a node that was found
+pub site_node : (found : Found) (asked : Bool) (site : Site) (n : Metadata) → site ≡ sites.Node n → IsSite found asked (Ok site) → (found ≡ present n) × (asked ≡ true)
+site_node found asked site n same h =
+    let P : Site → Type 0 = λ s. IsSite found asked (Ok s) in subst P same h
+
+-- a path that isn't normal
+pub site_odd : (error : StackError) (check : LinkCheck) (node : Result Metadata Fault)
+    → (error ≡ stacks.EmptyPath) ⊎ ((component : BStr) × (error ≡ stacks.NotNormal component)) → IsRefused check error
+    → IsSite (found_by check node) (is_accepted check) (Err (errors.Io faults.NotNormal))
+site_odd stacks.EmptyPath check node odd same =
+    let found : IsSite (refused faults.NotNormal) false (Err (errors.Io faults.NotNormal)) = inl (faults.NotNormal, refl, refl) in
+    site_at empty_path check node (Err (errors.Io faults.NotNormal)) same found
+site_odd (stacks.NotNormal component) check node odd same =
+    let found : IsSite (refused faults.NotNormal) false (Err (errors.Io faults.NotNormal)) = inl (faults.NotNormal, refl, refl) in
+    site_at (not_normal (bstr_bytes component)) check node (Err (errors.Io faults.NotNormal)) same found
+site_odd (stacks.ThroughLink prefix) check node (inl e) same = absurd (cc)
+site_odd (stacks.ThroughLink prefix) check node (inr e) same = let f = e.1 in absurd (cc)
+site_odd (stacks.Fault fault) check node (inl e) same = absurd (cc)
+site_odd (stacks.Fault fault) check node (inr e) same = let f = e.1 in absurd (cc)
+site_odd stacks.Memory check node (inl e) same = absurd (cc)
+site_odd stacks.Memory check node (inr e) same = let f = e.1 in absurd (cc)
+
+-- what the comparer says it reads, where it says that
+pub told_counts : (counted : Option ReadCounts) → IsTrue (is_some counted) → counted ≡ Some (unwrap_or counted no_reads)
+told_counts (Some k) told = refl
+told_counts None told = absurd (cc)
+
+pub true_false : (b : Bool) → b ≡ true → b ≡ false → ⊥
+true_false b up down = cc
+
+pub and_true : (b : Bool) → (b && true) ≡ b
+and_true true = refl
+and_true false = refl
+
+-- nothing was read where the comparer isn't asked
+pub unread_counts : (asks : Bool) (counted : Option ReadCounts) → asks ≡ false → IfSome counted (λ k. no_reads ≡ (if asks then k else no_reads))
+unread_counts true counted e = absurd (cc)
+unread_counts false (Some k) e = refl
+unread_counts false None e = tt
+
+module _ {T U : Type 0} where
+  -- a decision for which nothing was read
+  pub unread_of_case : (path : List ℕ) (case : Case T U) (told : Bool) (counted : Option ReadCounts) (status : Option (EntryStatus T U))
+      → answer path case ≡ Ok status → is_racy_case case ≡ false → is_compared_case case ≡ false
+      → IsOfCase path case told counted (record { status = status; asked = told; racy = false; bytes = 0; files = 0; object_bytes = 0; objects = 0 })
+  unread_of_case path case told counted status answers calm unasked = record {
+    status = answers;
+    asked = refl;
+    racy = sym calm;
+    reads = unread_counts (is_compared_case case) counted unasked;
+  }
+
+  module _ (q : Query T U) (e : IndexEntry) where
+    -- the comparer is asked, but for entries that are trusted and not racy
+    pub asks_comparer : (n : Metadata) (s : Stat) (x trusted racy : Bool) → (trusted ≡ true → racy ≡ false → x ≡ false → ⊥)
+        → case_of_content q e n s x trusted racy ≡ compared x trusted racy s (q.compared e.entry n.len (meaning q e n))
+    asks_comparer n s true trusted racy h = refl
+    asks_comparer n s false false racy h = refl
+    asks_comparer n s false true true h = refl
+    asks_comparer n s false true false h = absurd (h refl refl refl)
+
+    -- the comparer's change decides
+    pub compared_of_case : (n : Metadata) (s : Stat) (x trusted racy : Bool) (change : Option T) (counted : Option ReadCounts) (d : Decided T U)
+        → trusted ≡ is_trusted q e s → racy ≡ is_racy q.stat_options q.timestamp s → (trusted ≡ true → racy ≡ false → x ≡ false → ⊥)
+        → q.compared e.entry n.len (meaning q e n) ≡ Ok change → IsOfCase e.path (compared x trusted racy s (Ok change)) true counted d
+        → IsOfCase e.path (case_of_content q e n s x (is_trusted q e s) (is_racy q.stat_options q.timestamp s)) true counted d
+    compared_of_case n s x trusted racy change counted d same_trusted same_racy asks answers h =
+        let P : Case T U → Type 0 = λ k. IsOfCase e.path k true counted d in
+        let asked : case_of_content q e n s x trusted racy ≡ compared x trusted racy s (Ok change) = asks_comparer n s x trusted racy asks ∙ ap (λ (r : Result (Option T) Error). compared x trusted racy s r) answers in
+        let Q : Bool → Type 0 = λ t. P (case_of_content q e n s x t (is_racy q.stat_options q.timestamp s)) in
+        let R : Bool → Type 0 = λ r. P (case_of_content q e n s x trusted r) in
+        subst Q same_trusted (subst R same_racy (subst P (sym asked) h))
+
+    abbrev reads_at : Found → ReadCounts
+    reads_at f = if is_compared_case (case_of_found q e f) then reads_of_found q e f else no_reads
+
+    -- the decision of what is found is the entry's
+    pub is_decided : (f : Found) (told : Bool) (counted : Option ReadCounts) (r : Result (Decided T U) Error)
+        → found q e ≡ f → asks_lstat q e ≡ told → (TellsReads q → counted ≡ Some (reads_of_found q e f))
+        → IsCaseDecided e.path (case_of_found q e f) told counted r → IsDecided q e r
+    is_decided f told counted (Ok d) same lstat tells h = record {
+      status = ap (λ (x : Found). answer e.path (case_of_found q e x)) same ∙ h.status;
+      asked = h.asked ∙ sym lstat;
+      racy = h.racy ∙ sym (ap (λ (x : Found). is_racy_case (case_of_found q e x)) same);
+      reads = λ told_all.
+          let P : Option ReadCounts → Type 0 = λ c. IfSome c (λ k. reads_of_decided d ≡ (if is_compared_case (case_of_found q e f) then k else no_reads)) in
+          let here : reads_of_decided d ≡ reads_at f = subst P (tells told_all) h.reads in
+          here ∙ sym (ap reads_at same);
+    }
+    is_decided f told counted (Err x) same lstat tells (inl h) = inl (ap (λ (y : Found). answer e.path (case_of_found q e y)) same ∙ h)
+    is_decided f told counted (Err x) same lstat tells (inr h) = inr h
