@@ -60,13 +60,15 @@ fn names_the_conflict_by_the_stages(rt: HostRuntime) -> Result<(), Fail> {
 }
 
 #[test]
-fn keeps_the_last_of_a_stage(rt: HostRuntime) -> Result<(), Fail> {
+fn keeps_the_last_of_a_stage_among_three_entries(rt: HostRuntime) -> Result<(), Fail> {
     let state = index(rt.alloc(), &[("f", 2), ("f", 3)])?;
     let mut entries = Vec::new(rt.alloc());
-    entries.push(state.entries()[0].clone()?)?;
-    entries.push(state.entries()[0].clone()?)?;
-    entries.push(state.entries()[1].clone()?)?;
-    entries[1].mode = Mode::FileExecutable;
+    for entry in state.entries() {
+        entries.push(entry.clone()?)?;
+        let mut again = entry.clone()?;
+        again.mode = Mode::FileExecutable;
+        entries.push(again)?;
+    }
     let modes = [None, Some(Mode::FileExecutable), Some(Mode::File)];
     assert_eq!(rt;
         conflict_at(&entries, state.path_backing(), 0),
