@@ -81,9 +81,10 @@ fault_not_thread q never es n e inside spawned (inr h) = cc
 module _ {T U : Type 0} (q : Query T U) (start : ℕ) (es : List IndexEntry) where
   -- the records of the first entries are a beginning of all
   pub records_begin : (n : ℕ) → IsBeginning (records_in q es start (take n es)) (records_of q start es)
-  records_begin n =
-      (records_in q es (start + length (take n es)) (drop n es),
-       sym (records-append q es start (take n es) (drop n es)) ∙ ap (records_in q es start) (take-append-drop n es))
+  records_begin n = (
+    records_in q es (start + length (take n es)) (drop n es),
+    sym (records-append q es start (take n es) (drop n es)) ∙ ap (records_in q es start) (take-append-drop n es),
+  )
 
   -- where no entry has a fault there is no first one
   pub none_first : faults_in q es es ≡ [] → first_fault q es ≡ None

@@ -1,0 +1,124 @@
+//! The status of an index against a worktree.
+
+ghost use Rattle.std.specs.Prelude.{◌≡◌, ◌-◌, ◌≤◌, IsTrue, is_some, length, map, MatchResult};
+ghost use Rattle.status_base.specs.Lawful.{CloneKeeps};
+ghost use Rattle.status_index.specs.Entries.{index_entries};
+ghost use Rattle.status_index.specs.States.{entries_of, backing_of, timestamp_of, index_of};
+ghost use Rattle.gix_status.specs.Asked.{query_of};
+ghost use Rattle.gix_status.specs.StatusTheorem.{IsStatus};
+
+use crate::index_as_worktree::entry_status::Decider;
+use crate::index_as_worktree::types::{Context, Error, Options, Outcome, VisitEntry};
+use crate::index_as_worktree::work::work_in_order;
+use status_base::index::State;
+use status_base::worktree::{Find, Lister, Pathspec, SubmoduleStatus, ToGit, Worktree};
+use status_compare::CompareBlobs;
+use std::alloc::Global;
+use std::sync::Wait;
+use std::thread::Threads;
+
+/// How many entries a piece of work has where nothing is said, as git has it.
+const CHUNK_SIZE: usize = 500;
+
+/// Tells `collector` how the worktree differs from `index`, entry by entry in the order of the index, and answers what
+/// that took.
+///
+/// `compare` sees the files whose stat doesn't settle that they are unchanged; `submodule` is asked of submodules, and
+/// `objects` has the blobs that the index names. Nothing is written: where a record asks for it, the caller puts a new
+/// stat into the index or sets a size to zero, and then gives the index a later timestamp.
+///
+/// # Errors
+/// The fault of the first entry that has one, once the collector was told the records before it. Want of memory; then
+/// the collector was told a beginning of the records.
+pub fn index_as_worktree<
+    'index,
+    R: Threads + Wait,
+    W: Worktree + Sync,
+    V: VisitEntry<'index>,
+    C: CompareBlobs<Output = V::ContentChange> + Clone + Send,
+    S: SubmoduleStatus<Output = V::SubmoduleStatus> + Clone + Send,
+    O: Find + Clone + Send,
+    P: Pathspec + Clone + Send,
+    T: ToGit + Clone + Send,
+    L: Lister + Clone + Send,
+>(
+    _rt: &R,
+    alloc: Global,
+    index: &'index State,
+    worktree: &W,
+    collector: &mut V,
+    compare: C,
+    submodule: S,
+    objects: O,
+    context: Context<'_, P, T, L>,
+    options: Options,
+) -> Result<Outcome, Error>
+where
+    V::ContentChange: Send + Drop,
+    V::SubmoduleStatus: Send + Drop,
+    requires comparer_clones { CloneKeeps C.is_clone C.answer }
+    requires comparer_clones_count { CloneKeeps C.is_clone C.counts_after }
+    requires submodule_clones { CloneKeeps S.is_clone S.meaning }
+    requires object_clones { CloneKeeps O.is_clone O.found }
+    requires pathspec_clones { CloneKeeps P.is_clone P.prefix }
+    requires pathspec_clones_include { CloneKeeps P.is_clone P.included }
+    requires filter_clones { CloneKeeps T.is_clone T.conversion }
+    requires lister_clones { CloneKeeps L.is_clone L.listing }
+    ensures { IsStatus
+        (query_of options.stat options.fs.symlink options.fs.executable_bit (timestamp_of index.now)
+        (record { lstat = W.lstat_of worktree.now; opened = W.open_of worktree.now; linked = W.target_of worktree.now })
+        (record { prefix = P.prefix context.entry.pathspec; included = P.included context.entry.pathspec; conversion = λ content path. T.conversion context.entry.filter content path; found = O.found objects; submodule = S.meaning submodule })
+        (record { answer = C.answer compare; counts_after = C.counts_after compare }))
+        (entries_of index.now) (backing_of index.now) (W.tells worktree.now) (is_some context.entry.should_interrupt) options.thread_limit
+        (V.visits collector.old) result (V.visits collector.new) }
+{
+    let Context {
+        pathspec,
+        filter,
+        lister,
+        should_interrupt: _,
+    } = context;
+    drop(lister);
+    let entries = index.entries();
+    let backing = index.path_backing();
+    let range = match index.prefixed_entries_range(pathspec.common_prefix()) {
+        Some(range) => range,
+        None => 0..entries.len(),
+    };
+    let chunk_size = if options.chunk_size == 0 {
+        CHUNK_SIZE
+    } else {
+        options.chunk_size
+    };
+    let considered = range.end - range.start;
+    let mut decider = Decider::new(
+        alloc,
+        worktree,
+        compare,
+        submodule,
+        objects,
+        pathspec,
+        filter,
+        index.timestamp(),
+        options.stat,
+        options.fs.symlink,
+        options.fs.executable_bit,
+    );
+    match work_in_order(
+        alloc,
+        entries,
+        backing,
+        range.start,
+        range.end,
+        chunk_size,
+        &mut decider,
+        collector,
+    ) {
+        Ok(mut outcome) => {
+            outcome.entries_to_process = considered;
+            outcome.entries_skipped_by_common_prefix = entries.len() - considered;
+            Ok(outcome)
+        }
+        Err(error) => Err(error),
+    }
+}
