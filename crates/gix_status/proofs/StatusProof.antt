@@ -2,7 +2,7 @@
 use Rattle.std.proofs.Common.{◌≡◌, ◌≢◌, refl, sym, ap, ◌∙◌, subst, ℕ, zero, suc, ◌+◌, ◌-◌, ◌<◌, ◌≤◌, ◌⊎◌, inl, inr, Bool, true, false, IsTrue, List, [], ◌∷◌, ◌++◌, length, length-append, take, drop, map, All, arith, append_assoc, Option, Some, None, Result, Ok, Err}
 use Rattle.std.specs.Prelude.{AllPairs, slice_get}
 use Rattle.std.specs.List.{slice_index_or}
-use Rattle.std.proofs.lemmas.List.{take-append-drop, append-nil, length-map, get_or-map}
+use Rattle.std.proofs.lemmas.List.{take-append-drop, append-nil, length-map, length-take, length-drop, get_or-map}
 use Rattle.std.proofs.Math.ListN.{get_or-append}
 use Rattle.status_index.specs.declared.entry.Entry.{Entry}
 use Rattle.status_index.specs.declared.entry.PathStorage.{PathStorage}
@@ -64,7 +64,7 @@ ok_not_err o e h = cc
 err_same : (a b : Error) → error_of a ≡ error_of b → a ≡ b
 err_same a b h = cc
 
-take_all : {X : Type 0} (xs : List X) → take (length xs) xs ≡ xs
+pub take_all : {X : Type 0} (xs : List X) → take (length xs) xs ≡ xs
 take_all [] = refl
 take_all (x ∷ xs) = ap (λ (l : List _). x ∷ l) (take_all xs)
 
@@ -191,3 +191,20 @@ module _ {T U : Type 0} (q : Query T U) (entries : List Entry) (backing : PathSt
       uninterrupted = λ _. tt;
       alone = λ t one never h. no_thread t never stop.by (err_same e SpawnThread h);
     }
+
+-- the same work, by an equal query and of an equal part
+pub work_kept : {T U : Type 0} (q r : Query T U) (tells also : Bool) (start place : ℕ) (whole part : List IndexEntry) (entries : List Entry) (backing : PathStorage) (old new : List (Visit T U)) (result : Result Outcome Error)
+    → r ≡ q → also ≡ tells → place ≡ start → part ≡ whole → IsToldWork r also place part entries backing old result new → IsToldWork q tells start whole entries backing old result new
+work_kept q r tells also start place whole part entries backing old new result same so at of work =
+    subst (λ l. IsToldWork q tells start l entries backing old result new) of
+    (subst (λ n. IsToldWork q tells n part entries backing old result new) at
+    (subst (λ b. IsToldWork q b place part entries backing old result new) so
+    (subst (λ x. IsToldWork x also place part entries backing old result new) same work)))
+
+-- how many entries are considered, and how many aren't
+module _ {X Y : Type 0} (all whole : List X) (entries : List Y) (s e : ℕ) (part : part_of all s e ≡ whole) (order : s ≤ e) (inside : e ≤ length entries) (same : length all ≡ length entries) where
+  pub part_len : e - s ≡ length whole
+  part_len = sym (ap length (sym part) ∙ omega (arith, length-take (e - s) (drop s all), length-drop s all, order, inside, same))
+
+  pub rest_len : (n : ℕ) → n ≡ length entries → n - (e - s) ≡ length all - length whole
+  rest_len n h = omega (arith, part_len, h, same)

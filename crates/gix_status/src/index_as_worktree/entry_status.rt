@@ -68,7 +68,21 @@ struct Comparison<T> {
     reads: Reads,
 }
 
-impl<'w, W: Worktree, C, S, O, P, T> Decider<'w, W, C, S, O, P, T> {
+impl<'w, W: Worktree, C: CompareBlobs, S: SubmoduleStatus, O: Find, P: Pathspec, T: ToGit> Decider<
+    'w,
+    W,
+    C,
+    S,
+    O,
+    P,
+    T,
+>
+where
+    C::Output: Drop,
+    S::Output: Drop,
+{
+    ghost use Rattle.gix_status.specs.Asked.{query_of};
+
     /// A decider of the entries of an index with this timestamp.
     pub(crate) fn new(
         alloc: Global,
@@ -83,16 +97,11 @@ impl<'w, W: Worktree, C, S, O, P, T> Decider<'w, W, C, S, O, P, T> {
         symlink: bool,
         executable_bit: bool,
     ) -> Decider<'w, W, C, S, O, P, T>
-        ensures worktree { result.worktree ≡ worktree.entry }
-        ensures compare { result.compare ≡ compare }
-        ensures submodule { result.submodule ≡ submodule }
-        ensures objects { result.objects ≡ objects }
-        ensures pathspec { result.pathspec ≡ pathspec }
-        ensures filter { result.filter ≡ filter }
-        ensures timestamp { result.timestamp ≡ timestamp }
-        ensures stat_options { result.stat_options ≡ stat_options }
-        ensures symlink { result.symlink ≡ symlink }
-        ensures executable_bit { result.executable_bit ≡ executable_bit }
+        ensures query { ⟦<Decider<'w, W, C, S, O, P, T> as Decide>⟧.query result ≡ query_of stat_options symlink executable_bit timestamp
+            (record { lstat = W.lstat_of worktree.entry.now; opened = W.open_of worktree.entry.now; linked = W.target_of worktree.entry.now })
+            (record { prefix = P.prefix pathspec; included = P.included pathspec; conversion = λ content path. T.conversion filter content path; found = O.found objects; submodule = S.meaning submodule })
+            (record { answer = C.answer compare; counts_after = C.counts_after compare }) }
+        ensures tells { ⟦<Decider<'w, W, C, S, O, P, T> as Decide>⟧.tells result ≡ W.tells worktree.entry.now }
     {
         let root = BString::new(Vec::new(alloc));
         Decider {

@@ -1,24 +1,49 @@
 //! The status of an index against a worktree.
 
-ghost use Rattle.std.specs.Prelude.{◌≡◌, ◌-◌, ◌≤◌, IsTrue, is_some, length, map, MatchResult};
+ghost use Rattle.std.specs.Prelude.{◌≡◌, ◌-◌, ◌≤◌, IsTrue, is_some, length};
 ghost use Rattle.status_base.specs.Lawful.{CloneKeeps};
-ghost use Rattle.status_index.specs.Entries.{index_entries};
 ghost use Rattle.status_index.specs.States.{entries_of, backing_of, timestamp_of, index_of};
+ghost use Rattle.bstr.specs.BStr.{bstr_bytes};
+ghost use Rattle.status_index.specs.Stretch.{part_of};
 ghost use Rattle.gix_status.specs.Asked.{query_of};
+ghost use Rattle.gix_status.specs.Considered.{considered, considered_start};
 ghost use Rattle.gix_status.specs.StatusTheorem.{IsStatus};
 
 use crate::index_as_worktree::entry_status::Decider;
 use crate::index_as_worktree::types::{Context, Error, Options, Outcome, VisitEntry};
 use crate::index_as_worktree::work::work_in_order;
+use bstr::BStr;
 use status_base::index::State;
 use status_base::worktree::{Find, Lister, Pathspec, SubmoduleStatus, ToGit, Worktree};
 use status_compare::CompareBlobs;
 use std::alloc::Global;
+use std::ops::Range;
 use std::sync::Wait;
 use std::thread::Threads;
 
 /// How many entries a piece of work has where nothing is said, as git has it.
 const CHUNK_SIZE: usize = 500;
+
+/// The places of the considered entries: of those whose paths begin with the prefix, or of all, where none does.
+fn considered_range(index: &State, prefix: BStr<'_>) -> Range<usize>
+    ensures order { result.start ≤ result.end }
+    ensures inside { result.end ≤ length (entries_of index.now) }
+    ensures part { part_of (index_of index.now) result.start result.end ≡ considered (bstr_bytes prefix.entry) (index_of index.now) }
+    ensures start { result.start ≡ considered_start (bstr_bytes prefix.entry) (index_of index.now) }
+{
+    match index.prefixed_entries_range(prefix) {
+        Some(range) => range,
+        None => 0..index.entries().len(),
+    }
+}
+
+/// The number of entries of a piece.
+fn chunk_size_of(options: &Options) -> usize {
+    match options.chunk_size {
+        0 => CHUNK_SIZE,
+        chunk_size => chunk_size,
+    }
+}
 
 /// Tells `collector` how the worktree differs from `index`, entry by entry in the order of the index, and answers what
 /// that took.
@@ -81,15 +106,8 @@ where
     drop(lister);
     let entries = index.entries();
     let backing = index.path_backing();
-    let range = match index.prefixed_entries_range(pathspec.common_prefix()) {
-        Some(range) => range,
-        None => 0..entries.len(),
-    };
-    let chunk_size = if options.chunk_size == 0 {
-        CHUNK_SIZE
-    } else {
-        options.chunk_size
-    };
+    let range = considered_range(index, pathspec.common_prefix());
+    let chunk_size = chunk_size_of(&options);
     let considered = range.end - range.start;
     let mut decider = Decider::new(
         alloc,

@@ -1,0 +1,26 @@
+use Rattle.std.proofs.Common.{refl, ap, length}
+use Rattle.std.proofs.lemmas.List.{length-map}
+use Rattle.status_index.specs.Entries.{index_entry}
+use Rattle.status_index.specs.States.{entries_of, backing_of, index_of}
+use Rattle.gix_status.proofs.StatusProof.{status_ok, status_err, work_kept, part_len, rest_len}
+use Rattle.gix_status.proofs.index_as_worktree.function.index_as_worktree.Goals as goal
+
+pub returns-in-Ok : goal.returns-in-Ok
+returns-in-Ok g c =
+    let query = rw c.timestamp.ensures at c.new-decider.ensures.query in
+    let part = rw c.common_prefix.ensures at c.considered_range-range.ensures.part in
+    let start = rw c.common_prefix.ensures at c.considered_range-range.ensures.start in
+    let work = rw (c.entries-entries.ensures.value, c.path_backing-backing.ensures) at c.in-Ok.ensures in
+    let len = length-map (entries_of c.args.index.now) (index_entry (backing_of c.args.index.now)) in
+    status_ok _ _ _ _ _ _ _ _ c.in-Ok.outcome _ (work_kept _ _ _ _ _ _ _ _ _ _ _ _ _ query c.new-decider.ensures.tells start part work) refl refl
+    (part_len (index_of c.args.index.now) _ (entries_of c.args.index.now) c.considered_range-range.result.start c.considered_range-range.result.end part c.considered_range-range.ensures.order c.considered_range-range.ensures.inside len)
+    (rest_len (index_of c.args.index.now) _ (entries_of c.args.index.now) c.considered_range-range.result.start c.considered_range-range.result.end part c.considered_range-range.ensures.order c.considered_range-range.ensures.inside len _ (ap length c.entries-entries.ensures.value))
+    refl
+
+pub returns : goal.returns
+returns g c =
+    let query = rw c.timestamp.ensures at c.new-decider.ensures.query in
+    let part = rw c.common_prefix.ensures at c.considered_range-range.ensures.part in
+    let start = rw c.common_prefix.ensures at c.considered_range-range.ensures.start in
+    let work = rw (c.entries-entries.ensures.value, c.path_backing-backing.ensures) at c.in-Err.ensures in
+    status_err _ _ _ _ _ _ _ _ c.in-Err.error (work_kept _ _ _ _ _ _ _ _ _ _ _ _ _ query c.new-decider.ensures.tells start part work)
