@@ -1,4 +1,10 @@
 pub mod Blobs
+pub mod Comparers
+pub mod EntryMeaning
 pub mod Errors
+pub mod FastAgrees
+pub mod FaultKinds
 pub mod Reading
+pub mod StreamCounts
+pub mod StreamIds
 pub mod Streams

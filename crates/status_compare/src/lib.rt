@@ -2,11 +2,17 @@
 #![tactic(auto)]
 
 pub mod compare;
+pub mod entry_reader;
 pub mod error;
+pub mod fast_eq;
+pub mod hash_eq;
 pub mod read_data;
 pub mod stream;
 
 pub use compare::CompareBlobs;
+pub use entry_reader::{EntryReader, Reads};
 pub use error::Error;
+pub use fast_eq::FastEq;
+pub use hash_eq::HashEq;
 pub use read_data::ReadData;
 pub use stream::Stream;

@@ -1,9 +1,14 @@
 //! A worktree's file as git would store it, to be read in pieces.
 
-ghost use Rattle.std.specs.Prelude.{◌≡◌, Option, None, Some, true, option_map};
-ghost use Rattle.status_compare.specs.Streams.{stream_left, stream_taken};
+ghost use Rattle.std.specs.Prelude.{◌≡◌, ℕ, ◌<◌, ◌≤◌, [], ◌++◌, length, take, Option, None, Some, true, option_map, OnOk, ◌-◌};
+ghost use Rattle.status_index.specs.ReadAll.{ReadsAll};
+ghost use Rattle.status_compare.specs.FaultKinds.{kind_of, known_bytes, IsKindOf};
+ghost use Rattle.status_compare.specs.StreamCounts.{count_after, counted_with, count_told};
+ghost use Rattle.status_compare.specs.Streams.{stream_left, stream_taken, outcome_buffer};
 
 use status_base::worktree::{Fault, ReadBytes, ToGitOutcome};
+use status_index::read_all;
+use std::io;
 
 /// A worktree's file as git would store it, to be read in pieces or, where it is in memory, as a slice.
 #[derive(Drop)]
@@ -12,4 +17,149 @@ pub struct Stream<'a, F> {
     pub(crate) size: Option<u64>,
     pub(crate) counts: bool,
     pub(crate) counted: u64,
+}
+
+impl<'a, F> Stream<'a, F> {
+    /// A stream that counts its bytes, for readers of callers' own. `size` is how many bytes there are to be read, where
+    /// that is known before.
+    pub fn new(source: ToGitOutcome<'a, F>, size: Option<u64>) -> Stream<'a, F>
+        ensures source { result.source ≡ source.entry }
+        ensures size { result.size ≡ size }
+        ensures taken { stream_taken result ≡ Some 0 }
+    {
+        Stream {
+            source,
+            size,
+            counts: true,
+            counted: 0,
+        }
+    }
+
+    /// What is left of a buffer in memory, whole, or None for a file. The stream stays where it stands, and counts the
+    /// buffer's bytes at each call.
+    pub fn as_bytes(&mut self) -> Option<&'a [u8]>
+        ensures bytes { option_map (λ b. b.now) result ≡ outcome_buffer self.old.source }
+        ensures same_source { self.new.source ≡ self.old.source }
+        ensures same_size { self.new.size ≡ self.old.size }
+        ensures same_counts { self.new.counts ≡ self.old.counts }
+        ensures counted { self.new.counted ≡ counted_with self.old (outcome_buffer self.old.source) }
+    {
+        let ToGitOutcome::Buffer(bytes) = &self.source else {
+            return None;
+        };
+        let bytes: &'a [u8] = bytes;
+        self.count(bytes.len());
+        Some(bytes)
+    }
+
+    /// How many bytes there are to be read, where that was known before.
+    pub fn size(&self) -> Option<u64>
+        ensures { result ≡ self.now.size }
+    {
+        self.size
+    }
+
+    /// How many bytes the stream counted: 0 where it doesn't count.
+    pub fn bytes(&self) -> u64
+        ensures { result ≡ count_told self.now }
+    {
+        if self.counts { self.counted } else { 0 }
+    }
+
+    // Counts bytes that were handed out, where the stream counts.
+    fn count(&mut self, count: usize)
+        ensures { self.new ≡ record self.old { counted = count_after self.old.counts self.old.counted count } }
+    {
+        if self.counts {
+            self.counted = self.counted.saturating_add(count as u64);
+        }
+    }
+}
+
+// Moves bytes from the front of `bytes` to the front of `buffer`, as many as both have, and answers how many.
+fn take_front(bytes: &mut &[u8], buffer: &mut [u8]) -> usize
+    ensures fits { result ≤ length buffer.new }
+    ensures taken { bytes.old.now ≡ take result buffer.new ++ bytes.new.now }
+    ensures end { result ≡ 0 → 0 < length buffer.new → bytes.old.now ≡ [] }
+{
+    let all: &[u8] = *bytes;
+    let count = all.len().min(buffer.len());
+    let (front, back) = all.split_at(count);
+    buffer[..count].copy_from_slice(front);
+    *bytes = back;
+    count
+}
+
+impl<'a, F: ReadBytes> ReadBytes for Stream<'a, F> {
+    ghost left = { λ s. stream_left F.left s };
+
+    ghost taken = { λ s. stream_taken s };
+
+    fn read_bytes(&mut self, buffer: &mut [u8]) -> Result<usize, Fault> {
+        let count = match &mut self.source {
+            ToGitOutcome::Unchanged(file) => file.read_bytes(buffer)?,
+            ToGitOutcome::Buffer(bytes) => take_front(bytes, buffer),
+        };
+        self.count(count);
+        Ok(count)
+    }
+}
+
+impl<'a, F: ReadBytes> Stream<'a, F> {
+    /// Appends all that is left to `into`, and counts it.
+    ///
+    /// # Errors
+    /// The file's fault, and Memory. The bytes that came before stay appended, and aren't counted.
+    pub(crate) fn read_rest(&mut self, into: &mut Vec<u8>) -> Result<(), Fault>
+        ensures all { ReadsAll (stream_left F.left self.old) (stream_left F.left self.new) into.old.items into.new.items result }
+        ensures same_counts { self.new.counts ≡ self.old.counts }
+        ensures counted { OnOk result (self.new.counted ≡ count_after self.old.counts self.old.counted (length into.new.items - length into.old.items)) }
+    {
+        let before = into.len();
+        match &mut self.source {
+            ToGitOutcome::Unchanged(file) => read_all(file, into)?,
+            ToGitOutcome::Buffer(bytes) => {
+                into.extend_from_slice(bytes)?;
+                *bytes = &[];
+            }
+        }
+        self.count(into.len() - before);
+        Ok(())
+    }
+}
+
+// The kind of error that std's readers tell of a fault.
+fn kind_of(fault: Fault) -> io::ErrorKind
+    ensures { result ≡ kind_of fault }
+{
+    match fault {
+        Fault::NotFound => io::ErrorKind::NotFound,
+        Fault::NotADirectory => io::ErrorKind::NotADirectory,
+        Fault::PermissionDenied => io::ErrorKind::PermissionDenied,
+        Fault::Interrupted => io::ErrorKind::Interrupted,
+        Fault::IllformedUtf8 | Fault::NotNormal => io::ErrorKind::InvalidData,
+        Fault::UnexpectedEnd => io::ErrorKind::UnexpectedEof,
+        Fault::Memory => io::ErrorKind::OutOfMemory,
+        Fault::Other(_) => io::ErrorKind::Other,
+    }
+}
+
+ghost use Rattle.std.specs.Prelude.{IfErr, IfSome};
+ghost use Rattle.std.specs.Io.{ReadsAtMost};
+ghost use Rattle.std.specs.Io.KnownBytes.{ReadConsumes};
+ghost use Rattle.std.specs.IoError.{error_kind};
+
+impl<'a, F: ReadBytes> io::Read for Stream<'a, F> {
+    ghost remaining = { λ s. known_bytes (stream_left F.left s) };
+
+    fn read(&mut self, buffer: &mut [u8]) -> io::Result<usize>
+        ensures bound { ReadsAtMost result buffer.new }
+        ensures bytes { ReadConsumes (known_bytes (stream_left F.left self.old)) (known_bytes (stream_left F.left self.new)) result buffer.new }
+        ensures kind { IfErr result (λ e. IfSome (stream_left F.left self.old) (λ l. IsKindOf l (error_kind e))) }
+    {
+        match self.read_bytes(buffer) {
+            Ok(count) => Ok(count),
+            Err(fault) => Err(io::Error::from(kind_of(fault))),
+        }
+    }
 }

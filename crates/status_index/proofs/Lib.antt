@@ -1,2 +1,6 @@
 pub mod EmptyBlob
+pub mod Indexes
 pub mod ReaderPlace
+pub mod Refusals
+pub mod Storages
+pub mod Stretches

@@ -1,5 +1,6 @@
 -- What a state shows: its entries with their paths.
-use Rattle.std.specs.Prelude.{List}
+use Rattle.std.specs.Prelude.{◌≡◌, ℕ, List}
+use Rattle.std.specs.List.{slice_index_or, slice_set}
 use Rattle.status_index.specs.declared.state.State.{State}
 use Rattle.status_index.specs.declared.entry.Entry.{Entry}
 use Rattle.status_index.specs.declared.entry.PathStorage.{PathStorage}
@@ -20,3 +21,19 @@ timestamp_of s = s.timestamp
 -- the entries, each with its path
 abbrev pub index_of : State → List IndexEntry
 index_of s = index_entries (backing_of s) (entries_of s)
+
+-- one list is the other, with f of what stands at the place there in its stead
+abbrev pub ChangesAt : {X : Type 0} → (X → X) → ℕ → List X → List X → Type 0
+ChangesAt {X} f at old new = (d : X) → new ≡ slice_set old at (f (slice_index_or old at d))
+
+-- an entry with this stat
+abbrev pub with_stat : Stat → Entry → Entry
+with_stat stat e = record e { stat = stat }
+
+-- an entry whose stat has the size 0
+abbrev pub smudged : Entry → Entry
+smudged e = record e { stat = record e.stat { size = 0 } }
+
+-- an entry changed, at its path
+abbrev pub at_its_path : (Entry → Entry) → IndexEntry → IndexEntry
+at_its_path f e = record e { entry = f e.entry }

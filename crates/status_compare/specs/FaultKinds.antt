@@ -1,0 +1,32 @@
+-- What std's readers tell of a worktree's file.
+use Rattle.std.specs.Prelude.{◌≡◌, ◌⊎◌, ℕ, List, [], Option, Some, None, option_map}
+use Rattle.std.specs.declared.io.ErrorKind.{ErrorKind}
+use Rattle.std.specs.declared.io.ErrorKind.TheVariants as kinds
+use Rattle.status_index.specs.declared.fault.Fault.{Fault}
+use Rattle.status_index.specs.declared.fault.Fault.TheVariants as faults
+use Rattle.status_index.specs.Content.{Content}
+
+-- the bytes that are left, where they are known
+abbrev pub known_bytes : Option Content → Option (List ℕ)
+known_bytes left = option_map (λ l. l.bytes) left
+
+-- the kind of error that is told of a fault
+abbrev pub kind_of : Fault → ErrorKind
+kind_of faults.NotFound = kinds.NotFound
+kind_of faults.NotADirectory = kinds.NotADirectory
+kind_of faults.PermissionDenied = kinds.PermissionDenied
+kind_of faults.Interrupted = kinds.Interrupted
+kind_of faults.IllformedUtf8 = kinds.InvalidData
+kind_of faults.UnexpectedEnd = kinds.UnexpectedEof
+kind_of faults.NotNormal = kinds.InvalidData
+kind_of faults.Memory = kinds.OutOfMemory
+kind_of (faults.Other number) = kinds.Other
+
+-- the kind of the fault that stands behind the bytes, where no bytes are left
+abbrev pub IsKindBehind : List ℕ → Option Fault → ErrorKind → Type 0
+IsKindBehind bytes None kind = ⊥
+IsKindBehind bytes (Some f) kind = (bytes ≡ []) × (kind ≡ kind_of f)
+
+-- the kind of what a read fails by: want of memory, or the fault that stands behind the bytes, where none are left
+abbrev pub IsKindOf : Content → ErrorKind → Type 0
+IsKindOf l kind = (kind ≡ kinds.OutOfMemory) ⊎ IsKindBehind l.bytes l.fault kind

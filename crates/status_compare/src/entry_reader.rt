@@ -1,0 +1,180 @@
+//! Reading one entry's file and blob.
+
+ghost use Rattle.std.specs.Prelude.{◌≡◌, ◌∷◌, IsTrue, Some, None, length, if◌then◌else◌, OnOk};
+ghost use Rattle.bstr.specs.BStr.{bstr_bytes};
+ghost use Rattle.status_compare.specs.EntryMeaning.{entry_meaning, counts_of};
+ghost use Rattle.status_compare.specs.Reading.{IsReading, target_reading, file_reading, no_reads, with_bytes, with_file, with_object, counts_at_stream};
+
+use crate::error::Error;
+use crate::read_data::ReadData;
+use crate::stream::Stream;
+use bstr::BStr;
+use status_base::index::ObjectId;
+use status_base::worktree::{Find, ToGit, ToGitOutcome, Worktree};
+
+/// How much was read. Each number stops growing at its type's greatest.
+#[derive(Clone, Copy, Debug, Default, PartialEq, Eq)]
+pub struct Reads {
+    /// The bytes of worktree files and links.
+    pub bytes: u64,
+    /// The worktree files and links.
+    pub files: usize,
+    /// The bytes of blobs.
+    pub object_bytes: u64,
+    /// The blobs.
+    pub objects: usize,
+}
+
+impl Reads {
+    // Nothing was read.
+    fn none() -> Reads
+        ensures { counts_of result ≡ no_reads }
+    {
+        Reads {
+            bytes: 0,
+            files: 0,
+            object_bytes: 0,
+            objects: 0,
+        }
+    }
+
+    fn add_bytes(&mut self, bytes: u64)
+        ensures { counts_of self.new ≡ with_bytes (counts_of self.old) bytes }
+    {
+        self.bytes = self.bytes.saturating_add(bytes);
+    }
+
+    fn add_file(&mut self)
+        ensures { counts_of self.new ≡ with_file (counts_of self.old) }
+    {
+        self.files = self.files.saturating_add(1);
+    }
+
+    fn add_object(&mut self, bytes: u64)
+        ensures { counts_of self.new ≡ with_object (counts_of self.old) bytes }
+    {
+        self.object_bytes = self.object_bytes.saturating_add(bytes);
+        self.objects = self.objects.saturating_add(1);
+    }
+}
+
+/// Reads one entry's file, as git would store it, and its blob.
+#[derive(Drop)]
+pub struct EntryReader<'r, W, T, O> {
+    worktree: &'r W,
+    filter: &'r T,
+    objects: &'r O,
+    id: ObjectId,
+    path: BStr<'r>,
+    is_link: bool,
+    len: u64,
+    reads: Reads,
+}
+
+impl<'r, W: Worktree, T: ToGit, O: Find> EntryReader<'r, W, T, O> {
+    /// A reader of the file at `path`, whose length is `len`, and of the blob `id`. `is_link` says whether the target of
+    /// a link is to be read in place of a file.
+    pub fn new(
+        worktree: &'r W,
+        filter: &'r T,
+        objects: &'r O,
+        id: ObjectId,
+        path: BStr<'r>,
+        is_link: bool,
+        len: u64,
+    ) -> EntryReader<'r, W, T, O>
+        ensures means { ⟦<EntryReader<'r, W, T, O> as ReadData>⟧.means result
+            ≡ (if W.tells worktree.entry.now
+            then Some (entry_meaning is_link (λ c. T.conversion filter.entry.now c (bstr_bytes path.entry)) len
+            (W.open_of worktree.entry.now (bstr_bytes path.entry))
+            (W.target_of worktree.entry.now (bstr_bytes path.entry))
+            (O.found objects.entry.now id))
+            else None) }
+        ensures counts { ⟦<EntryReader<'r, W, T, O> as ReadData>⟧.counts result ≡ no_reads }
+    {
+        EntryReader {
+            worktree,
+            filter,
+            objects,
+            id,
+            path,
+            is_link,
+            len,
+            reads: Reads::none(),
+        }
+    }
+
+    /// How much was read.
+    pub fn reads(&self) -> Reads
+        ensures { counts_of result ≡ ⟦<EntryReader<'r, W, T, O> as ReadData>⟧.counts self.now }
+    {
+        self.reads
+    }
+
+    // The target of the link, which is counted at once.
+    fn stream_target<'a>(&mut self, buffer: &'a mut Vec<u8>) -> Result<Stream<'a, W::File>, Error>
+        ensures stream { IsTrue (W.tells self.old.worktree.now) → IsReading W.File.left (target_reading (W.target_of self.old.worktree.now (bstr_bytes self.old.path))) result }
+        ensures same { self.new ≡ record self.old { reads = self.new.reads } }
+        ensures counts { OnOk result (IsTrue (W.tells self.old.worktree.now) → counts_of self.new.reads ≡ counts_at_stream (target_reading (W.target_of self.old.worktree.now (bstr_bytes self.old.path))) (counts_of self.old.reads)) }
+    {
+        self.worktree.read_link(self.path, buffer)?;
+        self.reads.add_bytes(buffer.len() as u64);
+        self.reads.add_file();
+        Ok(Stream {
+            source: ToGitOutcome::Buffer(buffer.as_slice()),
+            size: None,
+            counts: false,
+            counted: 0,
+        })
+    }
+
+    // The file, converted. Its length is its size only where it is stored as it is.
+    fn stream_file<'a>(&mut self, buffer: &'a mut Vec<u8>) -> Result<Stream<'a, W::File>, Error>
+        ensures stream { IsTrue (W.tells self.old.worktree.now) → IsReading W.File.left (file_reading (λ c. T.conversion self.old.filter.now c (bstr_bytes self.old.path)) self.old.len (W.open_of self.old.worktree.now (bstr_bytes self.old.path))) result }
+        ensures same { self.new ≡ record self.old { reads = self.new.reads } }
+        ensures counts { OnOk result (counts_of self.new.reads ≡ with_file (counts_of self.old.reads)) }
+    {
+        let file = self.worktree.open(self.path)?;
+        let source = self.filter.convert(file, self.path, buffer)?;
+        let size = match source {
+            ToGitOutcome::Unchanged(_) => Some(self.len),
+            ToGitOutcome::Buffer(_) => None,
+        };
+        self.reads.add_file();
+        Ok(Stream::new(source, size))
+    }
+}
+
+impl<'r, W: Worktree, T: ToGit, O: Find> ReadData for EntryReader<'r, W, T, O> {
+    type File = W::File;
+
+    ghost means = { λ r. if W.tells r.worktree.now
+        then Some (entry_meaning r.is_link (λ c. T.conversion r.filter.now c (bstr_bytes r.path)) r.len
+        (W.open_of r.worktree.now (bstr_bytes r.path))
+        (W.target_of r.worktree.now (bstr_bytes r.path))
+        (O.found r.objects.now r.id))
+        else None };
+
+    ghost counts = { λ r. counts_of r.reads };
+
+    fn read_blob<'a>(&mut self, buffer: &'a mut Vec<u8>) -> Result<&'a [u8], Error> {
+        self.objects.find_blob(&self.id, buffer)?;
+        self.reads.add_object(buffer.len() as u64);
+        Ok(buffer.as_slice())
+    }
+
+    fn stream_worktree_file<'a>(
+        &mut self,
+        buffer: &'a mut Vec<u8>,
+    ) -> Result<Stream<'a, W::File>, Error> {
+        if self.is_link {
+            self.stream_target(buffer)
+        } else {
+            self.stream_file(buffer)
+        }
+    }
+
+    fn counted(&mut self, bytes: u64) {
+        self.reads.add_bytes(bytes);
+    }
+}

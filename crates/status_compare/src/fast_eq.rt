@@ -1,0 +1,56 @@
+//! Comparison by sizes where these decide, else by ids.
+
+ghost use Rattle.std.specs.Prelude.{◌≡◌, Some};
+ghost use Rattle.status_compare.specs.Comparers.{fast_answer, counts_after_fast, size_decides};
+ghost use Rattle.status_compare.specs.FastAgrees.{FastAgrees};
+
+use crate::compare::CompareBlobs;
+use crate::error::Error;
+use crate::hash_eq::HashEq;
+use crate::read_data::ReadData;
+use status_base::index::Entry;
+use std::alloc::Global;
+
+/// Compares by sizes where these decide, and else by ids. A change is told without the new id, since the file may not
+/// have been read.
+#[derive(Clone, Copy, Debug, Default, PartialEq, Eq)]
+pub struct FastEq;
+
+impl CompareBlobs for FastEq {
+    type Output = ();
+
+    ghost answer = { λ _ e n m. fast_answer e n m.file };
+
+    ghost counts_after = { λ _ e n m k. Some (counts_after_fast e n m.file k) };
+
+    fn compare_blobs<R: ReadData>(
+        &mut self,
+        alloc: Global,
+        entry: &Entry,
+        size: u64,
+        data: &mut R,
+        buffer: &mut Vec<u8>,
+    ) -> Result<Option<()>, Error> {
+        if size_decides(entry, size) {
+            return Ok(Some(()));
+        }
+        let change = HashEq.compare_blobs(alloc, entry, size, data, buffer)?;
+        Ok(change.map(|_id| ()))
+    }
+}
+
+// Whether the sizes alone show a change. An entry keeps the low 32 bits of a length. One that was marked as not to be
+// trusted has size 0, which for the empty blob alone is a length.
+fn size_decides(entry: &Entry, size: u64) -> bool
+    ensures { result ≡ size_decides entry.now size }
+{
+    u64::from(entry.stat.size) != size % (1 << 32)
+        && (entry.id.is_empty_blob() || entry.stat.size != 0)
+}
+
+/// A law: both comparisons tell a change of a file, or neither does. It holds where the file delivers as many bytes as its
+/// length, nothing converts it, the contents at hand have ids of their own, and the entry keeps its content's size or 0.
+#[tactic(auto, using(crate::proofs::Agree::agrees))]
+pub fn fast_agrees_with_hash(entry: &Entry)
+    ensures { FastAgrees entry.now }
+{}
