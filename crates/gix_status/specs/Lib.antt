@@ -5,6 +5,7 @@ pub mod Decisions
 pub mod Outcomes
 pub mod Pieces
 pub mod Query
+pub mod Recorded
 pub mod Records
 pub mod Status
 pub mod Visits

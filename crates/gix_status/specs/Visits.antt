@@ -1,12 +1,23 @@
 -- What a collector is told.
-use Rattle.std.specs.Prelude.{ℕ, List}
+use Rattle.std.specs.Prelude.{◌≡◌, ℕ, ◌<◌, ◌++◌, List, All, AllPairs, length, map, slice_get, Some}
 use Rattle.status_index.specs.declared.entry.Entry.{Entry}
+use Rattle.status_index.specs.declared.entry.PathStorage.{PathStorage}
+use Rattle.status_index.specs.Entries.{path_in}
 use Rattle.gix_status.specs.declared.index_as_worktree.types.EntryStatus.{EntryStatus}
+use Rattle.gix_status.specs.declared.index_as_worktree.types.Finding.{Finding}
 
--- the whole index, an entry of it with its place and path, and its status
+-- an entry with its place in the whole index, its path, and its status
 pub record Visit (T U : Type 0) : Type 0 where
-  pub entries : List Entry
   pub entry : Entry
   pub entry_index : ℕ
   pub path : List ℕ
   pub status : EntryStatus T U
+
+-- what is told of the entry at a place
+abbrev pub finding_of : {T U : Type 0} → Visit T U → Finding T U
+finding_of v = record { entry_index = v.entry_index; status = v.status }
+
+-- the entry is the index's at that place, and the path is its own
+pub record IsFaithful {T U : Type 0} (entries : List Entry) (backing : PathStorage) (v : Visit T U) : Type 0 where
+  pub entry : slice_get entries v.entry_index ≡ Some v.entry
+  pub path : v.path ≡ path_in backing v.entry

@@ -1,9 +1,15 @@
+pub mod CheckState
 pub mod Converted
 pub mod Found
+pub mod Kept
 pub mod Lawful
 pub mod LinkCheck
 pub mod Listing
 pub mod MemoryTree
+pub mod Nodes
 pub mod Outcomes
 pub mod Paths
+pub mod Stopped
 pub mod Submodules
+pub mod Trees
+pub mod Verified

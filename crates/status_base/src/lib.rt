@@ -3,4 +3,5 @@
 
 pub mod fscache;
 pub mod index;
+pub mod stack;
 pub mod worktree;

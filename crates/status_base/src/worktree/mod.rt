@@ -5,6 +5,7 @@
 
 pub mod filter;
 pub mod lister;
+pub mod memory;
 pub mod objects;
 pub mod pathspec;
 pub mod submodule;
@@ -12,6 +13,7 @@ pub mod tree;
 
 pub use filter::{NoFilter, ToGit, ToGitOutcome};
 pub use lister::{Lister, Listing, NoLister};
+pub use memory::{MemoryFile, MemoryWorktree, Node, TreeError};
 pub use objects::{Find, FindError};
 pub use pathspec::{AllPaths, Pathspec};
 pub use status_index::{ByteText, Fault, Metadata, NodeKind, ReadBytes, TimeError};

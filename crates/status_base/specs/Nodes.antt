@@ -1,0 +1,65 @@
+-- What a node is in a tree, and what becomes of a tree where a node is put.
+use Rattle.std.specs.Prelude.{◌≡◌, ◌⊎◌, ℕ, Bool, ◌==◌, ◌&&◌, ◌||◌, List, map, length, Option, Some, None, is_some, Result, Ok, Err, if◌then◌else◌}
+use Rattle.std.specs.FinMap as paths
+use Rattle.std.specs.Global.{Vec}
+use Rattle.status_index.specs.declared.fault.Fault.{Fault}
+use Rattle.status_index.specs.declared.fault.Fault.TheVariants.{Other}
+use Rattle.status_index.specs.declared.metadata.NodeKind.{NodeKind}
+use Rattle.status_base.specs.Paths.{odd_component}
+use Rattle.status_base.specs.MemoryTree.{Placed, PathMap, Tree, has_below, has_file_above, absence, is_no_directory_kind}
+use Rattle.status_base.specs.declared.worktree.memory.Node.{Node}
+use Rattle.status_base.specs.declared.worktree.memory.TreeError.{TreeError}
+use Rattle.status_base.specs.declared.worktree.memory.TreeError.TheVariants.{BadPath, InTheWay, Memory}
+
+-- the metadata that lstat tells of a node, and its bytes
+abbrev pub placed_of : Node → Placed
+placed_of node = record {
+  metadata = record {
+    kind = node.kind;
+    len = node.len;
+    executable = node.executable;
+    mtime = node.mtime;
+    ctime = node.ctime;
+    dev = node.dev;
+    ino = node.ino;
+    uid = node.uid;
+    gid = node.gid;
+  };
+  bytes = node.bytes.items;
+}
+
+-- the paths with what is placed there
+abbrev pub placed_entries : List (Vec ℕ × Node) → List (List ℕ × Placed)
+placed_entries = map (λ e. (e.0.items, placed_of e.1))
+
+-- a tree's nodes, by the entries of a map
+abbrev pub placed_nodes : List (Vec ℕ × Node) → PathMap Placed
+placed_nodes entries = paths.from_entries (placed_entries entries)
+
+-- a tree of nodes, where no fault is planted
+abbrev pub tree_of : List (Vec ℕ × Node) → Tree
+tree_of entries = record { nodes = placed_nodes entries; planted = paths.empty }
+
+-- whether nothing can be put at a path: it is empty, or a component is empty, `.` or `..`
+abbrev pub is_bad_path : List ℕ → Bool
+is_bad_path path = length path == 0 || is_some (odd_component path)
+
+-- whether a node can't be put at a path: one above it isn't a directory, or one lies below it and it isn't a directory
+abbrev pub is_in_the_way : Tree → List ℕ → NodeKind → Bool
+is_in_the_way tree path kind = has_file_above tree path || (is_no_directory_kind kind && has_below tree path)
+
+-- why a node of a kind can't be put at a path
+abbrev pub put_fault : Tree → List ℕ → NodeKind → Option TreeError
+put_fault tree path kind =
+    if is_bad_path path then Some BadPath else (if is_in_the_way tree path kind then Some InTheWay else None)
+
+-- the fault of a call for content on a path that has no node
+abbrev pub fault_without_node : Tree → List ℕ → Fault
+fault_without_node tree path = if has_below tree path then Other 0 else absence tree path
+
+-- the node is put, or the tree stays for the fault that is meant or for want of memory
+abbrev pub IsPut : {A : Type 0} → Tree → List ℕ → Placed → Result A TreeError → Tree → Type 0
+IsPut old path placed (Ok _) new =
+    (put_fault old path placed.metadata.kind ≡ None) × (new ≡ record old { nodes = paths.insert old.nodes path placed })
+IsPut old path placed (Err e) new =
+    ((e ≡ Memory) ⊎ (put_fault old path placed.metadata.kind ≡ Some e)) × (new ≡ old)

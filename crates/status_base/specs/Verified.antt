@@ -1,0 +1,75 @@
+-- What a check for links answers.
+use Rattle.std.specs.Prelude.{◌≡◌, ◌⊎◌, ◌<◌, ◌≤◌, ◌+◌, ℕ, Bool, IsTrue, List, [], length, Contains, OnOk, Some, None, Result, Ok, Err}
+use Rattle.bstr.specs.declared.bstr.BStr.{BStr}
+use Rattle.bstr.specs.BStr.{bstr_bytes}
+use Rattle.status_index.specs.declared.fault.Fault.{Fault}
+use Rattle.status_index.specs.declared.fault.Fault.TheVariants as faults
+use Rattle.status_index.specs.declared.metadata.Metadata.{Metadata}
+use Rattle.status_base.specs.declared.stack.error.StackError.{StackError}
+use Rattle.status_base.specs.declared.stack.error.StackError.TheVariants.{EmptyPath, NotNormal, ThroughLink, Memory}
+use Rattle.status_base.specs.declared.stack.error.StackError.TheVariants as errors
+use Rattle.status_base.specs.Paths.{odd_component, directories}
+use Rattle.status_base.specs.LinkCheck.{LinkCheck, accepted, empty_path, not_normal, through_link, faulty}
+use Rattle.status_base.specs.CheckState.{CheckState, IsClear}
+
+-- the error that is meant, or want of memory
+abbrev pub IsRefused : LinkCheck → StackError → Type 0
+IsRefused check EmptyPath = check ≡ empty_path
+IsRefused check (NotNormal component) = check ≡ not_normal (bstr_bytes component)
+IsRefused check (ThroughLink prefix) = check ≡ through_link (bstr_bytes prefix)
+IsRefused check (errors.Fault f) = (check ≡ faulty f) ⊎ (f ≡ faults.Memory)
+IsRefused check Memory = Unit {0}
+
+-- the path where it is accepted, the error that is meant, or want of memory
+abbrev pub IsVerified : LinkCheck → List ℕ → Result BStr StackError → Type 0
+IsVerified check path (Ok answer) = (check ≡ accepted) × (bstr_bytes answer ≡ path)
+IsVerified check path (Err e) = IsRefused check e
+
+-- accepted, the error that is meant, or want of memory
+abbrev pub IsChecked : {A : Type 0} → LinkCheck → Result A StackError → Type 0
+IsChecked check (Ok _) = check ≡ accepted
+IsChecked check (Err e) = IsRefused check e
+
+abbrev pub unless_absent : Fault → LinkCheck
+unless_absent faults.NotFound = accepted
+unless_absent faults.NotADirectory = faulty faults.NotADirectory
+unless_absent faults.PermissionDenied = faulty faults.PermissionDenied
+unless_absent faults.Interrupted = faulty faults.Interrupted
+unless_absent faults.IllformedUtf8 = faulty faults.IllformedUtf8
+unless_absent faults.UnexpectedEnd = faulty faults.UnexpectedEnd
+unless_absent faults.NotNormal = faulty faults.NotNormal
+unless_absent faults.Memory = faulty faults.Memory
+unless_absent (faults.Other n) = faulty (faults.Other n)
+
+-- a path is accepted too where nothing is there
+abbrev pub accepting_absent : LinkCheck → LinkCheck
+accepting_absent accepted = accepted
+accepting_absent empty_path = empty_path
+accepting_absent (not_normal component) = not_normal component
+accepting_absent (through_link prefix) = through_link prefix
+accepting_absent (faulty f) = unless_absent f
+
+-- an error names what a path has: nothing, its leftmost odd component, one of its proper directory prefixes
+abbrev pub IsNamed : List ℕ → StackError → Type 0
+IsNamed path EmptyPath = path ≡ []
+IsNamed path (NotNormal component) = odd_component path ≡ Some (bstr_bytes component)
+IsNamed path (ThroughLink prefix) = Contains (directories path) (bstr_bytes prefix)
+IsNamed path (errors.Fault f) = Unit {0}
+IsNamed path Memory = Unit {0}
+
+-- a path that isn't empty, and none of whose components is odd
+pub record IsNormal (path : List ℕ) : Type 0 where
+  pub nonempty : 0 < length path
+  pub even : odd_component path ≡ None
+
+-- a check after a query
+pub record IsAfterQuery (tells : Bool) (lstat : List ℕ → Result Metadata Fault) (query : List ℕ) (old new : CheckState) : Type 0 where
+  pub root : new.root ≡ old.root
+  pub clear : IsTrue tells → IsClear lstat old.path → IsClear lstat new.path
+  pub looks : old.looks ≤ new.looks
+  pub few : new.looks ≤ old.looks + length (directories query)
+
+-- a check after a query that was answered by its path only where each directory above is open
+pub record IsAfterVerified {A E : Type 0} (tells : Bool) (lstat : List ℕ → Result Metadata Fault) (query : List ℕ) (result : Result A E) (old new : CheckState) : Type 0 where
+  pub path : OnOk result (new.path ≡ query)
+  pub after : IsAfterQuery tells lstat query old new

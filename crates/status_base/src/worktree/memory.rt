@@ -1,0 +1,373 @@
+//! A worktree in memory.
+
+ghost use Rattle.std.specs.Prelude.{◌≡◌, [], IfOk, MatchOption, is_some};
+ghost use Rattle.std.specs.Option.{option_map};
+ghost use Rattle.std.specs.FinMap as paths;
+ghost use Rattle.bstr.specs.BStr.{bstr_bytes};
+ghost use Rattle.status_base.specs.Paths.{is_odd, odd_component};
+ghost use Rattle.status_base.specs.MemoryTree.{is_no_directory, has_below, has_file_above, absence, bare_directory, planted_at, no_faults};
+ghost use Rattle.status_base.specs.Nodes.{placed_of, put_fault, fault_without_node, IsPut};
+ghost use Rattle.status_base.specs.Trees.{empty_tree};
+
+use crate::worktree::Worktree;
+use bstr::BStr;
+use status_index::{Fault, Metadata, NodeKind, ReadBytes, Time};
+use std::alloc::{AllocError, AllocFailed, Global};
+use std::collections::BTreeMap;
+use std::marker::Model;
+use thiserror::Error;
+
+/// A node of a worktree in memory: what `lstat` tells of it, and what it delivers.
+#[derive(Debug, Drop)]
+pub struct Node {
+    /// What the node is.
+    pub kind: NodeKind,
+    /// What a file delivers, or a link's target.
+    pub bytes: Vec<u8>,
+    /// The length that `lstat` tells, which may differ from the number of bytes.
+    pub len: u64,
+    /// Whether a regular file's owner may execute it.
+    pub executable: bool,
+    /// When the content was last changed. None where that is unknown.
+    pub mtime: Option<Time>,
+    /// When the metadata was last changed. None where that is unknown.
+    pub ctime: Option<Time>,
+    /// The device.
+    pub dev: u32,
+    /// The inode.
+    pub ino: u32,
+    /// The owner.
+    pub uid: u32,
+    /// The owner's group.
+    pub gid: u32,
+}
+
+impl Node {
+    /// What `lstat` tells of the node.
+    pub fn metadata(&self) -> Metadata
+        ensures { result ≡ (placed_of self.now).metadata }
+    {
+        Metadata {
+            kind: self.kind,
+            len: self.len,
+            executable: self.executable,
+            mtime: self.mtime,
+            ctime: self.ctime,
+            dev: self.dev,
+            ino: self.ino,
+            uid: self.uid,
+            gid: self.gid,
+        }
+    }
+}
+
+/// Why a node was not put.
+#[derive(Clone, Copy, Debug, PartialEq, Eq, Error)]
+pub enum TreeError {
+    /// The path is empty, or a component is empty, `.` or `..`.
+    #[error("bad path")]
+    BadPath,
+    /// A node above the path isn't a directory, or the node isn't one and another lies below it.
+    #[error("in the way")]
+    InTheWay,
+    /// Memory ran out.
+    #[error("Out of memory")]
+    Memory,
+}
+
+impl From<AllocError> for TreeError {
+    ghost use Rattle.std.specs.Prelude.{◌≡◌};
+    ghost use Rattle.status_base.specs.declared.worktree.memory.TreeError.TheVariants.{Memory};
+
+    ghost from_gives = { λ _ e. e ≡ Memory };
+
+    fn from(_error: AllocError) -> TreeError {
+        TreeError::Memory
+    }
+}
+
+/// A worktree in memory. A path is a directory where a directory was put or where a node lies below it.
+#[derive(Drop)]
+pub struct MemoryWorktree {
+    alloc: Global,
+    nodes: BTreeMap<Vec<u8>, Node>,
+}
+
+impl Model for MemoryWorktree {
+    ghost use Rattle.status_base.specs.MemoryTree.{Tree};
+    ghost use Rattle.status_base.specs.Trees.{tree_code};
+
+    ghost Value = { Tree };
+
+    ghost coded = { tree_code };
+
+    ghost use Rattle.status_base.specs.Nodes.{tree_of};
+
+    ghost view = { λ a. tree_of a.nodes.entries };
+}
+
+impl MemoryWorktree {
+    /// A worktree with nothing in it.
+    pub fn new(alloc: Global) -> MemoryWorktree
+        ensures { result ≡ empty_tree }
+    {
+        MemoryWorktree {
+            alloc,
+            nodes: BTreeMap::new(alloc),
+        }
+    }
+
+    /// The node that was put at a path.
+    pub fn node(&self, path: BStr<'_>) -> Option<&Node>
+        ensures { option_map (λ n. placed_of n.now) result ≡ paths.get self.now.nodes (bstr_bytes path.entry) }
+    {
+        self.node_at(path.as_bytes())
+    }
+
+    /// Puts a node at a path, in place of the one that was there.
+    ///
+    /// # Errors
+    /// A bad path, something in the way, or want of memory. The worktree is then as it was.
+    pub fn put(&mut self, path: BStr<'_>, node: Node) -> Result<(), TreeError>
+        ensures { IsPut self.old (bstr_bytes path.entry) (placed_of node) result self.new }
+    {
+        let path = path.as_bytes();
+        if let Some(fault) = self.fault_of_put(path, node.kind)? {
+            return Err(fault);
+        }
+        let path = Vec::from_slice(self.alloc, path)?;
+        match self.nodes.insert(path, node) {
+            Ok(_replaced) => Ok(()),
+            Err(_refused) => Err(TreeError::Memory),
+        }
+    }
+
+    /// Takes the node at a path out.
+    pub fn remove(&mut self, path: BStr<'_>) -> Option<Node>
+        ensures value { option_map placed_of result ≡ paths.get self.old.nodes (bstr_bytes path.entry) }
+        ensures after { self.new ≡ record self.old { nodes = paths.remove self.old.nodes (bstr_bytes path.entry) } }
+    {
+        self.nodes.remove(path.as_bytes())
+    }
+
+    fn node_at(&self, path: &[u8]) -> Option<&Node>
+        ensures unplanted { planted_at self.now path.now ≡ no_faults }
+        ensures value { option_map (λ n. placed_of n.now) result ≡ paths.get self.now.nodes path.now }
+    {
+        self.nodes.get(path)
+    }
+
+    /// Whether a node lies below a path. The first of the paths from `path/` on decides.
+    fn has_below(&self, path: &[u8]) -> Result<bool, AllocError>
+        ensures { IfOk result (λ b. b ≡ has_below self.now path.now) }
+    {
+        let mut front = Vec::from_slice(self.alloc, path)?;
+        front.push(b'/')?;
+        let mut from_front = self.nodes.range(&front..);
+        Ok(match from_front.next() {
+            Some((first, _)) => first.starts_with(front.as_slice()),
+            None => false,
+        })
+    }
+
+    /// Whether a proper prefix of a path has a node that isn't a directory.
+    fn has_file_above(&self, path: &[u8]) -> bool
+        ensures { result ≡ has_file_above self.now path.now }
+    {
+        for (end, byte) in path.iter().enumerate() {
+            if *byte == b'/' && self.is_no_directory(&path[..end]) {
+                return true;
+            }
+        }
+        false
+    }
+
+    /// Whether a node was put at a path and isn't a directory.
+    fn is_no_directory(&self, path: &[u8]) -> bool
+        ensures { result ≡ is_no_directory (paths.get self.now.nodes path.now) }
+    {
+        match self.node_at(path) {
+            Some(node) => node.kind != NodeKind::Directory,
+            None => false,
+        }
+    }
+
+    /// Why a node of a kind can't be put at a path.
+    fn fault_of_put(&self, path: &[u8], kind: NodeKind) -> Result<Option<TreeError>, AllocError>
+        ensures { IfOk result (λ fault. fault ≡ put_fault self.now path.now kind) }
+    {
+        if path.is_empty() || has_odd_component(path) {
+            return Ok(Some(TreeError::BadPath));
+        }
+        if self.has_file_above(path) {
+            return Ok(Some(TreeError::InTheWay));
+        }
+        if kind != NodeKind::Directory && self.has_below(path)? {
+            return Ok(Some(TreeError::InTheWay));
+        }
+        Ok(None)
+    }
+
+    /// Why nothing is told of a path without a node and without one below it.
+    fn absence(&self, path: &[u8]) -> Fault
+        ensures { result ≡ absence self.now path.now }
+    {
+        if self.has_file_above(path) {
+            Fault::NotADirectory
+        } else {
+            Fault::NotFound
+        }
+    }
+
+    /// The fault of a call for content on a path that has no node.
+    fn without_node(&self, path: &[u8]) -> Result<Fault, AllocError>
+        ensures { IfOk result (λ fault. fault ≡ fault_without_node self.now path.now) }
+    {
+        if self.has_below(path)? {
+            Ok(Fault::Other(0))
+        } else {
+            Ok(self.absence(path))
+        }
+    }
+}
+
+/// Whether a component of a path is empty, `.` or `..`.
+fn has_odd_component(path: &[u8]) -> bool
+    ensures { result ≡ is_some (odd_component path.now) }
+{
+    path.split(|byte| *byte == b'/').any(is_odd)
+}
+
+/// Whether a component is empty, `.` or `..`.
+fn is_odd(component: &[u8]) -> bool
+    ensures { result ≡ is_odd component.now }
+{
+    matches!(component, b"" | b"." | b"..")
+}
+
+/// What `lstat` tells of a directory that was not put.
+fn bare_directory() -> Metadata
+    ensures { result ≡ bare_directory }
+{
+    let never = Some(Time { secs: 0, nsecs: 0 });
+    Metadata {
+        kind: NodeKind::Directory,
+        len: 0,
+        executable: false,
+        mtime: never,
+        ctime: never,
+        dev: 0,
+        ino: 0,
+        uid: 0,
+        gid: 0,
+    }
+}
+
+/// A file of a worktree in memory: a copy of its bytes, and the fault that stands in place of their end.
+#[derive(Drop)]
+pub struct MemoryFile {
+    bytes: Vec<u8>,
+    position: usize,
+    fault: Option<Fault>,
+}
+
+impl Model for MemoryFile {
+    ghost use Rattle.std.specs.Prelude.{◌≤◌, drop};
+    ghost use Rattle.std.specs.Vec.{vec_len};
+    ghost use Rattle.status_index.specs.Content.{Content};
+
+    ghost Value = { Content };
+
+    ghost view = { λ a. record { bytes = drop a.position a.bytes.items; fault = a.fault } };
+
+    ghost invariant = { λ a. a.position ≤ vec_len a.bytes };
+}
+
+impl MemoryFile {
+    /// A file of a copy of these bytes, to be read from the front.
+    fn new(alloc: Global, bytes: &[u8], fault: Option<Fault>) -> Result<MemoryFile, AllocError>
+        ensures { IfOk result (λ file. file ≡ record { bytes = bytes.now; fault = fault }) }
+    {
+        Ok(MemoryFile {
+            bytes: Vec::from_slice(alloc, bytes)?,
+            position: 0,
+            fault,
+        })
+    }
+
+    /// The fault that stands behind the bytes, where no bytes are left.
+    fn fault_at_end(&self) -> Option<Fault>
+        ensures { MatchOption result (self.now.bytes ≡ [] → self.now.fault ≡ None) (λ fault. (self.now.bytes ≡ []) × (self.now.fault ≡ Some fault)) }
+    {
+        if self.position < self.bytes.len() {
+            return None;
+        }
+        self.fault
+    }
+}
+
+impl ReadBytes for MemoryFile {
+    ghost use Rattle.std.specs.Prelude.{Some};
+
+    ghost left = { Some };
+
+    fn read_bytes(&mut self, buffer: &mut [u8]) -> Result<usize, Fault> {
+        if let Some(fault) = self.fault_at_end() {
+            return Err(fault);
+        }
+        let rest = &self.bytes[self.position..];
+        let count = rest.len().min(buffer.len());
+        buffer[..count].copy_from_slice(&rest[..count]);
+        self.position += count;
+        Ok(count)
+    }
+}
+
+impl Worktree for MemoryWorktree {
+    ghost use Rattle.std.specs.Prelude.{true};
+    ghost use Rattle.status_base.specs.MemoryTree.{lstat_in, open_in, target_in};
+
+    type File = MemoryFile;
+
+    ghost tells = { λ _. true };
+
+    ghost lstat_of = { lstat_in };
+
+    ghost open_of = { open_in };
+
+    ghost target_of = { target_in };
+
+    fn lstat(&self, path: BStr<'_>) -> Result<Metadata, Fault> {
+        let path = path.as_bytes();
+        if let Some(node) = self.node_at(path) {
+            return Ok(node.metadata());
+        }
+        if self.has_below(path)? {
+            return Ok(bare_directory());
+        }
+        Err(self.absence(path))
+    }
+
+    fn open(&self, path: BStr<'_>) -> Result<MemoryFile, Fault> {
+        let path = path.as_bytes();
+        let Some(node) = self.node_at(path) else {
+            return Err(self.without_node(path)?);
+        };
+        match node.kind {
+            NodeKind::File => Ok(MemoryFile::new(self.alloc, &node.bytes, None)?),
+            _ => Err(Fault::Other(0)),
+        }
+    }
+
+    fn read_link(&self, path: BStr<'_>, target: &mut Vec<u8>) -> Result<(), Fault> {
+        target.clear();
+        let path = path.as_bytes();
+        let Some(node) = self.node_at(path) else {
+            return Err(self.without_node(path)?);
+        };
+        match node.kind {
+            NodeKind::Link => Ok(target.extend_from_slice(&node.bytes)?),
+            _ => Err(Fault::Other(0)),
+        }
+    }
+}
