@@ -1,3 +1,3 @@
 //! Comparison of a worktree's files with the blobs that an index names.
 
-pub use status_compare::{CompareBlobs, ReadData, Stream};
+pub use status_compare::{CompareBlobs, FastEq, HashEq, ReadData, Stream};
