@@ -1,11 +1,17 @@
+pub mod Asked
 pub mod Conflicts
 pub mod Considered
 pub mod Counts
 pub mod Decisions
+pub mod Fed
+pub mod Laws
 pub mod Outcomes
 pub mod Pieces
 pub mod Query
 pub mod Recorded
 pub mod Records
 pub mod Status
+pub mod StatusTable
+pub mod StatusTheorem
 pub mod Visits
+pub mod Worked

@@ -7,6 +7,7 @@ pub mod LinkCheck
 pub mod Listing
 pub mod MemoryTree
 pub mod Nodes
+pub mod Objects
 pub mod Outcomes
 pub mod Paths
 pub mod Stopped

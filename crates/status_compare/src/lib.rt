@@ -16,3 +16,6 @@ pub use fast_eq::FastEq;
 pub use hash_eq::HashEq;
 pub use read_data::ReadData;
 pub use stream::Stream;
+
+#[cfg(test)]
+mod tests;

@@ -1,6 +1,9 @@
 //! A worktree's file as git would store it, to be read in pieces.
 
-ghost use Rattle.std.specs.Prelude.{◌≡◌, ℕ, ◌<◌, ◌≤◌, [], ◌++◌, length, take, Option, None, Some, true, option_map, OnOk, ◌-◌};
+ghost use Rattle.std.specs.Prelude.{◌≡◌, ℕ, ◌-◌, ◌<◌, ◌≤◌, [], ◌++◌, length, take, Option, None, Some, IfSome, true, OnOk, IfErr, option_map};
+ghost use Rattle.std.specs.Io.{ReadsAtMost};
+ghost use Rattle.std.specs.Io.KnownBytes.{ReadConsumes};
+ghost use Rattle.std.specs.IoError.{error_kind};
 ghost use Rattle.status_index.specs.ReadAll.{ReadsAll};
 ghost use Rattle.status_compare.specs.FaultKinds.{kind_of, known_bytes, IsKindOf};
 ghost use Rattle.status_compare.specs.StreamCounts.{count_after, counted_with, count_told};
@@ -106,10 +109,8 @@ impl<'a, F: ReadBytes> ReadBytes for Stream<'a, F> {
 }
 
 impl<'a, F: ReadBytes> Stream<'a, F> {
-    /// Appends all that is left to `into`, and counts it.
-    ///
-    /// # Errors
-    /// The file's fault, and Memory. The bytes that came before stay appended, and aren't counted.
+    // Appends all that is left to `into`, and counts it. A fault is the file's, or Memory: the bytes that came before it
+    // stay appended, and aren't counted.
     pub(crate) fn read_rest(&mut self, into: &mut Vec<u8>) -> Result<(), Fault>
         ensures all { ReadsAll (stream_left F.left self.old) (stream_left F.left self.new) into.old.items into.new.items result }
         ensures same_counts { self.new.counts ≡ self.old.counts }
@@ -143,11 +144,6 @@ fn kind_of(fault: Fault) -> io::ErrorKind
         Fault::Other(_) => io::ErrorKind::Other,
     }
 }
-
-ghost use Rattle.std.specs.Prelude.{IfErr, IfSome};
-ghost use Rattle.std.specs.Io.{ReadsAtMost};
-ghost use Rattle.std.specs.Io.KnownBytes.{ReadConsumes};
-ghost use Rattle.std.specs.IoError.{error_kind};
 
 impl<'a, F: ReadBytes> io::Read for Stream<'a, F> {
     ghost remaining = { λ s. known_bytes (stream_left F.left s) };

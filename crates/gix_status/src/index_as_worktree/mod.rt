@@ -2,6 +2,9 @@
 
 pub mod conflict;
 pub mod decide;
+pub mod entry_status;
+pub mod feed;
+pub mod laws;
 pub mod piece;
 pub mod recorder;
 pub mod traits;

@@ -371,3 +371,6 @@ impl Worktree for MemoryWorktree {
         }
     }
 }
+
+#[cfg(test)]
+mod tests;

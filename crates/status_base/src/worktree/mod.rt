@@ -6,6 +6,7 @@
 pub mod filter;
 pub mod lister;
 pub mod memory;
+pub mod memory_objects;
 pub mod objects;
 pub mod pathspec;
 pub mod submodule;
@@ -14,6 +15,7 @@ pub mod tree;
 pub use filter::{NoFilter, ToGit, ToGitOutcome};
 pub use lister::{Lister, Listing, NoLister};
 pub use memory::{MemoryFile, MemoryWorktree, Node, TreeError};
+pub use memory_objects::MemoryObjects;
 pub use objects::{Find, FindError};
 pub use pathspec::{AllPaths, Pathspec};
 pub use status_index::{ByteText, Fault, Metadata, NodeKind, ReadBytes, TimeError};

@@ -1,0 +1,84 @@
+//! Blobs in memory.
+
+ghost use Rattle.std.specs.Prelude.{◌≡◌, OnOk, OnErr};
+ghost use Rattle.std.specs.FinMap as ids;
+
+use crate::worktree::{Find, FindError};
+use status_index::ObjectId;
+use std::alloc::{AllocError, Global};
+use std::collections::BTreeMap;
+use std::marker::Model;
+
+/// Blobs in memory, by their ids. That an id is its content's digest is not looked at.
+#[derive(Drop)]
+pub struct MemoryObjects {
+    alloc: Global,
+    contents: BTreeMap<ObjectId, Vec<u8>>,
+}
+
+impl Model for MemoryObjects {
+    ghost use Rattle.status_base.specs.Objects.{Contents, contents_code, contents_of};
+
+    ghost Value = { Contents };
+
+    ghost coded = { contents_code };
+
+    ghost view = { λ a. contents_of a.contents.entries };
+}
+
+impl MemoryObjects {
+    /// No blobs.
+    pub fn new(alloc: Global) -> MemoryObjects
+        ensures { result ≡ ids.empty }
+    {
+        MemoryObjects {
+            alloc,
+            contents: BTreeMap::new(alloc),
+        }
+    }
+
+    /// Puts a blob, in place of the one that had the id.
+    ///
+    /// # Errors
+    /// Want of memory. The blobs are then as they were.
+    pub fn put(&mut self, id: ObjectId, content: &[u8]) -> Result<(), AllocError>
+        ensures ok { OnOk result (self.new ≡ ids.insert self.old id content.now) }
+        ensures err { OnErr result (self.new ≡ self.old) }
+    {
+        let content = Vec::from_slice(self.alloc, content)?;
+        match self.contents.insert(id, content) {
+            Ok(_replaced) => Ok(()),
+            Err(_refused) => Err(AllocError),
+        }
+    }
+}
+
+impl Clone for MemoryObjects {
+    ghost use Rattle.std.specs.Prelude.{◌≡◌};
+
+    ghost is_clone = { λ x y. y ≡ x };
+
+    fn clone(&self) -> Result<MemoryObjects, AllocError> {
+        Ok(MemoryObjects {
+            alloc: self.alloc,
+            contents: self.contents.clone()?,
+        })
+    }
+}
+
+impl Find for MemoryObjects {
+    ghost use Rattle.status_base.specs.Objects.{found_in};
+
+    ghost found = { found_in };
+
+    fn find_blob(&self, id: &ObjectId, buffer: &mut Vec<u8>) -> Result<(), FindError> {
+        let Some(content) = self.contents.get(id) else {
+            return Err(FindError::Missing);
+        };
+        buffer.clear();
+        match buffer.extend_from_slice(content) {
+            Ok(()) => Ok(()),
+            Err(_error) => Err(FindError::Memory),
+        }
+    }
+}

@@ -1,0 +1,221 @@
+ghost use Rattle.std.specs.Prelude.{false, Err};
+ghost use Rattle.status_index.specs.declared.fault.Fault.TheVariants.{NotFound};
+ghost use Rattle.status_base.specs.declared.worktree.objects.FindError.TheVariants.{Missing};
+
+use crate::{CompareBlobs, EntryReader, Error, FastEq, HashEq, ReadData, Reads, Stream};
+use bstr::{BStr, BString};
+use status_base::index::{Flags, Mode, Moment, NewEntry, ObjectId, Stat, State};
+use status_base::worktree::{
+    Fault, Find, FindError, Metadata, NoFilter, ReadBytes, ToGitOutcome, Worktree,
+};
+use std::alloc::Global;
+use std::io::{ErrorKind, Read};
+use std::test::Fail;
+
+const FOO: [u8; 20] = [
+    0x19, 0x10, 0x28, 0x15, 0x66, 0x3d, 0x23, 0xf8, 0xb7, 0x5a, 0x47, 0xe7, 0xa0, 0x19, 0x65, 0xdc,
+    0xdc, 0x96, 0x46, 0x8c,
+];
+
+const BARS: [u8; 20] = [
+    0x54, 0x12, 0x04, 0xba, 0x8c, 0x2e, 0xa9, 0x10, 0xe6, 0x4a, 0x91, 0xdd, 0xcf, 0xc8, 0x34, 0x7f,
+    0x39, 0x10, 0x1c, 0xa7,
+];
+
+// Bytes, and then the end or a fault. It tells nothing.
+#[derive(Clone, Copy)]
+struct Piece<'a> {
+    bytes: &'a [u8],
+    fault: Option<Fault>,
+}
+
+impl<'a> ReadBytes for Piece<'a> {
+    fn read_bytes(&mut self, buffer: &mut [u8]) -> Result<usize, Fault> {
+        if let (true, Some(fault)) = (self.bytes.is_empty(), self.fault) {
+            return Err(fault);
+        }
+        let count = self.bytes.len().min(buffer.len());
+        let (front, back) = self.bytes.split_at(count);
+        buffer[..count].copy_from_slice(front);
+        self.bytes = back;
+        Ok(count)
+    }
+}
+
+// A worktree that has the same bytes at each path, as a file and as a link's target.
+#[derive(Drop)]
+struct Everywhere<'a>(Piece<'a>);
+
+impl<'a> Worktree for Everywhere<'a> {
+    type File = Piece<'a>;
+
+    ghost tells = { λ _. false };
+
+    ghost lstat_of = { λ _ _. Err NotFound };
+
+    ghost open_of = { λ _ _. Err NotFound };
+
+    ghost target_of = { λ _ _. Err NotFound };
+
+    fn lstat(&self, _path: BStr<'_>) -> Result<Metadata, Fault> {
+        Err(Fault::NotFound)
+    }
+
+    fn open(&self, _path: BStr<'_>) -> Result<Piece<'a>, Fault> {
+        Ok(self.0)
+    }
+
+    fn read_link(&self, _path: BStr<'_>, target: &mut Vec<u8>) -> Result<(), Fault> {
+        target.clear();
+        target.extend_from_slice(self.0.bytes)?;
+        Ok(())
+    }
+}
+
+#[derive(Drop)]
+struct NoObjects;
+
+impl Find for NoObjects {
+    ghost found = { λ _ _. Err Missing };
+
+    fn find_blob(&self, _id: &ObjectId, _buffer: &mut Vec<u8>) -> Result<(), FindError> {
+        Err(FindError::Missing)
+    }
+}
+
+// An index of one entry, of the content `foo`.
+fn index_of_foo(alloc: Global, size: u32) -> Result<State, Error> {
+    let mut entries = Vec::new(alloc);
+    entries.push(NewEntry {
+        path: BString::from_slice(alloc, "foo")?,
+        stat: Stat {
+            size,
+            ..Stat::default()
+        },
+        id: ObjectId::Sha1(FOO),
+        flags: Flags::default(),
+        mode: Mode::File,
+    })?;
+    State::from_entries(alloc, entries, Moment::default()).map_err(|_refused| Error::Memory)
+}
+
+// A file or link of these bytes, whose length is said to be `len`, against `foo` with this size.
+#[derive(Drop)]
+struct Case<'a> {
+    bytes: &'a [u8],
+    is_link: bool,
+    len: u64,
+    size: u32,
+}
+
+fn compare<C: CompareBlobs>(
+    alloc: Global,
+    mut comparer: C,
+    case: &Case<'_>,
+) -> Result<(Option<C::Output>, Reads), Error>
+where
+    C: Drop,
+    C::Output: Drop,
+{
+    let index = index_of_foo(alloc, case.size)?;
+    let Some(entry) = index.entries().first() else {
+        return Err(Error::Memory);
+    };
+    let tree = Everywhere(Piece {
+        bytes: case.bytes,
+        fault: None,
+    });
+    let path = BStr::new(b"foo");
+    let mut reader = EntryReader::new(
+        &tree,
+        &NoFilter,
+        &NoObjects,
+        entry.id,
+        path,
+        case.is_link,
+        case.len,
+    );
+    let mut buffer = Vec::new(alloc);
+    let change = comparer.compare_blobs(alloc, entry, case.len, &mut reader, &mut buffer)?;
+    Ok((change, reader.reads()))
+}
+
+// One file or link was read, and this many bytes.
+fn one_read(bytes: u64) -> Reads {
+    Reads {
+        bytes,
+        files: 1,
+        ..Reads::default()
+    }
+}
+
+fn plain(bytes: &[u8], len: u64, size: u32) -> Case<'_> {
+    Case {
+        bytes,
+        is_link: false,
+        len,
+        size,
+    }
+}
+
+#[test]
+fn ids_tell_a_change_by_the_new_id(rt: HostRuntime) -> Result<(), Fail> {
+    let alloc = rt.alloc();
+    let bars = Some(ObjectId::Sha1(BARS));
+    assert_eq!(rt;
+        compare(alloc, HashEq, &plain(b"bars", 4, 3))?,
+        (bars, one_read(4))
+    );
+    assert_eq!(rt;
+        compare(alloc, HashEq, &plain(b"foo", 3, 3))?,
+        (None, one_read(3))
+    );
+    let link = Case {
+        is_link: true,
+        ..plain(b"bars", 4, 3)
+    };
+    assert_eq!(rt; compare(alloc, HashEq, &link)?, (bars, one_read(4)));
+    let short = compare(alloc, HashEq, &plain(b"foo", 4, 3));
+    assert!(rt; matches!(short, Err(Error::Io(Fault::UnexpectedEnd))));
+    Ok(())
+}
+
+#[test]
+fn sizes_decide_without_a_read(rt: HostRuntime) -> Result<(), Fail> {
+    let alloc = rt.alloc();
+    assert_eq!(rt;
+        compare(alloc, FastEq, &plain(b"bars", 4, 3))?,
+        (Some(()), Reads::default())
+    );
+    assert_eq!(rt;
+        compare(alloc, FastEq, &plain(b"bar", 3, 3))?,
+        (Some(()), one_read(3))
+    );
+    assert_eq!(rt;
+        compare(alloc, FastEq, &plain(b"foo", 3, 0))?,
+        (None, one_read(3))
+    );
+    Ok(())
+}
+
+#[test]
+fn streams_count_what_they_give(rt: HostRuntime) -> Result<(), Fail> {
+    let mut buffer: Stream<'_, Piece<'_>> = Stream::new(ToGitOutcome::Buffer(b"foo"), None);
+    assert_eq!(rt; buffer.as_bytes(), Some(b"foo".as_slice()));
+    assert_eq!(rt; buffer.as_bytes(), Some(b"foo".as_slice()));
+    assert_eq!(rt; Stream::bytes(&buffer), 6);
+    let mut file = Stream::new(
+        ToGitOutcome::Unchanged(Piece {
+            bytes: b"foo",
+            fault: Some(Fault::UnexpectedEnd),
+        }),
+        Some(4),
+    );
+    assert_eq!(rt; file.as_bytes(), None);
+    let mut all = Vec::new(rt.alloc());
+    let failed = file.read_to_end(&mut all);
+    assert_eq!(rt; failed.map_err(|e| e.kind()), Err(ErrorKind::UnexpectedEof));
+    assert_eq!(rt; all.as_slice(), b"foo".as_slice());
+    assert_eq!(rt; (file.size(), Stream::bytes(&file)), (Some(4), 3));
+    Ok(())
+}
