@@ -1,7 +1,7 @@
 //! The options of a profile.
 
 use crate::profile::error::FieldError;
-use crate::profile::field::{Fields, number_of, text_of};
+use crate::profile::field::{Fields, number_of};
 use bstr::BString;
 use gix_status::index_as_worktree::{Capabilities, Options};
 use serde_json::{Map, Value};
