@@ -1,0 +1,127 @@
+//! The lines that a status prints.
+
+#[cfg(test)]
+mod tests;
+
+use bstr::BStr;
+use gix_status::index_as_worktree::{Change, Conflict, ConflictIndexEntry, EntryStatus, Outcome};
+use serde_json::Value;
+use std::alloc::{AllocError, Global};
+use std::fmt;
+
+/// The line of what is told of the entry at a place of the index, with its line feed.
+pub fn status_line<T: Drop, U: Drop>(
+    alloc: Global,
+    entry_index: usize,
+    path: BStr<'_>,
+    status: &EntryStatus<T, U>,
+) -> Result<String, AllocError> {
+    let path = path_text(alloc, path)?;
+    let told = Told(status);
+    format!(in alloc; "{entry_index} {told} {path}\n")
+}
+
+/// The line of what a status took, with its line feed.
+pub fn total_line(alloc: Global, outcome: &Outcome) -> Result<String, AllocError> {
+    let skipped = skipped(outcome);
+    let Outcome {
+        entries_to_process,
+        entries_processed,
+        symlink_metadata_calls,
+        entries_to_update,
+        racy_clean,
+        worktree_files_read,
+        worktree_bytes,
+        ..
+    } = outcome;
+    format!(in alloc;
+        "total: to process {entries_to_process}, processed {entries_processed}, skipped {skipped}, lstat {symlink_metadata_calls}, to update {entries_to_update}, racy {racy_clean}, read {worktree_files_read}, bytes {worktree_bytes}\n"
+    )
+}
+
+/// A path as the compact JSON text of a string. Bytes that aren't UTF-8 are replaced.
+pub fn path_text(alloc: Global, path: BStr<'_>) -> Result<String, AllocError> {
+    let text = String::from_utf8_lossy(alloc, path.as_bytes())?;
+    Value::String(text).to_string(alloc)
+}
+
+/// The entries that were skipped. Their number fits, since the index had them all.
+fn skipped(outcome: &Outcome) -> usize {
+    outcome
+        .entries_skipped_by_common_prefix
+        .saturating_add(outcome.entries_skipped_by_pathspec)
+        .saturating_add(outcome.entries_skipped_by_entry_flags)
+}
+
+/// What is told of an entry, as it stands between its index and its path.
+#[derive(Drop)]
+struct Told<'a, T, U>(&'a EntryStatus<T, U>);
+
+impl<T: Drop, U: Drop> fmt::Display for Told<'_, T, U> {
+    fn fmt<W: fmt::Write>(&self, f: &mut fmt::Formatter<W>) -> fmt::Result {
+        match self.0 {
+            EntryStatus::Conflict { summary, entries } => {
+                let name = conflict_name(*summary);
+                let stages = Stages(entries);
+                write!(f, "conflict {name} {stages}")
+            }
+            EntryStatus::Change(change) => write_change(change, f),
+            EntryStatus::NeedsUpdate(_) => f.write_str("update"),
+            EntryStatus::IntentToAdd => f.write_str("intent"),
+        }
+    }
+}
+
+fn write_change<T, U, W: fmt::Write>(
+    change: &Change<T, U>,
+    f: &mut fmt::Formatter<W>,
+) -> fmt::Result {
+    match change {
+        Change::Removed => f.write_str("removed"),
+        Change::TypeChange { worktree_mode } => write!(f, "type {:06o}", worktree_mode.bits()),
+        Change::Modification {
+            executable_bit_changed,
+            content_change,
+            set_entry_stat_size_zero,
+        } => {
+            let executable = letter(*executable_bit_changed, 'x');
+            let content = letter(content_change.is_some(), 'c');
+            let size = letter(*set_entry_stat_size_zero, 's');
+            write!(f, "modified {executable}{content}{size}")
+        }
+        Change::SubmoduleModification(_) => f.write_str("submodule"),
+    }
+}
+
+/// The letter, or a dash in its place.
+fn letter(is_set: bool, letter: char) -> char {
+    if is_set { letter } else { '-' }
+}
+
+fn conflict_name(summary: Conflict) -> &'static str {
+    match summary {
+        Conflict::BothDeleted => "both-deleted",
+        Conflict::AddedByUs => "added-by-us",
+        Conflict::DeletedByThem => "deleted-by-them",
+        Conflict::AddedByThem => "added-by-them",
+        Conflict::DeletedByUs => "deleted-by-us",
+        Conflict::BothAdded => "both-added",
+        Conflict::BothModified => "both-modified",
+    }
+}
+
+/// The stages of a conflict, as the digits of those that are there.
+#[derive(Clone, Copy)]
+struct Stages<'a>(&'a [Option<ConflictIndexEntry>; 3]);
+
+impl fmt::Display for Stages<'_> {
+    fn fmt<W: fmt::Write>(&self, f: &mut fmt::Formatter<W>) -> fmt::Result {
+        let entries = self.0;
+        for (entry, digit) in entries.iter().zip("123".chars()) {
+            if entry.is_some() {
+                f.write_char(digit)?;
+            }
+        }
+        Ok(())
+    }
+}

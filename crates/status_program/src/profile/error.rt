@@ -1,0 +1,97 @@
+//! Why a profile isn't read.
+
+use hex::FromHexError;
+use std::alloc::{AllocError, AllocFailed};
+use std::fmt;
+use thiserror::Error;
+
+/// A key of a profile, in the order in which they are read.
+#[derive(Clone, Copy, Debug, PartialEq, Eq)]
+pub enum Key {
+    /// How ids are made. A profile that is no object is told as this key.
+    Hash,
+    /// When the index was written.
+    Timestamp,
+    /// How the status is computed.
+    Options,
+    /// The entries of the index.
+    Index,
+    /// The nodes of the worktree.
+    Worktree,
+}
+
+impl fmt::Display for Key {
+    fn fmt<W: fmt::Write>(&self, f: &mut fmt::Formatter<W>) -> fmt::Result {
+        f.write_str(match self {
+            Key::Hash => "hash",
+            Key::Timestamp => "timestamp",
+            Key::Options => "options",
+            Key::Index => "index",
+            Key::Worktree => "worktree",
+        })
+    }
+}
+
+/// Why a profile isn't read.
+#[derive(Clone, Copy, Debug, PartialEq, Eq, Error)]
+pub enum ProfileError {
+    /// The text isn't JSON, or isn't UTF-8.
+    #[error("not JSON")]
+    NotJson,
+    /// The key is missing or has a wrong form, and those before it are as they should be.
+    #[error("bad profile: {0}")]
+    Bad(Key),
+    /// Memory ran out.
+    #[error("out of memory")]
+    Memory,
+}
+
+impl From<serde_json::Error> for ProfileError {
+    fn from(error: serde_json::Error) -> ProfileError {
+        if error.is_memory() {
+            ProfileError::Memory
+        } else {
+            ProfileError::NotJson
+        }
+    }
+}
+
+/// Why a field of a profile isn't read.
+#[derive(Clone, Copy, Debug, PartialEq, Eq)]
+pub enum FieldError {
+    /// It is missing, has a wrong form, or asks for what isn't supported.
+    Form,
+    /// Memory ran out.
+    Memory,
+}
+
+impl FieldError {
+    /// The error of the profile, where the field stands under `key`.
+    pub fn under(self, key: Key) -> ProfileError {
+        match self {
+            FieldError::Form => ProfileError::Bad(key),
+            FieldError::Memory => ProfileError::Memory,
+        }
+    }
+}
+
+impl From<AllocError> for FieldError {
+    fn from(_error: AllocError) -> FieldError {
+        FieldError::Memory
+    }
+}
+
+impl<T: Drop> From<AllocFailed<T>> for FieldError {
+    fn from(_refused: AllocFailed<T>) -> FieldError {
+        FieldError::Memory
+    }
+}
+
+impl From<FromHexError> for FieldError {
+    fn from(error: FromHexError) -> FieldError {
+        match error {
+            FromHexError::OutOfMemory => FieldError::Memory,
+            _ => FieldError::Form,
+        }
+    }
+}

@@ -1,0 +1,61 @@
+//! The worktree of a profile.
+
+use crate::profile::error::FieldError;
+use crate::profile::field::{Fields, text_of};
+use bstr::BString;
+use status_base::worktree::{Node, NodeKind};
+use std::alloc::Global;
+
+/// Reads the nodes with their paths. A worktree in a folder isn't supported.
+pub fn read_worktree(
+    alloc: Global,
+    profile: Fields<'_>,
+) -> Result<Vec<(BString, Node)>, FieldError> {
+    if profile.get("folder").is_some() {
+        return Err(FieldError::Form);
+    }
+    let mut nodes = Vec::new(alloc);
+    for value in profile.list("worktree")? {
+        let fields = Fields::of(value)?;
+        let path = BString::from_slice(alloc, fields.text("path")?.as_bytes())?;
+        nodes.push((path, read_node(alloc, fields)?))?;
+    }
+    Ok(nodes)
+}
+
+fn read_node(alloc: Global, fields: Fields<'_>) -> Result<Node, FieldError> {
+    let kind = read_kind(fields)?;
+    let bytes = read_bytes(alloc, fields)?;
+    let stat = fields.stat(0)?;
+    Ok(Node {
+        kind,
+        len: bytes.len() as u64,
+        bytes,
+        executable: fields.bool_or("executable", false)?,
+        mtime: Some(stat.mtime),
+        ctime: Some(stat.ctime),
+        dev: stat.dev,
+        ino: stat.ino,
+        uid: stat.uid,
+        gid: stat.gid,
+    })
+}
+
+fn read_kind(fields: Fields<'_>) -> Result<NodeKind, FieldError> {
+    match fields.text_or("kind", "file")? {
+        "file" => Ok(NodeKind::File),
+        "link" => Ok(NodeKind::Link),
+        "directory" => Ok(NodeKind::Directory),
+        "other" => Ok(NodeKind::Other),
+        _ => Err(FieldError::Form),
+    }
+}
+
+/// The bytes as hexadecimal digits, which come before a text.
+fn read_bytes(alloc: Global, fields: Fields<'_>) -> Result<Vec<u8>, FieldError> {
+    if let Some(digits) = fields.get("hex") {
+        return Ok(hex::decode(alloc, text_of(digits)?)?);
+    }
+    let text = fields.text_or("text", "")?;
+    Ok(Vec::from_slice(alloc, text.as_bytes())?)
+}

@@ -1,0 +1,150 @@
+//! The status of a profile's index against its worktree.
+
+#[cfg(test)]
+mod tests;
+
+use crate::failure::Failure;
+use crate::lines::{status_line, total_line};
+use crate::profile::{Profile, ProfileOptions};
+use bstr::BString;
+use gix_status::index_as_worktree::function::index_as_worktree;
+use gix_status::index_as_worktree::traits::HashEq;
+use gix_status::index_as_worktree::{Context, Outcome, Record, Recorder};
+use status_base::index::State;
+use status_base::worktree::{
+    AllPaths, MemoryObjects, MemoryWorktree, NoFilter, NoLister, NoSubmodules, Node,
+};
+use std::alloc::Global;
+use std::io;
+use std::sync::Wait;
+use std::thread::Threads;
+
+/// Reads a profile, computes the status that it asks for, and prints a line a record to `output`, and with `counts` a line
+/// of totals. `name` is the name of the profile's file.
+///
+/// Answers the exit status: 0, or 1 after a failure, which is one line on `faults`. What was printed before stays. Where
+/// `output` can't be written nothing more is.
+pub fn run_status<R: AllocGlobal + Threads + Wait, I: io::Read, O: io::Write, E: io::Write>(
+    rt: &R,
+    name: &str,
+    profile: &mut I,
+    output: &mut O,
+    faults: &mut E,
+) -> u8 {
+    match print_status(rt, profile, output) {
+        Ok(()) => 0,
+        Err(failure) => {
+            // Where the line can't be written there is nowhere left to tell that.
+            let _ = failure.tell(rt.alloc(), name, faults);
+            1
+        }
+    }
+}
+
+fn print_status<R: AllocGlobal + Threads + Wait, I: io::Read, O: io::Write>(
+    rt: &R,
+    profile: &mut I,
+    output: &mut O,
+) -> Result<(), Failure> {
+    let alloc = rt.alloc();
+    let Profile {
+        timestamp,
+        options,
+        entries,
+        nodes,
+        ..
+    } = read_profile(alloc, profile)?;
+    let index = State::from_entries(alloc, entries, timestamp)?;
+    let worktree = plant(alloc, nodes)?;
+    status_of_profile(rt, &index, &worktree, options, output)
+}
+
+fn read_profile<I: io::Read>(alloc: Global, profile: &mut I) -> Result<Profile, Failure> {
+    let mut text = Vec::new(alloc);
+    profile.read_to_end(&mut text).map_err(Failure::of_reading)?;
+    Ok(Profile::from_json(alloc, text.as_slice())?)
+}
+
+/// The worktree of these nodes.
+fn plant(alloc: Global, nodes: Vec<(BString, Node)>) -> Result<MemoryWorktree, Failure> {
+    let mut worktree = MemoryWorktree::new(alloc);
+    for (at, (path, node)) in nodes.into_iter().enumerate() {
+        worktree
+            .put(path.as_bstr(), node)
+            .map_err(|error| Failure::of_node(error, at))?;
+    }
+    Ok(worktree)
+}
+
+fn status_of_profile<R: AllocGlobal + Threads + Wait, O: io::Write>(
+    rt: &R,
+    index: &State,
+    worktree: &MemoryWorktree,
+    options: ProfileOptions,
+    output: &mut O,
+) -> Result<(), Failure> {
+    let alloc = rt.alloc();
+    let counts = options.counts;
+    let mut recorder = Recorder::new(alloc);
+    let context = Context {
+        pathspec: AllPaths,
+        filter: NoFilter,
+        lister: NoLister,
+        should_interrupt: None,
+    };
+    let answer = index_as_worktree(
+        rt,
+        alloc,
+        index,
+        worktree,
+        &mut recorder,
+        HashEq,
+        NoSubmodules,
+        MemoryObjects::new(alloc),
+        context,
+        options.status,
+    );
+    print_records(alloc, recorder.records.as_slice(), output)?;
+    print_totals(alloc, &answer?, counts, output)
+}
+
+/// Prints a line a record. The records before a fault are printed too.
+fn print_records<T: Drop, U: Drop, O: io::Write>(
+    alloc: Global,
+    records: &[Record<'_, T, U>],
+    output: &mut O,
+) -> Result<(), Failure> {
+    for record in records {
+        let line = status_line(
+            alloc,
+            record.entry_index,
+            record.relative_path,
+            &record.status,
+        )?;
+        print(line.as_str(), output)?;
+    }
+    flush(output)
+}
+
+/// Prints the line of totals where it is asked for.
+fn print_totals<O: io::Write>(
+    alloc: Global,
+    outcome: &Outcome,
+    counts: bool,
+    output: &mut O,
+) -> Result<(), Failure> {
+    if counts {
+        print(total_line(alloc, outcome)?.as_str(), output)?;
+    }
+    flush(output)
+}
+
+fn print<O: io::Write>(line: &str, output: &mut O) -> Result<(), Failure> {
+    output
+        .write_all(line.as_bytes())
+        .map_err(|_| Failure::Output)
+}
+
+fn flush<O: io::Write>(output: &mut O) -> Result<(), Failure> {
+    output.flush().map_err(|_| Failure::Output)
+}

@@ -1,0 +1,124 @@
+use crate::status::run_status;
+use std::io;
+use std::test::Fail;
+
+// A writer with room for so many bytes.
+#[derive(Drop)]
+struct Full {
+    room: usize,
+}
+
+impl io::Write for Full {
+    fn write(&mut self, buf: &[u8]) -> io::Result<usize> {
+        let written = buf.len().min(self.room);
+        self.room -= written;
+        Ok(written)
+    }
+
+    fn flush(&mut self) -> io::Result<()> {
+        Ok(())
+    }
+}
+
+// A reader that fails at once.
+#[derive(Drop)]
+struct Folder;
+
+impl io::Read for Folder {
+    fn read(&mut self, _buf: &mut [u8]) -> io::Result<usize> {
+        Err(io::Error::from(io::ErrorKind::IsADirectory))
+    }
+}
+
+#[test]
+fn a_profile_that_is_refused_is_told(rt: HostRuntime) -> Result<(), Fail> {
+    let alloc = rt.alloc();
+    let cases = [
+        ("not", "not JSON\n"),
+        ("3", "bad profile: hash\n"),
+        (
+            r#"{"hash":"sha1","timestamp":[]}"#,
+            "bad profile: timestamp\n",
+        ),
+        (
+            r#"{"timestamp":[9,0],"worktree":[],"index":[{"path":"","id":"19102815663d23f8b75a47e7a01965dcdc96468c"}]}"#,
+            "bad index: empty path at 0\n",
+        ),
+        (
+            r#"{"timestamp":[9,0],"worktree":[],"index":[{"path":"a","id":"19102815663d23f8b75a47e7a01965dcdc96468c"},{"path":"a","id":"19102815663d23f8b75a47e7a01965dcdc96468c"}]}"#,
+            "bad index: not ascending at 1\n",
+        ),
+        (
+            r#"{"timestamp":[9,0],"worktree":[{"path":"a//b"}],"index":[{"path":"a","id":"19102815663d23f8b75a47e7a01965dcdc96468c"},{"path":"b","id":"473a0f4c3be8a93681a267e3b1e9a7dcda1185436fe141f7749120a303721813"}]}"#,
+            "bad index: mixed hash at 1\n",
+        ),
+        (
+            r#"{"timestamp":[9,0],"index":[],"worktree":[{"path":"a"},{"path":"../b"}]}"#,
+            "bad worktree: bad path at 1\n",
+        ),
+        (
+            r#"{"timestamp":[9,0],"index":[],"worktree":[{"path":"a"},{"path":"a/b"}]}"#,
+            "bad worktree: in the way at 1\n",
+        ),
+    ];
+    for (text, wanted) in cases {
+        let mut output = Vec::new(alloc);
+        let mut faults = Vec::new(alloc);
+        let mut profile = text.as_bytes();
+        let status = run_status(&rt, "f", &mut profile, &mut output, &mut faults);
+        assert_eq!(rt; status, 1, "at {text}");
+        assert!(rt; output.is_empty(), "at {text}");
+        assert_eq!(rt; faults.as_slice(), wanted.as_bytes(), "at {text}");
+    }
+    let mut output = Vec::new(alloc);
+    let mut faults = Vec::new(alloc);
+    let status = run_status(&rt, "d/f", &mut Folder, &mut output, &mut faults);
+    assert_eq!(rt; status, 1);
+    assert!(rt; output.is_empty());
+    assert_eq!(rt; faults.as_slice(), b"cannot read d/f\n".as_slice());
+    Ok(())
+}
+
+#[test]
+fn lines_are_printed(rt: HostRuntime) -> Result<(), Fail> {
+    let alloc = rt.alloc();
+    let cases = [
+        (
+            r#"{"timestamp":[9,0],"options":{"counts":true,"chunk_size":1,"thread_limit":2},"index":[{"path":"a","id":"19102815663d23f8b75a47e7a01965dcdc96468c","size":3,"mtime":[5,0]},{"path":"b","id":"ba0e162e1c47469e3fe4b393a8bf8c569f302116","size":3,"mtime":[5,0]}],"worktree":[{"path":"a","text":"bars","mtime":[7,0]},{"path":"b","text":"bar","mtime":[5,0]}]}"#,
+            "0 modified -c- \"a\"\ntotal: to process 2, processed 2, skipped 0, lstat 2, to update 0, racy 0, read 1, bytes 4\n",
+        ),
+        (
+            r#"{"timestamp":[5,0],"options":{"counts":true},"index":[{"path":"a","id":"19102815663d23f8b75a47e7a01965dcdc96468c","size":3,"mtime":[5,0]}],"worktree":[{"path":"a","text":"foo","mtime":[5,0]}]}"#,
+            "0 update \"a\"\ntotal: to process 1, processed 1, skipped 0, lstat 1, to update 1, racy 1, read 1, bytes 3\n",
+        ),
+        (
+            r#"{"timestamp":[9,0],"index":[{"path":"a","id":"19102815663d23f8b75a47e7a01965dcdc96468c","size":3}],"worktree":[{"path":"a","kind":"link","text":"foo"}]}"#,
+            "0 type 120000 \"a\"\n",
+        ),
+        (r#"{"timestamp":[9,0],"index":[],"worktree":[]}"#, ""),
+    ];
+    for (text, wanted) in cases {
+        let mut output = Vec::new(alloc);
+        let mut faults = Vec::new(alloc);
+        let mut profile = text.as_bytes();
+        let status = run_status(&rt, "f", &mut profile, &mut output, &mut faults);
+        assert_eq!(rt; status, 0, "at {text}");
+        assert!(rt; faults.is_empty(), "at {text}");
+        assert_eq!(rt; output.as_slice(), wanted.as_bytes(), "at {text}");
+    }
+    Ok(())
+}
+
+#[test]
+fn a_full_output_is_a_failure_with_no_line(rt: HostRuntime) -> Result<(), Fail> {
+    let alloc = rt.alloc();
+    let text = r#"{"timestamp":[9,0],"options":{"counts":true},"index":[],"worktree":[]}"#;
+    for room in [0, 5] {
+        let mut faults = Vec::new(alloc);
+        let mut output = Full { room };
+        let status = run_status(&rt, "f", &mut text.as_bytes(), &mut output, &mut faults);
+        assert_eq!(rt; status, 1);
+        assert!(rt; faults.is_empty());
+    }
+    Ok(())
+}
