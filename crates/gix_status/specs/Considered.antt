@@ -1,6 +1,6 @@
 -- Which entries are considered, and which of them are left out.
-use Rattle.std.specs.Prelude.{◌≡◌, ℕ, ◌==◌, nat_lt, nat_le, nat_eq, Bool, not, ◌&&◌, ◌||◌, List, filter, position, unwrap_or, if◌then◌else◌}
-use Rattle.std.specs.List.{list_any}
+use Rattle.std.specs.Prelude.{◌≡◌, ℕ, ◌==◌, nat_lt, nat_le, nat_eq, Bool, not, ◌&&◌, ◌||◌, List, filter, if◌then◌else◌}
+use Rattle.std.specs.List.{list_any, position_or_len}
 use Rattle.std.specs.Str.{bytes_eq}
 use Rattle.status_index.specs.declared.flags.Flags.{Flags}
 use Rattle.status_index.specs.declared.flags.TheConstants.Flags.{UPTODATE, SKIP_WORKTREE, ASSUME_VALID, FSMONITOR_VALID}
@@ -16,7 +16,7 @@ considered prefix es = if list_any (is_under prefix) es then filter (is_under pr
 
 -- the place of the first considered entry in the whole index
 abbrev pub considered_start : List ℕ → List IndexEntry → ℕ
-considered_start prefix es = unwrap_or (position (is_under prefix) es) 0
+considered_start prefix es = if list_any (is_under prefix) es then position_or_len (is_under prefix) es else 0
 
 -- whether an entry has a flag
 abbrev pub has_flag : IndexEntry → Flags → Bool

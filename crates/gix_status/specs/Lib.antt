@@ -5,10 +5,17 @@ pub mod Counts
 pub mod Decisions
 pub mod EntryParts
 pub mod Fed
+pub mod Laws
 pub mod Outcomes
+pub mod PieceFed
 pub mod Pieces
 pub mod Query
 pub mod Recorded
 pub mod Records
 pub mod Status
+pub mod StatusTable
+pub mod StatusTheorem
+pub mod Steps
+pub mod Sums
 pub mod Visits
+pub mod Worked

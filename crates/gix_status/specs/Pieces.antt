@@ -1,5 +1,5 @@
 -- Parts of the considered entries, and what they give.
-use Rattle.std.specs.Prelude.{◌≡◌, ◌⊎◌, ℕ, ◌+◌, ◌-◌, ◌<◌, ◌≤◌, Bool, false, true, IsTrue, List, [], length, take, drop, All, AllPairs, Option, Result, Ok, Err}
+use Rattle.std.specs.Prelude.{◌≡◌, ◌⊎◌, ℕ, ◌+◌, ◌-◌, ◌<◌, ◌≤◌, Bool, false, true, IsTrue, List, [], length, take, drop, All, AllPairs, Option, Result, Ok, Err, ⊤}
 use Rattle.std.specs.List.{slice_index_or, list_any}
 use Rattle.status_index.specs.Entries.{IndexEntry}
 use Rattle.status_index.specs.Stretch.{part_of}
@@ -18,6 +18,12 @@ use Rattle.gix_status.specs.Records.{verdict, records_in, faults_in}
 -- no path has entries on both sides of place k
 abbrev pub IsCut : List IndexEntry → ℕ → Type 0
 IsCut es k = All (λ d. All (λ r. same_path d r ≡ false) (drop k es)) (take k es)
+
+-- no interrupt flag was seen
+abbrev pub IsUncut : End → Type 0
+IsUncut Whole = ⊤
+IsUncut (Faulty x) = ⊤
+IsUncut Cut = ⊥
 
 -- each number is at most n
 pub record IsWithin (n : ℕ) (k : Counts) : Type 0 where

@@ -1,16 +1,17 @@
 -- A map from ids to contents, as the contents that are found.
-use Rattle.std.proofs.Common.{◌≡◌, ℕ, Bool, true, false, cond, List, [], ◌∷◌, Option, Some, None, refl, sym, ap, ◌∙◌}
+use Rattle.std.proofs.Common.{◌≡◌, ℕ, Bool, true, false, cond, List, [], ◌∷◌, Option, Some, refl, sym, ap, ◌∙◌}
 use Rattle.std.specs.Option.{option_map}
 use Rattle.std.specs.Ordering.{nat_cmp, is_eq, eq_by_cmp, ordering_reverse}
 use Rattle.std.specs.Cmp.Lexicographic.{slice_cmp}
 use Rattle.std.specs.declared.cmp.Ordering.{Ordering}
-use Rattle.std.specs.declared.cmp.Ordering.TheVariants.{Less, Equal, Greater}
+use Rattle.std.specs.declared.cmp.Ordering.TheVariants.{Less, Equal}
 use Rattle.std.specs.Cmp.{IsTotalOrder, eq_by_cmp_equiv}
 use Rattle.std.specs.Global.{Vec}
 use Rattle.std.specs.List.{AllZip}
 use Rattle.std.specs.Map.{lookup}
 use Rattle.std.specs.FinMap as ids
 use Rattle.std.proofs.lemmas.Cmp.{nat_list_cmp_total}
+use Rattle.status_index.specs.contracts.id.ObjectIdOrd.TheImpl as order
 use Rattle.status_index.specs.declared.id.ObjectId.{ObjectId}
 use Rattle.status_index.specs.declared.id.ObjectId.TheVariants.{Sha1, Sha256}
 use Rattle.status_base.specs.Objects.{id_cmp, content_entries, contents_of, Contents}
@@ -71,47 +72,43 @@ items_cond : (b : Bool) (w o : Option (Vec ℕ)) → items_of (cond b w o) ≡ c
 items_cond true w o = refl
 items_cond false w o = refl
 
--- an order that compares ids by kind, and then by bytes
-pub record IsIdOrder (cmp : ObjectId → ObjectId → Ordering) : Type 0 where
-  pub shorter : (a b : List ℕ) → cmp (Sha1 a) (Sha1 b) ≡ slice_cmp nat_cmp a b
-  pub longer : (a b : List ℕ) → cmp (Sha256 a) (Sha256 b) ≡ slice_cmp nat_cmp a b
-  pub below : (a b : List ℕ) → cmp (Sha1 a) (Sha256 b) ≡ Less
-  pub above : (a b : List ℕ) → cmp (Sha256 a) (Sha1 b) ≡ Greater
+abbrev cmp : ObjectId → ObjectId → Ordering
+cmp = (order.ghosts).cmp
 
-module _ {cmp : ObjectId → ObjectId → Ordering} (is_order : IsIdOrder cmp) where
-  agrees : (x y : ObjectId) → cmp x y ≡ id_cmp x y
-  agrees (Sha1 a) (Sha1 b) = is_order.shorter a b
-  agrees (Sha256 a) (Sha256 b) = is_order.longer a b
-  agrees (Sha1 a) (Sha256 b) = is_order.below a b
-  agrees (Sha256 a) (Sha1 b) = is_order.above a b
+-- the ids' own comparison
+agrees : (x y : ObjectId) → cmp x y ≡ id_cmp x y
+agrees (Sha1 a) (Sha1 b) = refl
+agrees (Sha256 a) (Sha256 b) = refl
+agrees (Sha1 a) (Sha256 b) = refl
+agrees (Sha256 a) (Sha1 b) = refl
 
-  found_by_id : (q : ObjectId) (es : Held) → lookup (λ x. is_eq (cmp q x)) es ≡ lookup (λ x. is_eq (id_cmp q x)) es
-  found_by_id q es = λ i. lookup (λ x. is_eq (agrees q x i)) es
+found_by_id : (q : ObjectId) (es : Held) → lookup (λ x. is_eq (cmp q x)) es ≡ lookup (λ x. is_eq (id_cmp q x)) es
+found_by_id q es = λ i. lookup (λ x. is_eq (agrees q x i)) es
 
-  contents-get : (es : Held) (contents : Contents) (k : ObjectId) → contents_of es ≡ contents
-      → items_of (lookup (λ x. is_eq (cmp k x)) es) ≡ ids.get contents k
-  contents-get es contents k is = ap items_of (found_by_id k es) ∙ sym (get-content es k) ∙ ap (λ (c : Contents). ids.get c k) is
+contents-get : (es : Held) (contents : Contents) (k : ObjectId) → contents_of es ≡ contents
+    → items_of (lookup (λ x. is_eq (cmp k x)) es) ≡ ids.get contents k
+contents-get es contents k is = ap items_of (found_by_id k es) ∙ sym (get-content es k) ∙ ap (λ (c : Contents). ids.get c k) is
 
-  -- what a look-up in the contents finds
-  pub contents-found : (es : Held) (contents : Contents) (k : ObjectId) (found : Option (Vec ℕ)) → contents_of es ≡ contents
-      → found ≡ lookup (λ x. is_eq (cmp k x)) es → items_of found ≡ ids.get contents k
-  contents-found es contents k found is at = ap items_of at ∙ contents-get es contents k is
+-- what a look-up in the contents finds
+pub contents-found : (es : Held) (contents : Contents) (k : ObjectId) (found : Option (Vec ℕ)) → contents_of es ≡ contents
+    → found ≡ lookup (λ x. is_eq (cmp k x)) es → items_of found ≡ ids.get contents k
+contents-found es contents k found is at = ap items_of at ∙ contents-get es contents k is
 
-  get-updated : (old new : Held) (k : ObjectId) (v : Vec ℕ)
-      → ((q : ObjectId) → lookup (λ x. is_eq (cmp q x)) new ≡ cond (is_eq (cmp k q)) (Some v) (lookup (λ x. is_eq (cmp q x)) old))
-      → (q : ObjectId) → ids.get (contents_of new) q ≡ cond (eq_by_cmp id_cmp q k) (Some v.items) (ids.get (contents_of old) q)
-  get-updated old new k v updated q =
-      sym (contents-get new _ q refl) ∙ ap items_of (updated q) ∙ items_cond (is_eq (cmp k q)) (Some v) _
-      ∙ ap (λ b. cond b (Some v.items) (items_of (lookup (λ x. is_eq (cmp q x)) old))) (ap is_eq (agrees k q) ∙ (eq_by_cmp_equiv id_cmp_total).symm k q)
-      ∙ ap (cond (eq_by_cmp id_cmp q k) (Some v.items)) (contents-get old _ q refl)
+get-updated : (old new : Held) (k : ObjectId) (v : Vec ℕ)
+    → ((q : ObjectId) → lookup (λ x. is_eq (cmp q x)) new ≡ cond (is_eq (cmp k q)) (Some v) (lookup (λ x. is_eq (cmp q x)) old))
+    → (q : ObjectId) → ids.get (contents_of new) q ≡ cond (eq_by_cmp id_cmp q k) (Some v.items) (ids.get (contents_of old) q)
+get-updated old new k v updated q =
+    sym (contents-get new _ q refl) ∙ ap items_of (updated q) ∙ items_cond (is_eq (cmp k q)) (Some v) _
+    ∙ ap (λ b. cond b (Some v.items) (items_of (lookup (λ x. is_eq (cmp q x)) old))) (ap is_eq (agrees k q) ∙ (eq_by_cmp_equiv id_cmp_total).symm k q)
+    ∙ ap (cond (eq_by_cmp id_cmp q k) (Some v.items)) (contents-get old _ q refl)
 
-  -- the contents after one was put
-  pub contents-insert : (old new : Held) (contents : Contents) (k : ObjectId) (v : Vec ℕ) (bytes : List ℕ) → contents_of old ≡ contents → v.items ≡ bytes
-      → ((q : ObjectId) → lookup (λ x. is_eq (cmp q x)) new ≡ cond (is_eq (cmp k q)) (Some v) (lookup (λ x. is_eq (cmp q x)) old))
-      → contents_of new ≡ ids.insert contents k bytes
-  contents-insert old new contents k v bytes was is updated =
-      ids.same_map id_cmp_total id_cmp-IsAntisymmetric _ _ (λ q. get-updated old new k v updated q ∙ sym (ids.get-insert id_cmp_total _ k v.items q))
-      ∙ ap (λ (c : Contents). ids.insert c k v.items) was ∙ ap (ids.insert contents k) is
+-- the contents after one was put
+pub contents-insert : (old new : Held) (contents : Contents) (k : ObjectId) (v : Vec ℕ) (bytes : List ℕ) → contents_of old ≡ contents → v.items ≡ bytes
+    → ((q : ObjectId) → lookup (λ x. is_eq (cmp q x)) new ≡ cond (is_eq (cmp k q)) (Some v) (lookup (λ x. is_eq (cmp q x)) old))
+    → contents_of new ≡ ids.insert contents k bytes
+contents-insert old new contents k v bytes was is updated =
+    ids.same_map id_cmp_total id_cmp-IsAntisymmetric _ _ (λ q. get-updated old new k v updated q ∙ sym (ids.get-insert id_cmp_total _ k v.items q))
+    ∙ ap (λ (c : Contents). ids.insert c k v.items) was ∙ ap (ids.insert contents k) is
 
 -- entries whose ids and contents are the same
 pub contents-cloned : {C : ObjectId → ObjectId → Type 0} {D : Vec ℕ → Vec ℕ → Type 0} → ((x y : ObjectId) → C x y → y ≡ x) → ((v w : Vec ℕ) → D v w → w.items ≡ v.items)

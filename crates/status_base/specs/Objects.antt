@@ -1,5 +1,5 @@
 -- Contents by their ids.
-use Rattle.std.specs.Prelude.{ℕ, List, map, Result, Ok, Err, Option, Some, None}
+use Rattle.std.specs.Prelude.{ℕ, List, map, Result}
 use Rattle.std.specs.Option.{ok_or}
 use Rattle.std.specs.Coded.{Coded, coded_ℕ, coded_list}
 use Rattle.std.specs.Ordering.{nat_cmp}

@@ -2,8 +2,11 @@
 
 ghost use Rattle.std.specs.Prelude.{◌≡◌, ◌++◌, ◌<◌, length, All};
 ghost use Rattle.gix_status.specs.Fed.{IsFed, IsFedOne, IsPlacedIn};
+ghost use Rattle.gix_status.specs.Pieces.{IsUncut};
+ghost use Rattle.gix_status.specs.PieceFed.{IsPieceFed};
 
-use crate::index_as_worktree::types::{Finding, VisitEntry};
+use crate::index_as_worktree::piece::{End, Piece};
+use crate::index_as_worktree::types::{Error, Finding, Outcome, VisitEntry};
 use status_base::index::{Entry, PathStorage};
 use std::alloc::AllocError;
 
@@ -29,7 +32,7 @@ fn feed_finding<'index, V: VisitEntry<'index>>(
 ///
 /// # Errors
 /// Want of memory; then the collector was told a beginning of them.
-pub(crate) fn feed<'index, V: VisitEntry<'index>>(
+fn feed<'index, V: VisitEntry<'index>>(
     entries: &'index [Entry],
     backing: &'index PathStorage,
     findings: Vec<Finding<V::ContentChange, V::SubmoduleStatus>>,
@@ -47,4 +50,37 @@ where
         }
     }
     Ok(())
+}
+
+/// Tells a collector what a piece found, and answers what the piece counts.
+///
+/// # Errors
+/// The fault at which the piece ended, once its findings were told. Want of memory; then a beginning of them was told.
+pub(crate) fn feed_piece<'index, V: VisitEntry<'index>>(
+    entries: &'index [Entry],
+    backing: &'index PathStorage,
+    piece: Piece<V::ContentChange, V::SubmoduleStatus>,
+    collector: &mut V,
+) -> Result<Outcome, Error>
+where
+    V::ContentChange: Drop,
+    V::SubmoduleStatus: Drop,
+    requires placed { All (IsPlacedIn entries.now) piece.findings.items }
+    requires uncut { IsUncut piece.end }
+    ensures { IsPieceFed entries.now backing.now piece (V.visits collector.old) result (V.visits collector.new) }
+{
+    let Piece {
+        findings,
+        outcome,
+        reached: _,
+        end,
+    } = piece;
+    match feed(entries, backing, findings, collector) {
+        Ok(()) => match end {
+            End::Faulty(error) => Err(error),
+            End::Whole => Ok(outcome),
+            End::Cut => unreachable!(),
+        },
+        Err(_refused) => Err(Error::Memory),
+    }
 }

@@ -4,10 +4,12 @@ pub mod conflict;
 pub mod decide;
 pub mod entry_status;
 pub mod feed;
+pub mod laws;
 pub mod piece;
 pub mod recorder;
 pub mod traits;
 pub mod types;
+pub mod work;
 
 pub use recorder::{Record, Recorder};
 pub use types::{

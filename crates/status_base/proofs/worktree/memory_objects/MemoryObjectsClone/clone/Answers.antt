@@ -1,4 +1,4 @@
-use Rattle.std.proofs.Common.{ap, ◌∙◌, rules}
+use Rattle.std.proofs.Common.{◌∙◌, rules}
 use Rattle.std.proofs.lemmas.List.Elements.{same_from_all_zip}
 use Rattle.status_base.proofs.Contents.{contents-cloned}
 use Rattle.status_base.proofs.worktree.memory_objects.MemoryObjectsClone.clone.Goals as goal

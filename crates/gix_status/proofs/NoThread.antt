@@ -1,0 +1,68 @@
+-- A refused thread is answered only by a comparer.
+use Rattle.std.proofs.Common.{◌≡◌, ◌≢◌, refl, sym, ap, ◌∙◌, ℕ, ◌==◌, ◌||◌, Bool, true, false, cond, map, List, Option, Some, None, Result, Ok, Err}
+use Rattle.status_index.specs.declared.fault.Fault.{Fault}
+use Rattle.status_index.specs.declared.fault.Fault.TheVariants as faults
+use Rattle.status_index.specs.Entries.{IndexEntry, stage_of}
+use Rattle.status_compare.specs.declared.error.Error.{Error}
+use Rattle.status_compare.specs.declared.error.Error.TheVariants.{SpawnThread}
+use Rattle.status_compare.specs.Errors.{error_of}
+use Rattle.gix_status.specs.declared.index_as_worktree.types.EntryStatus.{EntryStatus}
+use Rattle.gix_status.specs.Considered.{is_skipped, is_over, stages_from}
+use Rattle.gix_status.specs.Query.{Query}
+use Rattle.gix_status.specs.Records.{verdict, conflict_status}
+use Rattle.gix_status.specs.Status.{answer, status_of}
+use Rattle.gix_status.specs.StatusTable.{Row, gone, refused, in_submodule, added, unstamped, retyped, unchanged, failed, modified, to_update, IsInRow}
+use Rattle.gix_status.specs.StatusTheorem.{NeverSpawns}
+use Rattle.gix_status.proofs.LawRows.{row_of}
+use Rattle.gix_status.proofs.LawTable.{status_table, case_in_submodule}
+
+other_error : (f : Fault) → error_of f ≡ SpawnThread → ⊥
+other_error faults.NotFound h = cc
+other_error faults.NotADirectory h = cc
+other_error faults.PermissionDenied h = cc
+other_error faults.Interrupted h = cc
+other_error faults.IllformedUtf8 h = cc
+other_error faults.UnexpectedEnd h = cc
+other_error faults.NotNormal h = cc
+other_error faults.Memory h = cc
+other_error (faults.Other n) h = cc
+
+abbrev error_or : {A : Type 0} → Error → Result A Error → Error
+error_or e (Ok _) = e
+error_or e (Err x) = x
+
+module _ {T U : Type 0} where
+  abbrev err : Error → Result (Option (EntryStatus T U)) Error
+  err x = Err x
+
+  same_error : (a b : Error) → err a ≡ err b → a ≡ b
+  same_error a b h = ap (error_or a) h
+
+  no_submodule : (path : List ℕ) (r : Result (Option U) (List ℕ)) → answer {T = T} {U = U} path (Rattle.gix_status.specs.Status.in_submodule r) ≡ Err SpawnThread → ⊥
+  no_submodule path (Ok None) h = cc
+  no_submodule path (Ok (Some u)) h = cc
+  no_submodule path (Err text) h = cc
+
+by_tests : {T U : Type 0} (a b : Bool) (s : Result (Option (EntryStatus T U)) Error) (c : Option (EntryStatus T U)) → (s ≡ Err SpawnThread → ⊥) → cond a (Ok None) (cond b s (Ok c)) ≡ Err SpawnThread → ⊥
+by_tests true b s c f h = cc
+by_tests false true s c f h = f h
+by_tests false false s c f h = cc
+
+module _ {T U : Type 0} (q : Query T U) (never : NeverSpawns q) where
+  by_row : (e : IndexEntry) (r : Row) → IsInRow q e r → status_of q e ≡ Err SpawnThread → ⊥
+  by_row e gone i h = let k = sym ((status_table q e).gone_row i) ∙ h in cc
+  by_row e refused i h = other_error i.0 (same_error {T = T} {U = U} _ _ (sym ((status_table q e).refused_row i.0 i.1) ∙ h))
+  by_row e in_submodule i h = no_submodule {T = T} {U = U} e.path (q.submodule e.entry e.path) (sym (ap (answer e.path) (case_in_submodule q e i)) ∙ h)
+  by_row e added i h = let k = sym ((status_table q e).added_row i) ∙ h in cc
+  by_row e unstamped i h = let k = sym ((status_table q e).unstamped_row i) ∙ h in cc
+  by_row e retyped i h = let k = sym ((status_table q e).retyped_row i.0 i.1) ∙ h in cc
+  by_row e unchanged i h = let k = sym ((status_table q e).unchanged_row i) ∙ h in cc
+  by_row e failed (n, (s, (x, (err, (p, f))))) h =
+      never e n (f ∙ ap (λ (v : Error). Err v) (same_error {T = T} {U = U} err SpawnThread (sym ((status_table q e).failed_row n s x err p f) ∙ h)))
+  by_row e modified (n, (s, (x, (c, (p, f, change))))) h = let k = sym ((status_table q e).modified_row n s x c p f change) ∙ h in cc
+  by_row e to_update (n, (s, (p, f))) h = let k = sym ((status_table q e).update_row n s p f) ∙ h in cc
+
+  -- no entry gives it
+  pub never_spawned : (es : List IndexEntry) (e : IndexEntry) → verdict q es e ≡ Err SpawnThread → ⊥
+  never_spawned es e h =
+      by_tests {T = T} {U = U} (is_skipped q e || is_over q es e) (stage_of e.entry == 0) (status_of q e) (conflict_status (map (λ (d : IndexEntry). d.entry) (stages_from es e))) (by_row e (row_of q e).0 (row_of q e).1) h

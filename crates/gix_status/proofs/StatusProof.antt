@@ -1,0 +1,192 @@
+-- The status theorem, from work in order.
+use Rattle.std.proofs.Common.{◌≡◌, ◌≢◌, refl, sym, ap, ◌∙◌, subst, ℕ, zero, suc, ◌+◌, ◌-◌, ◌<◌, ◌≤◌, ◌⊎◌, inl, inr, Bool, true, false, IsTrue, List, [], ◌∷◌, ◌++◌, length, length-append, take, drop, map, All, arith, append_assoc, Option, Some, None, Result, Ok, Err}
+use Rattle.std.specs.Prelude.{AllPairs, slice_get}
+use Rattle.std.specs.List.{slice_index_or}
+use Rattle.std.proofs.lemmas.List.{take-append-drop, append-nil, length-map, get_or-map}
+use Rattle.std.proofs.Math.ListN.{get_or-append}
+use Rattle.status_index.specs.declared.entry.Entry.{Entry}
+use Rattle.status_index.specs.declared.entry.PathStorage.{PathStorage}
+use Rattle.status_index.specs.Entries.{IndexEntry, index_entries}
+use Rattle.status_index.specs.Stretch.{part_of}
+use Rattle.status_compare.specs.declared.error.Error.{Error}
+use Rattle.status_compare.specs.declared.error.Error.TheVariants.{Memory, SpawnThread}
+use Rattle.gix_status.specs.declared.index_as_worktree.types.Finding.{Finding}
+use Rattle.gix_status.specs.declared.index_as_worktree.types.Outcome.{Outcome}
+use Rattle.gix_status.specs.Counts.{IsOutcome, counts_in, counts_of_outcome, reads_in, reads_of_outcome}
+use Rattle.gix_status.specs.Fed.{Tells}
+use Rattle.gix_status.specs.Pieces.{IsDone, IsAsMeant, IsFaultAt}
+use Rattle.gix_status.specs.Query.{Query}
+use Rattle.gix_status.specs.Records.{records_in, records_of, faults_in, first_fault, verdict}
+use Rattle.gix_status.specs.StatusTheorem.{IsBeginning, IsStatus, IsFirstFault, NeverSpawns, all_entries, considered_entries, start_of}
+use Rattle.gix_status.specs.Visits.{Visit, finding_of}
+use Rattle.gix_status.specs.Worked.{IsStopped, IsWorked, IsToldWork}
+use Rattle.gix_status.proofs.Groups.{records-append, faults-append}
+use Rattle.gix_status.proofs.LawRecords.{fault_law}
+use Rattle.gix_status.proofs.NoThread.{never_spawned}
+
+-- a part from the front
+pub part_front : {X : Type 0} (xs : List X) (n : ℕ) → part_of xs 0 n ≡ take n xs
+part_front xs n = ap (λ (k : ℕ). take k xs) (omega arith)
+
+-- what ascends goes on to ascend at its front
+pub front_ascends : {X : Type 0} (R : X → X → Type 0) (xs ys zs : List X) → xs ++ ys ≡ zs → AllPairs R zs → AllPairs R xs
+front_ascends {X} R xs ys zs e h =
+    let k : AllPairs R (xs ++ ys) = subst (λ l. AllPairs R l) (sym e) h in
+    λ i j d l m.
+    let first = get_or-append xs ys d i (omega arith) in
+    let second = get_or-append xs ys d j m in
+    let r = k i j d l (omega (arith, length-append xs ys)) in
+    subst (λ (y : X). R (slice_index_or xs i d) y) second (subst (λ (x : X). R x (slice_index_or (xs ++ ys) j d)) first r)
+
+-- what ascends in a list's image ascends in the list
+pub map_ascends : {T U : Type 0} (vs : List (Visit T U)) (fs : List (Finding T U)) → map finding_of vs ≡ fs
+    → AllPairs (λ a b. a.entry_index < b.entry_index) fs → AllPairs (λ a b. a.entry_index < b.entry_index) vs
+map_ascends {T} {U} vs fs e h =
+    let k : AllPairs (λ (a b : Finding T U). a.entry_index < b.entry_index) (map finding_of vs) = subst (λ l. AllPairs (λ a b. a.entry_index < b.entry_index) l) (sym e) h in
+    λ i j d l m.
+    let first = get_or-map finding_of vs i d (finding_of d) (omega arith) in
+    let second = get_or-map finding_of vs j d (finding_of d) m in
+    let r = k i j (finding_of d) l (omega (arith, length-map vs finding_of)) in
+    subst (λ (y : Finding T U). (slice_index_or vs i d).entry_index < y.entry_index) second (subst (λ (x : Finding T U). x.entry_index < (slice_index_or (map finding_of vs) j (finding_of d)).entry_index) first r)
+
+true_not_false : (b : Bool) → b ≡ true → b ≡ false → ⊥
+true_not_false b h k = cc
+
+abbrev result_of : Outcome → Result Outcome Error
+result_of o = Ok o
+
+abbrev error_of : Error → Result Outcome Error
+error_of e = Err e
+
+ok_not_err : (o : Outcome) (e : Error) → result_of o ≡ error_of e → ⊥
+ok_not_err o e h = cc
+
+err_same : (a b : Error) → error_of a ≡ error_of b → a ≡ b
+err_same a b h = cc
+
+take_all : {X : Type 0} (xs : List X) → take (length xs) xs ≡ xs
+take_all [] = refl
+take_all (x ∷ xs) = ap (λ (l : List _). x ∷ l) (take_all xs)
+
+-- an entry's own fault
+fault_here : {T U : Type 0} (q : Query T U) (es : List IndexEntry) (n : ℕ) (e : Error) → e ≢ Memory → IsFaultAt q es n e → (d : IndexEntry) → verdict q es (slice_index_or es n d) ≡ Err e
+fault_here q es n e other (inl h) = h
+fault_here q es n e other (inr h) = absurd (other h)
+
+fault_not_thread : {T U : Type 0} (q : Query T U) → NeverSpawns q → (es : List IndexEntry) (n : ℕ) (e : Error) → n < length es → e ≡ SpawnThread → IsFaultAt q es n e → ⊥
+fault_not_thread q never [] n e inside spawned (inl h) = absurd (omega arith)
+fault_not_thread q never (x ∷ es) n e inside spawned (inl h) = never_spawned q never (x ∷ es) (slice_index_or (x ∷ es) n x) (h x ∙ ap (λ (v : Error). Err v) spawned)
+fault_not_thread q never es n e inside spawned (inr h) = cc
+
+module _ {T U : Type 0} (q : Query T U) (start : ℕ) (es : List IndexEntry) where
+  -- the records of the first entries are a beginning of all
+  pub records_begin : (n : ℕ) → IsBeginning (records_in q es start (take n es)) (records_of q start es)
+  records_begin n =
+      (records_in q es (start + length (take n es)) (drop n es),
+       sym (records-append q es start (take n es) (drop n es)) ∙ ap (records_in q es start) (take-append-drop n es))
+
+  -- where no entry has a fault there is no first one
+  pub none_first : faults_in q es es ≡ [] → first_fault q es ≡ None
+  none_first h = ap (λ (l : List Error). slice_get l 0) h
+
+  -- the records of a part from the front
+  front_records : (n : ℕ) → records_in q es (start + 0) (part_of es 0 n) ≡ records_in q es start (take n es)
+  front_records n = ap (λ (i : ℕ). records_in q es i (part_of es 0 n)) (omega arith) ∙ ap (records_in q es start) (part_front es n)
+
+begins_more : {A : Type 0} (xs ys zs : List A) → IsBeginning xs ys → IsBeginning ys zs → IsBeginning xs zs
+begins_more xs ys zs a b = (a.0 ++ b.0, sym (append_assoc xs a.0 b.0) ∙ ap (λ (l : List _). l ++ b.0) a.1 ∙ b.1)
+
+module _ {T U : Type 0} (q : Query T U) (entries : List Entry) (backing : PathStorage) (tells has_flag : Bool) (limit : Option ℕ) (old new : List (Visit T U)) where
+  abbrev all : List IndexEntry
+  all = all_entries q entries backing
+
+  abbrev es : List IndexEntry
+  es = considered_entries q entries backing
+
+  abbrev start : ℕ
+  start = start_of q entries backing
+
+  -- what an outcome counts of all considered entries
+  whole_outcome : (told : List (Finding T U)) (o p : Outcome) → IsAsMeant q start es 0 (length es) told o → counts_of_outcome p ≡ counts_of_outcome o → reads_of_outcome p ≡ reads_of_outcome o
+      → p.entries_to_process ≡ length es → p.entries_skipped_by_common_prefix ≡ length all - length es → IsOutcome q all es es p
+  whole_outcome told o p m counts reads process prefix = record {
+    to_process = process;
+    skipped_by_prefix = prefix;
+    counts = counts ∙ m.counts ∙ ap (counts_in q es) (part_front es (length es) ∙ take_all es);
+    reads = λ r. reads ∙ m.reads r ∙ ap (reads_in q) (part_front es (length es) ∙ take_all es);
+  }
+
+  whole_records : (told : List (Finding T U)) (o : Outcome) → IsAsMeant q start es 0 (length es) told o → told ≡ records_of q start es
+  whole_records told o m = m.records ∙ front_records q start es (length es) ∙ ap (records_in q es start) (take_all es)
+
+  -- all considered entries were worked through
+  pub status_ok : (o p : Outcome) → IsToldWork q tells start es entries backing old (Ok o) new → counts_of_outcome p ≡ counts_of_outcome o → reads_of_outcome p ≡ reads_of_outcome o
+      → p.entries_to_process ≡ length es → p.entries_skipped_by_common_prefix ≡ length all - length es → p.interrupted ≡ o.interrupted
+      → IsStatus q entries backing tells has_flag limit old (Ok p) new
+  status_ok o p work counts reads process prefix interrupt =
+      let done = work.worked.0 in
+      let never : p.interrupted ≡ false = interrupt ∙ work.worked.1.interrupted in
+      record {
+        more = work.fed.more;
+        grew = work.fed.grew;
+        faithful = work.fed.faithful;
+        ascends = map_ascends work.fed.more work.told work.fed.told done.ascending;
+        complete = λ t _. record {
+          no_fault = none_first q start es (sym (ap (faults_in q es) (part_front es (length es) ∙ take_all es)) ∙ (done.meant t).clear);
+          records = work.fed.told ∙ whole_records work.told o (done.meant t);
+          outcome = whole_outcome work.told o p (done.meant t) counts reads process prefix;
+        };
+        interrupted = λ t yes. absurd (true_not_false p.interrupted yes never);
+        fault = λ t. tt;
+        beginning = λ t. ([], append-nil (map finding_of work.fed.more) ∙ work.fed.told ∙ whole_records work.told o (done.meant t));
+        uninterrupted = λ _. never;
+        alone = λ t one spawns h. ok_not_err p SpawnThread h;
+      }
+
+  module _ (e : Error) (work : IsToldWork q tells start es entries backing old (Err e) new) where
+    abbrev stop : IsStopped q tells start es work.told e
+    stop = work.worked
+
+    -- what was found up to the stop is a beginning of the records
+    found_begins : IsTrue tells → IsBeginning stop.found (records_of q start es)
+    found_begins t =
+        let m = stop.done.meant t in
+        subst (λ l. IsBeginning l (records_of q start es)) (sym (m.records ∙ front_records q start es stop.place)) (records_begin q start es stop.place)
+
+    told_in : ((work.told ≡ stop.found) × (stop.place < length es) × (IsTrue tells → IsFaultAt q es stop.place e)) ⊎ ((e ≡ Memory) × IsBeginning work.told stop.found) → IsBeginning work.told stop.found
+    told_in (inl h) = ([], append-nil work.told ∙ h.0)
+    told_in (inr h) = h.1
+
+    first_fault_at : IsTrue tells → e ≢ Memory → ((work.told ≡ stop.found) × (stop.place < length es) × (IsTrue tells → IsFaultAt q es stop.place e)) ⊎ ((e ≡ Memory) × IsBeginning work.told stop.found) → IsFirstFault q entries backing (map finding_of work.fed.more) e
+    first_fault_at t other (inr h) = absurd (other h.0)
+    first_fault_at t other (inl h) =
+        let m = stop.done.meant t in
+        let clear : faults_in q es (take stop.place es) ≡ [] = sym (ap (faults_in q es) (part_front es stop.place)) ∙ m.clear in
+        let here = fault_here q es stop.place e other (h.2 t) in
+        record {
+          first = fault_law q es stop.place e h.1 clear here;
+          place = stop.place;
+          inside = h.1;
+          clear = clear;
+          here = here;
+          records = work.fed.told ∙ h.0 ∙ m.records ∙ front_records q start es stop.place;
+        }
+
+    no_thread : IsTrue tells → NeverSpawns q → ((work.told ≡ stop.found) × (stop.place < length es) × (IsTrue tells → IsFaultAt q es stop.place e)) ⊎ ((e ≡ Memory) × IsBeginning work.told stop.found) → e ≡ SpawnThread → ⊥
+    no_thread t never (inl h) spawned = fault_not_thread q never es stop.place e h.1 spawned (h.2 t)
+    no_thread t never (inr h) spawned = cc
+
+    -- the work ended
+    pub status_err : IsStatus q entries backing tells has_flag limit old (Err e) new
+    status_err = record {
+      more = work.fed.more;
+      grew = work.fed.grew;
+      faithful = work.fed.faithful;
+      ascends = map_ascends work.fed.more work.told work.fed.told (front_ascends (λ a b. a.entry_index < b.entry_index) work.told (told_in stop.by).0 stop.found (told_in stop.by).1 stop.done.ascending);
+      complete = λ t. tt;
+      interrupted = λ t. tt;
+      fault = λ t other _. first_fault_at t other stop.by;
+      beginning = λ t. subst (λ l. IsBeginning l (records_of q start es)) (sym work.fed.told) (begins_more work.told stop.found (records_of q start es) (told_in stop.by) (found_begins t));
+      uninterrupted = λ _. tt;
+      alone = λ t one never h. no_thread t never stop.by (err_same e SpawnThread h);
+    }
