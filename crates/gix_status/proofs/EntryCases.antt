@@ -1,5 +1,5 @@
 -- The cases of an entry's decision.
-use Rattle.std.proofs.Common.{◌≡◌, ◌⊎◌, inl, inr, refl, sym, ap, ◌∙◌, subst, ℕ, Bool, true, false, not, ◌&&◌, List, Option, Some, None, is_some, unwrap_or, Result, Ok, Err, IfSome, IsTrue, if◌then◌else◌}
+use Rattle.std.proofs.Common.{◌≡◌, ◌⊎◌, inl, inr, refl, sym, ap, ◌∙◌, subst, Bool, true, false, not, ◌&&◌, ◌||◌, Option, Some, None, is_some, unwrap_or, Result, Ok, Err, IfSome, IsTrue, if◌then◌else◌}
 use Rattle.status_index.specs.declared.fault.Fault.{Fault}
 use Rattle.status_index.specs.declared.fault.Fault.TheVariants as faults
 use Rattle.status_index.specs.declared.metadata.Metadata.{Metadata}
@@ -18,7 +18,6 @@ use Rattle.status_compare.specs.Reading.{ReadCounts, no_reads}
 use Rattle.gix_status.specs.declared.index_as_worktree.entry_status.Site.{Site}
 use Rattle.gix_status.specs.declared.index_as_worktree.entry_status.Site.TheVariants as sites
 use Rattle.gix_status.specs.declared.index_as_worktree.decide.Decided.{Decided}
-use Rattle.gix_status.specs.declared.index_as_worktree.types.EntryStatus.{EntryStatus}
 use Rattle.gix_status.specs.Counts.{is_accepted, is_racy_case, is_compared_case, asks_lstat, reads_of_found, TellsReads}
 use Rattle.gix_status.specs.Decisions.{IsDecided, reads_of_decided}
 use Rattle.gix_status.specs.EntryParts.{IsSite, IsOfCase, IsCaseDecided}
@@ -57,67 +56,47 @@ pub told_counts : (counted : Option ReadCounts) → IsTrue (is_some counted) →
 told_counts (Some k) told = refl
 told_counts None told = absurd (cc)
 
-pub true_false : (b : Bool) → b ≡ true → b ≡ false → ⊥
-true_false b up down = cc
-
+-- a test beside one that passes
 pub and_true : (b : Bool) → (b && true) ≡ b
 and_true true = refl
 and_true false = refl
 
--- nothing was read where the comparer isn't asked
-pub unread_counts : (asks : Bool) (counted : Option ReadCounts) → asks ≡ false → IfSome counted (λ k. no_reads ≡ (if asks then k else no_reads))
-unread_counts true counted e = absurd (cc)
-unread_counts false (Some k) e = refl
-unread_counts false None e = tt
+module _ {T U : Type 0} (q : Query T U) (e : IndexEntry) where
+  -- the comparer is asked, but for entries that are trusted and not racy
+  pub asks_comparer : (n : Metadata) (s : Stat) (x trusted racy : Bool) → (x || not trusted || racy) ≡ true
+      → case_of_content q e n s x trusted racy ≡ compared x trusted racy s (q.compared e.entry n.len (meaning q e n))
+  asks_comparer n s true trusted racy h = refl
+  asks_comparer n s false false racy h = refl
+  asks_comparer n s false true true h = refl
+  asks_comparer n s false true false h = absurd (cc)
 
-module _ {T U : Type 0} where
-  -- a decision for which nothing was read
-  pub unread_of_case : (path : List ℕ) (case : Case T U) (told : Bool) (counted : Option ReadCounts) (status : Option (EntryStatus T U))
-      → answer path case ≡ Ok status → is_racy_case case ≡ false → is_compared_case case ≡ false
-      → IsOfCase path case told counted (record { status = status; asked = told; racy = false; bytes = 0; files = 0; object_bytes = 0; objects = 0 })
-  unread_of_case path case told counted status answers calm unasked = record {
-    status = answers;
-    asked = refl;
-    racy = sym calm;
-    reads = unread_counts (is_compared_case case) counted unasked;
+  -- the comparer's change decides
+  pub compared_of_case : (n : Metadata) (s : Stat) (x trusted racy compares : Bool) (change : Option T) (counted : Option ReadCounts) (d : Decided T U)
+      → trusted ≡ is_trusted q e s → racy ≡ is_racy q.stat_options q.timestamp s → compares ≡ (x || not trusted || racy) → compares ≡ true
+      → q.compared e.entry n.len (meaning q e n) ≡ Ok change → IsOfCase e.path (compared x trusted racy s (Ok change)) true counted d
+      → IsOfCase e.path (case_of_content q e n s x (is_trusted q e s) (is_racy q.stat_options q.timestamp s)) true counted d
+  compared_of_case n s x trusted racy compares change counted d same_trusted same_racy by_test needed answers h =
+      let P : Case T U → Type 0 = λ k. IsOfCase e.path k true counted d in
+      let asked : case_of_content q e n s x trusted racy ≡ compared x trusted racy s (Ok change) = asks_comparer n s x trusted racy (sym by_test ∙ needed) ∙ ap (λ (r : Result (Option T) Error). compared x trusted racy s r) answers in
+      let Q : Bool → Type 0 = λ t. P (case_of_content q e n s x t (is_racy q.stat_options q.timestamp s)) in
+      let R : Bool → Type 0 = λ r. P (case_of_content q e n s x trusted r) in
+      subst Q same_trusted (subst R same_racy (subst P (sym asked) h))
+
+  abbrev reads_at : Found → ReadCounts
+  reads_at f = if is_compared_case (case_of_found q e f) then reads_of_found q e f else no_reads
+
+  -- the decision of what is found is the entry's
+  pub is_decided : (f : Found) (told : Bool) (counted : Option ReadCounts) (r : Result (Decided T U) Error)
+      → found q e ≡ f → asks_lstat q e ≡ told → (TellsReads q → counted ≡ Some (reads_of_found q e f))
+      → IsCaseDecided e.path (case_of_found q e f) told counted r → IsDecided q e r
+  is_decided f told counted (Ok d) same lstat tells h = record {
+    status = ap (λ (x : Found). answer e.path (case_of_found q e x)) same ∙ h.status;
+    asked = h.asked ∙ sym lstat;
+    racy = h.racy ∙ sym (ap (λ (x : Found). is_racy_case (case_of_found q e x)) same);
+    reads = λ told_all.
+        let P : Option ReadCounts → Type 0 = λ c. IfSome c (λ k. reads_of_decided d ≡ (if is_compared_case (case_of_found q e f) then k else no_reads)) in
+        let here : reads_of_decided d ≡ reads_at f = subst P (tells told_all) h.reads in
+        here ∙ sym (ap reads_at same);
   }
-
-  module _ (q : Query T U) (e : IndexEntry) where
-    -- the comparer is asked, but for entries that are trusted and not racy
-    pub asks_comparer : (n : Metadata) (s : Stat) (x trusted racy : Bool) → (trusted ≡ true → racy ≡ false → x ≡ false → ⊥)
-        → case_of_content q e n s x trusted racy ≡ compared x trusted racy s (q.compared e.entry n.len (meaning q e n))
-    asks_comparer n s true trusted racy h = refl
-    asks_comparer n s false false racy h = refl
-    asks_comparer n s false true true h = refl
-    asks_comparer n s false true false h = absurd (h refl refl refl)
-
-    -- the comparer's change decides
-    pub compared_of_case : (n : Metadata) (s : Stat) (x trusted racy : Bool) (change : Option T) (counted : Option ReadCounts) (d : Decided T U)
-        → trusted ≡ is_trusted q e s → racy ≡ is_racy q.stat_options q.timestamp s → (trusted ≡ true → racy ≡ false → x ≡ false → ⊥)
-        → q.compared e.entry n.len (meaning q e n) ≡ Ok change → IsOfCase e.path (compared x trusted racy s (Ok change)) true counted d
-        → IsOfCase e.path (case_of_content q e n s x (is_trusted q e s) (is_racy q.stat_options q.timestamp s)) true counted d
-    compared_of_case n s x trusted racy change counted d same_trusted same_racy asks answers h =
-        let P : Case T U → Type 0 = λ k. IsOfCase e.path k true counted d in
-        let asked : case_of_content q e n s x trusted racy ≡ compared x trusted racy s (Ok change) = asks_comparer n s x trusted racy asks ∙ ap (λ (r : Result (Option T) Error). compared x trusted racy s r) answers in
-        let Q : Bool → Type 0 = λ t. P (case_of_content q e n s x t (is_racy q.stat_options q.timestamp s)) in
-        let R : Bool → Type 0 = λ r. P (case_of_content q e n s x trusted r) in
-        subst Q same_trusted (subst R same_racy (subst P (sym asked) h))
-
-    abbrev reads_at : Found → ReadCounts
-    reads_at f = if is_compared_case (case_of_found q e f) then reads_of_found q e f else no_reads
-
-    -- the decision of what is found is the entry's
-    pub is_decided : (f : Found) (told : Bool) (counted : Option ReadCounts) (r : Result (Decided T U) Error)
-        → found q e ≡ f → asks_lstat q e ≡ told → (TellsReads q → counted ≡ Some (reads_of_found q e f))
-        → IsCaseDecided e.path (case_of_found q e f) told counted r → IsDecided q e r
-    is_decided f told counted (Ok d) same lstat tells h = record {
-      status = ap (λ (x : Found). answer e.path (case_of_found q e x)) same ∙ h.status;
-      asked = h.asked ∙ sym lstat;
-      racy = h.racy ∙ sym (ap (λ (x : Found). is_racy_case (case_of_found q e x)) same);
-      reads = λ told_all.
-          let P : Option ReadCounts → Type 0 = λ c. IfSome c (λ k. reads_of_decided d ≡ (if is_compared_case (case_of_found q e f) then k else no_reads)) in
-          let here : reads_of_decided d ≡ reads_at f = subst P (tells told_all) h.reads in
-          here ∙ sym (ap reads_at same);
-    }
-    is_decided f told counted (Err x) same lstat tells (inl h) = inl (ap (λ (y : Found). answer e.path (case_of_found q e y)) same ∙ h)
-    is_decided f told counted (Err x) same lstat tells (inr h) = inr h
+  is_decided f told counted (Err x) same lstat tells (inl h) = inl (ap (λ (y : Found). answer e.path (case_of_found q e y)) same ∙ h)
+  is_decided f told counted (Err x) same lstat tells (inr h) = inr h

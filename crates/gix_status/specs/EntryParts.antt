@@ -1,5 +1,5 @@
 -- The parts of an entry's decision.
-use Rattle.std.specs.Prelude.{◌≡◌, ◌⊎◌, ℕ, Bool, true, List, Option, Some, None, Result, Ok, Err, IfSome, if◌then◌else◌}
+use Rattle.std.specs.Prelude.{◌≡◌, ◌⊎◌, ℕ, Bool, true, List, Option, Result, Ok, Err, IfSome, if◌then◌else◌}
 use Rattle.status_index.specs.declared.fault.Fault.{Fault}
 use Rattle.status_compare.specs.declared.error.Error.{Error}
 use Rattle.status_compare.specs.declared.error.Error.TheVariants.{Memory}

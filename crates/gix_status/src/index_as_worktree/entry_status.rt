@@ -1,6 +1,6 @@
 //! The status of one entry.
 
-ghost use Rattle.std.specs.Prelude.{◌≡◌, ℕ, ◌==◌, ◌&&◌, List, Option, Result, IsTrue, false, true, IfSome};
+ghost use Rattle.std.specs.Prelude.{◌≡◌, ℕ, ◌==◌, not, ◌&&◌, ◌||◌, List, Option, Result, IsTrue, false, true, IfSome};
 ghost use Rattle.bstr.specs.BStr.{bstr_bytes};
 ghost use Rattle.status_base.specs.CheckState.{IsClear};
 ghost use Rattle.status_base.specs.LinkCheck.{LinkCheck, link_check};
@@ -104,6 +104,7 @@ where
         ensures tells { ⟦<Decider<'w, W, C, S, O, P, T> as Decide>⟧.tells result ≡ W.tells worktree.entry.now }
     {
         let root = BString::new(Vec::new(alloc));
+        let check = SymlinkCheck::new(alloc, root);
         Decider {
             alloc,
             worktree,
@@ -116,7 +117,7 @@ where
             stat_options,
             symlink,
             executable_bit,
-            check: SymlinkCheck::new(alloc, root),
+            check,
             buffer: Vec::new(alloc),
         }
     }
@@ -199,7 +200,8 @@ where
     {
         let trusted = is_trusted(entry, &stat, self.stat_options);
         let racy = stat.is_racy(self.timestamp, self.stat_options);
-        if trusted && !racy && !executable_bit_changed {
+        let compares = needs_comparison(executable_bit_changed, trusted, racy);
+        if !compares {
             return Ok(unread(None, true));
         }
         let comparison = self.compare(entry, path, node)?;
@@ -406,6 +408,14 @@ fn is_trusted(entry: &Entry, stat: &Stat, options: stat::Options) -> bool
     ensures { result ≡ (stat_agrees options stat.now entry.now.stat && same_bool (is_empty_blob entry.now.id) (entry.now.stat.size == 0)) }
 {
     stat.matches(&entry.stat, options) && entry.id.is_empty_blob() == (entry.stat.size == 0)
+}
+
+/// Whether an entry has to be compared: the stats alone decide where they are trusted and hide no write, and the
+/// executable bit didn't change.
+fn needs_comparison(executable_bit_changed: bool, trusted: bool, racy: bool) -> bool
+    ensures { result ≡ (executable_bit_changed || not trusted || racy) }
+{
+    executable_bit_changed || !trusted || racy
 }
 
 /// A decision for which nothing was read.

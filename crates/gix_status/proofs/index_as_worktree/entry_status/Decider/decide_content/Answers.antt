@@ -1,12 +1,10 @@
-use Rattle.std.proofs.Common.{◌≡◌, true, false}
 use Rattle.bstr.specs.BStr.{bstr_bytes}
 use Rattle.status_index.specs.Entries.{IndexEntry}
 use Rattle.status_compare.specs.Reading.{no_reads}
 use Rattle.gix_status.specs.Asked.{query_of}
 use Rattle.gix_status.specs.Status.{meaning}
-use Rattle.gix_status.proofs.EntryCases.{compared_of_case, true_false}
+use Rattle.gix_status.proofs.EntryCases.{compared_of_case}
 use Rattle.gix_status.proofs.index_as_worktree.entry_status.Decider.decide_content.Goals as goal
-use Rattle.gix_status.proofs.index_as_worktree.entry_status.Decider.decide_content.Goals.{else-trusted-via-then-trusted+then-not-racy+else-not-executable_bit_changed, else-trusted-via-then-trusted+else-not-racy, else-trusted-via-else-trusted}
 
 pub returns-clause-decided : goal.returns-clause-decided
 returns-clause-decided g c =
@@ -18,15 +16,9 @@ returns-clause-decided g c =
     (record { answer = g.C.CompareBlobs.answer d.compare; counts_after = g.C.CompareBlobs.counts_after d.compare }) in
     let trusted = c.is_trusted-trusted.result in
     let racy = c.is_racy-racy.result in
-    let asks : trusted ≡ true → racy ≡ false → c.args.executable_bit_changed ≡ false → ⊥ =
-    elim c.else-trusted.branch [
-      | else-trusted-via-then-trusted+then-not-racy+else-not-executable_bit_changed w ↦ (λ t r x. true_false c.args.executable_bit_changed w.if-not-executable_bit_changed.false x)
-      | else-trusted-via-then-trusted+else-not-racy w ↦ (λ t r x. true_false racy w.if-not-racy.false r)
-      | else-trusted-via-else-trusted w ↦ (λ t r x. true_false trusted t w.if-trusted.false)
-    ] in
     let n = c.args.node.now in
     let e : IndexEntry = record { path = bstr_bytes c.args.path; entry = c.args.entry.now } in
     let counted = q.counted e.entry n.len (meaning q e n) no_reads in
     λ told.
     let answer = c.in_ok-comparison.ensures.compared told in
-    compared_of_case q e n c.args.stat c.args.executable_bit_changed trusted racy c.in_ok-comparison.comparison.change counted c.decision_of.result c.is_trusted-trusted.ensures c.is_racy-racy.ensures asks answer.0 (c.decision_of.ensures e.path counted answer.1)
+    compared_of_case q e n c.args.stat c.args.executable_bit_changed trusted racy c.needs_comparison-compares.result c.in_ok-comparison.comparison.change counted c.decision_of.result c.is_trusted-trusted.ensures c.is_racy-racy.ensures c.needs_comparison-compares.ensures c.if-not-compares.false answer.0 (c.decision_of.ensures e.path counted answer.1)

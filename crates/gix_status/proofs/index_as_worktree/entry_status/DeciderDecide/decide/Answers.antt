@@ -1,4 +1,4 @@
-use Rattle.std.proofs.Common.{◌≡◌, ◌∙◌, true, Some}
+use Rattle.std.proofs.Common.{◌∙◌, true}
 use Rattle.bstr.specs.BStr.{bstr_bytes}
 use Rattle.status_index.specs.Entries.{IndexEntry}
 use Rattle.status_base.specs.LinkCheck.{link_check}
