@@ -9,8 +9,8 @@ use crate::profile::{Profile, ProfileOptions};
 use bstr::BString;
 use gix_status::index_as_worktree::function::index_as_worktree;
 use gix_status::index_as_worktree::traits::HashEq;
-use gix_status::index_as_worktree::{Context, Outcome, Record, Recorder};
-use status_base::index::State;
+use gix_status::index_as_worktree::{Context, Error, Options, Outcome, Record, Recorder};
+use status_base::index::{ObjectId, State};
 use status_base::worktree::{
     AllPaths, MemoryObjects, MemoryWorktree, NoFilter, NoLister, NoSubmodules, Node,
 };
@@ -86,26 +86,47 @@ fn status_of_profile<R: AllocGlobal + Threads + Wait, O: io::Write>(
     let alloc = rt.alloc();
     let counts = options.counts;
     let mut recorder = Recorder::new(alloc);
+    let answer = ask(
+        rt,
+        alloc,
+        index,
+        worktree,
+        &mut recorder,
+        MemoryObjects::new(alloc),
+        options.status,
+    );
+    print_records(alloc, recorder.records.as_slice(), output)?;
+    print_totals(alloc, &answer?, counts, output)
+}
+
+/// Asks the status, by ids, of all paths, with no filter, listing, or submodule.
+fn ask<'index, R: Threads + Wait>(
+    rt: &R,
+    alloc: Global,
+    index: &'index State,
+    worktree: &MemoryWorktree,
+    recorder: &mut Recorder<'index, ObjectId, ()>,
+    objects: MemoryObjects,
+    options: Options,
+) -> Result<Outcome, Error> {
     let context = Context {
         pathspec: AllPaths,
         filter: NoFilter,
         lister: NoLister,
         should_interrupt: None,
     };
-    let answer = index_as_worktree(
+    index_as_worktree(
         rt,
         alloc,
         index,
         worktree,
-        &mut recorder,
+        recorder,
         HashEq,
         NoSubmodules,
-        MemoryObjects::new(alloc),
+        objects,
         context,
-        options.status,
-    );
-    print_records(alloc, recorder.records.as_slice(), output)?;
-    print_totals(alloc, &answer?, counts, output)
+        options,
+    )
 }
 
 /// Prints a line a record. The records before a fault are printed too.

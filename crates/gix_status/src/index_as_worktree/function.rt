@@ -1,7 +1,6 @@
 //! The status of an index against a worktree.
 
 ghost use Rattle.std.specs.Prelude.{◌≡◌, ◌-◌, ◌≤◌, IsTrue, is_some, length};
-ghost use Rattle.status_base.specs.Lawful.{CloneKeeps};
 ghost use Rattle.status_index.specs.States.{entries_of, backing_of, timestamp_of, index_of};
 ghost use Rattle.bstr.specs.BStr.{bstr_bytes};
 ghost use Rattle.status_index.specs.Stretch.{part_of};
@@ -58,14 +57,14 @@ fn chunk_size_of(options: &Options) -> usize {
 pub fn index_as_worktree<
     'index,
     R: Threads + Wait,
-    W: Worktree + Sync,
+    W: Worktree,
     V: VisitEntry<'index>,
-    C: CompareBlobs<Output = V::ContentChange> + Clone + Send,
-    S: SubmoduleStatus<Output = V::SubmoduleStatus> + Clone + Send,
-    O: Find + Clone + Send,
-    P: Pathspec + Clone + Send,
-    T: ToGit + Clone + Send,
-    L: Lister + Clone + Send,
+    C: CompareBlobs<Output = V::ContentChange> + Drop,
+    S: SubmoduleStatus<Output = V::SubmoduleStatus> + Drop,
+    O: Find + Drop,
+    P: Pathspec + Drop,
+    T: ToGit + Drop,
+    L: Lister + Drop,
 >(
     _rt: &R,
     alloc: Global,
@@ -79,16 +78,8 @@ pub fn index_as_worktree<
     options: Options,
 ) -> Result<Outcome, Error>
 where
-    V::ContentChange: Send + Drop,
-    V::SubmoduleStatus: Send + Drop,
-    requires comparer_clones { CloneKeeps C.is_clone C.answer }
-    requires comparer_clones_count { CloneKeeps C.is_clone C.counts_after }
-    requires submodule_clones { CloneKeeps S.is_clone S.meaning }
-    requires object_clones { CloneKeeps O.is_clone O.found }
-    requires pathspec_clones { CloneKeeps P.is_clone P.prefix }
-    requires pathspec_clones_include { CloneKeeps P.is_clone P.included }
-    requires filter_clones { CloneKeeps T.is_clone T.conversion }
-    requires lister_clones { CloneKeeps L.is_clone L.listing }
+    V::ContentChange: Drop,
+    V::SubmoduleStatus: Drop,
     ensures { IsStatus
         (query_of options.stat options.fs.symlink options.fs.executable_bit (timestamp_of index.now)
         (record { lstat = W.lstat_of worktree.now; opened = W.open_of worktree.now; linked = W.target_of worktree.now })
