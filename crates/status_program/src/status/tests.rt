@@ -122,3 +122,73 @@ fn a_full_output_is_a_failure_with_no_line(rt: HostRuntime) -> Result<(), Fail> 
     }
     Ok(())
 }
+
+#[test]
+fn conflicts_links_and_intents_are_told(rt: HostRuntime) -> Result<(), Fail> {
+    let alloc = rt.alloc();
+    let cases = [
+        (
+            r#"{"timestamp":[9,0],"options":{"counts":true,"chunk_size":2},"index":[{"path":"a","id":"19102815663d23f8b75a47e7a01965dcdc96468c","size":3,"mtime":[5,0]},{"path":"f","id":"19102815663d23f8b75a47e7a01965dcdc96468c","stage":1},{"path":"f","id":"19102815663d23f8b75a47e7a01965dcdc96468c","stage":2},{"path":"f","id":"19102815663d23f8b75a47e7a01965dcdc96468c","stage":3},{"path":"g","id":"19102815663d23f8b75a47e7a01965dcdc96468c","size":3,"mtime":[5,0]}],"worktree":[{"path":"a","text":"foo","mtime":[5,0]},{"path":"g","text":"foo","mtime":[5,0]}]}"#,
+            "1 conflict both-modified 123 \"f\"\ntotal: to process 5, processed 3, skipped 0, lstat 2, to update 0, racy 0, read 0, bytes 0\n",
+        ),
+        (
+            r#"{"timestamp":[9,0],"options":{"counts":true,"chunk_size":2},"index":[{"path":"a","id":"19102815663d23f8b75a47e7a01965dcdc96468c","size":3,"mtime":[5,0]},{"path":"f","id":"19102815663d23f8b75a47e7a01965dcdc96468c","stage":1,"flags":["assume-valid"]},{"path":"f","id":"19102815663d23f8b75a47e7a01965dcdc96468c","stage":2},{"path":"f","id":"19102815663d23f8b75a47e7a01965dcdc96468c","stage":3},{"path":"g","id":"19102815663d23f8b75a47e7a01965dcdc96468c","size":3,"mtime":[5,0]}],"worktree":[{"path":"a","text":"foo","mtime":[5,0]},{"path":"g","text":"foo","mtime":[5,0]}]}"#,
+            "2 conflict both-added 23 \"f\"\ntotal: to process 5, processed 4, skipped 1, lstat 2, to update 0, racy 0, read 0, bytes 0\n",
+        ),
+        (
+            r#"{"timestamp":[9,0],"options":{"counts":true},"index":[{"path":"f","id":"19102815663d23f8b75a47e7a01965dcdc96468c","stage":1,"flags":["assume-valid"]},{"path":"f","id":"19102815663d23f8b75a47e7a01965dcdc96468c","stage":2,"flags":["assume-valid"]},{"path":"f","id":"19102815663d23f8b75a47e7a01965dcdc96468c","stage":3}],"worktree":[]}"#,
+            "2 conflict added-by-them 3 \"f\"\ntotal: to process 3, processed 3, skipped 2, lstat 0, to update 0, racy 0, read 0, bytes 0\n",
+        ),
+        (
+            r#"{"timestamp":[9,0],"options":{"counts":true},"index":[{"path":"f","id":"19102815663d23f8b75a47e7a01965dcdc96468c","stage":1},{"path":"f","id":"19102815663d23f8b75a47e7a01965dcdc96468c","stage":2,"flags":["assume-valid"]}],"worktree":[]}"#,
+            "0 conflict deleted-by-them 12 \"f\"\ntotal: to process 2, processed 1, skipped 0, lstat 0, to update 0, racy 0, read 0, bytes 0\n",
+        ),
+        (
+            r#"{"timestamp":[9,0],"options":{"counts":true,"chunk_size":1},"index":[{"path":"f","id":"19102815663d23f8b75a47e7a01965dcdc96468c","size":3,"mtime":[5,0]},{"path":"f","id":"19102815663d23f8b75a47e7a01965dcdc96468c","stage":1},{"path":"f","id":"19102815663d23f8b75a47e7a01965dcdc96468c","stage":3}],"worktree":[{"path":"f","text":"foo","mtime":[5,0]}]}"#,
+            "1 conflict deleted-by-us 13 \"f\"\ntotal: to process 3, processed 2, skipped 0, lstat 1, to update 0, racy 0, read 0, bytes 0\n",
+        ),
+        (
+            r#"{"timestamp":[9,0],"options":{"counts":true},"index":[{"path":"a","id":"19102815663d23f8b75a47e7a01965dcdc96468c","flags":["intent-to-add"]},{"path":"b","id":"19102815663d23f8b75a47e7a01965dcdc96468c","flags":["intent-to-add"]},{"path":"c","id":"19102815663d23f8b75a47e7a01965dcdc96468c","flags":["intent-to-add"]}],"worktree":[{"path":"a","text":"foo","mtime":[5,0]},{"path":"c/d","text":"foo","mtime":[5,0]}]}"#,
+            "0 intent \"a\"\n1 removed \"b\"\n2 removed \"c\"\ntotal: to process 3, processed 3, skipped 0, lstat 3, to update 0, racy 0, read 0, bytes 0\n",
+        ),
+        (
+            r#"{"timestamp":[9,0],"options":{"counts":true},"index":[{"path":"d/x","id":"19102815663d23f8b75a47e7a01965dcdc96468c","size":3,"mtime":[5,0]},{"path":"d/y","id":"19102815663d23f8b75a47e7a01965dcdc96468c","size":3,"mtime":[5,0]}],"worktree":[{"path":"d","kind":"link","text":"e"}]}"#,
+            "0 removed \"d/x\"\n1 removed \"d/y\"\ntotal: to process 2, processed 2, skipped 0, lstat 0, to update 0, racy 0, read 0, bytes 0\n",
+        ),
+        (
+            r#"{"timestamp":[9,0],"options":{"counts":true},"index":[{"path":"a/b","id":"19102815663d23f8b75a47e7a01965dcdc96468c","size":3,"mtime":[5,0]},{"path":"a/b/c","id":"19102815663d23f8b75a47e7a01965dcdc96468c","size":3,"mtime":[5,0]}],"worktree":[{"path":"a","text":"foo","mtime":[5,0]}]}"#,
+            "0 removed \"a/b\"\n1 removed \"a/b/c\"\ntotal: to process 2, processed 2, skipped 0, lstat 1, to update 0, racy 0, read 0, bytes 0\n",
+        ),
+        (
+            r#"{"timestamp":[9,0],"options":{"counts":true},"index":[{"path":"sub","id":"19102815663d23f8b75a47e7a01965dcdc96468c","mode":"160000"}],"worktree":[{"path":"sub","kind":"directory"}]}"#,
+            "total: to process 1, processed 1, skipped 0, lstat 1, to update 0, racy 0, read 0, bytes 0\n",
+        ),
+    ];
+    for (text, wanted) in cases {
+        let mut output = Vec::new(alloc);
+        let mut faults = Vec::new(alloc);
+        let mut profile = text.as_bytes();
+        let status = run_status(&rt, "f", &mut profile, &mut output, &mut faults);
+        assert_eq!(rt; status, 0, "at {text}");
+        assert!(rt; faults.is_empty(), "at {text}");
+        assert_eq!(rt; output.as_slice(), wanted.as_bytes(), "at {text}");
+    }
+    Ok(())
+}
+
+#[test]
+fn the_records_before_a_fault_stay_printed(rt: HostRuntime) -> Result<(), Fail> {
+    let alloc = rt.alloc();
+    let text =
+        r#"{"timestamp":[9,0],"options":{"counts":true},"index":[{"path":"a","id":"19102815663d23f8b75a47e7a01965dcdc96468c","size":3,"mtime":[5,0]},{"path":"a//b","id":"19102815663d23f8b75a47e7a01965dcdc96468c","size":3,"mtime":[5,0]}],"worktree":[{"path":"a","text":"bar","mtime":[7,0]}]}"#;
+    let mut output = Vec::new(alloc);
+    let mut faults = Vec::new(alloc);
+    let status = run_status(&rt, "f", &mut text.as_bytes(), &mut output, &mut faults);
+    assert_eq!(rt; status, 1);
+    assert_eq!(rt; output.as_slice(), b"0 modified -c- \"a\"\n".as_slice());
+    assert_eq!(rt;
+        faults.as_slice(),
+        b"status failed: not normal\n".as_slice()
+    );
+    Ok(())
+}
