@@ -9,8 +9,9 @@ use std::alloc::Global;
 
 /// Reads the entries.
 pub fn read_index(alloc: Global, profile: Fields<'_>) -> Result<Vec<NewEntry>, FieldError> {
-    let mut entries = Vec::new(alloc);
-    for value in profile.list("index")? {
+    let values = profile.list("index")?;
+    let mut entries = Vec::with_capacity(alloc, values.len())?;
+    for value in values {
         entries.push(read_entry(alloc, Fields::of(value)?)?)?;
     }
     Ok(entries)

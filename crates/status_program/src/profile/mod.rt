@@ -15,7 +15,7 @@ use crate::profile::options::read_options;
 use bstr::BString;
 pub use error::{FieldError, Key, ProfileError};
 pub use options::{Comparer, ProfileOptions};
-use serde_json::Value;
+use serde_json::{Map, Value};
 use status_base::index::{HashKind, Moment, NewEntry};
 use status_base::worktree::Node;
 use std::alloc::Global;
@@ -41,20 +41,24 @@ impl Profile {
     /// # Errors
     /// Text that isn't JSON, the first key that is missing or has a wrong form, or want of memory.
     pub fn from_json(alloc: Global, text: &[u8]) -> Result<Profile, ProfileError> {
-        let value = Value::from_slice(alloc, text)?;
-        let Some(members) = value.as_object() else {
-            return Err(ProfileError::Bad(Key::Hash));
-        };
-        read_profile(alloc, Fields::new(members))
+        match Value::from_slice(alloc, text)? {
+            Value::Object(members) => read_profile(alloc, members),
+            _ => Err(ProfileError::Bad(Key::Hash)),
+        }
     }
 }
 
-fn read_profile(alloc: Global, fields: Fields<'_>) -> Result<Profile, ProfileError> {
+fn read_profile(alloc: Global, mut members: Map<String, Value>) -> Result<Profile, ProfileError> {
+    let fields = Fields::new(&members);
     let hash = read_hash(fields).map_err(|error| error.under(Key::Hash))?;
     let timestamp = read_timestamp(fields).map_err(|error| error.under(Key::Timestamp))?;
     let options = read_options(alloc, fields).map_err(|error| error.under(Key::Options))?;
     let entries = read_index(alloc, fields).map_err(|error| error.under(Key::Index))?;
-    let nodes = read_worktree(alloc, fields).map_err(|error| error.under(Key::Worktree))?;
+    // The index isn't kept twice while the worktree is read.
+    drop(members.remove("index"));
+    let nodes = read_worktree(alloc, Fields::new(&members)).map_err(|error| error.under(
+        Key::Worktree,
+    ))?;
     Ok(Profile {
         hash,
         timestamp,

@@ -14,8 +14,9 @@ pub fn read_worktree(
     if profile.get("folder").is_some() {
         return Err(FieldError::Form);
     }
-    let mut nodes = Vec::new(alloc);
-    for value in profile.list("worktree")? {
+    let values = profile.list("worktree")?;
+    let mut nodes = Vec::with_capacity(alloc, values.len())?;
+    for value in values {
         let fields = Fields::of(value)?;
         let path = BString::from_slice(alloc, fields.text("path")?.as_bytes())?;
         nodes.push((path, read_node(alloc, fields)?))?;
