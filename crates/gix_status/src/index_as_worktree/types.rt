@@ -112,11 +112,11 @@ impl Default for Capabilities {
 pub struct Options {
     /// What the file system can keep.
     pub fs: Capabilities,
-    /// The greatest number of threads. None or 0 leave it open.
+    /// The greatest number of threads. None or 0 leave it open. Not looked at yet: the caller is the only worker.
     pub thread_limit: Option<usize>,
     /// Which parts of stats have to be equal.
     pub stat: stat::Options,
-    /// Whether listings of directories stand in place of `lstat` where they know a path.
+    /// Whether listings of directories stand in place of `lstat` where they know a path. Not looked at yet.
     pub fscache: bool,
     /// How many entries a piece of work has. 0 means 500.
     pub chunk_size: usize,
@@ -128,9 +128,9 @@ pub struct Context<'a, P, T, L> {
     pub pathspec: P,
     /// How files are converted to what git stores.
     pub filter: T,
-    /// Listings of directories.
+    /// Listings of directories. Not asked yet.
     pub lister: L,
-    /// Once it is set the status ends early. None is never set.
+    /// Once it is set the status ends early. None is never set. Not looked at yet.
     pub should_interrupt: Option<&'a AtomicBool>,
 }
 
