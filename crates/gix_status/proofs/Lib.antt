@@ -15,6 +15,7 @@ pub mod LawTable
 pub mod Nexts
 pub mod NoThread
 pub mod Parts
+pub mod Queries
 pub mod RunLists
 pub mod Runs
 pub mod StatusProof

@@ -1,6 +1,6 @@
 //! The decision of one entry.
 
-ghost use Rattle.std.specs.Prelude.{◌≡◌, Bool, not, IsTrue};
+ghost use Rattle.std.specs.Prelude.{◌≡◌, Bool, not, IsTrue, IfOk};
 ghost use Rattle.bstr.specs.BStr.{bstr_bytes};
 ghost use Rattle.gix_status.specs.Query.{Query};
 ghost use Rattle.gix_status.specs.Considered.{is_excluded};
@@ -8,6 +8,7 @@ ghost use Rattle.gix_status.specs.Considered.{is_excluded};
 use crate::index_as_worktree::types::{EntryStatus, Error};
 use bstr::BStr;
 use status_base::index::Entry;
+use std::alloc::AllocError;
 
 /// What was decided of an entry, and what that took.
 #[derive(Drop)]
@@ -59,4 +60,11 @@ pub trait Decide {
         ensures answer { IsTrue (tells self.old) → IsDecided (query self.old) (record { path = bstr_bytes path.entry; entry = entry.now }) result }
         ensures same { query self.new ≡ query self.old }
         ensures tells { tells self.new ≡ tells self.old };
+
+    /// Another one that decides by the same query, for another worker.
+    ///
+    /// # Errors
+    /// Want of memory.
+    fn another(&self) -> Result<Self, AllocError>
+        ensures { IfOk result (λ d. (query d ≡ query self.now) × (tells d ≡ tells self.now)) };
 }

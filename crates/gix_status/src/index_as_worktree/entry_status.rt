@@ -25,7 +25,7 @@ use status_base::worktree::{
     ByteText, Fault, Find, Metadata, NodeKind, Pathspec, SubmoduleStatus, ToGit, Worktree,
 };
 use status_compare::{CompareBlobs, EntryReader, Reads};
-use std::alloc::Global;
+use std::alloc::{AllocError, Global};
 
 /// Decides entries over a worktree. It keeps the buffers, so that an entry whose stat decides takes no memory.
 #[derive(Drop)]
@@ -280,6 +280,22 @@ where
             Site::Directory => Ok(unread(Some(EntryStatus::Change(Change::Removed)), true)),
             Site::Node(node) => self.decide_node(entry, path, &node),
         }
+    }
+
+    fn another(&self) -> Result<Decider<'w, W, C, S, O, P, T>, AllocError> {
+        Ok(Decider::new(
+            self.alloc,
+            self.worktree,
+            self.compare.clone()?,
+            self.submodule.clone()?,
+            self.objects.clone()?,
+            self.pathspec.clone()?,
+            self.filter.clone()?,
+            self.timestamp,
+            self.stat_options,
+            self.symlink,
+            self.executable_bit,
+        ))
     }
 }
 
