@@ -1,0 +1,6 @@
+//! Numbered pieces of work, shared by scoped workers: what they give, in order, up to the first piece that ended short.
+#![tactic(auto)]
+
+mod order;
+pub mod work;
+mod worker;
