@@ -1,0 +1,7 @@
+//! A board from which several workers draw the numbers of pieces, each once.
+#![tactic(auto)]
+
+pub mod board;
+mod rules;
+#[cfg(test)]
+mod tests;
