@@ -131,7 +131,3 @@ module _ {O : Type 0} where
         reported = reported_of-push ss s ∙ ap (λ (ks : List ℕ). ks ++ s.reported) all.reported ∙ ap (λ (ks : List ℕ). shorts_of short fs ++ ks) one.accounts.reported ∙ sym (shorts_of-append short fs gs);
         each = All-append Given fs gs all.each one.accounts.each;
       }
-
-      pub gathered_to : (ss new : List SeatState) (s t : SeatState) (fs all gs hs : List (Finished O)) → new ≡ ss ++ t ∷ [] → all ≡ fs ++ hs → t ≡ s → hs ≡ gs → IsGathered gives short board ss fs → IsWorked gives short board s gs → IsGathered gives short board new all
-      gathered_to ss new s t fs all gs hs seats finished same_seat same_finished before one =
-          rw (seats, finished, same_seat, same_finished) (gathered_more ss s fs gs before one)

@@ -2,7 +2,7 @@ use Rattle.std.proofs.Common.{◌≡◌, ap, ◌+◌, ◌++◌, ◌∷◌, [], v
 use Rattle.status_round.specs.Accounts.{IsGathered, IsWorked}
 use Rattle.status_round.specs.declared.crew.Gathered.{Gathered}
 use Rattle.status_round.specs.declared.worker.Worked.{Worked}
-use Rattle.status_round.proofs.Accounting.{gathered_to}
+use Rattle.status_round.proofs.Accounting.{gathered_more}
 use Rattle.status_round.proofs.Results.{if_ok}
 use Rattle.status_round.proofs.crew.gather.Goals as goal
 
@@ -15,9 +15,7 @@ returns-clause-after g c =
     let w = c.in_ok-finished.field-0 in
     let before = if_ok (λ (x : Gathered g.row.K-Out.Denot). IsGathered gives short id x.seats.items x.finished.items) c.args.gathered a c.in_ok-gathered.was c.requires.before in
     let one = if_ok (λ (x : Worked g.row.K-Out.Denot). IsWorked gives short id x.seat x.finished.items) c.args.worked w c.in_ok-finished.was c.requires.worked in
-    let same_seat : c.in_ok-finished.seat ≡ w.seat = cc in
-    let same_finished : c.in_ok-finished.finished.items ≡ w.finished.items = cc in
-    gathered_to gives short id a.seats.items c.push.new.self.items w.seat c.in_ok-finished.seat a.finished.items c.append.new.self.items w.finished.items c.in_ok-finished.finished.items c.in_ok-push.ensures.items c.in_ok-append.ensures.items same_seat same_finished before one
+    rw (c.in_ok-push.ensures.items, c.in_ok-append.ensures.items) (gathered_more gives short id a.seats.items w.seat a.finished.items w.finished.items before one)
 
 pub returns-clause-len : goal.returns-clause-len
 returns-clause-len g c n h =
