@@ -1,0 +1,3 @@
+pub mod Accounts
+pub mod Finished
+pub mod Round

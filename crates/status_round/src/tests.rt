@@ -1,0 +1,186 @@
+//! Rounds over numbers, with one worker and with several.
+
+ghost use Rattle.std.specs.Prelude.{◌≡◌, ◌≤◌, ◌^◌, ⊤, IfOk, vec_len};
+
+use crate::round::{Refused, work_round, work_with_stacks};
+use crate::work::Work;
+use std::alloc::{AllocError, Global};
+use std::sync::Wait;
+use std::sync::atomic::{AtomicBool, Ordering};
+use std::test::Fail;
+use std::thread;
+use std::thread::Threads;
+
+// Pieces that give their own numbers. One of them may end short.
+#[derive(Drop)]
+struct Numbers {
+    pieces: usize,
+    short: Option<usize>,
+}
+
+#[derive(Drop)]
+struct Given {
+    number: usize,
+    short: bool,
+}
+
+impl Work for Numbers {
+    type State = u64;
+    type Out = Given;
+
+    ghost count = { λ s. s.pieces };
+
+    ghost fits = { λ _ _. ⊤ };
+
+    ghost gives = { λ _ number out. out.number ≡ number };
+
+    ghost short = { λ out. out.short };
+
+    fn piece(&self, _state: &mut u64, number: usize) -> Given {
+        Given {
+            number,
+            short: self.short == Some(number),
+        }
+    }
+
+    fn is_short(out: &Given) -> bool {
+        out.short
+    }
+}
+
+// Two pieces, each of which waits until the other has begun.
+#[derive(Drop)]
+struct Meeting {
+    first: AtomicBool,
+    second: AtomicBool,
+}
+
+impl Work for Meeting {
+    type State = u64;
+    type Out = bool;
+
+    ghost count = { λ _. 2 };
+
+    ghost fits = { λ _ _. ⊤ };
+
+    ghost gives = { λ _ _ _. ⊤ };
+
+    ghost short = { λ _. false };
+
+    fn piece(&self, _state: &mut u64, number: usize) -> bool {
+        let (mine, other) = if number == 0 {
+            (&self.first, &self.second)
+        } else {
+            (&self.second, &self.first)
+        };
+        mine.store(true, Ordering::SeqCst);
+        for _ in 0..100_000_000u64 {
+            if other.load(Ordering::SeqCst) {
+                return true;
+            }
+            thread::yield_now();
+        }
+        false
+    }
+
+    fn is_short(_out: &bool) -> bool {
+        false
+    }
+}
+
+fn crew_of(alloc: Global, workers: usize) -> Result<Vec<u64>, AllocError>
+    ensures { IfOk result (λ crew. vec_len crew ≡ workers) }
+{
+    let mut crew = Vec::new(alloc);
+    for _ in 0..workers {
+        crew.push(0)?;
+    }
+    Ok(crew)
+}
+
+fn numbers<R: Threads + Wait>(
+    rt: &R,
+    alloc: Global,
+    stack_size: Option<usize>,
+    workers: usize,
+    pieces: usize,
+    short: Option<usize>,
+) -> Result<Vec<Given>, Refused>
+    requires { (pieces ≤ 2 ^ 20) × (1 ≤ workers) × (workers ≤ 64) }
+{
+    let work = Numbers { pieces, short };
+    let crew = match crew_of(alloc, workers) {
+        Ok(crew) => crew,
+        Err(_) => return Err(Refused::Memory),
+    };
+    match stack_size {
+        Some(_) => work_with_stacks(rt, alloc, stack_size, &work, pieces, crew),
+        None => work_round(rt, alloc, &work, pieces, crew),
+    }
+}
+
+// Whether crews of one to eight give the numbers below `end`, in order.
+fn crews_give<R: Threads + Wait>(
+    rt: &R,
+    alloc: Global,
+    pieces: usize,
+    short: Option<usize>,
+    end: usize,
+) -> bool
+    requires { pieces ≤ 100 }
+{
+    for workers in 1..9 {
+        let Ok(outs) = numbers(rt, alloc, None, workers, pieces, short) else {
+            return false;
+        };
+        if outs.len() != end {
+            return false;
+        }
+        for (i, out) in outs.iter().enumerate() {
+            if out.number != i {
+                return false;
+            }
+        }
+    }
+    true
+}
+
+#[test]
+fn every_piece_comes_in_order(rt: HostRuntime) {
+    assert!(rt; crews_give(&rt, rt.alloc(), 0, None, 0));
+    assert!(rt; crews_give(&rt, rt.alloc(), 1, None, 1));
+    assert!(rt; crews_give(&rt, rt.alloc(), 5, None, 5));
+    assert!(rt; crews_give(&rt, rt.alloc(), 100, None, 100));
+}
+
+#[test]
+fn nothing_comes_behind_a_short_piece(rt: HostRuntime) {
+    assert!(rt; crews_give(&rt, rt.alloc(), 1, Some(0), 1));
+    assert!(rt; crews_give(&rt, rt.alloc(), 5, Some(0), 1));
+    assert!(rt; crews_give(&rt, rt.alloc(), 5, Some(2), 3));
+    assert!(rt; crews_give(&rt, rt.alloc(), 5, Some(4), 5));
+    assert!(rt; crews_give(&rt, rt.alloc(), 100, Some(0), 1));
+    assert!(rt; crews_give(&rt, rt.alloc(), 100, Some(50), 51));
+    assert!(rt; crews_give(&rt, rt.alloc(), 100, Some(99), 100));
+}
+
+#[test]
+fn two_workers_work_at_once(rt: HostRuntime) -> Result<(), Fail> {
+    let meeting = Meeting {
+        first: AtomicBool::new(false),
+        second: AtomicBool::new(false),
+    };
+    let crew = crew_of(rt.alloc(), 2)?;
+    let met = work_round(&rt, rt.alloc(), &meeting, 2, crew);
+    assert!(rt; matches!(&met, Ok(outs) if outs.as_slice() == [true, true]));
+    Ok(())
+}
+
+#[test]
+fn a_refused_thread_is_told(rt: HostRuntime) {
+    let too_large = Some(usize::MAX);
+    let alone = numbers(&rt, rt.alloc(), too_large, 1, 5, None);
+    assert!(rt; alone.is_ok());
+    let several = numbers(&rt, rt.alloc(), too_large, 3, 5, None);
+    assert!(rt; several.err() == Some(Refused::Thread));
+}
