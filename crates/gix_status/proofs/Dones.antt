@@ -1,5 +1,5 @@
 -- What is done up to a place, and how it goes on.
-use Rattle.std.proofs.Common.{◌≡◌, sym, ap, ◌∙◌, subst, ℕ, ◌+◌, ◌-◌, ◌^◌, ◌<◌, ◌≤◌, inl, inr, Bool, true, false, List, [], ◌∷◌, ◌++◌, length, take, drop, slice_index_or, All, Option, Some, None, Ok, arith}
+use Rattle.std.proofs.Common.{◌≡◌, sym, ap, ◌∙◌, subst, ℕ, ◌+◌, ◌-◌, ◌^◌, ◌<◌, ◌≤◌, inl, inr, Bool, true, false, ◌||◌, List, [], ◌∷◌, ◌++◌, length, take, drop, slice_index_or, All, Option, Some, None, Ok, arith}
 use Rattle.std.specs.List.{list_any}
 use Rattle.std.proofs.lemmas.Bool.{cases_lt, and_left, and_right}
 use Rattle.std.proofs.lemmas.List.Elements.{All-nil, All-cons, All-append, All-weaker}
@@ -20,6 +20,11 @@ use Rattle.gix_status.specs.Steps.{IsFresh, IsNext}
 use Rattle.gix_status.specs.Sums.{IsOfEntries, SumFits, no_counts, plus_counts, plus_reads}
 use Rattle.gix_status.proofs.Groups.{records-append, faults-append, counts-append, reads-append}
 use Rattle.gix_status.proofs.Parts.{All-take_at, All-drop_at, All-take_from, All-drop_from, All-part_at, AllPairs-append, length-part, part_none, part_split}
+
+-- of two, the first is false
+pub or_false : (a b c : Bool) → c ≡ (a || b) → a ≡ false → c ≡ b
+or_false true b c e h = cc
+or_false false b c e h = e
 
 some_entry : (es : List IndexEntry) → 0 < length es → IndexEntry
 some_entry [] h = absurd (omega arith)

@@ -38,7 +38,7 @@ fed_front entries backing xs rest all old new e h =
     let fits : length xs ≤ length all = omega (arith, length-append xs rest, ap length e) in
     (length xs, fits, rw (← e, take-append_seam) h)
 
-nil_of : {X : Type 0} (xs : List X) → length xs ≡ 0 → xs ≡ []
+pub nil_of : {X : Type 0} (xs : List X) → length xs ≡ 0 → xs ≡ []
 nil_of [] h = refl
 nil_of (x ∷ xs) h = absurd (omega arith)
 

@@ -1,4 +1,5 @@
 pub mod Ascents
+pub mod Bounds
 pub mod Conflicted
 pub mod Considering
 pub mod Dones

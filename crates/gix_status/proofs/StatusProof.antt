@@ -1,4 +1,4 @@
--- The status theorem, from work in order.
+-- The status theorem, from work in order and its end.
 use Rattle.std.proofs.Common.{◌≡◌, ◌≢◌, refl, sym, ap, ◌∙◌, subst, ℕ, zero, suc, ◌+◌, ◌-◌, ◌<◌, ◌≤◌, ◌⊎◌, inl, inr, Bool, true, false, IsTrue, List, [], ◌∷◌, ◌++◌, length, length-append, take, drop, map, All, arith, append_assoc, Option, Some, None, Result, Ok, Err}
 use Rattle.std.specs.Prelude.{AllPairs, slice_get}
 use Rattle.std.specs.List.{slice_index_or}
@@ -17,9 +17,9 @@ use Rattle.gix_status.specs.Fed.{Tells}
 use Rattle.gix_status.specs.Pieces.{IsDone, IsAsMeant, IsFaultAt}
 use Rattle.gix_status.specs.Query.{Query}
 use Rattle.gix_status.specs.Records.{records_in, records_of, faults_in, first_fault, verdict}
-use Rattle.gix_status.specs.StatusTheorem.{IsBeginning, IsStatus, IsFirstFault, NeverSpawns, all_entries, considered_entries, start_of}
+use Rattle.gix_status.specs.StatusTheorem.{IsBeginning, IsComplete, IsStatus, IsStatusOf, IsFirstFault, NeverSpawns, all_entries, considered_entries, start_of}
 use Rattle.gix_status.specs.Visits.{Visit, finding_of}
-use Rattle.gix_status.specs.Worked.{IsStopped, IsWorked, IsToldWork}
+use Rattle.gix_status.specs.Worked.{IsRefusal, IsStopped, IsToldWork}
 use Rattle.gix_status.proofs.Groups.{records-append, faults-append}
 use Rattle.gix_status.proofs.LawRecords.{fault_law}
 use Rattle.gix_status.proofs.NoThread.{never_spawned}
@@ -107,45 +107,55 @@ module _ {T U : Type 0} (q : Query T U) (entries : List Entry) (backing : PathSt
   abbrev start : ℕ
   start = start_of q entries backing
 
-  -- what an outcome counts of all considered entries
-  whole_outcome : (told : List (Finding T U)) (o p : Outcome) → IsAsMeant q start es 0 (length es) told o → counts_of_outcome p ≡ counts_of_outcome o → reads_of_outcome p ≡ reads_of_outcome o
-      → p.entries_to_process ≡ length es → p.entries_skipped_by_common_prefix ≡ length all - length es → IsOutcome q all es es p
-  whole_outcome told o p m counts reads process prefix = record {
+  -- what an outcome counts of the first considered entries
+  front_outcome : (n : ℕ) (told : List (Finding T U)) (o p : Outcome) → IsAsMeant q start es 0 n told o → counts_of_outcome p ≡ counts_of_outcome o → reads_of_outcome p ≡ reads_of_outcome o
+      → p.entries_to_process ≡ length es → p.entries_skipped_by_common_prefix ≡ length all - length es → IsOutcome q all es (take n es) p
+  front_outcome n told o p m counts reads process prefix = record {
     to_process = process;
     skipped_by_prefix = prefix;
-    counts = counts ∙ m.counts ∙ ap (counts_in q es) (part_front es (length es) ∙ take_all es);
-    reads = λ r. reads ∙ m.reads r ∙ ap (reads_in q) (part_front es (length es) ∙ take_all es);
+    counts = counts ∙ m.counts ∙ ap (counts_in q es) (part_front es n);
+    reads = λ r. reads ∙ m.reads r ∙ ap (reads_in q) (part_front es n);
   }
 
-  whole_records : (told : List (Finding T U)) (o : Outcome) → IsAsMeant q start es 0 (length es) told o → told ≡ records_of q start es
-  whole_records told o m = m.records ∙ front_records q start es (length es) ∙ ap (records_in q es start) (take_all es)
+  module _ (workers : ℕ) (o p : Outcome) (work : IsToldWork q tells start es 0 has_flag workers (length es) entries backing old (Ok o) new)
+      (counts : counts_of_outcome p ≡ counts_of_outcome o) (reads : reads_of_outcome p ≡ reads_of_outcome o)
+      (process : p.entries_to_process ≡ length es) (prefix : p.entries_skipped_by_common_prefix ≡ length all - length es) (interrupt : p.interrupted ≡ o.interrupted) where
+    -- the first of the considered entries were worked through
+    first_status : IsTrue tells → IsStatusOf q entries backing work.worked.place (map finding_of work.fed.more) p
+    first_status t =
+        let m = work.worked.done.meant t in
+        record {
+          clear = sym (ap (faults_in q es) (part_front es work.worked.place)) ∙ m.clear;
+          records = work.fed.told ∙ m.records ∙ front_records q start es work.worked.place;
+          outcome = front_outcome work.worked.place work.told o p m counts reads process prefix;
+        }
 
-  -- all considered entries were worked through
-  pub status_ok : (o p : Outcome) → IsToldWork q tells start es entries backing old (Ok o) new → counts_of_outcome p ≡ counts_of_outcome o → reads_of_outcome p ≡ reads_of_outcome o
-      → p.entries_to_process ≡ length es → p.entries_skipped_by_common_prefix ≡ length all - length es → p.interrupted ≡ o.interrupted
-      → IsStatus q entries backing tells has_flag limit old (Ok p) new
-  status_ok o p work counts reads process prefix interrupt =
-      let done = work.worked.0 in
-      let never : p.interrupted ≡ false = interrupt ∙ work.worked.1.interrupted in
-      record {
-        more = work.fed.more;
-        grew = work.fed.grew;
-        faithful = work.fed.faithful;
-        ascends = map_ascends work.fed.more work.told work.fed.told done.ascending;
-        complete = λ t _. record {
-          no_fault = none_first q start es (sym (ap (faults_in q es) (part_front es (length es) ∙ take_all es)) ∙ (done.meant t).clear);
-          records = work.fed.told ∙ whole_records work.told o (done.meant t);
-          outcome = whole_outcome work.told o p (done.meant t) counts reads process prefix;
-        };
-        interrupted = λ t yes. absurd (true_not_false p.interrupted yes never);
-        fault = λ t. tt;
-        beginning = λ t. ([], append-nil (map finding_of work.fed.more) ∙ work.fed.told ∙ whole_records work.told o (done.meant t));
-        uninterrupted = λ _. never;
-        alone = λ t one spawns h. ok_not_err p SpawnThread h;
-      }
+    whole_status : (n : ℕ) → n ≡ length es → IsStatusOf q entries backing n (map finding_of work.fed.more) p → IsComplete q entries backing (map finding_of work.fed.more) p
+    whole_status n e h =
+        let all_of : take n es ≡ es = ap (λ (k : ℕ). take k es) e ∙ take_all es in
+        record {
+          no_fault = none_first q start es (sym (ap (faults_in q es) all_of) ∙ h.clear);
+          records = h.records ∙ ap (records_in q es start) all_of;
+          outcome = subst (λ (part : List IndexEntry). IsOutcome q all es part p) all_of h.outcome;
+        }
 
-  module _ (e : Error) (work : IsToldWork q tells start es entries backing old (Err e) new) where
-    abbrev stop : IsStopped q tells start es work.told e
+    -- all considered entries were worked through, or an interrupt flag was seen
+    pub status_ok : IsStatus q entries backing tells has_flag limit old (Ok p) new
+    status_ok = record {
+      more = work.fed.more;
+      grew = work.fed.grew;
+      faithful = work.fed.faithful;
+      ascends = map_ascends work.fed.more work.told work.fed.told work.worked.done.ascending;
+      complete = λ t still. whole_status work.worked.place (work.worked.reached (sym interrupt ∙ still)) (first_status t);
+      interrupted = λ t seen. (work.worked.place, work.worked.done.high, first_status t);
+      fault = λ t. tt;
+      beginning = λ t. subst (λ l. IsBeginning l (records_of q start es)) (sym (first_status t).records) (records_begin q start es work.worked.place);
+      uninterrupted = λ still. interrupt ∙ work.worked.uninterrupted still;
+      alone = λ t one spawns h. ok_not_err p SpawnThread h;
+    }
+
+  module _ (workers : ℕ) (e : Error) (single : limit ≡ Some 1 → workers ≡ 1) (work : IsToldWork q tells start es 0 has_flag workers (length es) entries backing old (Err e) new) where
+    abbrev stop : IsStopped q tells start es 0 workers work.told e
     stop = work.worked
 
     -- what was found up to the stop is a beginning of the records
@@ -154,13 +164,17 @@ module _ {T U : Type 0} (q : Query T U) (entries : List Entry) (backing : PathSt
         let m = stop.done.meant t in
         subst (λ l. IsBeginning l (records_of q start es)) (sym (m.records ∙ front_records q start es stop.place)) (records_begin q start es stop.place)
 
-    told_in : ((work.told ≡ stop.found) × (stop.place < length es) × (IsTrue tells → IsFaultAt q es stop.place e)) ⊎ ((e ≡ Memory) × IsBeginning work.told stop.found) → IsBeginning work.told stop.found
+    no_refusal : e ≢ Memory → e ≢ SpawnThread → IsRefusal workers e → ⊥
+    no_refusal other others (inl h) = other h
+    no_refusal other others (inr h) = others h.0
+
+    told_in : ((work.told ≡ stop.found) × (stop.place < length es) × (IsTrue tells → IsFaultAt q es stop.place e)) ⊎ (IsRefusal workers e × IsBeginning work.told stop.found) → IsBeginning work.told stop.found
     told_in (inl h) = ([], append-nil work.told ∙ h.0)
     told_in (inr h) = h.1
 
-    first_fault_at : IsTrue tells → e ≢ Memory → ((work.told ≡ stop.found) × (stop.place < length es) × (IsTrue tells → IsFaultAt q es stop.place e)) ⊎ ((e ≡ Memory) × IsBeginning work.told stop.found) → IsFirstFault q entries backing (map finding_of work.fed.more) e
-    first_fault_at t other (inr h) = absurd (other h.0)
-    first_fault_at t other (inl h) =
+    first_fault_at : IsTrue tells → e ≢ Memory → e ≢ SpawnThread → ((work.told ≡ stop.found) × (stop.place < length es) × (IsTrue tells → IsFaultAt q es stop.place e)) ⊎ (IsRefusal workers e × IsBeginning work.told stop.found) → IsFirstFault q entries backing (map finding_of work.fed.more) e
+    first_fault_at t other others (inr h) = absurd (no_refusal other others h.0)
+    first_fault_at t other others (inl h) =
         let m = stop.done.meant t in
         let clear : faults_in q es (take stop.place es) ≡ [] = sym (ap (faults_in q es) (part_front es stop.place)) ∙ m.clear in
         let here = fault_here q es stop.place e other (h.2 t) in
@@ -173,9 +187,13 @@ module _ {T U : Type 0} (q : Query T U) (entries : List Entry) (backing : PathSt
           records = work.fed.told ∙ h.0 ∙ m.records ∙ front_records q start es stop.place;
         }
 
-    no_thread : IsTrue tells → NeverSpawns q → ((work.told ≡ stop.found) × (stop.place < length es) × (IsTrue tells → IsFaultAt q es stop.place e)) ⊎ ((e ≡ Memory) × IsBeginning work.told stop.found) → e ≡ SpawnThread → ⊥
-    no_thread t never (inl h) spawned = fault_not_thread q never es stop.place e h.1 spawned (h.2 t)
-    no_thread t never (inr h) spawned = cc
+    lone_refusal : workers ≡ 1 → IsRefusal workers e → e ≡ SpawnThread → ⊥
+    lone_refusal one (inl h) spawned = cc
+    lone_refusal one (inr h) spawned = absurd (omega (arith, one, h.1))
+
+    no_thread : IsTrue tells → workers ≡ 1 → NeverSpawns q → ((work.told ≡ stop.found) × (stop.place < length es) × (IsTrue tells → IsFaultAt q es stop.place e)) ⊎ (IsRefusal workers e × IsBeginning work.told stop.found) → e ≡ SpawnThread → ⊥
+    no_thread t one never (inl h) spawned = fault_not_thread q never es stop.place e h.1 spawned (h.2 t)
+    no_thread t one never (inr h) spawned = lone_refusal one h.0 spawned
 
     -- the work ended
     pub status_err : IsStatus q entries backing tells has_flag limit old (Err e) new
@@ -186,20 +204,20 @@ module _ {T U : Type 0} (q : Query T U) (entries : List Entry) (backing : PathSt
       ascends = map_ascends work.fed.more work.told work.fed.told (front_ascends (λ a b. a.entry_index < b.entry_index) work.told (told_in stop.by).0 stop.found (told_in stop.by).1 stop.done.ascending);
       complete = λ t. tt;
       interrupted = λ t. tt;
-      fault = λ t other _. first_fault_at t other stop.by;
+      fault = λ t other others. first_fault_at t other others stop.by;
       beginning = λ t. subst (λ l. IsBeginning l (records_of q start es)) (sym work.fed.told) (begins_more work.told stop.found (records_of q start es) (told_in stop.by) (found_begins t));
       uninterrupted = λ _. tt;
-      alone = λ t one never h. no_thread t never stop.by (err_same e SpawnThread h);
+      alone = λ t one never h. no_thread t (single one) never stop.by (err_same e SpawnThread h);
     }
 
 -- the same work, by an equal query and of an equal part
-pub work_kept : {T U : Type 0} (q r : Query T U) (tells also : Bool) (start place : ℕ) (whole part : List IndexEntry) (entries : List Entry) (backing : PathStorage) (old new : List (Visit T U)) (result : Result Outcome Error)
-    → r ≡ q → also ≡ tells → place ≡ start → part ≡ whole → IsToldWork r also place part entries backing old result new → IsToldWork q tells start whole entries backing old result new
-work_kept q r tells also start place whole part entries backing old new result same so at of work =
-    subst (λ l. IsToldWork q tells start l entries backing old result new) of
-    (subst (λ n. IsToldWork q tells n part entries backing old result new) at
-    (subst (λ b. IsToldWork q b place part entries backing old result new) so
-    (subst (λ x. IsToldWork x also place part entries backing old result new) same work)))
+pub work_kept : {T U : Type 0} (q r : Query T U) (tells also interruptible : Bool) (workers start place : ℕ) (whole part : List IndexEntry) (entries : List Entry) (backing : PathStorage) (old new : List (Visit T U)) (result : Result Outcome Error)
+    → r ≡ q → also ≡ tells → place ≡ start → part ≡ whole → IsToldWork r also place part 0 interruptible workers (length part) entries backing old result new → IsToldWork q tells start whole 0 interruptible workers (length whole) entries backing old result new
+work_kept q r tells also interruptible workers start place whole part entries backing old new result same so at of work =
+    subst (λ l. IsToldWork q tells start l 0 interruptible workers (length l) entries backing old result new) of
+    (subst (λ n. IsToldWork q tells n part 0 interruptible workers (length part) entries backing old result new) at
+    (subst (λ b. IsToldWork q b place part 0 interruptible workers (length part) entries backing old result new) so
+    (subst (λ x. IsToldWork x also place part 0 interruptible workers (length part) entries backing old result new) same work)))
 
 -- how many entries are considered, and how many aren't
 module _ {X Y : Type 0} (all whole : List X) (entries : List Y) (s e : ℕ) (part : part_of all s e ≡ whole) (order : s ≤ e) (inside : e ≤ length entries) (same : length all ≡ length entries) where

@@ -12,6 +12,7 @@ pub mod Pieces
 pub mod Query
 pub mod Recorded
 pub mod Records
+pub mod Rounds
 pub mod Status
 pub mod StatusTable
 pub mod StatusTheorem

@@ -1,43 +1,59 @@
--- The considered entries, worked through in order.
-use Rattle.std.specs.Prelude.{◌≡◌, ◌⊎◌, ℕ, ◌<◌, Bool, false, IsTrue, List, length, Result, Ok, Err}
+-- Considered entries from a place on, worked through in order.
+use Rattle.std.specs.Prelude.{◌≡◌, ◌⊎◌, ℕ, ◌<◌, Bool, false, IsTrue, List, length, Option, Some, Result, Ok, Err}
 use Rattle.status_index.specs.declared.entry.Entry.{Entry}
 use Rattle.status_index.specs.declared.entry.PathStorage.{PathStorage}
 use Rattle.status_index.specs.Entries.{IndexEntry}
 use Rattle.status_compare.specs.declared.error.Error.{Error}
-use Rattle.status_compare.specs.declared.error.Error.TheVariants.{Memory}
+use Rattle.status_compare.specs.declared.error.Error.TheVariants.{Memory, SpawnThread}
 use Rattle.gix_status.specs.declared.index_as_worktree.types.Outcome.{Outcome}
 use Rattle.gix_status.specs.declared.index_as_worktree.types.Finding.{Finding}
 use Rattle.gix_status.specs.Fed.{Tells}
-use Rattle.gix_status.specs.Pieces.{IsCut, IsDone, IsFaultAt}
+use Rattle.gix_status.specs.Pieces.{IsDone, IsFaultAt}
 use Rattle.gix_status.specs.Query.{Query}
 use Rattle.gix_status.specs.StatusTheorem.{IsBeginning}
 use Rattle.gix_status.specs.Sums.{IsOfEntries}
 use Rattle.gix_status.specs.Visits.{Visit}
 
-module _ {T U : Type 0} (q : Query T U) (tells : Bool) (start : ℕ) (es : List IndexEntry) where
-  -- the work ended: at an entry that gives a fault or was refused memory, or where the collector was refused memory
-  pub record IsStopped (told : List (Finding T U)) (e : Error) : Type 0 where
+-- memory was refused, or, where there may be more than one worker, a thread
+abbrev pub IsRefusal : ℕ → Error → Type 0
+IsRefusal workers e = (e ≡ Memory) ⊎ ((e ≡ SpawnThread) × (1 < workers))
+
+module _ {T U : Type 0} (q : Query T U) (tells : Bool) (start : ℕ) (es : List IndexEntry) (from : ℕ) where
+  -- the work ended: at an entry that gives a fault or was refused memory, or where it could not go on
+  pub record IsStopped (workers : ℕ) (told : List (Finding T U)) (e : Error) : Type 0 where
     pub place : ℕ
     pub found : List (Finding T U)
     pub outcome : Outcome
-    pub done : IsDone q tells start es 0 place found outcome
-    pub by : ((told ≡ found) × (place < length es) × (IsTrue tells → IsFaultAt q es place e)) ⊎ ((e ≡ Memory) × IsBeginning told found)
+    pub done : IsDone q tells start es from place found outcome
+    pub by : ((told ≡ found) × (place < length es) × (IsTrue tells → IsFaultAt q es place e)) ⊎ (IsRefusal workers e × IsBeginning told found)
 
-  -- all entries are done, or the work ended
-  abbrev pub IsWorked : List (Finding T U) → Result Outcome Error → Type 0
-  IsWorked told (Ok o) = IsDone q tells start es 0 (length es) told o × IsOfEntries o
-  IsWorked told (Err e) = IsStopped told e
+  -- the entries up to a place are done: it is `to`, or an interrupt flag was seen there
+  pub record IsWorkedTo (interruptible : Bool) (to : ℕ) (told : List (Finding T U)) (o : Outcome) : Type 0 where
+    pub place : ℕ
+    pub done : IsDone q tells start es from place told o
+    pub alone : IsOfEntries (record o { interrupted = false })
+    pub reached : o.interrupted ≡ false → place ≡ to
+    pub uninterrupted : interruptible ≡ false → o.interrupted ≡ false
+
+  abbrev pub IsWorked : Bool → ℕ → ℕ → List (Finding T U) → Result Outcome Error → Type 0
+  IsWorked interruptible workers to told (Ok o) = IsWorkedTo interruptible to told o
+  IsWorked interruptible workers to told (Err e) = IsStopped workers told e
 
   -- the entries before a place are done and told
   pub record IsUnderWay (entries : List Entry) (backing : PathStorage) (at : ℕ) (total : Outcome) (old now : List (Visit T U)) : Type 0 where
     pub told : List (Finding T U)
     pub fed : Tells entries backing told old now
-    pub done : IsDone q tells start es 0 at told total
+    pub done : IsDone q tells start es from at told total
     pub alone : IsOfEntries total
-    pub cut : IsCut es at
 
   -- what was told, and how the work ended
-  pub record IsToldWork (entries : List Entry) (backing : PathStorage) (old : List (Visit T U)) (result : Result Outcome Error) (new : List (Visit T U)) : Type 0 where
+  pub record IsToldWork (interruptible : Bool) (workers to : ℕ) (entries : List Entry) (backing : PathStorage) (old : List (Visit T U)) (result : Result Outcome Error) (new : List (Visit T U)) : Type 0 where
     pub told : List (Finding T U)
     pub fed : Tells entries backing told old new
-    pub worked : IsWorked told result
+    pub worked : IsWorked interruptible workers to told result
+
+-- the same of all considered entries, by a thread limit
+pub record IsLimitedWork {T U : Type 0} (q : Query T U) (tells : Bool) (start : ℕ) (es : List IndexEntry) (interruptible : Bool) (limit : Option ℕ) (entries : List Entry) (backing : PathStorage) (old : List (Visit T U)) (result : Result Outcome Error) (new : List (Visit T U)) : Type 0 where
+  pub workers : ℕ
+  pub alone : limit ≡ Some 1 → workers ≡ 1
+  pub work : IsToldWork q tells start es 0 interruptible workers (length es) entries backing old result new

@@ -2,7 +2,6 @@
 
 ghost use Rattle.std.specs.Prelude.{◌≡◌, ◌++◌, ◌<◌, length, All};
 ghost use Rattle.gix_status.specs.Fed.{IsFed, IsFedOne, IsPlacedIn};
-ghost use Rattle.gix_status.specs.Pieces.{IsUncut};
 ghost use Rattle.gix_status.specs.PieceFed.{IsPieceFed};
 
 use crate::index_as_worktree::piece::{End, Piece};
@@ -52,7 +51,7 @@ where
     Ok(())
 }
 
-/// Tells a collector what a piece found, and answers what the piece counts.
+/// Tells a collector what a piece found, and answers what the piece counts, and whether it was interrupted.
 ///
 /// # Errors
 /// The fault at which the piece ended, once its findings were told. Want of memory; then a beginning of them was told.
@@ -65,8 +64,7 @@ pub(crate) fn feed_piece<'index, V: VisitEntry<'index>>(
 where
     V::ContentChange: Drop,
     V::SubmoduleStatus: Drop,
-    requires placed { All (IsPlacedIn entries.now) piece.findings.items }
-    requires uncut { IsUncut piece.end }
+    requires { All (IsPlacedIn entries.now) piece.findings.items }
     ensures { IsPieceFed entries.now backing.now piece (V.visits collector.old) result (V.visits collector.new) }
 {
     let Piece {
@@ -79,7 +77,10 @@ where
         Ok(()) => match end {
             End::Faulty(error) => Err(error),
             End::Whole => Ok(outcome),
-            End::Cut => unreachable!(),
+            End::Cut => Ok(Outcome {
+                interrupted: true,
+                ..outcome
+            }),
         },
         Err(_refused) => Err(Error::Memory),
     }

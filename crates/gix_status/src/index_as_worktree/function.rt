@@ -1,6 +1,6 @@
 //! The status of an index against a worktree.
 
-ghost use Rattle.std.specs.Prelude.{◌≡◌, ◌-◌, ◌≤◌, IsTrue, is_some, length};
+ghost use Rattle.std.specs.Prelude.{◌≡◌, ◌-◌, ◌≤◌, IsTrue, is_some, length, Some};
 ghost use Rattle.status_index.specs.States.{entries_of, backing_of, timestamp_of, index_of};
 ghost use Rattle.bstr.specs.BStr.{bstr_bytes};
 ghost use Rattle.status_index.specs.Stretch.{part_of};
@@ -10,7 +10,7 @@ ghost use Rattle.gix_status.specs.StatusTheorem.{IsStatus};
 
 use crate::index_as_worktree::entry_status::Decider;
 use crate::index_as_worktree::types::{Context, Error, Options, Outcome, VisitEntry};
-use crate::index_as_worktree::work::work_in_order;
+use crate::index_as_worktree::work::{Considered, work_through};
 use bstr::BStr;
 use status_base::index::State;
 use status_base::worktree::{Find, Lister, Pathspec, SubmoduleStatus, ToGit, Worktree};
@@ -58,15 +58,15 @@ pub fn index_as_worktree<
     'index,
     R: Threads + Wait,
     W: Worktree + Sync,
-    V: VisitEntry<'index>,
-    C: CompareBlobs<Output = V::ContentChange> + Send,
-    S: SubmoduleStatus<Output = V::SubmoduleStatus> + Send,
+    V: VisitEntry<'index, ContentChange = C::Output, SubmoduleStatus = S::Output>,
+    C: CompareBlobs + Send,
+    S: SubmoduleStatus + Send,
     O: Find + Send,
     P: Pathspec + Send,
     T: ToGit + Send,
     L: Lister + Send,
 >(
-    _rt: &R,
+    rt: &R,
     alloc: Global,
     index: &'index State,
     worktree: &W,
@@ -78,8 +78,9 @@ pub fn index_as_worktree<
     options: Options,
 ) -> Result<Outcome, Error>
 where
-    V::ContentChange: Send + Drop,
-    V::SubmoduleStatus: Send + Drop,
+    W::File: Send,
+    C::Output: Send,
+    S::Output: Send,
     ensures { IsStatus
         (query_of options.stat options.fs.symlink options.fs.executable_bit (timestamp_of index.now)
         (record { lstat = W.lstat_of worktree.now; opened = W.open_of worktree.now; linked = W.target_of worktree.now })
@@ -92,7 +93,7 @@ where
         pathspec,
         filter,
         lister,
-        should_interrupt: _,
+        should_interrupt,
     } = context;
     drop(lister);
     let entries = index.entries();
@@ -100,7 +101,7 @@ where
     let range = considered_range(index, pathspec.common_prefix());
     let chunk_size = chunk_size_of(&options);
     let considered = range.end - range.start;
-    let mut decider = Decider::new(
+    let decider = Decider::new(
         alloc,
         worktree,
         compare,
@@ -113,14 +114,20 @@ where
         options.fs.symlink,
         options.fs.executable_bit,
     );
-    match work_in_order(
-        alloc,
+    let part = Considered {
         entries,
         backing,
-        range.start,
-        range.end,
+        start: range.start,
+        end: range.end,
+    };
+    match work_through(
+        rt,
+        alloc,
+        part,
         chunk_size,
-        &mut decider,
+        options.thread_limit,
+        should_interrupt,
+        decider,
         collector,
     ) {
         Ok(mut outcome) => {

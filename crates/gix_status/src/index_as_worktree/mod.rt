@@ -8,6 +8,7 @@ pub mod function;
 pub mod laws;
 pub mod piece;
 pub mod recorder;
+pub mod round;
 pub mod traits;
 pub mod types;
 pub mod work;

@@ -1,6 +1,6 @@
 //! A piece of the considered entries, worked through in order.
 
-ghost use Rattle.std.specs.Prelude.{◌≡◌, ◌++◌, ◌+◌, ◌^◌, ◌<◌, ◌≤◌, List, ℕ, None, Ok, map, min, option_map, take, drop, length, OnOk, OnErr};
+ghost use Rattle.std.specs.Prelude.{◌≡◌, ◌++◌, ◌+◌, ◌^◌, ◌<◌, ◌≤◌, List, ℕ, None, Ok, false, map, min, option_map, take, drop, length, OnOk, OnErr};
 ghost use Rattle.std.specs.Option.{option_copied};
 ghost use Rattle.bstr.specs.BStr.{bstr_bytes};
 ghost use Rattle.status_compare.specs.Reading.{no_reads};
@@ -22,6 +22,7 @@ use bitflags::Flags as _;
 use bstr::BStr;
 use status_base::index::{Entry, Flags, PathStorage};
 use std::alloc::{AllocError, Global};
+use std::sync::atomic::{AtomicBool, Ordering};
 
 /// How a piece ended.
 #[derive(Debug, Drop)]
@@ -86,8 +87,15 @@ fn same_path(a: &Entry, b: &Entry, backing: &PathStorage) -> bool
     a.path_in(backing) == b.path_in(backing)
 }
 
-/// Works through the considered entries from place `from` up to `to`. `start` is the place of the first considered entry in
-/// the whole index.
+/// Whether the interrupt flag is set. None never is.
+pub(crate) fn is_set(interrupt: Option<&AtomicBool>) -> bool
+    ensures { interrupt.entry ≡ None → result ≡ false }
+{
+    interrupt.is_some_and(|flag| flag.load(Ordering::Relaxed))
+}
+
+/// Works through the considered entries from place `from` up to `to`, and looks at the interrupt flag before each. `start`
+/// is the place of the first considered entry in the whole index.
 pub(crate) fn work_piece<D: Decide>(
     alloc: Global,
     entries: &[Entry],
@@ -95,6 +103,7 @@ pub(crate) fn work_piece<D: Decide>(
     start: usize,
     from: usize,
     to: usize,
+    interrupt: Option<&AtomicBool>,
     decide: &mut D,
 ) -> Piece<D::Content, D::Submodule>
     requires room { start + length entries.now < 2 ^ 64 }
@@ -105,7 +114,7 @@ pub(crate) fn work_piece<D: Decide>(
     requires end { IsCut (index_entries backing.now entries.now) to }
     ensures piece { IsPiece (D.query decide.old) (D.tells decide.old) start (index_entries backing.now entries.now) from to result }
     ensures alone { IsOfEntries result.outcome }
-    ensures uncut { IsUncut result.end }
+    ensures uncut { interrupt.entry ≡ None → IsUncut result.end }
     ensures same { D.query decide.new ≡ D.query decide.old }
     ensures tells { D.tells decide.new ≡ D.tells decide.old }
 {
@@ -113,6 +122,14 @@ pub(crate) fn work_piece<D: Decide>(
     let mut outcome = Outcome::default();
     let mut at = from;
     while at < to {
+        if is_set(interrupt) {
+            return Piece {
+                findings,
+                outcome,
+                reached: at,
+                end: End::Cut,
+            };
+        }
         let step = match next_step(entries, backing, at, decide) {
             Ok(step) => step,
             Err(error) => {

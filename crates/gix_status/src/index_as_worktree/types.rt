@@ -169,7 +169,7 @@ impl Outcome {
     ghost use Rattle.gix_status.specs.Counts.{counts_of_outcome, reads_of_outcome};
     ghost use Rattle.gix_status.specs.Outcomes.{skipped_of};
     ghost use Rattle.gix_status.specs.Sums.{SumFits, plus_counts, plus_reads};
-    ghost use Rattle.std.specs.Prelude.{◌≡◌, ◌+◌, ◌<◌, ◌^◌};
+    ghost use Rattle.std.specs.Prelude.{◌≡◌, ◌+◌, ◌<◌, ◌^◌, ◌||◌};
 
     /// The entries that were skipped: by common prefix, by pathspec and by flags.
     pub fn skipped(&self) -> usize
@@ -181,14 +181,14 @@ impl Outcome {
             + self.entries_skipped_by_entry_flags
     }
 
-    /// Adds what `other` counts. What was read stops at the greatest number.
+    /// Adds what `other` counts. What was read stops at the greatest number. One that was interrupted makes both so.
     pub(crate) fn absorb(&mut self, other: &Outcome)
         requires { SumFits self.old other.now }
         ensures counts { counts_of_outcome self.new ≡ plus_counts (counts_of_outcome self.old) (counts_of_outcome other.now) }
         ensures reads { reads_of_outcome self.new ≡ plus_reads (reads_of_outcome self.old) (reads_of_outcome other.now) }
         ensures to_process { self.new.entries_to_process ≡ self.old.entries_to_process + other.now.entries_to_process }
         ensures skipped_by_prefix { self.new.entries_skipped_by_common_prefix ≡ self.old.entries_skipped_by_common_prefix + other.now.entries_skipped_by_common_prefix }
-        ensures interrupted { self.new.interrupted ≡ self.old.interrupted }
+        ensures interrupted { self.new.interrupted ≡ (self.old.interrupted || other.now.interrupted) }
     {
         self.entries_to_process += other.entries_to_process;
         self.entries_processed += other.entries_processed;
@@ -204,6 +204,7 @@ impl Outcome {
             .saturating_add(other.worktree_files_read);
         self.odb_bytes = self.odb_bytes.saturating_add(other.odb_bytes);
         self.odb_objects_read = self.odb_objects_read.saturating_add(other.odb_objects_read);
+        self.interrupted |= other.interrupted;
     }
 }
 

@@ -1,52 +1,214 @@
-//! The considered entries, worked through and fed in order.
+//! The considered entries, worked through in rounds and fed in order.
 
-ghost use Rattle.std.specs.Prelude.{◌≡◌, ◌≤◌, ◌<◌, length, map};
+ghost use Rattle.std.specs.Prelude.{◌≡◌, ◌+◌, ◌^◌, ◌≤◌, ◌<◌, length, map, is_some, Some};
 ghost use Rattle.status_index.specs.Entries.{IsIndex, listed, index_entries};
 ghost use Rattle.status_index.specs.Stretch.{part_of};
-ghost use Rattle.gix_status.specs.Worked.{IsToldWork};
+ghost use Rattle.gix_status.specs.Rounds.{AreBounds, bound, end_of};
+ghost use Rattle.gix_status.specs.Worked.{IsLimitedWork, IsToldWork};
 
 use crate::index_as_worktree::decide::Decide;
 use crate::index_as_worktree::feed::feed_piece;
-use crate::index_as_worktree::piece::{piece_end, work_piece};
+use crate::index_as_worktree::piece::is_set;
+use crate::index_as_worktree::round::{round_bounds, work_pieces};
 use crate::index_as_worktree::types::{Error, Outcome, VisitEntry};
 use status_base::index::{Entry, PathStorage};
 use std::alloc::Global;
+use std::sync::Wait;
+use std::sync::atomic::AtomicBool;
+use std::thread::Threads;
 
-/// Works through the entries from place `start` up to `end` of the whole index, piece by piece, and tells the collector
-/// what each piece finds.
+/// The considered entries: those from place `start` up to `end` of the whole index.
+#[derive(Drop)]
+pub(crate) struct Considered<'index> {
+    pub(crate) entries: &'index [Entry],
+    pub(crate) backing: &'index PathStorage,
+    pub(crate) start: usize,
+    pub(crate) end: usize,
+    ghost index: { IsIndex (map listed (index_entries backing.now entries.now)) },
+    ghost order: { start ≤ end },
+    ghost inside: { end ≤ length entries.now },
+}
+
+/// The greatest number of workers, and how many there are where nothing is said.
+const MOST_WORKERS: usize = 64;
+const WORKERS: usize = 4;
+
+/// The number of workers at most.
+fn most_workers(limit: Option<usize>) -> usize
+    ensures some { (1 ≤ result) × (result ≤ 64) }
+    ensures one { limit ≡ Some 1 → result ≡ 1 }
+{
+    match limit {
+        None | Some(0) => WORKERS,
+        Some(limit) => limit.min(MOST_WORKERS),
+    }
+}
+
+/// Works through the considered entries on workers as the thread limit has it.
 ///
 /// # Errors
-/// The first fault, once the collector was told what stands before it. Want of memory.
-pub(crate) fn work_in_order<
+/// As those of `work_in_rounds`.
+pub(crate) fn work_through<
     'index,
-    D: Decide,
+    R: Threads + Wait,
+    D: Decide + Send + Drop,
     V: VisitEntry<'index, ContentChange = D::Content, SubmoduleStatus = D::Submodule>,
 >(
+    rt: &R,
+    alloc: Global,
+    considered: Considered<'index>,
+    chunk: usize,
+    limit: Option<usize>,
+    interrupt: Option<&AtomicBool>,
+    decide: D,
+    collector: &mut V,
+) -> Result<Outcome, Error>
+where
+    D::Content: Send,
+    D::Submodule: Send,
+    ensures { IsLimitedWork (D.query decide) (D.tells decide) considered.entry.start (part_of (index_entries considered.entry.backing.now considered.entry.entries.now) considered.entry.start considered.entry.end)
+        (is_some interrupt.entry) limit considered.entry.entries.now considered.entry.backing.now (V.visits collector.old) result (V.visits collector.new) }
+{
+    work_in_rounds(
+        rt,
+        alloc,
+        considered.entries,
+        considered.backing,
+        considered.start,
+        considered.end,
+        chunk,
+        most_workers(limit),
+        interrupt,
+        &decide,
+        collector,
+    )
+}
+
+/// How many pieces a worker has in a round, at most.
+const PIECES_OF_A_WORKER: usize = 8;
+
+/// Works through the considered entries, which are those from place `start` up to `end` of the whole index, in rounds of
+/// pieces on at most `most` workers, and tells the collector in the order of the index what the pieces find. Ends early
+/// where the interrupt flag is set.
+///
+/// # Errors
+/// The first fault, once the collector was told what stands before it. A refused thread; then nothing of its round was
+/// told. Want of memory.
+pub(crate) fn work_in_rounds<
+    'index,
+    R: Threads + Wait,
+    D: Decide + Send + Drop,
+    V: VisitEntry<'index, ContentChange = D::Content, SubmoduleStatus = D::Submodule>,
+>(
+    rt: &R,
     alloc: Global,
     entries: &'index [Entry],
     backing: &'index PathStorage,
     start: usize,
     end: usize,
     chunk: usize,
-    decide: &mut D,
+    most: usize,
+    interrupt: Option<&AtomicBool>,
+    decide: &D,
     collector: &mut V,
 ) -> Result<Outcome, Error>
+where
+    D::Content: Send,
+    D::Submodule: Send,
     requires index { IsIndex (map listed (index_entries backing.now entries.now)) }
     requires order { start ≤ end }
     requires inside { end ≤ length entries.now }
-    ensures { IsToldWork (D.query decide.old) (D.tells decide.old) start (part_of (index_entries backing.now entries.now) start end) entries.now backing.now (V.visits collector.old) result (V.visits collector.new) }
+    requires most { (1 ≤ most) × (most ≤ 64) }
+    ensures { IsToldWork (D.query decide.now) (D.tells decide.now) start (part_of (index_entries backing.now entries.now) start end) 0
+        (is_some interrupt.entry) most (length (part_of (index_entries backing.now entries.now) start end)) entries.now backing.now (V.visits collector.old) result (V.visits collector.new) }
 {
     let considered = &entries[start..end];
     let mut total = Outcome::default();
     let mut at = 0;
     while at < considered.len() {
-        let to = piece_end(considered, backing, at, chunk);
-        let piece = work_piece(alloc, considered, backing, start, at, to, decide);
+        if is_set(interrupt) {
+            return Ok(Outcome {
+                interrupted: true,
+                ..total
+            });
+        }
+        let most_pieces = most * PIECES_OF_A_WORKER;
+        let Ok(bounds) = round_bounds(alloc, considered, backing, at, chunk, most_pieces) else {
+            return Err(Error::Memory);
+        };
+        let workers = most.min(bounds.len() - 1);
+        match tell_round(
+            rt,
+            alloc,
+            entries,
+            backing,
+            considered,
+            start,
+            bounds.as_slice(),
+            workers,
+            interrupt,
+            decide,
+            collector,
+        ) {
+            Ok(outcome) => total.absorb(&outcome),
+            Err(error) => return Err(error),
+        }
+        if total.interrupted {
+            return Ok(total);
+        }
+        at = bounds[bounds.len() - 1];
+    }
+    Ok(total)
+}
+
+/// Works through the entries between the bounds, and tells the collector what the pieces find.
+///
+/// # Errors
+/// As those of `work_in_rounds`.
+fn tell_round<
+    'index,
+    R: Threads + Wait,
+    D: Decide + Send + Drop,
+    V: VisitEntry<'index, ContentChange = D::Content, SubmoduleStatus = D::Submodule>,
+>(
+    rt: &R,
+    alloc: Global,
+    entries: &'index [Entry],
+    backing: &'index PathStorage,
+    considered: &[Entry],
+    start: usize,
+    bounds: &[usize],
+    workers: usize,
+    interrupt: Option<&AtomicBool>,
+    decide: &D,
+    collector: &mut V,
+) -> Result<Outcome, Error>
+where
+    D::Content: Send,
+    D::Submodule: Send,
+    requires index { IsIndex (map listed (index_entries backing.now considered.now)) }
+    requires room { start + length considered.now ≤ length entries.now }
+    requires bounds { AreBounds (index_entries backing.now considered.now) bounds.now }
+    requires few { length bounds.now ≤ 2 ^ 20 }
+    requires workers { (1 ≤ workers) × (workers ≤ 64) }
+    ensures { IsToldWork (D.query decide.now) (D.tells decide.now) start (index_entries backing.now considered.now) (bound bounds.now 0)
+        (is_some interrupt.entry) workers (end_of bounds.now) entries.now backing.now (V.visits collector.old) result (V.visits collector.new) }
+{
+    let pieces = match work_pieces(
+        rt, alloc, considered, backing, start, bounds, workers, interrupt, decide,
+    ) {
+        Ok(pieces) => pieces,
+        Err(error) => return Err(error),
+    };
+    let mut total = Outcome::default();
+    for piece in pieces {
         match feed_piece(entries, backing, piece, collector) {
             Ok(outcome) => total.absorb(&outcome),
             Err(error) => return Err(error),
         }
-        at = to;
+        if total.interrupted {
+            return Ok(total);
+        }
     }
     Ok(total)
 }

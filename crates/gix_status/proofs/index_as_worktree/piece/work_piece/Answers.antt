@@ -5,7 +5,7 @@ use Rattle.gix_status.specs.Counts.{counts_of_outcome, reads_of_outcome}
 use Rattle.gix_status.specs.Records.{record_by}
 use Rattle.gix_status.specs.Sums.{IsOfEntries, no_counts}
 use Rattle.status_compare.specs.Reading.{no_reads}
-use Rattle.gix_status.proofs.Dones.{done_none, done_next, done_more, not_past, fresh_cut}
+use Rattle.gix_status.proofs.Dones.{done_none, done_next, done_more, not_past, fresh_cut, or_false}
 use Rattle.gix_status.proofs.Heads.{IsNext-kept, IsFault-kept, when_ok, when_err}
 use Rattle.gix_status.proofs.index_as_worktree.piece.work_piece.Goals as goal
 
@@ -65,7 +65,7 @@ loop-at-preserved g c =
         alone = record {
           to_process = omega (arith, c.absorb.ensures.to_process, here.0.alone.to_process, next.alone.to_process);
           skipped_by_prefix = omega (arith, c.absorb.ensures.skipped_by_prefix, here.0.alone.skipped_by_prefix, next.alone.skipped_by_prefix);
-          interrupted = c.absorb.ensures.interrupted ∙ here.0.alone.interrupted;
+          interrupted = or_false c.loop-at.outcome.interrupted step.outcome.interrupted c.absorb.new.self.interrupted c.absorb.ensures.interrupted here.0.alone.interrupted ∙ next.alone.interrupted;
         };
       },
       c.next_step.ensures.same ∙ here.1,

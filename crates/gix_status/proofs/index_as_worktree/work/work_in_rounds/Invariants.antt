@@ -1,0 +1,18 @@
+use Rattle.std.proofs.Common.{◌≤◌, ◌-◌, length}
+use Rattle.status_index.specs.Entries.{index_entries}
+use Rattle.gix_status.specs.Pieces.{IsCut}
+use Rattle.gix_status.specs.Worked.{IsUnderWay}
+use Rattle.gix_status.proofs.index_as_worktree.work.work_in_rounds.Given as goal
+
+abbrev pub invariant-loop-at : goal.invariant-loop-at
+invariant-loop-at g l =
+    let visits = g.V.VisitEntry.visits in
+    let es = index_entries l.backing l.considered in
+    record {
+      way : IsUnderWay (g.D.Decide.query l.decide) (g.D.Decide.tells l.decide) l.start es 0 l.entries l.backing l.at l.total (visits l.initial.collector) (visits l.collector);
+      cut : IsCut es l.at;
+      inside : l.at ≤ length l.considered;
+    }
+
+abbrev pub decreases-loop-at : goal.decreases-loop-at
+decreases-loop-at g l = length l.considered - l.at
