@@ -26,6 +26,7 @@ struct Told {
 
 impl Work for Numbers {
     type State = u64;
+
     type Out = Told;
 
     ghost count = { λ s. s.pieces };
@@ -57,6 +58,7 @@ struct Meeting {
 
 impl Work for Meeting {
     type State = u64;
+
     type Out = bool;
 
     ghost count = { λ _. 2 };
