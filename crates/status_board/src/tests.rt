@@ -5,10 +5,10 @@ ghost use Rattle.status_board.specs.Seats.{fresh};
 
 use crate::board::{Board, Seat, Tally};
 use std::alloc::{AllocError, Global};
-use std::sync::{Threads, Wait};
+use std::sync::Wait;
 use std::test::Fail;
 use std::thread;
-use std::thread::Promise;
+use std::thread::{Promise, Threads};
 
 // A board, with its seats.
 fn opened(alloc: Global, pieces: usize, seats: usize) -> Result<(Board, Vec<Seat>), AllocError>
