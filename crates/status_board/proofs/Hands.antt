@@ -1,10 +1,10 @@
 -- Seats, by what contracts see of them and by what they know.
-use Rattle.std.proofs.Common.{◌≡◌, ℕ, zero, suc, ◌+◌, ◌-◌, ◌<◌, ◌≤◌, Bool, true, false, nat_lt, min, List, [], ◌∷◌, ◌++◌, length, get_or, All, Any, Contains, Option, Some, None, IfSome, IsTrue, replicate, refl, sym, ap, ◌∙◌, subst, inl, inr, arith, append_assoc}
+use Rattle.std.proofs.Common.{◌≡◌, ℕ, zero, suc, ◌+◌, ◌-◌, ◌<◌, Bool, true, nat_lt, List, [], ◌∷◌, ◌++◌, length, get_or, All, Any, Option, Some, IfSome, IsTrue, replicate, refl, sym, ap, ◌∙◌, subst, arith, append_assoc}
 use Rattle.std.proofs.lemmas.Bool.Decides.{nat_tests}
 use Rattle.std.proofs.lemmas.List.{append-nil, replicate_more}
 use Rattle.std.proofs.lemmas.List.Elements.{All-nil, All-cons, All-push, All-head, All-tail, All-contains, Contains-append_right}
 use Rattle.std.proofs.lemmas.List.Quantifiers.{all_pairs_push}
-use mathlib.Core.Option.{none, some}
+use mathlib.Core.Option.{some}
 use lib.ListN.{get_elem?}
 use Rattle.atomic_table.specs.Table.{Me, Step, Final, Seen}
 use Rattle.atomic_table.specs.Seated.{TableId}
@@ -122,8 +122,8 @@ gathers id all before left s held held' other me me' seat_me last done boards g 
       split = sym (append_assoc left (s ∷ []) g.rest) ∙ ap (λ (l : List SeatState). l ++ g.rest) (sym popped) ∙ g.split;
       table_is = table_is ∙ g.table_is;
       me_is = joined
-        ∙ (λ i. (merged ((g.me_is i).0) ((hand i).0), (g.me_is i).1))
-        ∙ (λ i. (known id.pieces (more i) (drawn_of (s ∷ g.rest)) (barred_of (s ∷ g.rest)) (reported_of (s ∷ g.rest)) (done_of (s ∷ g.rest)), []));
+          ∙ (λ i. (merged ((g.me_is i).0) ((hand i).0), (g.me_is i).1))
+          ∙ (λ i. (known id.pieces (more i) (drawn_of (s ∷ g.rest)) (barred_of (s ∷ g.rest)) (reported_of (s ∷ g.rest)) (done_of (s ∷ g.rest)), []));
       some_part = omega arith;
       ascends = All-cons (λ (z : SeatState). IsAscending z.drawn) s g.rest (ascends_of other seat_me last done s seat view) g.ascends;
     }

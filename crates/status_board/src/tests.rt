@@ -144,15 +144,19 @@ fn three<R: Threads + Wait>(
     requires { (a ≡ fresh board.now.id) × (b ≡ fresh board.now.id) × (c ≡ fresh board.now.id) }
     ensures { IfOk result (λ d. (d.0.seat.board ≡ board.now.id) × (d.1.seat.board ≡ board.now.id) × (d.2.seat.board ≡ board.now.id)) }
 {
-    thread::scope(thread::scope_env(), rt, move |scope| -> Result<(Drawn, Drawn, Drawn), AllocError>
-        requires { (a ≡ fresh board.now.id) × (b ≡ fresh board.now.id) × (c ≡ fresh board.now.id) }
-        ensures { IfOk result (λ d. (d.0.seat.board ≡ board.entry.now.id) × (d.1.seat.board ≡ board.entry.now.id) × (d.2.seat.board ≡ board.entry.now.id)) }
-    {
-        let one = scope.spawn_with(Of(board), move || draw_all(alloc, board, a))?;
-        let two = scope.spawn_with(Of(board), move || draw_all(alloc, board, b))?;
-        let three = scope.spawn_with(Of(board), move || draw_all(alloc, board, c))?;
-        Ok((one.join(rt)?, two.join(rt)?, three.join(rt)?))
-    })
+    thread::scope(
+        thread::scope_env(),
+        rt,
+        move |scope| -> Result<(Drawn, Drawn, Drawn), AllocError>
+            requires { (a ≡ fresh board.now.id) × (b ≡ fresh board.now.id) × (c ≡ fresh board.now.id) }
+            ensures { IfOk result (λ d. (d.0.seat.board ≡ board.entry.now.id) × (d.1.seat.board ≡ board.entry.now.id) × (d.2.seat.board ≡ board.entry.now.id)) }
+        {
+            let one = scope.spawn_with(Of(board), move || draw_all(alloc, board, a))?;
+            let two = scope.spawn_with(Of(board), move || draw_all(alloc, board, b))?;
+            let three = scope.spawn_with(Of(board), move || draw_all(alloc, board, c))?;
+            Ok((one.join(rt)?, two.join(rt)?, three.join(rt)?))
+        },
+    )
 }
 
 #[test]

@@ -1,4 +1,4 @@
-use Rattle.std.proofs.Common.{◌≡◌, ℕ, ◌-◌, ◌<◌, List, ap, sym, subst}
+use Rattle.std.proofs.Common.{ℕ, ◌-◌, ◌<◌, List, ap, sym, subst}
 use Rattle.status_board.specs.Numbers.{after_last}
 use Rattle.status_board.specs.Seats.{SeatState}
 use Rattle.status_board.proofs.Lasts.{draw_falls}

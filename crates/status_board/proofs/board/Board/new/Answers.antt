@@ -1,6 +1,6 @@
-use Rattle.std.proofs.Common.{◌≡◌, ℕ, ◌+◌, ◌-◌, ◌<◌, [], ◌∷◌, ◌++◌, false, replicate, refl, ap, ◌∙◌, sym, arith}
-use Rattle.status_board.specs.Seats.{BoardId, SeatState, fresh}
-use Rattle.status_board.specs.Shared.{known, stays, goes, shown}
+use Rattle.std.proofs.Common.{◌≡◌, ℕ, ◌+◌, ◌-◌, [], false, replicate, refl, ap, ◌∙◌, arith}
+use Rattle.status_board.specs.Seats.{BoardId, fresh}
+use Rattle.status_board.specs.Shared.{known, goes, shown}
 use Rattle.status_board.proofs.Cuts.{cuts}
 use Rattle.status_board.proofs.Hands.{Hand, cut_more, fresh_more}
 use Rattle.status_board.proofs.board.Board.new.Goals as goal
