@@ -1,6 +1,6 @@
 -- A seat that is cut off, two that are put together, and the last one keep the rule.
-use Rattle.std.proofs.Common.{◌≡◌, ◌≢◌, ℕ, zero, suc, ◌+◌, ◌-◌, ◌<◌, ◌≤◌, Bool, true, false, cond, nat_lt, min, if◌then◌else◌, List, [], ◌∷◌, ◌++◌, length, set, All, Contains, Option, Some, None, refl, sym, ap, ◌∙◌, subst, ⊎_elim, inl, inr, arith}
-use mathlib.Core.Option.{none, some, some-injective}
+use Rattle.std.proofs.Common.{◌≡◌, ◌≢◌, ℕ, ◌+◌, ◌<◌, ◌≤◌, Bool, true, false, cond, nat_lt, min, if◌then◌else◌, List, [], ◌∷◌, ◌++◌, set, All, Some, None, refl, sym, ap, ◌∙◌, subst, ⊎_elim, arith}
+use mathlib.Core.Option.{some, some-injective}
 use lib.ListN.{get_elem?}
 use Rattle.std.proofs.lemmas.Bool.{cases_lt, ltb-true, ltb-false}
 use Rattle.std.proofs.lemmas.List.Elements.{All-nil, All-append}
@@ -8,7 +8,7 @@ use Rattle.atomic_table.specs.Table.{State, Splits, Joins}
 use Rattle.atomic_table.proofs.Lists.{at_snoc, set_else}
 use Rattle.status_board.specs.declared.rules.Known.{Known}
 use Rattle.status_board.specs.Numbers.{times, HasEachBelow, IsLeast, LiesBelow}
-use Rattle.status_board.specs.Shared.{known, total, below, Fits, Facts, Kept, stays, goes, merged, nobody}
+use Rattle.status_board.specs.Shared.{total, below, Fits, Facts, Kept, stays, goes, merged, nobody}
 use Rattle.status_board.proofs.Totals.{total_set, total_snoc, total_alone, each_set}
 use Rattle.status_board.proofs.Counts.{times-append, below-append, contains_met, empty_between}
 
@@ -72,9 +72,9 @@ module _ (pieces seats : ℕ) where
         low = λ t le. let s = cut_sum (λ (u : Known). below t u.reported) views id v at (omega arith) in let l = k.low t le in omega arith;
         met = λ reached. let s = cut_sum (λ (u : Known). below (least + 1) u.reported) views id v at (omega arith) in let m = k.met reached in omega arith;
         each = λ i u there. ⊎_elim
-          (each_set (Fits pieces next least) views id (stays v) left k.each i u)
-          (λ is. subst (Fits pieces next least) is right)
-          (at_snoc (set views id (stays v)) (goes v) u i there);
+            (each_set (Fits pieces next least) views id (stays v) left k.each i u)
+            (λ is. subst (Fits pieces next least) is right)
+            (at_snoc (set views id (stays v)) (goes v) u i there);
       }
 
   pub cuts : (id : ℕ) (v : Known) → 1 < v.parts → v.misses ≡ 0 → Splits K id v (stays v) (goes v)
@@ -115,24 +115,24 @@ module _ (pieces seats : ℕ) where
         small = k.small;
         parts = let s = join_sum (λ (u : Known). u.parts) views id other v w at at_other refl refl in let p = k.parts in omega arith;
         once = λ x.
-          let a = times-append x w.drawn v.drawn in
-          let s = join_sum (λ (u : Known). times x u.drawn) views id other v w at at_other (omega arith) refl in
-          let o = k.once x in
-          omega arith;
+            let a = times-append x w.drawn v.drawn in
+            let s = join_sum (λ (u : Known). times x u.drawn) views id other v w at at_other (omega arith) refl in
+            let o = k.once x in
+            omega arith;
         room = let s = join_sum (λ (u : Known). u.misses) views id other v w at at_other refl refl in let r = k.room in omega arith;
         top = k.top;
         low = λ t le.
-          let a = below-append t w.reported v.reported in
-          let s = join_sum (λ (u : Known). below t u.reported) views id other v w at at_other (omega arith) refl in
-          let l = k.low t le in
-          omega arith;
+            let a = below-append t w.reported v.reported in
+            let s = join_sum (λ (u : Known). below t u.reported) views id other v w at at_other (omega arith) refl in
+            let l = k.low t le in
+            omega arith;
         met = λ reached.
-          let a = below-append (least + 1) w.reported v.reported in
-          let s = join_sum (λ (u : Known). below (least + 1) u.reported) views id other v w at at_other (omega arith) refl in
-          let m = k.met reached in
-          omega arith;
+            let a = below-append (least + 1) w.reported v.reported in
+            let s = join_sum (λ (u : Known). below (least + 1) u.reported) views id other v w at at_other (omega arith) refl in
+            let m = k.met reached in
+            omega arith;
         each = each_set (Fits pieces next least) (set views id (merged v w)) other nobody (nobody_fits next least)
-          (each_set (Fits pieces next least) views id (merged v w) (glued next least v w some_part fv fw) k.each);
+            (each_set (Fits pieces next least) views id (merged v w) (glued next least v w some_part fv fw) k.each);
       }
 
   pub joins : (id : ℕ) (v : Known) (other : ℕ) (w : Known) → 0 < v.parts → Joins K id v other w (merged v w) nobody
@@ -156,13 +156,13 @@ module _ (pieces seats : ℕ) where
       let fits = k.each id v at in
       let all_parts = k.parts ∙ sym whole in record {
         drawn = λ x.
-          let alone = total_alone (λ (u : Known). times x u.drawn) (λ (u : Known). u.parts) views id v at all_parts (λ j w there no_part. ap (times x) ((k.each j w there).idle no_part).0) in
-          sym alone ∙ k.once x;
+            let alone = total_alone (λ (u : Known). times x u.drawn) (λ (u : Known). u.parts) views id v at all_parts (λ j w there no_part. ap (times x) ((k.each j w there).idle no_part).0) in
+            sym alone ∙ k.once x;
         least = least_by (nat_lt least pieces) next least v fits
-          (λ reached.
+            (λ reached.
             let alone = total_alone (λ (u : Known). below (least + 1) u.reported) (λ (u : Known). u.parts) views id v at all_parts (λ j w there no_part. ap (below (least + 1)) ((k.each j w there).idle no_part).1) in
             subst (λ (n : ℕ). 0 < n) alone (k.met reached))
-          refl;
+            refl;
         barred = barred_by (nat_lt least pieces) next least v fits refl;
         through = fits.missed;
       }

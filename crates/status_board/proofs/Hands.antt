@@ -1,10 +1,10 @@
 -- Seats, by what contracts see of them and by what they know.
-use Rattle.std.proofs.Common.{◌≡◌, ℕ, zero, suc, ◌+◌, ◌-◌, ◌<◌, ◌≤◌, Bool, true, false, nat_lt, min, List, [], ◌∷◌, ◌++◌, length, get_or, All, Any, Contains, Option, Some, None, IfSome, IsTrue, replicate, refl, sym, ap, ◌∙◌, subst, inl, inr, arith, append_assoc}
+use Rattle.std.proofs.Common.{◌≡◌, ℕ, zero, suc, ◌+◌, ◌-◌, ◌<◌, Bool, true, nat_lt, List, [], ◌∷◌, ◌++◌, length, get_or, All, Any, Option, Some, IfSome, IsTrue, replicate, refl, sym, ap, ◌∙◌, subst, arith, append_assoc}
 use Rattle.std.proofs.lemmas.Bool.Decides.{nat_tests}
-use Rattle.std.proofs.lemmas.List.{append-nil}
+use Rattle.std.proofs.lemmas.List.{append-nil, replicate_more}
 use Rattle.std.proofs.lemmas.List.Elements.{All-nil, All-cons, All-push, All-head, All-tail, All-contains, Contains-append_right}
 use Rattle.std.proofs.lemmas.List.Quantifiers.{all_pairs_push}
-use mathlib.Core.Option.{none, some}
+use mathlib.Core.Option.{some}
 use lib.ListN.{get_elem?}
 use Rattle.atomic_table.specs.Table.{Me, Step, Final, Seen}
 use Rattle.atomic_table.specs.Seated.{TableId}
@@ -12,7 +12,7 @@ use Rattle.status_board.specs.declared.rules.Known.{Known}
 use Rattle.status_board.specs.declared.rules.Limits.{Limits}
 use Rattle.status_board.specs.Numbers.{last_of, IsAscending}
 use Rattle.status_board.specs.Seats.{BoardId, SeatState, fresh, drawn_of, barred_of, reported_of}
-use Rattle.status_board.specs.Shared.{known, drawn_by, after_draw, Draws, merged, weight, shown, IsSeat, Kept}
+use Rattle.status_board.specs.Shared.{known, drawn_by, after_draw, Draws, merged, stays, weight, shown, IsSeat, Kept}
 use Rattle.status_board.proofs.Cuts.{Closing, closes}
 use Rattle.status_board.proofs.Lasts.{last_of-snoc}
 
@@ -49,6 +49,14 @@ last_below n (x ∷ y ∷ ys) all = last_below n (y ∷ ys) (All-tail (λ k. k <
 
 pub last_among : (n : ℕ) (xs : List ℕ) (x : ℕ) → last_of xs ≡ Some x → All (λ k. k < n) xs → x < n
 last_among n xs x is all = subst (λ (o : Option ℕ). IfSome o (λ y. y < n)) is (last_below n xs all)
+
+-- one part was cut off a token with which nothing was done
+pub cut_more : (pieces k : ℕ) (me me' : Hand) → me ≡ (known pieces k [] [] [] 0, []) → me' ≡ (stays me.0, me.1) → me' ≡ (known pieces (k - 1) [] [] [] 0, [])
+cut_more pieces k me me' is cut = cut ∙ ap (λ (m : Hand). (stays m.0, m.1)) is
+
+-- one fresh seat more
+pub fresh_more : (id : BoardId) (n : ℕ) (seats more : List SeatState) (s : SeatState) → seats ≡ replicate n (fresh id) → more ≡ seats ++ s ∷ [] → s ≡ fresh id → more ≡ replicate (n + 1) (fresh id)
+fresh_more id n seats more s is push seat = push ∙ (λ i. is i ++ seat i ∷ []) ∙ replicate_more n (fresh id)
 
 -- how many of the seats are done
 abbrev pub done_of : List SeatState → ℕ
@@ -114,8 +122,8 @@ gathers id all before left s held held' other me me' seat_me last done boards g 
       split = sym (append_assoc left (s ∷ []) g.rest) ∙ ap (λ (l : List SeatState). l ++ g.rest) (sym popped) ∙ g.split;
       table_is = table_is ∙ g.table_is;
       me_is = joined
-        ∙ (λ i. (merged ((g.me_is i).0) ((hand i).0), (g.me_is i).1))
-        ∙ (λ i. (known id.pieces (more i) (drawn_of (s ∷ g.rest)) (barred_of (s ∷ g.rest)) (reported_of (s ∷ g.rest)) (done_of (s ∷ g.rest)), []));
+          ∙ (λ i. (merged ((g.me_is i).0) ((hand i).0), (g.me_is i).1))
+          ∙ (λ i. (known id.pieces (more i) (drawn_of (s ∷ g.rest)) (barred_of (s ∷ g.rest)) (reported_of (s ∷ g.rest)) (done_of (s ∷ g.rest)), []));
       some_part = omega arith;
       ascends = All-cons (λ (z : SeatState). IsAscending z.drawn) s g.rest (ascends_of other seat_me last done s seat view) g.ascends;
     }

@@ -1,14 +1,13 @@
 -- A draw, a look and a report keep the rule.
-use Rattle.std.proofs.Common.{◌≡◌, ◌≢◌, ℕ, zero, suc, ◌+◌, ◌-◌, ◌%◌, ◌^◌, ◌<◌, ◌≤◌, ◌==◌, Bool, true, false, cond, nat_lt, min, if◌then◌else◌, List, [], ◌∷◌, ◌++◌, length, get_or, set, All, refl, sym, ap, ◌∙◌, subst, inl, inr, arith}
+use Rattle.std.proofs.Common.{◌≡◌, ℕ, ◌+◌, ◌%◌, ◌^◌, ◌<◌, ◌≤◌, Bool, true, false, cond, nat_lt, min, List, [], ◌∷◌, get_or, set, refl, sym, ap, subst, inl, inr, arith}
 use mathlib.Core.Option.{none, some}
 use lib.ListN.{get_elem?}
-use Rattle.std.proofs.lemmas.Bool.Decides.{nat_tests}
 use Rattle.std.proofs.lemmas.Bool.{cases_lt, ltb-true, ltb-false}
 use Rattle.std.proofs.lemmas.List.Elements.{All-push, All-weaker}
 use Rattle.atomic_table.specs.Table.{State, Me, Act, step, keeps, Valid, homes_after, carried_after, Allows}
 use Rattle.status_board.specs.declared.rules.Known.{Known}
 use Rattle.status_board.specs.Numbers.{times}
-use Rattle.status_board.specs.Shared.{known, total, below, Fits, Facts, Kept, drawn_by, after_draw, Draws, looked_by, after_look, Looks, after_report, Reports}
+use Rattle.status_board.specs.Shared.{total, below, Fits, Facts, Kept, drawn_by, after_draw, Draws, looked_by, after_look, Looks, after_report, Reports}
 use Rattle.status_board.proofs.Totals.{total_set, total_le, each_set}
 use Rattle.status_board.proofs.Counts.{times-append, below-append, once_more, below_one_none, below_one}
 
@@ -29,8 +28,8 @@ module _ (pieces seats : ℕ) where
   first_word slots id me f told go s k homes at small =
       let t = go k.next k.least s.views k.facts at in
       let P : List ℕ → Type 0 = λ ws. (w : Known) × (a : Act (Unit {0})) × Valid s.homes me.1 a
-          × K record { words = set ws 0 (f (get_or ws 0 0)); homes = homes_after s.homes me.1 a; views = set s.views id w }
-          × told (get_or ws 0 0) (w, carried_after me.1 a) in
+      × K record { words = set ws 0 (f (get_or ws 0 0)); homes = homes_after s.homes me.1 a; views = set s.views id w }
+      × told (get_or ws 0 0) (w, carried_after me.1 a) in
       subst P (sym k.words) (t.0, keeps, tt, record { next = f k.next; least = k.least; words = refl; facts = t.1 }, t.2)
 
   -- a step on the second word
@@ -40,8 +39,8 @@ module _ (pieces seats : ℕ) where
   second_word slots id me f told go s k homes at small =
       let t = go k.next k.least s.views k.facts at in
       let P : List ℕ → Type 0 = λ ws. (w : Known) × (a : Act (Unit {0})) × Valid s.homes me.1 a
-          × K record { words = set ws 1 (f (get_or ws 1 0)); homes = homes_after s.homes me.1 a; views = set s.views id w }
-          × told (get_or ws 1 0) (w, carried_after me.1 a) in
+      × K record { words = set ws 1 (f (get_or ws 1 0)); homes = homes_after s.homes me.1 a; views = set s.views id w }
+      × told (get_or ws 1 0) (w, carried_after me.1 a) in
       subst P (sym k.words) (t.0, keeps, tt, record { next = k.next; least = f k.least; words = refl; facts = t.1 }, t.2)
 
   -- what a seat knows stays true where the next number grows and the least reported one doesn't
@@ -78,30 +77,30 @@ module _ (pieces seats : ℕ) where
         small = k.small;
         parts = let s = total_set (λ (u : Known). u.parts) views id v w at in let p = k.parts in omega arith;
         once = λ x.
-          let s = total_set (λ (u : Known). times x u.drawn) views id v w at in
-          let o = k.once x in
-          let a = times-append x v.drawn (next ∷ []) in
-          let m = once_more x next in
-          let before = once_until x (min next pieces) next (omega arith) in
-          let after = once_until x (min (next + 1) pieces) (next + 1) (omega arith) in
-          omega arith;
+            let s = total_set (λ (u : Known). times x u.drawn) views id v w at in
+            let o = k.once x in
+            let a = times-append x v.drawn (next ∷ []) in
+            let m = once_more x next in
+            let before = once_until x (min next pieces) next (omega arith) in
+            let after = once_until x (min (next + 1) pieces) (next + 1) (omega arith) in
+            omega arith;
         room = let s = total_set (λ (u : Known). u.misses) views id v w at in let r = k.room in omega arith;
         top = k.top;
         low = λ t le. let s = total_set (λ (u : Known). below t u.reported) views id v w at in let l = k.low t le in omega arith;
         met = λ reached. let s = total_set (λ (u : Known). below (least + 1) u.reported) views id v w at in let m = k.met reached in omega arith;
         each = each_set (Fits pieces (next + 1) least) views id w
-          (let grown = goes_on next least (next + 1) least v (omega arith) (omega arith) fits in record {
-            limit = fits.limit;
-            drawn = All-push (λ j. j < next + 1) v.drawn next grown.drawn (omega arith);
-            reported = fits.reported;
-            inside = fits.inside;
-            barred = fits.barred;
-            asked = fits.asked;
-            missed = grown.missed;
-            few = fits.few;
-            idle = λ no_part. absurd (omega arith);
-          })
-          (λ i u there. goes_on next least (next + 1) least u (omega arith) (omega arith) (k.each i u there));
+            (let grown = goes_on next least (next + 1) least v (omega arith) (omega arith) fits in record {
+              limit = fits.limit;
+              drawn = All-push (λ j. j < next + 1) v.drawn next grown.drawn (omega arith);
+              reported = fits.reported;
+              inside = fits.inside;
+              barred = fits.barred;
+              asked = fits.asked;
+              missed = grown.missed;
+              few = fits.few;
+              idle = λ no_part. absurd (omega arith);
+            })
+            (λ i u there. goes_on next least (next + 1) least u (omega arith) (omega arith) (k.each i u there));
       }
 
   draws_none : (next least id : ℕ) (views : List Known) (v : Known) → F next least views → get_elem? views id ≡ some v → v.parts ≡ 1 → v.misses ≡ 0 → pieces ≤ next
@@ -112,27 +111,27 @@ module _ (pieces seats : ℕ) where
         small = k.small;
         parts = let s = total_set (λ (u : Known). u.parts) views id v w at in let p = k.parts in omega arith;
         once = λ x.
-          let s = total_set (λ (u : Known). times x u.drawn) views id v w at in
-          let o = k.once x in
-          let same = once_until x (min (next + 1) pieces) (min next pieces) (omega arith) in
-          omega arith;
+            let s = total_set (λ (u : Known). times x u.drawn) views id v w at in
+            let o = k.once x in
+            let same = once_until x (min (next + 1) pieces) (min next pieces) (omega arith) in
+            omega arith;
         room = let s = total_set (λ (u : Known). u.misses) views id v w at in let r = k.room in omega arith;
         top = k.top;
         low = λ t le. let s = total_set (λ (u : Known). below t u.reported) views id v w at in let l = k.low t le in omega arith;
         met = λ reached. let s = total_set (λ (u : Known). below (least + 1) u.reported) views id v w at in let m = k.met reached in omega arith;
         each = each_set (Fits pieces (next + 1) least) views id w
-          (let grown = goes_on next least (next + 1) least v (omega arith) (omega arith) fits in record {
-            limit = fits.limit;
-            drawn = grown.drawn;
-            reported = fits.reported;
-            inside = fits.inside;
-            barred = fits.barred;
-            asked = fits.asked;
-            missed = λ _. omega arith;
-            few = omega arith;
-            idle = λ no_part. absurd (omega arith);
-          })
-          (λ i u there. goes_on next least (next + 1) least u (omega arith) (omega arith) (k.each i u there));
+            (let grown = goes_on next least (next + 1) least v (omega arith) (omega arith) fits in record {
+              limit = fits.limit;
+              drawn = grown.drawn;
+              reported = fits.reported;
+              inside = fits.inside;
+              barred = fits.barred;
+              asked = fits.asked;
+              missed = λ _. omega arith;
+              few = omega arith;
+              idle = λ no_part. absurd (omega arith);
+            })
+            (λ i u there. goes_on next least (next + 1) least u (omega arith) (omega arith) (k.each i u there));
       }
 
   draws_at : (b : Bool) (next least id : ℕ) (views : List Known) (v : Known) → F next least views → get_elem? views id ≡ some v → v.parts ≡ 1 → v.misses ≡ 0 → nat_lt next pieces ≡ b
@@ -206,9 +205,9 @@ module _ (pieces seats : ℕ) where
       let sum : ℕ → ℕ = λ t. total (λ (u : Known). below t u.reported) (set views id w) in
       let added : ℕ → ℕ = λ t. below t (piece ∷ []) in
       let adds : (t : ℕ) → sum t ≡ before t + added t = λ t.
-        let s = total_set (λ (u : Known). below t u.reported) views id v w at in
-        let a = below-append t v.reported (piece ∷ []) in
-        omega arith in record {
+      let s = total_set (λ (u : Known). below t u.reported) views id v w at in
+      let a = below-append t v.reported (piece ∷ []) in
+      omega arith in record {
         small = k.small;
         parts = let s = total_set (λ (u : Known). u.parts) views id v w at in let p = k.parts in omega arith;
         once = λ x. let s = total_set (λ (u : Known). times x u.drawn) views id v w at in let o = k.once x in omega arith;
@@ -217,18 +216,18 @@ module _ (pieces seats : ℕ) where
         low = λ t le. let l = k.low t (omega arith) in let a = adds t in let z = below_one_none t piece (omega arith) in omega arith;
         met = λ _. reports_met piece least before sum added within adds k.met (below_one piece);
         each = each_set (Fits pieces next (min least piece)) views id w
-          (let less = goes_on next least next (min least piece) v (omega arith) (omega arith) fits in record {
-            limit = fits.limit;
-            drawn = fits.drawn;
-            reported = All-push (λ j. min least piece ≤ j) v.reported piece less.reported (omega arith);
-            inside = All-push (λ j. j < pieces) v.reported piece fits.inside within;
-            barred = less.barred;
-            asked = fits.asked;
-            missed = fits.missed;
-            few = fits.few;
-            idle = λ no_part. absurd (omega arith);
-          })
-          (λ i u there. goes_on next least next (min least piece) u (omega arith) (omega arith) (k.each i u there));
+            (let less = goes_on next least next (min least piece) v (omega arith) (omega arith) fits in record {
+              limit = fits.limit;
+              drawn = fits.drawn;
+              reported = All-push (λ j. min least piece ≤ j) v.reported piece less.reported (omega arith);
+              inside = All-push (λ j. j < pieces) v.reported piece fits.inside within;
+              barred = less.barred;
+              asked = fits.asked;
+              missed = fits.missed;
+              few = fits.few;
+              idle = λ no_part. absurd (omega arith);
+            })
+            (λ i u there. goes_on next least next (min least piece) u (omega arith) (omega arith) (k.each i u there));
       }
 
   pub reports : (slots id : ℕ) (me : M) (piece : ℕ) → me.0.parts ≡ 1 → piece < pieces → Allows K slots id me 1 (λ n. min n piece) (Reports (step slots 1 piece 0 none) me)

@@ -87,11 +87,7 @@ impl Board {
     ///
     /// # Errors
     /// Want of memory.
-    pub fn new(
-        alloc: Global,
-        pieces: usize,
-        seats: usize,
-    ) -> Result<(Board, Vec<Seat>), AllocError>
+    pub fn new(alloc: Global, pieces: usize, seats: usize) -> Result<(Board, Vec<Seat>), AllocError>
         requires pieces { pieces ≤ 2 ^ 20 }
         requires seats { (1 ≤ seats) × (seats ≤ 64) }
         ensures { IfOk result (λ r. (r.0.id.pieces ≡ pieces) × (r.0.seats ≡ seats) × (r.1.items ≡ replicate seats (fresh r.0.id))) }

@@ -5,10 +5,10 @@ ghost use Rattle.status_board.specs.Seats.{fresh};
 
 use crate::board::{Board, Seat, Tally};
 use std::alloc::{AllocError, Global};
-use std::sync::{Threads, Wait};
+use std::sync::Wait;
 use std::test::Fail;
 use std::thread;
-use std::thread::Promise;
+use std::thread::{Promise, Threads};
 
 // A board, with its seats.
 fn opened(alloc: Global, pieces: usize, seats: usize) -> Result<(Board, Vec<Seat>), AllocError>
@@ -144,15 +144,19 @@ fn three<R: Threads + Wait>(
     requires { (a ≡ fresh board.now.id) × (b ≡ fresh board.now.id) × (c ≡ fresh board.now.id) }
     ensures { IfOk result (λ d. (d.0.seat.board ≡ board.now.id) × (d.1.seat.board ≡ board.now.id) × (d.2.seat.board ≡ board.now.id)) }
 {
-    thread::scope(thread::scope_env(), rt, move |scope| -> Result<(Drawn, Drawn, Drawn), AllocError>
-        requires { (a ≡ fresh board.now.id) × (b ≡ fresh board.now.id) × (c ≡ fresh board.now.id) }
-        ensures { IfOk result (λ d. (d.0.seat.board ≡ board.entry.now.id) × (d.1.seat.board ≡ board.entry.now.id) × (d.2.seat.board ≡ board.entry.now.id)) }
-    {
-        let one = scope.spawn_with(Of(board), move || draw_all(alloc, board, a))?;
-        let two = scope.spawn_with(Of(board), move || draw_all(alloc, board, b))?;
-        let three = scope.spawn_with(Of(board), move || draw_all(alloc, board, c))?;
-        Ok((one.join(rt)?, two.join(rt)?, three.join(rt)?))
-    })
+    thread::scope(
+        thread::scope_env(),
+        rt,
+        move |scope| -> Result<(Drawn, Drawn, Drawn), AllocError>
+            requires { (a ≡ fresh board.now.id) × (b ≡ fresh board.now.id) × (c ≡ fresh board.now.id) }
+            ensures { IfOk result (λ d. (d.0.seat.board ≡ board.entry.now.id) × (d.1.seat.board ≡ board.entry.now.id) × (d.2.seat.board ≡ board.entry.now.id)) }
+        {
+            let one = scope.spawn_with(Of(board), move || draw_all(alloc, board, a))?;
+            let two = scope.spawn_with(Of(board), move || draw_all(alloc, board, b))?;
+            let three = scope.spawn_with(Of(board), move || draw_all(alloc, board, c))?;
+            Ok((one.join(rt)?, two.join(rt)?, three.join(rt)?))
+        },
+    )
 }
 
 #[test]

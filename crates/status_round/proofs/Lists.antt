@@ -1,6 +1,6 @@
 -- What the pieces of a number gave, in parts of a list.
-use Rattle.std.proofs.Common.{◌≡◌, refl, sym, ap, subst, ◌∙◌, ℕ, ◌+◌, ◌==◌, Bool, true, false, eqb, cond, List, [], ◌∷◌, ◌++◌, length, map, All, arith, rules}
-use Rattle.std.specs.List.{filter, count_by}
+use Rattle.std.proofs.Common.{◌≡◌, refl, ap, subst, ◌∙◌, ℕ, ◌==◌, Bool, true, false, List, [], ◌∷◌, ◌++◌, map, All}
+use Rattle.std.specs.List.{filter}
 use Rattle.std.proofs.lemmas.List.{map-append}
 use Rattle.std.proofs.lemmas.List.Elements.{filter-append, All-nil, All-cons, All-head, All-tail}
 use Rattle.std.proofs.lemmas.Bool.{eqb-true}
@@ -39,6 +39,6 @@ module _ {O : Type 0} where
         let rest = outs_at-each n fs (All-tail (λ (x : Finished O). gives x.number x.out) f fs h) in
         let head : gives f.number f.out = All-head (λ (x : Finished O). gives x.number x.out) f fs h in
         elim (f.number == n) as (λ b. (f.number == n) ≡ b → All (gives n) (outs_at n (f ∷ fs))) [
-          true ↦ λ e. rw e (All-cons (gives n) f.out (outs_at n fs) (subst (λ (k : ℕ). gives k f.out) (eqb-true f.number n e) head) rest)
-        | false ↦ λ e. rw e rest
+          | true ↦ λ e. rw e (All-cons (gives n) f.out (outs_at n fs) (subst (λ (k : ℕ). gives k f.out) (eqb-true f.number n e) head) rest)
+          | false ↦ λ e. rw e rest
         ] refl

@@ -1,9 +1,9 @@
 -- What was gathered, put in order, is a round.
-use Rattle.std.proofs.Common.{Any, IsTrue, inl, inr, ◌≡◌, refl, sym, ap, subst, ◌∙◌, ℕ, zero, suc, ◌+◌, ◌-◌, ◌<◌, ◌≤◌, ◌==◌, Bool, true, false, cond, nat_lt, if◌then◌else◌, List, [], ◌∷◌, ◌++◌, length, All, Contains, Option, None, Some, slice_get, Result, Ok, Err, IfOk, Vec, arith}
+use Rattle.std.proofs.Common.{Any, IsTrue, inl, inr, ◌≡◌, refl, sym, ap, subst, ℕ, zero, suc, ◌+◌, ◌-◌, ◌<◌, ◌≤◌, ◌==◌, Bool, true, false, cond, nat_lt, List, [], ◌∷◌, length, All, Contains, Option, None, Some, slice_get, Result, Ok, Err, IfOk, Vec, arith}
 use Rattle.std.specs.List.{slice_index_or}
 use Rattle.std.proofs.lemmas.List.Elements.{All-head, All-tail, All-contains, Contains-append_right}
-use Rattle.std.proofs.lemmas.Option.{slice_get_within, slice_get_cases}
-use Rattle.std.proofs.lemmas.Bool.{cases_Bool, eqb-true, eq-eqb, lt-ltb, le-ltb, ltb-true}
+use Rattle.std.proofs.lemmas.Option.{slice_get_cases}
+use Rattle.std.proofs.lemmas.Bool.{cases_Bool, eqb-true, eq-eqb, lt-ltb, ltb-true}
 use Rattle.status_board.specs.Numbers.{times, HasEachBelow, IsLeast, LiesBelow}
 use Rattle.status_board.specs.Seats.{BoardId, SeatState, drawn_of, barred_of, reported_of}
 use Rattle.status_round.specs.declared.worker.Finished.{Finished}
@@ -30,16 +30,16 @@ contains_times xs x c = times_at xs c.0 x c.1 c.2
 times_contains : (xs : List ℕ) (x : ℕ) → 0 < times x xs → Contains xs x
 times_contains [] x h = absurd (omega arith)
 times_contains (y ∷ ys) x h = elim (cases_Bool (y == x)) [
-    inl e ↦ (0, omega arith, eqb-true y x e)
-    | inr e ↦ (let z = none_if (y == x) e in Contains-append_right (y ∷ []) ys x (times_contains ys x (omega arith)))
+  | inl e ↦ (0, omega arith, eqb-true y x e)
+  | inr e ↦ (let z = none_if (y == x) e in Contains-append_right (y ∷ []) ys x (times_contains ys x (omega arith)))
 ]
 
 -- a number that lacks what is true of each element isn't in the list
 never : (P : ℕ → Type 0) (x : ℕ) (xs : List ℕ) → All P xs → (P x → ⊥) → times x xs ≡ 0
 never P x [] all out = refl
 never P x (y ∷ ys) all out = elim (cases_Bool (y == x)) [
-    inl e ↦ absurd (out (subst P (eqb-true y x e) (All-head P y ys all)))
-    | inr e ↦ (let z = none_if (y == x) e in let r = never P x ys (All-tail P y ys all) out in omega arith)
+  | inl e ↦ absurd (out (subst P (eqb-true y x e) (All-head P y ys all)))
+  | inr e ↦ (let z = none_if (y == x) e in let r = never P x ys (All-tail P y ys all) out in omega arith)
 ]
 
 -- a piece below the end isn't behind the least reported one
@@ -63,8 +63,8 @@ module _ {O : Type 0} (gives : ℕ → O → Type 0) (short : O → Bool) where
   how_short-le (o ∷ os) =
       let r = how_short-le os in
       elim (cases_Bool (short o)) [
-        inl e ↦ (let k = one_if (short o) e in omega arith)
-      | inr e ↦ (let k = none_if (short o) e in omega arith)
+        | inl e ↦ (let k = one_if (short o) e in omega arith)
+        | inr e ↦ (let k = none_if (short o) e in omega arith)
       ]
 
   -- how often a number was reported, by what its pieces gave
@@ -74,13 +74,13 @@ module _ {O : Type 0} (gives : ℕ → O → Type 0) (short : O → Bool) where
   shorts_count n (f ∷ fs) =
       let r = shorts_count n fs in
       elim (cases_Bool (f.number == n)) [
-        inl e ↦ elim (cases_Bool (short f.out)) [
-          inl d ↦ (let s : times n (shorts_of short (f ∷ fs)) ≡ times n (f.number ∷ shorts_of short fs) = ap (times n) (shorts_of-here short f fs d) in let o : how_short (outs_at n (f ∷ fs)) ≡ how_short (f.out ∷ outs_at n fs) = ap how_short (outs_at-here n f fs e) in let j = one_if (f.number == n) e in let k = one_if (short f.out) d in omega arith)
-        | inr d ↦ (let s : times n (shorts_of short (f ∷ fs)) ≡ times n (shorts_of short fs) = ap (times n) (shorts_of-other short f fs d) in let o : how_short (outs_at n (f ∷ fs)) ≡ how_short (f.out ∷ outs_at n fs) = ap how_short (outs_at-here n f fs e) in let k = none_if (short f.out) d in omega arith)
+        | inl e ↦ elim (cases_Bool (short f.out)) [
+          | inl d ↦ (let s : times n (shorts_of short (f ∷ fs)) ≡ times n (f.number ∷ shorts_of short fs) = ap (times n) (shorts_of-here short f fs d) in let o : how_short (outs_at n (f ∷ fs)) ≡ how_short (f.out ∷ outs_at n fs) = ap how_short (outs_at-here n f fs e) in let j = one_if (f.number == n) e in let k = one_if (short f.out) d in omega arith)
+          | inr d ↦ (let s : times n (shorts_of short (f ∷ fs)) ≡ times n (shorts_of short fs) = ap (times n) (shorts_of-other short f fs d) in let o : how_short (outs_at n (f ∷ fs)) ≡ how_short (f.out ∷ outs_at n fs) = ap how_short (outs_at-here n f fs e) in let k = none_if (short f.out) d in omega arith)
         ]
-      | inr e ↦ elim (cases_Bool (short f.out)) [
-          inl d ↦ (let s : times n (shorts_of short (f ∷ fs)) ≡ times n (f.number ∷ shorts_of short fs) = ap (times n) (shorts_of-here short f fs d) in let o : how_short (outs_at n (f ∷ fs)) ≡ how_short (outs_at n fs) = ap how_short (outs_at-other n f fs e) in let j = none_if (f.number == n) e in omega arith)
-        | inr d ↦ (let s : times n (shorts_of short (f ∷ fs)) ≡ times n (shorts_of short fs) = ap (times n) (shorts_of-other short f fs d) in let o : how_short (outs_at n (f ∷ fs)) ≡ how_short (outs_at n fs) = ap how_short (outs_at-other n f fs e) in omega arith)
+        | inr e ↦ elim (cases_Bool (short f.out)) [
+          | inl d ↦ (let s : times n (shorts_of short (f ∷ fs)) ≡ times n (f.number ∷ shorts_of short fs) = ap (times n) (shorts_of-here short f fs d) in let o : how_short (outs_at n (f ∷ fs)) ≡ how_short (outs_at n fs) = ap how_short (outs_at-other n f fs e) in let j = none_if (f.number == n) e in omega arith)
+          | inr d ↦ (let s : times n (shorts_of short (f ∷ fs)) ≡ times n (shorts_of short fs) = ap (times n) (shorts_of-other short f fs d) in let o : how_short (outs_at n (f ∷ fs)) ≡ how_short (outs_at n fs) = ap how_short (outs_at-other n f fs e) in omega arith)
         ]
       ]
 
@@ -99,8 +99,8 @@ module _ {O : Type 0} (gives : ℕ → O → Type 0) (short : O → Bool) where
         let sum = all.drawn n in
         let once = below n in
         elim (cases_Bool (nat_lt n drawn)) [
-          inl e ↦ ltb-true n drawn e
-        | inr e ↦ (let z = none_if (nat_lt n drawn) e in absurd (omega arith))
+          | inl e ↦ ltb-true n drawn e
+          | inr e ↦ (let z = none_if (nat_lt n drawn) e in absurd (omega arith))
         ]
 
     pub end_inside : (least : Option ℕ) → IsLeast least (reported_of seats) → end_of least drawn ≤ drawn
@@ -125,30 +125,30 @@ module _ {O : Type 0} (gives : ℕ → O → Type 0) (short : O → Bool) where
 
         whole_before : (n : ℕ) (out : O) → slice_get outs n ≡ Some out → n + 1 < length outs → short out ≡ false
         whole_before n out at l = elim (cases_Bool (short out)) [
-          inl e ↦ (let count = one_short n fs out (ordered.each n out at) in
+          | inl e ↦ (let count = one_short n fs out (ordered.each n out at) in
               let one = one_if (short out) e in
               let met : 0 < times n (reported_of seats) = subst (λ (ks : List ℕ). 0 < times n ks) (sym all.reported) (omega arith) in
               let end = least_le least (reported_of seats) n drawn is_least (times_contains (reported_of seats) n met) in
               absurd (omega (arith, ordered.all)))
           | inr e ↦ e
-          ]
+        ]
 
         -- the piece of a reported number ended short
         short_met : (n : ℕ) (out : O) → slice_get outs n ≡ Some out → Contains (reported_of seats) n → short out ≡ true
         short_met n out at has = elim (cases_Bool (short out)) [
-            inl e ↦ e
+          | inl e ↦ e
           | inr e ↦ (let count = one_short n fs out (ordered.each n out at) in
               let zero_short = none_if (short out) e in
               let met : 0 < times n (shorts_of short fs) = subst (λ (ks : List ℕ). 0 < times n ks) all.reported (contains_times (reported_of seats) n has) in
               absurd (omega arith))
-          ]
+        ]
 
         ends_short : (m : ℕ) → length outs ≡ m + 1 → Contains (reported_of seats) m → EndsShort short outs
         ends_short m long has =
             let last : length outs - 1 ≡ m = omega arith in
             elim (slice_get_cases outs m).1 [
-              inl here ↦ (here.0, subst (λ (k : ℕ). slice_get outs k ≡ Some here.0) (sym last) here.2, short_met m here.0 here.2 has)
-            | inr past ↦ (let l = past.0 in absurd (omega arith))
+              | inl here ↦ (here.0, subst (λ (k : ℕ). slice_get outs k ≡ Some here.0) (sym last) here.2, short_met m here.0 here.2 has)
+              | inr past ↦ (let l = past.0 in absurd (omega arith))
             ]
 
         through_by : (l : Option ℕ) → l ≡ least → IsLeast l (reported_of seats) → length outs < drawn → EndsShort short outs

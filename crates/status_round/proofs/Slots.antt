@@ -1,8 +1,8 @@
 -- Finished pieces in slots by their numbers.
-use Rattle.std.proofs.Common.{◌≡◌, ◌≢◌, refl, sym, ap, subst, inl, inr, ◌∙◌, ℕ, ◌+◌, ◌<◌, ◌≤◌, ◌==◌, Bool, true, false, eqb, List, [], ◌∷◌, ◌++◌, length, map, set, replicate, All, Option, None, Some, IsSome, slice_get, Result, Ok, Err, IfOk, Vec, arith}
+use Rattle.std.proofs.Common.{◌≡◌, ◌≢◌, refl, sym, ap, subst, inl, inr, ◌∙◌, ℕ, ◌<◌, ◌==◌, true, false, List, [], ◌∷◌, ◌++◌, length, map, set, replicate, All, Option, None, Some, IsSome, slice_get, Result, Ok, Err, IfOk, Vec, arith}
 use Rattle.std.specs.List.{slice_index_or}
 use Rattle.std.specs.Option.{option_to_list, option_map}
-use Rattle.std.proofs.lemmas.List.{length-set, length-append, length-map, length-replicate, get_or-replicate, get_or-set_same, get_or-set_other, append-nil, get_or_default, nil_from_length}
+use Rattle.std.proofs.lemmas.List.{length-set, length-map, length-replicate, get_or-replicate, get_or-set_same, get_or-set_other, get_or_default, nil_from_length}
 use Rattle.std.proofs.lemmas.Option.{slice_get_within, slice_get-map, get_or_from_slice_get}
 use Rattle.std.proofs.lemmas.Bool.{eqb-true, eqb-false, cases_Bool}
 use Rattle.status_round.specs.declared.worker.Finished.{Finished}

@@ -1,5 +1,5 @@
 -- What workers finished, beside what their seats know.
-use Rattle.std.specs.Prelude.{◌≡◌, ℕ, ◌+◌, Bool, true, List, [], ◌∷◌, length, All, Option, None, Some}
+use Rattle.std.specs.Prelude.{◌≡◌, ℕ, ◌+◌, Bool, true, List, [], length, All, Option, None, Some}
 use Rattle.status_board.specs.Numbers.{times}
 use Rattle.status_board.specs.Seats.{BoardId, SeatState, drawn_of, barred_of, reported_of}
 use Rattle.status_round.specs.declared.worker.Finished.{Finished}

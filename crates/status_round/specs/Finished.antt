@@ -1,5 +1,5 @@
 -- Finished pieces, and what they gave.
-use Rattle.std.specs.Prelude.{◌≡◌, ◌==◌, ℕ, ◌+◌, ◌<◌, Bool, List, [], ◌∷◌, ◌++◌, length, map, All, Option, Some, None, slice_get}
+use Rattle.std.specs.Prelude.{◌≡◌, ◌==◌, ℕ, ◌<◌, Bool, List, [], ◌∷◌, ◌++◌, length, map, Option, Some, None, slice_get}
 use Rattle.std.specs.List.{filter, slice_index_or}
 use Rattle.std.specs.Option.{option_to_list}
 use Rattle.status_round.specs.declared.worker.Finished.{Finished}

@@ -4,10 +4,10 @@ ghost use Rattle.std.specs.Prelude.{◌≡◌, ◌≢◌, ◌≤◌, ◌^◌, Al
 ghost use Rattle.status_round.specs.Accounts.{IsGathered, end_of};
 ghost use Rattle.status_round.specs.Round.{IsRound};
 
-use status_board::board::{Board, Tally};
 use crate::crew::{Gathered, or_refused, work_together};
 use crate::order::in_order;
 use crate::work::Work;
+use status_board::board::{Board, Tally};
 use std::alloc::{AllocError, Global};
 use std::sync::Wait;
 use std::thread::Threads;

@@ -1,6 +1,6 @@
 //! Rounds over numbers, with one worker and with several.
 
-ghost use Rattle.std.specs.Prelude.{◌≡◌, ◌≤◌, ◌^◌, ⊤, IfOk, vec_len};
+ghost use Rattle.std.specs.Prelude.{◌≡◌, ◌≤◌, ◌^◌, ⊤, false, IfOk, vec_len};
 
 use crate::round::{Refused, work_round, work_with_stacks};
 use crate::work::Work;
@@ -19,14 +19,15 @@ struct Numbers {
 }
 
 #[derive(Drop)]
-struct Given {
+struct Told {
     number: usize,
     short: bool,
 }
 
 impl Work for Numbers {
     type State = u64;
-    type Out = Given;
+
+    type Out = Told;
 
     ghost count = { λ s. s.pieces };
 
@@ -36,14 +37,14 @@ impl Work for Numbers {
 
     ghost short = { λ out. out.short };
 
-    fn piece(&self, _state: &mut u64, number: usize) -> Given {
-        Given {
+    fn piece(&self, _state: &mut u64, number: usize) -> Told {
+        Told {
             number,
             short: self.short == Some(number),
         }
     }
 
-    fn is_short(out: &Given) -> bool {
+    fn is_short(out: &Told) -> bool {
         out.short
     }
 }
@@ -57,6 +58,7 @@ struct Meeting {
 
 impl Work for Meeting {
     type State = u64;
+
     type Out = bool;
 
     ghost count = { λ _. 2 };
@@ -98,14 +100,14 @@ fn crew_of(alloc: Global, workers: usize) -> Result<Vec<u64>, AllocError>
     Ok(crew)
 }
 
-fn numbers<R: Threads + Wait>(
+fn outs_of<R: Threads + Wait>(
     rt: &R,
     alloc: Global,
     stack_size: Option<usize>,
     workers: usize,
     pieces: usize,
     short: Option<usize>,
-) -> Result<Vec<Given>, Refused>
+) -> Result<Vec<Told>, Refused>
     requires { (pieces ≤ 2 ^ 20) × (1 ≤ workers) × (workers ≤ 64) }
 {
     let work = Numbers { pieces, short };
@@ -130,7 +132,7 @@ fn crews_give<R: Threads + Wait>(
     requires { pieces ≤ 100 }
 {
     for workers in 1..9 {
-        let Ok(outs) = numbers(rt, alloc, None, workers, pieces, short) else {
+        let Ok(outs) = outs_of(rt, alloc, None, workers, pieces, short) else {
             return false;
         };
         if outs.len() != end {
@@ -172,15 +174,15 @@ fn two_workers_work_at_once(rt: HostRuntime) -> Result<(), Fail> {
     };
     let crew = crew_of(rt.alloc(), 2)?;
     let met = work_round(&rt, rt.alloc(), &meeting, 2, crew);
-    assert!(rt; matches!(&met, Ok(outs) if outs.as_slice() == [true, true]));
+    assert!(rt; matches!(&met, Ok(outs) if outs.as_slice() == [true, true].as_slice()));
     Ok(())
 }
 
 #[test]
 fn a_refused_thread_is_told(rt: HostRuntime) {
     let too_large = Some(usize::MAX);
-    let alone = numbers(&rt, rt.alloc(), too_large, 1, 5, None);
+    let alone = outs_of(&rt, rt.alloc(), too_large, 1, 5, None);
     assert!(rt; alone.is_ok());
-    let several = numbers(&rt, rt.alloc(), too_large, 3, 5, None);
+    let several = outs_of(&rt, rt.alloc(), too_large, 3, 5, None);
     assert!(rt; several.err() == Some(Refused::Thread));
 }

@@ -1,4 +1,4 @@
-use Rattle.std.proofs.Common.{◌≡◌, ap, ◌+◌, ◌++◌, ◌∷◌, [], vec_len, arith}
+use Rattle.std.proofs.Common.{◌≡◌, vec_len, arith}
 use Rattle.status_round.specs.Accounts.{IsGathered, IsWorked}
 use Rattle.status_round.specs.declared.crew.Gathered.{Gathered}
 use Rattle.status_round.specs.declared.worker.Worked.{Worked}

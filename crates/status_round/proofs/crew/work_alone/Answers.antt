@@ -1,4 +1,4 @@
-use Rattle.std.proofs.Common.{◌≡◌, [], vec_len, arith}
+use Rattle.std.proofs.Common.{◌≡◌, [], vec_len}
 use Rattle.status_round.specs.Accounts.{IsGathered}
 use Rattle.status_round.specs.declared.crew.Gathered.{Gathered}
 use Rattle.status_round.proofs.Results.{if_ok_both, if_ok_map}

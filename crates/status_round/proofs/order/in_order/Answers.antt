@@ -1,7 +1,7 @@
-use Rattle.std.proofs.Common.{◌≡◌, ◌∙◌, sym, subst, refl, List, [], ◌∷◌, IfOk, Option, None, rules}
+use Rattle.std.proofs.Common.{◌∙◌, sym, subst, List, ◌∷◌}
 use Rattle.std.specs.Vec.Iter.{into_iter_items}
 use Rattle.status_round.specs.declared.worker.Finished.{Finished}
-use Rattle.status_round.specs.Finished.{IsInOrder, IsPlaced}
+use Rattle.status_round.specs.Finished.{IsPlaced}
 use Rattle.status_round.proofs.Slots.{placed_none, placed_more, placed_end, all_full, placed_outs}
 use Rattle.status_round.proofs.order.in_order.Goals as goal
 

@@ -1,5 +1,4 @@
-use Rattle.std.proofs.Common.{◌≡◌, ◌<◌, ◌∙◌, sym, ap, subst, ℕ, IfOk, length, arith}
-use Rattle.status_round.specs.Accounts.{end_of}
+use Rattle.std.proofs.Common.{◌≡◌, ◌<◌, subst, ℕ, IfOk, length, arith}
 use Rattle.status_round.specs.Finished.{IsInOrder}
 use Rattle.status_round.proofs.Rounds.{end_inside, finished_once, round_of, some_done}
 use Rattle.status_round.proofs.round.finish.Goals as goal

@@ -1,4 +1,4 @@
-use Rattle.std.proofs.Common.{◌≡◌, [], ◌∷◌}
+use Rattle.std.proofs.Common.{[], ◌∷◌}
 use Rattle.status_round.specs.declared.worker.Finished.{Finished}
 use Rattle.status_round.proofs.Accounting.{accounts_barred, accounts_finished, accounts_same}
 use Rattle.status_round.proofs.worker.work_piece.Goals as goal

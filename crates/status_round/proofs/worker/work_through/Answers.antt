@@ -1,4 +1,4 @@
-use Rattle.std.proofs.Common.{◌≡◌, ◌∙◌, ap}
+use Rattle.std.proofs.Common.{ap}
 use Rattle.status_board.specs.Seats.{SeatState}
 use Rattle.status_round.proofs.Accounting.{accounts_drawn, fewer_left}
 use Rattle.status_round.proofs.worker.work_through.Goals as goal

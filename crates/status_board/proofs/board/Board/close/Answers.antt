@@ -1,10 +1,10 @@
-use Rattle.std.proofs.Common.{◌≡◌, ℕ, ◌<◌, ◌≤◌, [], ◌∷◌, ◌++◌, All, Option, length, refl, ap, ◌∙◌, sym, subst, arith}
+use Rattle.std.proofs.Common.{◌≡◌, ℕ, All, Option, length, ap, ◌∙◌, sym, subst, arith}
 use Rattle.std.specs.Slots.{slots_items}
 use Rattle.status_board.specs.declared.board.Tally.{Tally}
 use Rattle.status_board.specs.Numbers.{HasEachBelow, IsLeast, LiesBelow}
 use Rattle.status_board.specs.Seats.{BoardId, BoardState, SeatState, drawn_of, barred_of, reported_of}
 use Rattle.status_board.proofs.Cuts.{joins}
-use Rattle.status_board.proofs.Hands.{Hand, begins, gathers, next_board, ended, told, some_done}
+use Rattle.status_board.proofs.Hands.{Hand, begins, next_board, ended, told, some_done}
 use Rattle.status_board.proofs.board.Board.close.Goals as goal
 
 pub loop-seat-init : goal.loop-seat-init

@@ -1,4 +1,4 @@
-use Rattle.std.proofs.Common.{◌≡◌, ℕ, ◌<◌, Bool, ap, sym, ◌∙◌, arith}
+use Rattle.std.proofs.Common.{ap, sym, ◌∙◌, arith}
 use Rattle.status_board.specs.Seats.{BoardId, BoardState, SeatState}
 use Rattle.status_board.specs.Shared.{weight}
 use Rattle.atomic_table.specs.Table.{step}

@@ -1,4 +1,4 @@
-use Rattle.std.proofs.Common.{◌≡◌, ℕ, ◌<◌, ap, ◌∙◌, sym, arith}
+use Rattle.std.proofs.Common.{◌≡◌, ap, ◌∙◌, sym, arith}
 use Rattle.status_board.specs.Seats.{BoardState}
 use Rattle.status_board.specs.declared.rules.Limits.{Limits}
 use Rattle.status_board.proofs.Steps.{looks}

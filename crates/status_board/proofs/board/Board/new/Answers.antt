@@ -1,9 +1,8 @@
-use Rattle.std.proofs.Common.{◌≡◌, ℕ, ◌+◌, ◌-◌, ◌<◌, [], ◌∷◌, ◌++◌, false, replicate, refl, ap, ◌∙◌, sym, arith}
-use Rattle.std.proofs.lemmas.List.{replicate_more}
-use Rattle.status_board.specs.Seats.{BoardId, SeatState, fresh}
-use Rattle.status_board.specs.Shared.{known, stays, goes, shown}
+use Rattle.std.proofs.Common.{◌≡◌, ℕ, ◌+◌, ◌-◌, [], false, replicate, refl, ap, ◌∙◌, arith}
+use Rattle.status_board.specs.Seats.{BoardId, fresh}
+use Rattle.status_board.specs.Shared.{known, goes, shown}
 use Rattle.status_board.proofs.Cuts.{cuts}
-use Rattle.status_board.proofs.Hands.{Hand}
+use Rattle.status_board.proofs.Hands.{Hand, cut_more, fresh_more}
 use Rattle.status_board.proofs.board.Board.new.Goals as goal
 
 pub split_seat-token-requires : goal.split_seat-token-requires
@@ -32,8 +31,8 @@ loop-preserved c =
     let seat : shown c.split_seat-token.result.table_id c.split_seat-token.result.me.0 false ≡ fresh id = λ i. shown (table i) ((hand i).0) false in
     record {
       table = split.0 ∙ had.table;
-      token = split.2 ∙ ap (λ (m : Hand). (stays m.0, m.1)) had.token ∙ ap (λ (n : ℕ). (known pieces n [] [] [] 0, [])) left;
-      seats = c.in_ok-push.ensures.items ∙ (λ i. had.seats i ++ seat i ∷ []) ∙ replicate_more (c.loop.counter - 1) (fresh id) ∙ ap (λ (n : ℕ). replicate n (fresh id)) count;
+      token = cut_more pieces (c.args.seats + 1 - c.loop.counter) c.loop.token.me c.split_seat-token.new.seat.me had.token split.2 ∙ ap (λ (n : ℕ). (known pieces n [] [] [] 0, [])) left;
+      seats = fresh_more id (c.loop.counter - 1) c.loop.all.items c.push.new.self.items (shown c.split_seat-token.result.table_id c.split_seat-token.result.me.0 false) had.seats c.in_ok-push.ensures.items seat ∙ ap (λ (n : ℕ). replicate n (fresh id)) count;
     }
 
 pub returns : goal.returns
@@ -46,4 +45,5 @@ returns c =
     let through = c.loop-test.false in
     let count : c.loop.counter - 1 + 1 ≡ c.args.seats = omega arith in
     let seat : shown c.loop.token.table_id c.loop.token.me.0 false ≡ fresh id = λ i. shown (had.table i) ((had.token i).0) false in
-    (refl, refl, c.in_ok-push-2.ensures.items ∙ (λ i. had.seats i ++ seat i ∷ []) ∙ replicate_more (c.loop.counter - 1) (fresh id) ∙ ap (λ (n : ℕ). replicate n (fresh id)) count)
+    let seats = fresh_more id (c.loop.counter - 1) c.loop.all.items c.push-2.new.self.items (shown c.loop.token.table_id c.loop.token.me.0 false) had.seats c.in_ok-push-2.ensures.items seat in
+    (refl, refl, seats ∙ ap (λ (n : ℕ). replicate n (fresh id)) count)

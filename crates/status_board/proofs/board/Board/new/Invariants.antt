@@ -1,4 +1,4 @@
-use Rattle.std.proofs.Common.{◌≡◌, ℕ, ◌+◌, ◌-◌, [], replicate}
+use Rattle.std.proofs.Common.{◌≡◌, ◌+◌, ◌-◌, [], replicate}
 use Rattle.status_board.specs.Seats.{fresh}
 use Rattle.status_board.specs.Shared.{known}
 use Rattle.status_board.proofs.board.Board.new.Given as goal

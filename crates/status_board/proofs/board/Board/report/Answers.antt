@@ -1,4 +1,4 @@
-use Rattle.std.proofs.Common.{◌≡◌, ℕ, ◌<◌, ap, ◌∙◌, sym, arith}
+use Rattle.std.proofs.Common.{◌≡◌, ap, ◌∙◌, sym, arith}
 use Rattle.status_board.specs.Seats.{BoardId, BoardState, SeatState}
 use Rattle.status_board.specs.Numbers.{last_of}
 use Rattle.status_board.specs.declared.rules.Limits.{Limits}
