@@ -1,5 +1,5 @@
 -- What a collector was told, put together.
-use Rattle.std.proofs.Common.{◌≡◌, refl, sym, ap, ◌∙◌, subst, length-append, ℕ, ◌+◌, ◌<◌, ◌≤◌, List, [], ◌∷◌, ◌++◌, length, map, take, All, arith, append_assoc}
+use Rattle.std.proofs.Common.{◌≡◌, refl, sym, ap, ◌∙◌, subst, length-append, ℕ, ◌≤◌, List, [], ◌∷◌, ◌++◌, length, map, take, All, arith, append_assoc}
 use Rattle.std.proofs.lemmas.List.{map-append, append-nil}
 use Rattle.std.proofs.lemmas.List.Elements.{All-append, All-nil, All-head, All-tail}
 use Rattle.std.proofs.Math.Seq.{take-append_seam}

@@ -11,7 +11,6 @@ use Rattle.status_base.specs.Converted.{Converted}
 use Rattle.status_base.specs.declared.worktree.objects.FindError.{FindError}
 use Rattle.status_compare.specs.declared.error.Error.{Error}
 use Rattle.status_compare.specs.Reading.{Meaning, ReadCounts}
-use Rattle.gix_status.specs.declared.index_as_worktree.types.Options.{Options}
 use Rattle.gix_status.specs.Query.{Query}
 
 -- what a comparer means: its answers, and what it reads

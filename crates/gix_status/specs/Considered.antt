@@ -1,5 +1,5 @@
 -- Which entries are considered, and which of them are left out.
-use Rattle.std.specs.Prelude.{◌≡◌, ℕ, ◌==◌, nat_lt, nat_le, nat_eq, Bool, not, ◌&&◌, ◌||◌, List, filter, if◌then◌else◌}
+use Rattle.std.specs.Prelude.{ℕ, nat_lt, nat_le, Bool, not, ◌&&◌, ◌||◌, List, filter, if◌then◌else◌}
 use Rattle.std.specs.List.{list_any, position_or_len}
 use Rattle.std.specs.Str.{bytes_eq}
 use Rattle.status_index.specs.declared.flags.Flags.{Flags}

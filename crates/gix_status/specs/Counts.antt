@@ -1,18 +1,18 @@
 -- What a status counts.
-use Rattle.std.specs.Prelude.{◌≡◌, ℕ, ◌+◌, ◌-◌, ◌==◌, Bool, true, false, not, ◌&&◌, List, length, count_by, sum_by, Option, Some, None, is_some, unwrap_or, Result, Ok, Err, IsTrue, if◌then◌else◌}
+use Rattle.std.specs.Prelude.{◌≡◌, ℕ, ◌-◌, ◌==◌, Bool, true, false, not, ◌&&◌, List, length, count_by, sum_by, Option, Some, is_some, unwrap_or, Result, Ok, IsTrue, if◌then◌else◌}
 use Rattle.status_index.specs.Content.{saturate}
 use Rattle.status_index.specs.declared.metadata.Metadata.{Metadata}
 use Rattle.status_index.specs.Entries.{IndexEntry, stage_of}
 use Rattle.status_base.specs.LinkCheck.{LinkCheck, accepted, empty_path, not_normal, through_link, faulty, link_check}
 use Rattle.status_compare.specs.declared.error.Error.{Error}
-use Rattle.status_compare.specs.Reading.{ReadCounts, no_reads, Meaning}
+use Rattle.status_compare.specs.Reading.{ReadCounts, no_reads}
 use Rattle.gix_status.specs.declared.index_as_worktree.types.EntryStatus.{EntryStatus}
 use Rattle.gix_status.specs.declared.index_as_worktree.types.EntryStatus.TheVariants as statuses
 use Rattle.gix_status.specs.declared.index_as_worktree.types.Outcome.{Outcome}
 use Rattle.gix_status.specs.Considered.{is_flagged, is_excluded, is_skipped, is_over}
 use Rattle.gix_status.specs.Query.{Query}
 use Rattle.gix_status.specs.Records.{verdict}
-use Rattle.gix_status.specs.Status.{Case, compared, case_of, Found, present, nothing, refused, directory, found, meaning}
+use Rattle.gix_status.specs.Status.{Case, compared, case_of, Found, present, found, meaning}
 
 -- numbers of considered entries
 pub record Counts : Type 0 where

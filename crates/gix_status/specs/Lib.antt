@@ -3,6 +3,7 @@ pub mod Conflicts
 pub mod Considered
 pub mod Counts
 pub mod Decisions
+pub mod DefaultCapabilities
 pub mod EntryParts
 pub mod Fed
 pub mod Laws

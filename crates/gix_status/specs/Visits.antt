@@ -1,5 +1,5 @@
 -- What a collector is told.
-use Rattle.std.specs.Prelude.{◌≡◌, ℕ, ◌<◌, ◌++◌, List, All, AllPairs, length, map, slice_get, Some}
+use Rattle.std.specs.Prelude.{◌≡◌, ℕ, List, slice_get, Some}
 use Rattle.status_index.specs.declared.entry.Entry.{Entry}
 use Rattle.status_index.specs.declared.entry.PathStorage.{PathStorage}
 use Rattle.status_index.specs.Entries.{path_in}

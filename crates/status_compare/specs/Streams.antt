@@ -1,5 +1,5 @@
 -- What a stream has left, and what it counted.
-use Rattle.std.specs.Prelude.{ℕ, Bool, true, false, List, Option, Some, None, if◌then◌else◌}
+use Rattle.std.specs.Prelude.{ℕ, List, Option, Some, None, if◌then◌else◌}
 use Rattle.status_index.specs.Content.{Content}
 use Rattle.status_base.specs.declared.worktree.filter.ToGitOutcome.{ToGitOutcome}
 use Rattle.status_base.specs.declared.worktree.filter.ToGitOutcome.TheVariants.{Unchanged, Buffer}

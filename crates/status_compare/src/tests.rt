@@ -6,7 +6,7 @@ use crate::{CompareBlobs, EntryReader, Error, FastEq, HashEq, ReadData, Reads, S
 use bstr::{BStr, BString};
 use status_base::index::{Flags, Mode, Moment, NewEntry, ObjectId, Stat, State};
 use status_base::worktree::{
-    Fault, Find, FindError, Metadata, NoFilter, ReadBytes, ToGitOutcome, Worktree,
+    ByteText, Fault, Find, FindError, Metadata, NoFilter, ReadBytes, ToGitOutcome, Worktree,
 };
 use std::alloc::Global;
 use std::io::{ErrorKind, Read};
@@ -219,5 +219,39 @@ fn streams_count_what_they_give(rt: HostRuntime) -> Result<(), Fail> {
     assert_eq!(rt; failed.map_err(|e| e.kind()), Err(ErrorKind::UnexpectedEof));
     assert_eq!(rt; all.as_slice(), b"foo".as_slice());
     assert_eq!(rt; (file.size(), Stream::bytes(&file)), (Some(4), 3));
+    Ok(())
+}
+
+#[test]
+fn errors_have_words(rt: HostRuntime) -> Result<(), Fail> {
+    let alloc = rt.alloc();
+    let of_submodule = Error::SubmoduleStatus {
+        rela_path: ByteText::from_slice(alloc, b"d/s")?,
+        text: ByteText::from_slice(alloc, b"no head")?,
+    };
+    for (error, want) in [
+        (Error::IllformedUtf8, "Could not convert path to UTF8"),
+        (
+            Error::Time,
+            "The clock was off when reading file related metadata after updating a file on disk",
+        ),
+        (
+            Error::Io(Fault::NotFound),
+            "IO error while writing blob or reading file metadata or changing filetype",
+        ),
+        (
+            Error::Find(FindError::Missing),
+            "Failed to obtain blob from object database",
+        ),
+        (
+            of_submodule,
+            "Could not determine status for submodule at 'd/s'",
+        ),
+        (Error::SpawnThread, "Could not start a worker thread"),
+        (Error::Memory, "Out of memory"),
+    ] {
+        let text = format!(in alloc; "{error}")?;
+        assert_eq!(rt; text.as_str(), want);
+    }
     Ok(())
 }

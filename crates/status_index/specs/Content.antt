@@ -41,6 +41,6 @@ CountsMore (Some a) None n = ⊥
 CountsMore (Some a) (Some b) n = saturate b ≡ saturate (a + n)
 
 -- what a read adds to the count: the bytes that it gave, and nothing for a fault
-abbrev pub ReadCounts : Option ℕ → Option ℕ → Result ℕ Fault → Type 0
+abbrev pub ReadCounts : {E : Type 0} → Option ℕ → Option ℕ → Result ℕ E → Type 0
 ReadCounts old new (Ok n) = CountsMore old new n
 ReadCounts old new (Err f) = CountsMore old new 0

@@ -1,7 +1,6 @@
 -- What an index's entries say, and which lists of them are an index.
-use Rattle.std.specs.Prelude.{◌≡◌, ◌≢◌, ℕ, ◌<◌, ◌+◌, ◌-◌, ◌⊎◌, Bool, List, [], length, take, map, Option, Some, None, option_map, unwrap_or, All, AllPairs, slice_get, ⊤}
+use Rattle.std.specs.Prelude.{◌≡◌, ◌≢◌, ℕ, ◌<◌, ◌-◌, List, [], length, take, map, option_map, unwrap_or, All, AllPairs, slice_get, ⊤}
 use Rattle.std.specs.List.{slice_index_or}
-use Rattle.std.specs.Str.{bytes_eq}
 use Rattle.std.specs.Ordering.{nat_cmp, ordering_then}
 use Rattle.std.specs.Cmp.Lexicographic.{slice_cmp}
 use Rattle.std.specs.declared.cmp.Ordering.{Ordering}

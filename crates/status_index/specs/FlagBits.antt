@@ -1,10 +1,14 @@
 -- What the bits of an entry's flags say.
-use Rattle.std.specs.Prelude.{ℕ, ◌/◌, ◌%◌, ◌==◌, Bool, not}
+use Rattle.std.specs.Prelude.{ℕ, ◌*◌, ◌/◌, ◌%◌, ◌==◌, Bool, not}
 use Rattle.std.specs.Int.RustNames.{bit_and}
 
 -- the stage, in the two bits 0x3000
 abbrev pub stage_of_bits : ℕ → ℕ
 stage_of_bits bits = bits / 0x1000 % 4
+
+-- the bits of a stage: its two low bits, and no other flag
+abbrev pub bits_of_stage : ℕ → ℕ
+bits_of_stage stage = stage % 4 * 0x1000
 
 -- whether one of these flags is set
 abbrev pub has_bits : ℕ → ℕ → Bool

@@ -1,5 +1,5 @@
 -- The stat of a node.
-use Rattle.std.specs.Prelude.{ℕ, ◌%◌, ◌^◌, Option, Some, None}
+use Rattle.std.specs.Prelude.{◌%◌, ◌^◌, Option, Some, None}
 use Rattle.status_index.specs.declared.stat.Time.{Time}
 use Rattle.status_index.specs.declared.stat.Stat.{Stat}
 use Rattle.status_index.specs.declared.metadata.Metadata.{Metadata}

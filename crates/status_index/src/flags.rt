@@ -1,7 +1,7 @@
 //! What an index says of an entry beside its content.
 
 ghost use Rattle.std.specs.Prelude.{◌≡◌};
-ghost use Rattle.status_index.specs.FlagBits.{stage_of_bits};
+ghost use Rattle.status_index.specs.FlagBits.{bits_of_stage, stage_of_bits};
 
 use bitflags::{Flag, bitflag_items};
 
@@ -46,8 +46,11 @@ impl bitflags::Flags for Flags {
 }
 
 impl Flags {
-    /// The flag that puts an entry at this stage: 0 for a plain entry, 1 to 3 for the sides of a conflict.
-    pub fn from_stage(stage: u32) -> Flags {
+    /// The flag that puts an entry at this stage: 0 for a plain entry, 1 to 3 for the sides of a conflict. Of a greater
+    /// number the two low bits are taken.
+    pub fn from_stage(stage: u32) -> Flags
+        ensures { result.0 ≡ bits_of_stage stage }
+    {
         Flags((stage % 4) * 0x1000)
     }
 

@@ -26,3 +26,6 @@ pub use reader::ReadBytes;
 pub use reading::read_all;
 pub use stat::{Moment, Stat, Time};
 pub use state::{IndexError, State};
+
+#[cfg(test)]
+mod tests;

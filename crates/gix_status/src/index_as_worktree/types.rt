@@ -98,6 +98,11 @@ pub struct Capabilities {
 }
 
 impl Default for Capabilities {
+    ghost use Rattle.std.specs.Prelude.{◌≡◌};
+    ghost use Rattle.gix_status.specs.DefaultCapabilities.{default_capabilities};
+
+    ghost is_default = { λ c. c ≡ default_capabilities };
+
     fn default() -> Capabilities {
         Capabilities {
             symlink: true,

@@ -174,3 +174,23 @@ fn finds_blobs(rt: HostRuntime) -> Result<(), Fail> {
     );
     Ok(())
 }
+
+#[test]
+fn refusals_have_words(rt: HostRuntime) -> Result<(), Fail> {
+    for (error, want) in [
+        (TreeError::BadPath, "bad path"),
+        (TreeError::InTheWay, "in the way"),
+        (TreeError::Memory, "Out of memory"),
+    ] {
+        let text = format!(in rt.alloc(); "{error}")?;
+        assert_eq!(rt; text.as_str(), want);
+    }
+    for (error, want) in [
+        (FindError::Missing, "missing object"),
+        (FindError::Memory, "Out of memory"),
+    ] {
+        let text = format!(in rt.alloc(); "{error}")?;
+        assert_eq!(rt; text.as_str(), want);
+    }
+    Ok(())
+}
