@@ -80,7 +80,7 @@ fn plant(alloc: Global, nodes: Vec<(BString, Node)>) -> Result<MemoryWorktree, F
 }
 
 /// Prints the status of an index against a worktree, as the options of a profile ask for it.
-fn status_of_profile<R: AllocGlobal + Threads + Wait, W: Worktree, O: io::Write>(
+fn status_of_profile<R: AllocGlobal + Threads + Wait, W: Worktree + Sync, O: io::Write>(
     rt: &R,
     index: &State,
     worktree: &W,
@@ -96,7 +96,7 @@ fn status_of_profile<R: AllocGlobal + Threads + Wait, W: Worktree, O: io::Write>
 }
 
 /// Prints the status of these paths, by the comparer that the options name.
-fn status_of_paths<R: AllocGlobal + Threads + Wait, W: Worktree, P: Pathspec + Drop, O: io::Write>(
+fn status_of_paths<R: AllocGlobal + Threads + Wait, W: Worktree + Sync, P: Pathspec + Send, O: io::Write>(
     rt: &R,
     index: &State,
     worktree: &W,
@@ -113,9 +113,9 @@ fn status_of_paths<R: AllocGlobal + Threads + Wait, W: Worktree, P: Pathspec + D
 /// Prints the status of these paths by this comparer. The records before a fault are printed too.
 fn status_by<
     R: AllocGlobal + Threads + Wait,
-    W: Worktree,
-    C: CompareBlobs + Drop,
-    P: Pathspec + Drop,
+    W: Worktree + Sync,
+    C: CompareBlobs + Send,
+    P: Pathspec + Send,
     O: io::Write,
 >(
     rt: &R,
@@ -127,7 +127,7 @@ fn status_by<
     output: &mut O,
 ) -> Result<(), Failure>
 where
-    C::Output: Drop,
+    C::Output: Send + Drop,
 {
     let alloc = rt.alloc();
     let counts = options.counts;
@@ -150,10 +150,10 @@ where
 fn ask<
     'index,
     R: Threads + Wait,
-    W: Worktree,
+    W: Worktree + Sync,
     V: VisitEntry<'index, SubmoduleStatus = ()>,
-    C: CompareBlobs<Output = V::ContentChange> + Drop,
-    P: Pathspec + Drop,
+    C: CompareBlobs<Output = V::ContentChange> + Send,
+    P: Pathspec + Send,
 >(
     rt: &R,
     alloc: Global,
@@ -165,7 +165,7 @@ fn ask<
     options: Options,
 ) -> Result<Outcome, Error>
 where
-    V::ContentChange: Drop,
+    V::ContentChange: Send + Drop,
 {
     let context = Context {
         pathspec,

@@ -49,11 +49,16 @@ impl Clone for Prefix {
 
 impl Pathspec for Prefix {
     ghost use Rattle.std.specs.Prelude.{nat_eq};
+    ghost use Rattle.std.proofs.Common.{ap};
     ghost use Rattle.std.specs.List.{starts_with};
 
     ghost prefix = { λ p. p };
 
     ghost included = { λ p path _. starts_with nat_eq path p };
+
+    ghost clone_keeps_prefix = { λ _ _ same. same };
+
+    ghost clone_keeps_included = { λ _ _ same. ap (λ p path _. starts_with nat_eq path p) same };
 
     fn common_prefix(&self) -> BStr<'_> {
         BStr::new(self.bytes.as_slice())
