@@ -96,7 +96,12 @@ fn status_of_profile<R: AllocGlobal + Threads + Wait, W: Worktree + Sync, O: io:
 }
 
 /// Prints the status of these paths, by the comparer that the options name.
-fn status_of_paths<R: AllocGlobal + Threads + Wait, W: Worktree + Sync, P: Pathspec + Send, O: io::Write>(
+fn status_of_paths<
+    R: AllocGlobal + Threads + Wait,
+    W: Worktree + Sync,
+    P: Pathspec + Send,
+    O: io::Write,
+>(
     rt: &R,
     index: &State,
     worktree: &W,

@@ -2,30 +2,23 @@
 
 use crate::profile::error::FieldError;
 use crate::profile::field::{Fields, text_of};
+use crate::profile::members::Item;
 use bstr::BString;
 use serde_json::Value;
 use status_base::index::{Flags, Mode, NewEntry, ObjectId};
 use std::alloc::Global;
 
-/// Reads the entries.
-pub fn read_index(alloc: Global, profile: Fields<'_>) -> Result<Vec<NewEntry>, FieldError> {
-    let values = profile.list("index")?;
-    let mut entries = Vec::with_capacity(alloc, values.len())?;
-    for value in values {
-        entries.push(read_entry(alloc, Fields::of(value)?)?)?;
+impl Item for NewEntry {
+    fn of_fields(alloc: Global, fields: Fields<'_>) -> Result<NewEntry, FieldError> {
+        let size = fields.number("size")?;
+        Ok(NewEntry {
+            path: BString::from_slice(alloc, fields.text("path")?.as_bytes())?,
+            stat: fields.stat(size)?,
+            id: read_id(alloc, fields)?,
+            flags: read_flags(fields)?,
+            mode: read_mode(fields)?,
+        })
     }
-    Ok(entries)
-}
-
-fn read_entry(alloc: Global, fields: Fields<'_>) -> Result<NewEntry, FieldError> {
-    let size = fields.number("size")?;
-    Ok(NewEntry {
-        path: BString::from_slice(alloc, fields.text("path")?.as_bytes())?,
-        stat: fields.stat(size)?,
-        id: read_id(alloc, fields)?,
-        flags: read_flags(fields)?,
-        mode: read_mode(fields)?,
-    })
 }
 
 /// The number of digits says how the id was made.

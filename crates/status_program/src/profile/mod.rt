@@ -3,19 +3,18 @@
 mod entry;
 pub mod error;
 mod field;
+mod members;
 mod node;
 mod options;
 #[cfg(test)]
 mod tests;
 
-use crate::profile::entry::read_index;
 use crate::profile::field::Fields;
-use crate::profile::node::read_worktree;
+use crate::profile::members::{Document, Members};
 use crate::profile::options::read_options;
 use bstr::BString;
 pub use error::{FieldError, Key, ProfileError};
 pub use options::{Comparer, ProfileOptions};
-use serde_json::{Map, Value};
 use status_base::index::{HashKind, Moment, NewEntry};
 use status_base::worktree::Node;
 use std::alloc::Global;
@@ -41,24 +40,29 @@ impl Profile {
     /// # Errors
     /// Text that isn't JSON, the first key that is missing or has a wrong form, or want of memory.
     pub fn from_json(alloc: Global, text: &[u8]) -> Result<Profile, ProfileError> {
-        match Value::from_slice(alloc, text)? {
-            Value::Object(members) => read_profile(alloc, members),
-            _ => Err(ProfileError::Bad(Key::Hash)),
+        match serde_json::from_slice(alloc, text)? {
+            Document(Some(members)) => read_profile(alloc, members),
+            Document(None) => Err(ProfileError::Bad(Key::Hash)),
         }
     }
 }
 
-fn read_profile(alloc: Global, mut members: Map<String, Value>) -> Result<Profile, ProfileError> {
-    let fields = Fields::new(&members);
+fn read_profile(alloc: Global, members: Members) -> Result<Profile, ProfileError> {
+    let Members {
+        entries,
+        nodes,
+        others,
+    } = members;
+    let fields = Fields::new(&others);
     let hash = read_hash(fields).map_err(|error| error.under(Key::Hash))?;
     let timestamp = read_timestamp(fields).map_err(|error| error.under(Key::Timestamp))?;
     let options = read_options(alloc, fields).map_err(|error| error.under(Key::Options))?;
-    let entries = read_index(alloc, fields).map_err(|error| error.under(Key::Index))?;
-    // The index isn't kept twice while the worktree is read.
-    drop(members.remove("index"));
-    let nodes = read_worktree(alloc, Fields::new(&members)).map_err(|error| error.under(
-        Key::Worktree,
-    ))?;
+    let entries = entries.map_err(|error| error.under(Key::Index))?;
+    if fields.get("folder").is_some() {
+        // A worktree in a folder isn't supported.
+        return Err(ProfileError::Bad(Key::Worktree));
+    }
+    let nodes = nodes.map_err(|error| error.under(Key::Worktree))?;
     Ok(Profile {
         hash,
         timestamp,

@@ -2,26 +2,18 @@
 
 use crate::profile::error::FieldError;
 use crate::profile::field::{Fields, text_of};
+use crate::profile::members::Item;
 use bstr::BString;
 use status_base::worktree::{Node, NodeKind};
 use std::alloc::Global;
 
-/// Reads the nodes with their paths. A worktree in a folder isn't supported.
-pub fn read_worktree(
-    alloc: Global,
-    profile: Fields<'_>,
-) -> Result<Vec<(BString, Node)>, FieldError> {
-    if profile.get("folder").is_some() {
-        return Err(FieldError::Form);
-    }
-    let values = profile.list("worktree")?;
-    let mut nodes = Vec::with_capacity(alloc, values.len())?;
-    for value in values {
-        let fields = Fields::of(value)?;
+/// A node with its path.
+impl Item for (BString, Node) {
+    fn of_fields(alloc: Global, fields: Fields<'_>) -> Result<(BString, Node), FieldError> {
         let path = BString::from_slice(alloc, fields.text("path")?.as_bytes())?;
-        nodes.push((path, read_node(alloc, fields)?))?;
+        let node = read_node(alloc, fields)?;
+        Ok((path, node))
     }
-    Ok(nodes)
 }
 
 fn read_node(alloc: Global, fields: Fields<'_>) -> Result<Node, FieldError> {

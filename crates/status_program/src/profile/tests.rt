@@ -199,6 +199,11 @@ fn text_that_is_no_json(rt: HostRuntime) {
         "\u{feff}{}",
         "[1,]",
         r#"{"a":"\ud800"}"#,
+        r#"{"a":1e999}"#,
+        r#"{"timestamp":[9,0],"index":[1],"worktree":[}"#,
+        r#"{"index":[{"a":1e999}]}"#,
+        r#"{"index":[1]} 2"#,
+        "[",
     ] {
         assert_eq!(rt;
             refusal(alloc, text),
@@ -244,6 +249,15 @@ fn the_first_bad_key_is_told(rt: HostRuntime) {
         ),
         (r#"{"timestamp":1,"timestamp":[9,0]}"#, Key::Index),
         (r#"{"timestamp":[9,0],"timestamp":1}"#, Key::Timestamp),
+        (
+            r#"{"index":[1],"worktree":[1],"timestamp":1}"#,
+            Key::Timestamp,
+        ),
+        (
+            r#"{"timestamp":[9,0],"index":[1],"index":[]}"#,
+            Key::Worktree,
+        ),
+        (r#"{"timestamp":[9,0],"index":[],"index":null}"#, Key::Index),
     ];
     for (text, key) in cases {
         assert_eq!(rt;
