@@ -3,6 +3,7 @@
 //! Each interface has a meaning, which the trait's ghost members name; an implementation answers by it whatever its
 //! state, or answers want of memory.
 
+pub mod disk;
 pub mod filter;
 pub mod lister;
 pub mod memory;
@@ -12,6 +13,7 @@ pub mod pathspec;
 pub mod submodule;
 pub mod tree;
 
+pub use disk::{DiskFile, DiskWorktree};
 pub use filter::{NoFilter, ToGit, ToGitOutcome};
 pub use lister::{Lister, Listing, NoLister};
 pub use memory::{MemoryFile, MemoryWorktree, Node, TreeError};

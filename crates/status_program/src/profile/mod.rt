@@ -10,14 +10,13 @@ mod tests;
 
 use crate::profile::entry::read_index;
 use crate::profile::field::Fields;
-use crate::profile::node::read_worktree;
+use crate::profile::node::read_place;
 use crate::profile::options::read_options;
-use bstr::BString;
 pub use error::{FieldError, Key, ProfileError};
+pub use node::Place;
 pub use options::{Comparer, ProfileOptions};
 use serde_json::{Map, Value};
 use status_base::index::{HashKind, Moment, NewEntry};
-use status_base::worktree::Node;
 use std::alloc::Global;
 
 /// What a profile says.
@@ -31,8 +30,8 @@ pub struct Profile {
     pub options: ProfileOptions,
     /// The entries of the index, in the order of the profile.
     pub entries: Vec<NewEntry>,
-    /// The nodes of the worktree with their paths, in the order of the profile.
-    pub nodes: Vec<(BString, Node)>,
+    /// Where the worktree is.
+    pub place: Place,
 }
 
 impl Profile {
@@ -56,7 +55,7 @@ fn read_profile(alloc: Global, mut members: Map<String, Value>) -> Result<Profil
     let entries = read_index(alloc, fields).map_err(|error| error.under(Key::Index))?;
     // The index isn't kept twice while the worktree is read.
     drop(members.remove("index"));
-    let nodes = read_worktree(alloc, Fields::new(&members)).map_err(|error| error.under(
+    let place = read_place(alloc, Fields::new(&members)).map_err(|error| error.under(
         Key::Worktree,
     ))?;
     Ok(Profile {
@@ -64,7 +63,7 @@ fn read_profile(alloc: Global, mut members: Map<String, Value>) -> Result<Profil
         timestamp,
         options,
         entries,
-        nodes,
+        place,
     })
 }
 

@@ -6,14 +6,24 @@ use bstr::BString;
 use status_base::worktree::{Node, NodeKind};
 use std::alloc::Global;
 
-/// Reads the nodes with their paths. A worktree in a folder isn't supported.
-pub fn read_worktree(
-    alloc: Global,
-    profile: Fields<'_>,
-) -> Result<Vec<(BString, Node)>, FieldError> {
-    if profile.get("folder").is_some() {
-        return Err(FieldError::Form);
+/// Where a profile's worktree is.
+#[derive(Debug, Drop)]
+pub enum Place {
+    /// In the profile: nodes with their paths, in its order.
+    Nodes(Vec<(BString, Node)>),
+    /// In the folder at a path, from the working folder on.
+    Folder(String),
+}
+
+/// Reads where the worktree is. With a folder no nodes are looked at.
+pub fn read_place(alloc: Global, profile: Fields<'_>) -> Result<Place, FieldError> {
+    match profile.get("folder") {
+        Some(folder) => Ok(Place::Folder(String::from_str(alloc, text_of(folder)?)?)),
+        None => Ok(Place::Nodes(read_nodes(alloc, profile)?)),
     }
+}
+
+fn read_nodes(alloc: Global, profile: Fields<'_>) -> Result<Vec<(BString, Node)>, FieldError> {
     let values = profile.list("worktree")?;
     let mut nodes = Vec::with_capacity(alloc, values.len())?;
     for value in values {
