@@ -24,7 +24,7 @@ pub struct DiskWorktree<R> {
     front: String,
 }
 
-impl<R: Files + AllocGlobal> DiskWorktree<R> {
+impl<R: Files + AllocGlobal + Drop> DiskWorktree<R> {
     /// The folder at a path, where an empty path is the working folder. It needn't be there.
     ///
     /// # Errors
@@ -67,7 +67,7 @@ impl<F: io::Read + Drop> ReadBytes for DiskFile<F> {
     }
 }
 
-impl<R: Files + AllocGlobal> Worktree for DiskWorktree<R> {
+impl<R: Files + AllocGlobal + Drop> Worktree for DiskWorktree<R> {
     ghost use Rattle.std.specs.Prelude.{false, Err};
     ghost use Rattle.status_index.specs.declared.fault.Fault.TheVariants.{NotFound};
 
