@@ -43,8 +43,8 @@ where
     file.set_times(fs::FileTimes::new().set_modified(time))
 }
 
-// What lstat tells of a node, its stamps aside, and without a fault.
-fn kind_and_len<W: Worktree>(worktree: &W, path: &[u8]) -> Result<(NodeKind, u64), Fault> {
+// What lstat tells of a node, its stamps aside. A folder may be shared by threads.
+fn kind_and_len<W: Worktree + Sync>(worktree: &W, path: &[u8]) -> Result<(NodeKind, u64), Fault> {
     let found = worktree.lstat(BStr::new(path))?;
     Ok((found.kind, found.len))
 }
