@@ -16,8 +16,8 @@ use gix_status::index_as_worktree::{
 };
 use status_base::index::State;
 use status_base::worktree::{
-    AllPaths, DiskWorktree, MemoryObjects, MemoryWorktree, NoFilter, NoLister, NoSubmodules, Node, Pathspec,
-    Prefix, Worktree,
+    AllPaths, DiskWorktree, MemoryObjects, MemoryWorktree, NoFilter, NoLister, NoSubmodules, Node,
+    Pathspec, Prefix, Worktree,
 };
 use std::alloc::Global;
 use std::io;

@@ -336,7 +336,8 @@ fn nodes_are_read(rt: HostRuntime) -> Result<(), Fail> {
 
 #[test]
 fn a_folder_stands_in_place_of_nodes(rt: HostRuntime) -> Result<(), Fail> {
-    let text = r#"{"timestamp":[9,0],"options":{"executable_bit":true},"index":[],"worktree":1,"folder":"d/e"}"#;
+    let text =
+        r#"{"timestamp":[9,0],"options":{"executable_bit":true},"index":[],"worktree":1,"folder":"d/e"}"#;
     let profile = Profile::from_json(rt.alloc(), text.as_bytes())?;
     assert!(rt; matches!(&profile.place, Place::Folder(folder) if folder.as_str() == "d/e"));
     assert!(rt; !profile.options.status.fs.executable_bit);
