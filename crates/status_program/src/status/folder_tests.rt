@@ -100,7 +100,9 @@ fn tell<R: AllocGlobal + Files + Threads + Wait>(
     mode: &str,
 ) -> Result<(Vec<u8>, Vec<u8>), AllocError> {
     let alloc = rt.alloc();
-    let text = format!(in alloc; r#"{{"timestamp":[9,0],"index":[{{"path":"{path}","mode":"{mode}","id":"19102815663d23f8b75a47e7a01965dcdc96468c"}}],"folder":"{folder}"}}"#)?;
+    let text = format!(in alloc;
+        r#"{{"timestamp":[9,0],"index":[{{"path":"{path}","mode":"{mode}","id":"19102815663d23f8b75a47e7a01965dcdc96468c"}}],"folder":"{folder}"}}"#
+    )?;
     let mut output = Vec::new(alloc);
     let mut faults = Vec::new(alloc);
     let mut profile = text.as_bytes();
