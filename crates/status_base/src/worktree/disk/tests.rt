@@ -66,7 +66,13 @@ fn nodes_are_told(rt: HostRuntime) -> Result<(), Fail> {
     let folder = new_folder(&rt, "nodes_are_told", process::id(rt.process()))?;
     let root = folder.as_str();
     let last = Duration::from_secs(4294967295);
-    write_at(&rt, root, "a", "foo", Duration::from_secs(5) + Duration::from_nanos(7))?;
+    write_at(
+        &rt,
+        root,
+        "a",
+        "foo",
+        Duration::from_secs(5) + Duration::from_nanos(7),
+    )?;
     write_at(&rt, root, "late", "", last)?;
     write_at(&rt, root, "later", "", last + Duration::from_secs(1))?;
     let path = within(&rt, root, "a")?;
@@ -97,11 +103,17 @@ fn nodes_are_told(rt: HostRuntime) -> Result<(), Fail> {
     });
     assert_eq!(rt; late.map(|found| found.mtime), Ok(known));
     let later = worktree.lstat(BStr::new(b"later"));
-    assert_eq!(rt; later.map(|found| (found.mtime, found.ctime)), Ok((None, None)));
+    assert_eq!(rt;
+        later.map(|found| (found.mtime, found.ctime)),
+        Ok((None, None))
+    );
     assert_eq!(rt; kind_and_len(&worktree, b"l"), Ok((NodeKind::Link, 1)));
     let directory = worktree.lstat(BStr::new(b"d"));
     assert_eq!(rt; directory.map(|found| found.kind), Ok(NodeKind::Directory));
-    assert_eq!(rt; kind_and_len(&worktree, name.as_bytes()), Ok((NodeKind::File, 1)));
+    assert_eq!(rt;
+        kind_and_len(&worktree, name.as_bytes()),
+        Ok((NodeKind::File, 1))
+    );
     let devices = DiskWorktree::new(&rt, Path::new("/dev"))?;
     let null = devices.lstat(BStr::new(b"null"));
     assert_eq!(rt; null.map(|found| found.kind), Ok(NodeKind::Other));
@@ -146,7 +158,10 @@ fn faults_are_named(rt: HostRuntime) -> Result<(), Fail> {
     assert_eq!(rt; kind_and_len(&worktree, b"loop"), Ok((NodeKind::Link, 4)));
     assert_eq!(rt; open_fault(&worktree, b"loop"), Some(Fault::Other(0)));
     assert_eq!(rt; open_fault(&worktree, b"dangling"), Some(Fault::NotFound));
-    assert_eq!(rt; link_fault(&worktree, b"a", &mut target), Some(Fault::Other(0)));
+    assert_eq!(rt;
+        link_fault(&worktree, b"a", &mut target),
+        Some(Fault::Other(0))
+    );
     // The system opens a directory, and then refuses to read it.
     let mut directory = worktree.open(BStr::new(b"d"))?;
     assert_eq!(rt; directory.read_bytes(&mut [0; 8]), Err(Fault::Other(0)));
