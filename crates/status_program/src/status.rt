@@ -1,11 +1,13 @@
 //! The status of a profile's index against its worktree.
 
 #[cfg(test)]
+mod folder_tests;
+#[cfg(test)]
 mod tests;
 
 use crate::failure::Failure;
 use crate::lines::{status_line, total_line};
-use crate::profile::{Comparer, Profile, ProfileOptions};
+use crate::profile::{Comparer, Place, Profile, ProfileOptions};
 use bstr::BString;
 use gix_status::index_as_worktree::function::index_as_worktree;
 use gix_status::index_as_worktree::traits::{CompareBlobs, FastEq, HashEq};
@@ -14,11 +16,13 @@ use gix_status::index_as_worktree::{
 };
 use status_base::index::State;
 use status_base::worktree::{
-    AllPaths, MemoryObjects, MemoryWorktree, NoFilter, NoLister, NoSubmodules, Node, Pathspec,
-    Prefix, Worktree,
+    AllPaths, DiskWorktree, MemoryObjects, MemoryWorktree, NoFilter, NoLister, NoSubmodules, Node,
+    Pathspec, Prefix, Worktree,
 };
 use std::alloc::Global;
 use std::io;
+use std::path::Path;
+use std::rt::Files;
 use std::sync::Wait;
 use std::thread::Threads;
 
@@ -27,7 +31,7 @@ use std::thread::Threads;
 ///
 /// Answers the exit status: 0, or 1 after a failure, which is one line on `faults`. What was printed before stays. Where
 /// `output` can't be written nothing more is.
-pub fn run_status<R: AllocGlobal + Threads + Wait, I: io::Read, O: io::Write, E: io::Write>(
+pub fn run_status<R: AllocGlobal + Files + Threads + Wait, I: io::Read, O: io::Write, E: io::Write>(
     rt: &R,
     name: &str,
     profile: &mut I,
@@ -44,7 +48,7 @@ pub fn run_status<R: AllocGlobal + Threads + Wait, I: io::Read, O: io::Write, E:
     }
 }
 
-fn print_status<R: AllocGlobal + Threads + Wait, I: io::Read, O: io::Write>(
+fn print_status<R: AllocGlobal + Files + Threads + Wait, I: io::Read, O: io::Write>(
     rt: &R,
     profile: &mut I,
     output: &mut O,
@@ -54,12 +58,20 @@ fn print_status<R: AllocGlobal + Threads + Wait, I: io::Read, O: io::Write>(
         timestamp,
         options,
         entries,
-        nodes,
+        place,
         ..
     } = read_profile(alloc, profile)?;
     let index = State::from_entries(alloc, entries, timestamp)?;
-    let worktree = plant(alloc, nodes)?;
-    status_of_profile(rt, &index, &worktree, options, output)
+    match place {
+        Place::Nodes(nodes) => {
+            let worktree = plant(alloc, nodes)?;
+            status_of_profile(rt, &index, &worktree, options, output)
+        }
+        Place::Folder(folder) => {
+            let worktree = DiskWorktree::new(rt, Path::new(folder.as_str()))?;
+            status_of_profile(rt, &index, &worktree, options, output)
+        }
+    }
 }
 
 fn read_profile<I: io::Read>(alloc: Global, profile: &mut I) -> Result<Profile, Failure> {

@@ -3,6 +3,7 @@
 //! Each interface has a meaning, which the trait's ghost members name; an implementation answers by it whatever its
 //! state, or answers want of memory.
 
+pub mod disk;
 pub mod filter;
 pub mod lister;
 pub mod memory;
@@ -13,6 +14,7 @@ pub mod prefix;
 pub mod submodule;
 pub mod tree;
 
+pub use disk::{DiskFile, DiskWorktree};
 pub use filter::{NoFilter, ToGit, ToGitOutcome};
 pub use lister::{Lister, Listing, NoLister};
 pub use memory::{MemoryFile, MemoryWorktree, Node, TreeError};

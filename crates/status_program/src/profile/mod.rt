@@ -11,12 +11,12 @@ mod tests;
 
 use crate::profile::field::Fields;
 use crate::profile::members::{Document, Members};
+use crate::profile::node::read_place;
 use crate::profile::options::read_options;
-use bstr::BString;
 pub use error::{FieldError, Key, ProfileError};
+pub use node::Place;
 pub use options::{Comparer, ProfileOptions};
 use status_base::index::{HashKind, Moment, NewEntry};
-use status_base::worktree::Node;
 use std::alloc::Global;
 
 /// What a profile says.
@@ -30,8 +30,8 @@ pub struct Profile {
     pub options: ProfileOptions,
     /// The entries of the index, in the order of the profile.
     pub entries: Vec<NewEntry>,
-    /// The nodes of the worktree with their paths, in the order of the profile.
-    pub nodes: Vec<(BString, Node)>,
+    /// Where the worktree is.
+    pub place: Place,
 }
 
 impl Profile {
@@ -58,17 +58,13 @@ fn read_profile(alloc: Global, members: Members) -> Result<Profile, ProfileError
     let timestamp = read_timestamp(fields).map_err(|error| error.under(Key::Timestamp))?;
     let options = read_options(alloc, fields).map_err(|error| error.under(Key::Options))?;
     let entries = entries.map_err(|error| error.under(Key::Index))?;
-    if fields.get("folder").is_some() {
-        // A worktree in a folder isn't supported.
-        return Err(ProfileError::Bad(Key::Worktree));
-    }
-    let nodes = nodes.map_err(|error| error.under(Key::Worktree))?;
+    let place = read_place(alloc, fields, nodes).map_err(|error| error.under(Key::Worktree))?;
     Ok(Profile {
         hash,
         timestamp,
         options,
         entries,
-        nodes,
+        place,
     })
 }
 

@@ -2,10 +2,31 @@
 
 use crate::profile::error::FieldError;
 use crate::profile::field::{Fields, text_of};
-use crate::profile::members::Item;
+use crate::profile::members::{Item, List};
 use bstr::BString;
 use status_base::worktree::{Node, NodeKind};
 use std::alloc::Global;
+
+/// Where a profile's worktree is.
+#[derive(Debug, Drop)]
+pub enum Place {
+    /// In the profile: nodes with their paths, in its order.
+    Nodes(Vec<(BString, Node)>),
+    /// In the folder at a path, from the working folder on.
+    Folder(String),
+}
+
+/// Reads where the worktree is. With a folder no nodes are looked at.
+pub fn read_place(
+    alloc: Global,
+    profile: Fields<'_>,
+    nodes: List<(BString, Node)>,
+) -> Result<Place, FieldError> {
+    match profile.get("folder") {
+        Some(folder) => Ok(Place::Folder(String::from_str(alloc, text_of(folder)?)?)),
+        None => Ok(Place::Nodes(nodes?)),
+    }
+}
 
 /// A node with its path.
 impl Item for (BString, Node) {

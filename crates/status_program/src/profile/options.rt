@@ -37,20 +37,27 @@ pub struct ProfileOptions {
 }
 
 impl ProfileOptions {
+    /// Whether a worktree in a folder has what these options ask for.
+    fn is_for_folder(&self) -> bool {
+        !self.untracked && !self.renames
+    }
+
     /// Whether a status can be computed with these options.
     fn is_supported(&self) -> bool {
         !self.untracked && !self.renames && !self.sort
     }
 }
 
-/// Reads the options, which may be missing as a whole.
+/// Reads the options, which may be missing as a whole. Over a folder no file is executable, so that the executable bit
+/// doesn't count there.
 pub fn read_options(alloc: Global, profile: Fields<'_>) -> Result<ProfileOptions, FieldError> {
     let none = Map::new(alloc);
     let fields = match profile.get("options") {
         Some(value) => Fields::of(value)?,
         None => Fields::new(&none),
     };
-    let options = ProfileOptions {
+    let over_folder = profile.get("folder").is_some();
+    let mut options = ProfileOptions {
         status: read_status(fields)?,
         comparer: read_comparer(fields)?,
         prefix: BString::from_slice(alloc, fields.text_or("prefix", "")?.as_bytes())?,
@@ -59,11 +66,13 @@ pub fn read_options(alloc: Global, profile: Fields<'_>) -> Result<ProfileOptions
         sort: fields.bool_or("sort", false)?,
         counts: fields.bool_or("counts", false)?,
     };
-    if options.is_supported() {
-        Ok(options)
-    } else {
-        Err(FieldError::Form)
+    if !options.is_supported() || over_folder && !options.is_for_folder() {
+        return Err(FieldError::Form);
     }
+    if over_folder {
+        options.status.fs.executable_bit = false;
+    }
+    Ok(options)
 }
 
 fn read_status(fields: Fields<'_>) -> Result<Options, FieldError> {

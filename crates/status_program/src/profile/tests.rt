@@ -1,7 +1,8 @@
-use crate::profile::{Comparer, Key, Profile, ProfileError};
+use crate::profile::{Comparer, Key, Place, Profile, ProfileError};
+use bstr::BString;
 use gix_status::index_as_worktree::Options;
 use status_base::index::{Flags, HashKind, Mode, Moment, Time};
-use status_base::worktree::NodeKind;
+use status_base::worktree::{Node, NodeKind};
 use std::alloc::{AllocError, Global};
 use std::test::Fail;
 
@@ -87,6 +88,14 @@ fn refusal(alloc: Global, text: &str) -> Option<ProfileError> {
     Profile::from_json(alloc, text.as_bytes()).err()
 }
 
+// The nodes of a profile, none where it names a folder.
+fn nodes_of(profile: &Profile) -> &[(BString, Node)] {
+    match &profile.place {
+        Place::Nodes(nodes) => nodes.as_slice(),
+        Place::Folder(_) => &[],
+    }
+}
+
 // A profile with these options.
 fn with_options(alloc: Global, options: &str) -> Result<String, AllocError> {
     format!(in alloc; r#"{{"timestamp":[9,0],"options":{{{options}}},"index":[],"worktree":[]}}"#)
@@ -121,9 +130,9 @@ fn reads_a_whole_profile(rt: HostRuntime) -> Result<(), Fail> {
         assert_eq!(rt; entry.flags, Flags::default());
         assert_eq!(rt; entry.id.kind(), HashKind::Sha1);
     }
-    assert_eq!(rt; profile.nodes.len(), 2);
+    assert_eq!(rt; nodes_of(&profile).len(), 2);
     let contents = ["bars", "bar"];
-    for ((path, node), content) in profile.nodes.iter().zip(contents) {
+    for ((path, node), content) in nodes_of(&profile).iter().zip(contents) {
         assert_eq!(rt; path.as_bytes().len(), 1);
         assert_eq!(rt; node.kind, NodeKind::File);
         assert_eq!(rt; node.bytes.as_slice(), content.as_bytes());
@@ -151,7 +160,7 @@ fn what_is_missing_has_its_default(rt: HostRuntime) -> Result<(), Fail> {
     assert!(rt; !profile.options.counts);
     let text = with_node(alloc, r#""path":"d/e""#)?;
     let profile = Profile::from_json(alloc, text.as_bytes())?;
-    for (path, node) in profile.nodes.iter() {
+    for (path, node) in nodes_of(&profile).iter() {
         assert_eq!(rt; path.as_bytes(), b"d/e".as_slice());
         assert_eq!(rt; node.kind, NodeKind::File);
         assert_eq!(rt; node.len, 0);
@@ -240,8 +249,12 @@ fn the_first_bad_key_is_told(rt: HostRuntime) {
             Key::Worktree,
         ),
         (
-            r#"{"timestamp":[9,0],"index":[],"worktree":[],"folder":"f"}"#,
+            r#"{"timestamp":[9,0],"index":[],"worktree":[],"folder":null}"#,
             Key::Worktree,
+        ),
+        (
+            r#"{"timestamp":[9,0],"options":{"untracked":true},"index":1,"folder":1}"#,
+            Key::Options,
         ),
         (
             r#"{"timestamp":[9,0],"index":[1],"worktree":1}"#,
@@ -323,8 +336,8 @@ fn nodes_are_read(rt: HostRuntime) -> Result<(), Fail> {
         let fields = format!(in alloc; r#""path":"a",{case}"#)?;
         let text = with_node(alloc, fields.as_str())?;
         let profile = Profile::from_json(alloc, text.as_bytes())?;
-        assert_eq!(rt; profile.nodes.len(), 1);
-        for (_, node) in profile.nodes.iter() {
+        assert_eq!(rt; nodes_of(&profile).len(), 1);
+        for (_, node) in nodes_of(&profile).iter() {
             assert_eq!(rt; node.kind, kind);
             assert_eq!(rt; node.bytes.as_slice(), bytes);
             assert_eq!(rt; node.len, bytes.len() as u64);
@@ -332,6 +345,16 @@ fn nodes_are_read(rt: HostRuntime) -> Result<(), Fail> {
             assert_eq!(rt; node.ctime, node.mtime);
         }
     }
+    Ok(())
+}
+
+#[test]
+fn a_folder_stands_in_place_of_nodes(rt: HostRuntime) -> Result<(), Fail> {
+    let text =
+        r#"{"timestamp":[9,0],"options":{"executable_bit":true},"index":[],"worktree":1,"folder":"d/e"}"#;
+    let profile = Profile::from_json(rt.alloc(), text.as_bytes())?;
+    assert!(rt; matches!(&profile.place, Place::Folder(folder) if folder.as_str() == "d/e"));
+    assert!(rt; !profile.options.status.fs.executable_bit);
     Ok(())
 }
 

@@ -1,0 +1,158 @@
+//! A worktree in a folder of the disk.
+
+#[cfg(test)]
+mod tests;
+
+use crate::worktree::Worktree;
+use bstr::BStr;
+use status_index::{Fault, Metadata, NodeKind, ReadBytes, Time};
+use std::alloc::AllocError;
+use std::fs::FileType;
+use std::path::Path;
+use std::rt::Files;
+use std::time::UNIX_EPOCH;
+use std::{fs, io};
+
+/// A folder of the disk. It tells nothing of its nodes, which may change between any two calls.
+///
+/// Paths have to be UTF-8. Of a node the kind, the length and the time of its last change are asked; the time of its
+/// metadata's last change is taken to be the same, no file is taken to be executable, and the other numbers are 0.
+#[derive(Drop)]
+pub struct DiskWorktree<R> {
+    rt: R,
+    // What stands before a path: the folder's own path and a slash, or nothing for the working folder.
+    front: String,
+}
+
+impl<R: Files + AllocGlobal + Drop> DiskWorktree<R> {
+    /// The folder at a path, where an empty path is the working folder. It needn't be there.
+    ///
+    /// # Errors
+    /// Want of memory.
+    pub fn new(rt: R, root: Path<'_>) -> Result<DiskWorktree<R>, AllocError> {
+        let mut front = String::from_str(rt.alloc(), root.as_str())?;
+        if !front.is_empty() {
+            front.push('/')?;
+        }
+        Ok(DiskWorktree { rt, front })
+    }
+
+    /// The path of a node for the system.
+    ///
+    /// # Errors
+    /// A path that isn't UTF-8, or want of memory.
+    fn path_of(&self, path: BStr<'_>) -> Result<String, Fault> {
+        let Ok(path) = str::from_utf8(path.as_bytes()) else {
+            return Err(Fault::IllformedUtf8);
+        };
+        let mut whole = String::with_capacity(self.rt.alloc(), self.front.len() + path.len())?;
+        whole.push_str(self.front.as_str())?;
+        whole.push_str(path)?;
+        Ok(whole)
+    }
+}
+
+/// A file of a folder. A read asks the system for as many bytes as the caller has room for.
+#[derive(Drop)]
+pub struct DiskFile<F> {
+    file: F,
+}
+
+impl<F: io::Read + Drop> ReadBytes for DiskFile<F> {
+    fn read_bytes(&mut self, buffer: &mut [u8]) -> Result<usize, Fault> {
+        match self.file.read(buffer) {
+            Ok(count) => Ok(count),
+            Err(error) => Err(fault_of(error.kind())),
+        }
+    }
+}
+
+impl<R: Files + AllocGlobal + Drop> Worktree for DiskWorktree<R> {
+    ghost use Rattle.std.specs.Prelude.{false, Err};
+    ghost use Rattle.status_index.specs.declared.fault.Fault.TheVariants.{NotFound};
+
+    type File = DiskFile<R::File>;
+
+    ghost tells = { λ _. false };
+
+    ghost lstat_of = { λ _ _. Err NotFound };
+
+    ghost open_of = { λ _ _. Err NotFound };
+
+    ghost target_of = { λ _ _. Err NotFound };
+
+    fn lstat(&self, path: BStr<'_>) -> Result<Metadata, Fault> {
+        let path = self.path_of(path)?;
+        match self.rt.symlink_metadata(path.as_str()) {
+            Ok(found) => Ok(metadata_of(&found)),
+            Err(error) => Err(fault_of(error.kind())),
+        }
+    }
+
+    fn open(&self, path: BStr<'_>) -> Result<DiskFile<R::File>, Fault> {
+        let path = self.path_of(path)?;
+        match fs::open(&self.rt, path.as_str()) {
+            Ok(file) => Ok(DiskFile { file }),
+            Err(error) => Err(fault_of(error.kind())),
+        }
+    }
+
+    fn read_link(&self, path: BStr<'_>, target: &mut Vec<u8>) -> Result<(), Fault> {
+        target.clear();
+        let path = self.path_of(path)?;
+        match fs::read_link(&self.rt, path.as_str()) {
+            Ok(found) => Ok(target.extend_from_slice(found.as_path().as_str().as_bytes())?),
+            Err(error) => Err(fault_of(error.kind())),
+        }
+    }
+}
+
+fn metadata_of(found: &fs::Metadata) -> Metadata {
+    let changed = time_of(found);
+    Metadata {
+        kind: kind_of(found.file_type()),
+        len: found.len(),
+        executable: false,
+        mtime: changed,
+        ctime: changed,
+        dev: 0,
+        ino: 0,
+        uid: 0,
+        gid: 0,
+    }
+}
+
+fn kind_of(kind: FileType) -> NodeKind {
+    if kind.is_file() {
+        NodeKind::File
+    } else if kind.is_symlink() {
+        NodeKind::Link
+    } else if kind.is_dir() {
+        NodeKind::Directory
+    } else {
+        NodeKind::Other
+    }
+}
+
+/// When the content was last changed. None before 1970, and where the seconds don't fit into 32 bits.
+fn time_of(found: &fs::Metadata) -> Option<Time> {
+    let changed = found.modified().ok()?;
+    let since_1970 = changed.duration_since(UNIX_EPOCH).ok()?;
+    Some(Time {
+        secs: u32::try_from(since_1970.as_secs()).ok()?,
+        nsecs: since_1970.subsec_nanos(),
+    })
+}
+
+/// The fault that stands for an error of the system.
+fn fault_of(error: io::ErrorKind) -> Fault {
+    match error {
+        io::ErrorKind::NotFound => Fault::NotFound,
+        io::ErrorKind::NotADirectory => Fault::NotADirectory,
+        io::ErrorKind::PermissionDenied => Fault::PermissionDenied,
+        io::ErrorKind::Interrupted => Fault::Interrupted,
+        io::ErrorKind::UnexpectedEof => Fault::UnexpectedEnd,
+        io::ErrorKind::OutOfMemory => Fault::Memory,
+        _ => Fault::Other(0),
+    }
+}

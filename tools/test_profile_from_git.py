@@ -1,0 +1,216 @@
+#!/usr/bin/env python3
+"""Tests of profile_from_git.py, on repositories that git makes here:  python3 tools/test_profile_from_git.py
+
+Where STATUS_PROGRAM names the built program, its lines are compared with git's. Where there is no git, nothing is run.
+"""
+
+import json
+import os
+import shutil
+import socket
+import subprocess
+import sys
+import tempfile
+import time
+import unittest
+
+HERE = os.path.dirname(os.path.abspath(__file__))
+sys.path.insert(0, HERE)
+import profile_from_git as tool
+
+FOO = "19102815663d23f8b75a47e7a01965dcdc96468c"
+PROGRAM = os.environ.get("STATUS_PROGRAM")
+# git's letters for the program's words. None where git prints no line.
+LETTERS = {"removed": "D", "modified": "M", "type": "T", "intent": "A", "update": None}
+
+
+@unittest.skipUnless(shutil.which("git"), "needs git")
+class Case(unittest.TestCase):
+    def setUp(self):
+        room = tempfile.TemporaryDirectory()
+        self.addCleanup(room.cleanup)
+        self.top = os.path.join(os.path.realpath(room.name), "top")
+        os.mkdir(self.top)
+        self.git("init", "-q")
+
+    def git(self, *words, given=None):
+        named = ["-c", "user.name=n", "-c", "user.email=e", "-c", "core.hooksPath=/dev/null"]
+        ran = subprocess.run(["git", "-C", self.top, *named, *words], input=given, capture_output=True, check=True)
+        return ran.stdout
+
+    def path(self, name):
+        return os.path.join(self.top, name)
+
+    def write(self, name, text):
+        os.makedirs(os.path.dirname(self.path(name)), exist_ok=True)
+        with open(self.path(name), "w", encoding="utf-8", newline="") as file:
+            file.write(text)
+
+    def entries(self):
+        return {(it["path"], it.get("stage", 0)): it for it in tool.profile_of(self.top)[0]["index"]}
+
+
+class Profiles(Case):
+    def test_an_entry_has_what_lstat_told_git(self):
+        self.write("a", "foo")
+        os.chmod(self.path("a"), 0o755)
+        os.symlink("a", self.path("l"))
+        self.git("add", "a", "l")
+        entries = self.entries()
+        found = os.lstat(self.path("a"))
+        entry = entries["a", 0]
+        self.assertEqual((entry["id"], entry["mode"], entry["size"]), (FOO, "100755", 3))
+        self.assertEqual(entry["mtime"], list(divmod(found.st_mtime_ns, 10**9)))
+        self.assertEqual(entry["ctime"], list(divmod(found.st_ctime_ns, 10**9)))
+        self.assertEqual(entry["ino"], found.st_ino & 0xFFFFFFFF)
+        self.assertEqual((entry.get("uid", 0), entry.get("gid", 0)), (found.st_uid, found.st_gid))
+        self.assertEqual(entries["l", 0]["mode"], "120000")
+
+    def test_the_folder_the_moment_and_the_options_are_those_of_the_repository(self):
+        self.write("d/a", "foo")
+        self.git("add", ".")
+        profile, conversions = tool.profile_of(self.path("d"))
+        self.assertEqual((profile["folder"], profile["hash"], conversions), (self.top, "sha1", 0))
+        written = os.stat(self.path(".git/index")).st_mtime_ns
+        self.assertEqual(profile["timestamp"], list(divmod(written, 10**9)))
+        wanted = {"symlink": True, "trust_ctime": False, "check_stat": False}
+        self.assertEqual(profile["options"], wanted)
+        self.git("config", "core.symlinks", "false")
+        self.assertEqual(tool.profile_of(self.top, True)[0]["options"], {**wanted, "symlink": False, "counts": True})
+
+    def test_flags_stages_and_names_are_kept(self):
+        odd = "d/tab\tline\n\"é\x01"
+        for name in ("assumed", "skipped", odd):
+            self.write(name, "foo")
+        self.git("add", ".")
+        self.write("intended", "foo")
+        self.git("add", "-N", "intended")
+        self.git("update-index", "--assume-unchanged", "assumed")
+        self.git("update-index", "--skip-worktree", "skipped")
+        lines = "".join(f"100644 {FOO} {stage}\tf\n" for stage in (1, 2, 3))
+        self.git("update-index", "--index-info", given=lines.encode())
+        entries = self.entries()
+        flags = {name: entries[name, 0].get("flags") for name in ("assumed", "skipped", "intended", odd)}
+        wanted = {"assumed": ["assume-valid"], "skipped": ["skip-worktree"], "intended": ["intent-to-add"], odd: None}
+        self.assertEqual(flags, wanted)
+        self.assertEqual([stage for name, stage in entries if name == "f"], [1, 2, 3])
+
+    def test_an_empty_repository_has_an_empty_index(self):
+        profile, _ = tool.profile_of(self.top)
+        self.assertEqual((profile["index"], profile["timestamp"]), ([], [0, 0]))
+
+    def test_conversions_are_counted(self):
+        for name in ("a.txt", "b.txt", "c"):
+            self.write(name, "foo")
+        self.write(".gitattributes", "*.txt text\n")
+        self.git("add", ".")
+        self.assertEqual(tool.profile_of(self.top)[1], 2)
+
+
+class Refusals(Case):
+    def test_a_path_that_is_no_text_is_refused(self):
+        line = b"100644 " + FOO.encode() + b" 0\tx\xff\n"
+        self.git("update-index", "--index-info", given=line)
+        with self.assertRaisesRegex(tool.Refused, "isn't UTF-8"):
+            tool.profile_of(self.top)
+
+    def test_a_folder_without_a_repository_is_refused(self):
+        room = os.path.dirname(self.top)
+        tried = subprocess.run([sys.executable, tool.__file__, room], capture_output=True, text=True)
+        self.assertEqual((tried.returncode, tried.stdout), (1, ""))
+        self.assertTrue(tried.stderr.startswith("refused: git rev-parse: "), tried.stderr)
+
+    def test_an_unknown_listing_is_refused(self):
+        with self.assertRaisesRegex(tool.Refused, "isn't known"):
+            tool.entries_of(b"100644 x\n")
+
+
+@unittest.skipUnless(PROGRAM, "STATUS_PROGRAM names no program")
+class Comparison(Case):
+    def lines(self):
+        """What the program prints."""
+        profile, _ = tool.profile_of(self.top)
+        with tempfile.NamedTemporaryFile("w", suffix=".json") as file:
+            json.dump(profile, file)
+            file.flush()
+            # A pipe that is opened would never answer.
+            ran = subprocess.run([PROGRAM, "status", file.name], capture_output=True, text=True, timeout=30)
+        self.assertEqual((ran.returncode, ran.stderr), (0, ""))
+        return ran.stdout.splitlines()
+
+    def program(self):
+        """What the program tells: a letter a path, as git's, or that there is a conflict."""
+        told = {}
+        for line in self.lines():
+            words = line.split(" ")
+            path = json.loads(line[line.index('"') :])
+            told[path] = "conflict" if words[1] == "conflict" else LETTERS[words[1]]
+        return {path: letter for path, letter in told.items() if letter}
+
+    def git_tells(self):
+        told = {}
+        ran = subprocess.run(tool.comparable(self.top), capture_output=True, check=True)
+        for line in ran.stdout.decode().split("\0")[:-1]:
+            pair, path = line[:2], line[3:]
+            conflict = "U" in pair or pair in ("AA", "DD")
+            told[path] = "conflict" if conflict else pair[1]
+        return {path: letter for path, letter in told.items() if letter != " "}
+
+    def test_the_program_tells_what_git_tells(self):
+        names = ["clean", "touched", "changed", "shrunk", "same-size", "removed", "d/e/gone", "becomes-link", "a b"]
+        for name in [*names, "becomes-folder", "folder-link/x", "odd\t\n\"é", "assumed", "skipped"]:
+            self.write(name, "foo")
+        for name in ("link", "becomes-file", "relinked"):
+            os.symlink("clean", self.path(name))
+        self.git("add", ".")
+        self.git("commit", "-q", "-m", "all")
+        self.write("intended", "foo")
+        self.write("intended-and-gone", "foo")
+        self.git("add", "-N", "intended", "intended-and-gone")
+        self.git("update-index", "--assume-unchanged", "assumed")
+        self.git("update-index", "--skip-worktree", "skipped")
+        lines = "".join(f"100644 {FOO} {stage}\tfight\n" for stage in (1, 2, 3))
+        self.git("update-index", "--index-info", given=lines.encode())
+        os.utime(self.path("touched"), (5, 5))
+        for name, content in (("changed", "longer"), ("shrunk", ""), ("same-size", "bar"), ("odd\t\n\"é", "x"), ("assumed", "x")):
+            self.write(name, content)
+        for name in ("removed", "d/e/gone", "becomes-link", "becomes-folder", "becomes-file", "relinked", "intended-and-gone"):
+            os.remove(self.path(name))
+        os.symlink("clean", self.path("becomes-link"))
+        self.write("becomes-folder/x", "foo")
+        self.write("becomes-file", "clean")
+        os.symlink("d", self.path("relinked"))
+        shutil.rmtree(self.path("folder-link"))
+        os.symlink("d", self.path("folder-link"))
+        told = self.program()
+        self.assertEqual(told, self.git_tells())
+        self.assertNotIn("touched", told)
+        self.assertEqual(len(told), 14)
+
+    def test_what_is_no_file_is_not_opened(self):
+        for name in ("pipe", "socket", "link-to-pipe"):
+            self.write(name, "foo")
+        self.git("add", ".")
+        for name in ("pipe", "socket", "link-to-pipe"):
+            os.remove(self.path(name))
+        os.mkfifo(self.path("pipe"))
+        os.symlink("pipe", self.path("link-to-pipe"))
+        with socket.socket(socket.AF_UNIX) as bound:
+            bound.bind(self.path("socket"))
+            wanted = ['0 type 120000 "link-to-pipe"', '1 type 100644 "pipe"', '2 type 100644 "socket"']
+            self.assertEqual(self.lines(), wanted)
+
+    def test_a_write_in_the_second_of_the_index_is_seen(self):
+        now = int(time.time()) - 100
+        self.write("a", "foo")
+        os.utime(self.path("a"), (now, now))
+        self.git("add", "a")
+        self.write("a", "bar")
+        os.utime(self.path("a"), (now, now))
+        os.utime(self.path(".git/index"), (now, now))
+        self.assertEqual(self.program(), {"a": "M"})
+        self.assertEqual(self.git_tells(), {"a": "M"})
+
+
+if __name__ == "__main__":
+    unittest.main()
