@@ -1,0 +1,176 @@
+//! Asking a status.
+
+use gix_status::index_as_worktree::function::index_as_worktree;
+use gix_status::index_as_worktree::traits::CompareBlobs;
+use gix_status::index_as_worktree::{
+    Capabilities, Change, Context, EntryStatus, Error, Options, Outcome, Record, Recorder,
+};
+use status_base::index::State;
+use status_base::worktree::{
+    AllPaths, Fault, Find, MemoryObjects, NoFilter, NoLister, NoSubmodules, Pathspec, SubmoduleStatus,
+    ToGit, Worktree,
+};
+use std::alloc::Global;
+use std::sync::Wait;
+use std::thread::Threads;
+
+/// What a status is asked with.
+pub struct Asked<S, O, P, T> {
+    pub submodule: S,
+    pub objects: O,
+    pub pathspec: P,
+    pub filter: T,
+    pub options: Options,
+}
+
+/// All paths as they are, with no blob or submodule. Links count, executability doesn't.
+pub fn plainly(alloc: Global) -> Asked<NoSubmodules, MemoryObjects, AllPaths, NoFilter> {
+    Asked {
+        submodule: NoSubmodules,
+        objects: MemoryObjects::new(alloc),
+        pathspec: AllPaths,
+        filter: NoFilter,
+        options: options(),
+    }
+}
+
+/// Options with which links count and executability doesn't.
+pub fn options() -> Options {
+    Options {
+        fs: Capabilities {
+            symlink: true,
+            executable_bit: false,
+        },
+        ..Options::default()
+    }
+}
+
+/// What one file took that was compared: one lstat, and so many bytes of one file.
+pub fn one_file_read(bytes: u64) -> Outcome {
+    Outcome {
+        worktree_files_read: 1,
+        worktree_bytes: bytes,
+        ..one_file()
+    }
+}
+
+/// What one file took of which nothing was read.
+pub fn one_file() -> Outcome {
+    Outcome {
+        entries_to_process: 1,
+        entries_processed: 1,
+        symlink_metadata_calls: 1,
+        ..Outcome::default()
+    }
+}
+
+/// A record of a file that has other content, told by a comparer in this way.
+pub fn changed<T, U>(content: T) -> EntryStatus<T, U> {
+    EntryStatus::Change(Change::Modification {
+        executable_bit_changed: false,
+        content_change: Some(content),
+        set_entry_stat_size_zero: false,
+    })
+}
+
+/// A record of a file that isn't there.
+pub fn removed<T, U>() -> EntryStatus<T, U> {
+    EntryStatus::Change(Change::Removed)
+}
+
+/// What was told: the records, and what it took or why it failed.
+#[derive(Drop)]
+pub struct Told<'index, T, U> {
+    pub records: Vec<Record<'index, T, U>>,
+    pub answer: Result<Outcome, Error>,
+}
+
+/// The status of an index against a worktree.
+pub fn ask<
+    'index,
+    R: AllocGlobal + Threads + Wait,
+    W: Worktree,
+    C: CompareBlobs + Drop,
+    S: SubmoduleStatus + Drop,
+    O: Find + Drop,
+    P: Pathspec + Drop,
+    T: ToGit + Drop,
+>(
+    rt: &R,
+    index: &'index State,
+    worktree: &W,
+    compare: C,
+    asked: Asked<S, O, P, T>,
+) -> Told<'index, C::Output, S::Output>
+where
+    C::Output: Drop,
+    S::Output: Drop,
+{
+    let alloc = rt.alloc();
+    let Asked {
+        submodule,
+        objects,
+        pathspec,
+        filter,
+        options,
+    } = asked;
+    let mut recorder = Recorder::new(alloc);
+    let context = Context {
+        pathspec,
+        filter,
+        lister: NoLister,
+        should_interrupt: None,
+    };
+    let answer = index_as_worktree(
+        rt,
+        alloc,
+        index,
+        worktree,
+        &mut recorder,
+        compare,
+        submodule,
+        objects,
+        context,
+        options,
+    );
+    Told {
+        records: recorder.records,
+        answer,
+    }
+}
+
+impl<'index, T, U> Told<'index, T, U> {
+    /// Whether the status succeeded and took just this.
+    pub fn took(&self, wanted: &Outcome) -> bool {
+        match &self.answer {
+            Ok(outcome) => *outcome == *wanted,
+            Err(_) => false,
+        }
+    }
+
+    /// Whether the status failed by this fault of the worktree.
+    pub fn failed_by(&self, wanted: Fault) -> bool {
+        match &self.answer {
+            Err(Error::Io(fault)) => *fault == wanted,
+            _ => false,
+        }
+    }
+}
+
+impl<'index, T: PartialEq, U: PartialEq> Told<'index, T, U> {
+    /// Whether these are all the records: each by its entry's place and path, and its status.
+    pub fn is_all(&self, wanted: &[(usize, &str, EntryStatus<T, U>)]) -> bool {
+        if self.records.len() != wanted.len() {
+            return false;
+        }
+        for (record, (at, path, status)) in self.records.iter().zip(wanted) {
+            if record.entry_index != *at
+                || record.relative_path.as_bytes() != path.as_bytes()
+                || record.status != *status
+            {
+                return false;
+            }
+        }
+        true
+    }
+}

@@ -1,0 +1,12 @@
+//! Small indexes and worktrees, and what is told of them.
+
+mod comparers;
+mod deep;
+mod empty;
+mod faults;
+mod filters;
+mod lengths;
+mod links;
+mod sizes;
+mod submodules;
+mod sweep;
