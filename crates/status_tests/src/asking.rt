@@ -89,24 +89,51 @@ pub struct Told<'index, T, U> {
 pub fn ask<
     'index,
     R: AllocGlobal + Threads + Wait,
+    T: Drop,
+    U: Drop,
     W: Worktree,
-    C: CompareBlobs + Drop,
-    S: SubmoduleStatus + Drop,
+    C: CompareBlobs<Output = T> + Drop,
+    S: SubmoduleStatus<Output = U> + Drop,
     O: Find + Drop,
     P: Pathspec + Drop,
-    T: ToGit + Drop,
+    G: ToGit + Drop,
 >(
     rt: &R,
     index: &'index State,
     worktree: &W,
     compare: C,
-    asked: Asked<S, O, P, T>,
-) -> Told<'index, C::Output, S::Output>
-where
-    C::Output: Drop,
-    S::Output: Drop,
-{
+    asked: Asked<S, O, P, G>,
+) -> Told<'index, T, U> {
     let alloc = rt.alloc();
+    let mut recorder = Recorder::new(alloc);
+    let answer = tell(rt, alloc, index, worktree, &mut recorder, compare, asked);
+    Told {
+        records: recorder.records,
+        answer,
+    }
+}
+
+// Tells the records to `recorder`.
+fn tell<
+    'index,
+    R: Threads + Wait,
+    T: Drop,
+    U: Drop,
+    W: Worktree,
+    C: CompareBlobs<Output = T> + Drop,
+    S: SubmoduleStatus<Output = U> + Drop,
+    O: Find + Drop,
+    P: Pathspec + Drop,
+    G: ToGit + Drop,
+>(
+    rt: &R,
+    alloc: Global,
+    index: &'index State,
+    worktree: &W,
+    recorder: &mut Recorder<'index, T, U>,
+    compare: C,
+    asked: Asked<S, O, P, G>,
+) -> Result<Outcome, Error> {
     let Asked {
         submodule,
         objects,
@@ -114,29 +141,24 @@ where
         filter,
         options,
     } = asked;
-    let mut recorder = Recorder::new(alloc);
     let context = Context {
         pathspec,
         filter,
         lister: NoLister,
         should_interrupt: None,
     };
-    let answer = index_as_worktree(
+    index_as_worktree(
         rt,
         alloc,
         index,
         worktree,
-        &mut recorder,
+        recorder,
         compare,
         submodule,
         objects,
         context,
         options,
-    );
-    Told {
-        records: recorder.records,
-        answer,
-    }
+    )
 }
 
 impl<'index, T, U> Told<'index, T, U> {

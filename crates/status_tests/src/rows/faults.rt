@@ -64,7 +64,7 @@ fn a_file_that_does_not_open_ends_the_status(rt: HostRuntime) -> Result<(), Fail
 
 #[test]
 fn a_read_that_fails_is_not_tried_again(rt: HostRuntime) -> Result<(), Fail> {
-    let (reads, failing) = (AtomicUsize::new(0), AtomicUsize::new(0));
+    let reads = AtomicUsize::new(0);
     let bar = Piece {
         bytes: b"bar",
         fault: None,
@@ -73,7 +73,7 @@ fn a_read_that_fails_is_not_tried_again(rt: HostRuntime) -> Result<(), Fail> {
     let interrupted = Piece {
         bytes: b"ba",
         fault: Some(Fault::Interrupted),
-        reads: &failing,
+        reads: &reads,
     };
     let files = [("a", Ok(bar)), ("b", Ok(interrupted)), ("c", Ok(bar))];
     let entries = [foo_entry("a"), foo_entry("b"), foo_entry("c")];
@@ -81,6 +81,7 @@ fn a_read_that_fails_is_not_tried_again(rt: HostRuntime) -> Result<(), Fail> {
     let told = ask_one_by_one(&rt, &index, &Files { files: &files });
     assert!(rt; told.is_all(&[(0, "a", changed(BAR))]));
     assert!(rt; told.failed_by(Fault::Interrupted));
-    assert_eq!(rt; failing.load(Ordering::SeqCst), 2);
+    // One of `a`, and of `b` the one that gave bytes and the one that failed.
+    assert_eq!(rt; reads.load(Ordering::SeqCst), 3);
     Ok(())
 }
