@@ -4,6 +4,7 @@ ghost use Rattle.std.specs.Prelude.{◌≡◌, ℕ, Option, None, Result, IfSome
 ghost use Rattle.status_index.specs.declared.entry.Entry.{Entry as IndexedEntry};
 ghost use Rattle.status_compare.specs.declared.error.Error.{Error as StatusError};
 ghost use Rattle.status_compare.specs.Reading.{Meaning, ReadCounts, IsMeant};
+ghost use Rattle.status_base.specs.Lawful.{CloneKeeps};
 
 use crate::error::Error;
 use crate::read_data::ReadData;
@@ -11,9 +12,9 @@ use status_base::index::Entry;
 use std::alloc::Global;
 
 /// Compares a worktree's file with the blob that an index entry names.
-pub trait CompareBlobs {
+pub trait CompareBlobs: Clone {
     /// What is told of a change.
-    type Output;
+    type Output: Drop;
 
     /// The answer, by entry, the file's length, and what there is to be read.
     ghost answer: { Self → IndexedEntry → ℕ → Meaning → Result (Option Self.Output) StatusError };
@@ -38,4 +39,10 @@ pub trait CompareBlobs {
         ensures same_answer { answer self.new ≡ answer self.old }
         ensures same_counts { counts_after self.new ≡ counts_after self.old }
         ensures counts { OnOk result (IfSome (R.means «data».old) (λ m. IfSome (counts_after self.old entry.now size m (R.counts «data».old)) (λ k. R.counts «data».new ≡ k))) };
+
+    /// A clone answers the same.
+    ghost clone_keeps_answer: { CloneKeeps Self.is_clone answer };
+
+    /// A clone reads as much.
+    ghost clone_keeps_counts: { CloneKeeps Self.is_clone counts_after };
 }

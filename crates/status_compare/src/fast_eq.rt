@@ -1,6 +1,6 @@
 //! Comparison by sizes where these decide, else by ids.
 
-ghost use Rattle.std.specs.Prelude.{◌≡◌, Some};
+ghost use Rattle.std.specs.Prelude.{◌≡◌, Some, refl};
 ghost use Rattle.status_compare.specs.Comparers.{fast_answer, counts_after_fast, size_decides};
 ghost use Rattle.status_compare.specs.FastAgrees.{FastAgrees};
 
@@ -22,6 +22,10 @@ impl CompareBlobs for FastEq {
     ghost answer = { λ _ e n m. fast_answer e n m.file };
 
     ghost counts_after = { λ _ e n m k. Some (counts_after_fast e n m.file k) };
+
+    ghost clone_keeps_answer = { λ _ _ _. refl };
+
+    ghost clone_keeps_counts = { λ _ _ _. refl };
 
     fn compare_blobs<R: ReadData>(
         &mut self,

@@ -1,6 +1,6 @@
 //! Comparison by ids.
 
-ghost use Rattle.std.specs.Prelude.{◌≡◌, Ok, Some};
+ghost use Rattle.std.specs.Prelude.{◌≡◌, Ok, Some, refl};
 ghost use Rattle.status_compare.specs.Comparers.{hash_answer, counts_after_hash};
 ghost use Rattle.status_compare.specs.Reading.{Reading, IsReading};
 ghost use Rattle.status_compare.specs.StreamIds.{IsIdOf};
@@ -24,6 +24,10 @@ impl CompareBlobs for HashEq {
     ghost answer = { λ _ e _ m. hash_answer e m.file };
 
     ghost counts_after = { λ _ _ _ m k. Some (counts_after_hash m.file k) };
+
+    ghost clone_keeps_answer = { λ _ _ _. refl };
+
+    ghost clone_keeps_counts = { λ _ _ _. refl };
 
     fn compare_blobs<R: ReadData>(
         &mut self,

@@ -1,4 +1,4 @@
-ghost use Rattle.std.specs.Prelude.{false, Err};
+ghost use Rattle.std.specs.Prelude.{false, Err, refl};
 ghost use Rattle.status_index.specs.declared.fault.Fault.TheVariants.{NotFound};
 ghost use Rattle.status_base.specs.declared.worktree.objects.FindError.TheVariants.{Missing};
 
@@ -72,11 +72,13 @@ impl<'a> Worktree for Everywhere<'a> {
     }
 }
 
-#[derive(Drop)]
+#[derive(Clone)]
 struct NoObjects;
 
 impl Find for NoObjects {
     ghost found = { λ _ _. Err Missing };
+
+    ghost clone_keeps_found = { λ _ _ _. refl };
 
     fn find_blob(&self, _id: &ObjectId, _buffer: &mut Vec<u8>) -> Result<(), FindError> {
         Err(FindError::Missing)

@@ -5,14 +5,17 @@ mod tests;
 
 use crate::failure::Failure;
 use crate::lines::{status_line, total_line};
-use crate::profile::{Profile, ProfileOptions};
+use crate::profile::{Comparer, Profile, ProfileOptions};
 use bstr::BString;
 use gix_status::index_as_worktree::function::index_as_worktree;
-use gix_status::index_as_worktree::traits::HashEq;
-use gix_status::index_as_worktree::{Context, Error, Options, Outcome, Record, Recorder};
-use status_base::index::{ObjectId, State};
+use gix_status::index_as_worktree::traits::{CompareBlobs, FastEq, HashEq};
+use gix_status::index_as_worktree::{
+    Context, Error, Options, Outcome, Record, Recorder, VisitEntry,
+};
+use status_base::index::State;
 use status_base::worktree::{
-    AllPaths, MemoryObjects, MemoryWorktree, NoFilter, NoLister, NoSubmodules, Node,
+    AllPaths, MemoryObjects, MemoryWorktree, NoFilter, NoLister, NoSubmodules, Node, Pathspec,
+    Prefix, Worktree,
 };
 use std::alloc::Global;
 use std::io;
@@ -76,13 +79,56 @@ fn plant(alloc: Global, nodes: Vec<(BString, Node)>) -> Result<MemoryWorktree, F
     Ok(worktree)
 }
 
-fn status_of_profile<R: AllocGlobal + Threads + Wait, O: io::Write>(
+/// Prints the status of an index against a worktree, as the options of a profile ask for it.
+fn status_of_profile<R: AllocGlobal + Threads + Wait, W: Worktree + Sync, O: io::Write>(
     rt: &R,
     index: &State,
-    worktree: &MemoryWorktree,
+    worktree: &W,
     options: ProfileOptions,
     output: &mut O,
 ) -> Result<(), Failure> {
+    let prefix = options.prefix.as_bstr();
+    if prefix.as_bytes().is_empty() {
+        return status_of_paths(rt, index, worktree, AllPaths, options, output);
+    }
+    let prefix = Prefix::new(rt.alloc(), prefix)?;
+    status_of_paths(rt, index, worktree, prefix, options, output)
+}
+
+/// Prints the status of these paths, by the comparer that the options name.
+fn status_of_paths<R: AllocGlobal + Threads + Wait, W: Worktree + Sync, P: Pathspec + Send, O: io::Write>(
+    rt: &R,
+    index: &State,
+    worktree: &W,
+    pathspec: P,
+    options: ProfileOptions,
+    output: &mut O,
+) -> Result<(), Failure> {
+    match options.comparer {
+        Comparer::Hash => status_by(rt, index, worktree, HashEq, pathspec, options, output),
+        Comparer::Fast => status_by(rt, index, worktree, FastEq, pathspec, options, output),
+    }
+}
+
+/// Prints the status of these paths by this comparer. The records before a fault are printed too.
+fn status_by<
+    R: AllocGlobal + Threads + Wait,
+    W: Worktree + Sync,
+    C: CompareBlobs + Send,
+    P: Pathspec + Send,
+    O: io::Write,
+>(
+    rt: &R,
+    index: &State,
+    worktree: &W,
+    compare: C,
+    pathspec: P,
+    options: ProfileOptions,
+    output: &mut O,
+) -> Result<(), Failure>
+where
+    C::Output: Send + Drop,
+{
     let alloc = rt.alloc();
     let counts = options.counts;
     let mut recorder = Recorder::new(alloc);
@@ -92,36 +138,49 @@ fn status_of_profile<R: AllocGlobal + Threads + Wait, O: io::Write>(
         index,
         worktree,
         &mut recorder,
-        MemoryObjects::new(alloc),
+        compare,
+        pathspec,
         options.status,
     );
     print_records(alloc, recorder.records.as_slice(), output)?;
     print_totals(alloc, &answer?, counts, output)
 }
 
-/// Asks the status, by ids, of all paths, with no filter, listing, or submodule.
-fn ask<'index, R: Threads + Wait>(
+/// Asks the status, with no filter, listing, submodule or blob.
+fn ask<
+    'index,
+    R: Threads + Wait,
+    W: Worktree + Sync,
+    V: VisitEntry<'index, SubmoduleStatus = ()>,
+    C: CompareBlobs<Output = V::ContentChange> + Send,
+    P: Pathspec + Send,
+>(
     rt: &R,
     alloc: Global,
     index: &'index State,
-    worktree: &MemoryWorktree,
-    recorder: &mut Recorder<'index, ObjectId, ()>,
-    objects: MemoryObjects,
+    worktree: &W,
+    collector: &mut V,
+    compare: C,
+    pathspec: P,
     options: Options,
-) -> Result<Outcome, Error> {
+) -> Result<Outcome, Error>
+where
+    V::ContentChange: Send + Drop,
+{
     let context = Context {
-        pathspec: AllPaths,
+        pathspec,
         filter: NoFilter,
         lister: NoLister,
         should_interrupt: None,
     };
+    let objects = MemoryObjects::new(alloc);
     index_as_worktree(
         rt,
         alloc,
         index,
         worktree,
-        recorder,
-        HashEq,
+        collector,
+        compare,
         NoSubmodules,
         objects,
         context,

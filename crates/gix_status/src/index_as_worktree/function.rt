@@ -57,14 +57,14 @@ fn chunk_size_of(options: &Options) -> usize {
 pub fn index_as_worktree<
     'index,
     R: Threads + Wait,
-    W: Worktree,
+    W: Worktree + Sync,
     V: VisitEntry<'index>,
-    C: CompareBlobs<Output = V::ContentChange> + Drop,
-    S: SubmoduleStatus<Output = V::SubmoduleStatus> + Drop,
-    O: Find + Drop,
-    P: Pathspec + Drop,
-    T: ToGit + Drop,
-    L: Lister + Drop,
+    C: CompareBlobs<Output = V::ContentChange> + Send,
+    S: SubmoduleStatus<Output = V::SubmoduleStatus> + Send,
+    O: Find + Send,
+    P: Pathspec + Send,
+    T: ToGit + Send,
+    L: Lister + Send,
 >(
     _rt: &R,
     alloc: Global,
@@ -78,8 +78,8 @@ pub fn index_as_worktree<
     options: Options,
 ) -> Result<Outcome, Error>
 where
-    V::ContentChange: Drop,
-    V::SubmoduleStatus: Drop,
+    V::ContentChange: Send + Drop,
+    V::SubmoduleStatus: Send + Drop,
     ensures { IsStatus
         (query_of options.stat options.fs.symlink options.fs.executable_bit (timestamp_of index.now)
         (record { lstat = W.lstat_of worktree.now; opened = W.open_of worktree.now; linked = W.target_of worktree.now })

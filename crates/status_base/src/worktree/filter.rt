@@ -1,9 +1,10 @@
 //! Conversion of a worktree's files to what git stores.
 
-ghost use Rattle.std.specs.Prelude.{◌≡◌, List, ℕ, Some};
+ghost use Rattle.std.specs.Prelude.{◌≡◌, List, ℕ, Some, refl};
 ghost use Rattle.bstr.specs.BStr.{bstr_bytes};
 ghost use Rattle.status_index.specs.Content.{Content};
 ghost use Rattle.status_base.specs.Converted.{Converted, same};
+ghost use Rattle.status_base.specs.Lawful.{CloneKeeps};
 
 use bstr::BStr;
 use status_index::{Fault, ReadBytes};
@@ -18,7 +19,7 @@ pub enum ToGitOutcome<'a, F> {
 }
 
 /// Conversion of a worktree's files to what git stores, as git's clean filters do.
-pub trait ToGit {
+pub trait ToGit: Clone {
     ghost use Rattle.status_base.specs.Outcomes.{IsConverted};
 
     /// What becomes of a file at a path.
@@ -35,6 +36,9 @@ pub trait ToGit {
         buffer: &'a mut Vec<u8>,
     ) -> Result<ToGitOutcome<'a, F>, Fault>
         ensures { (content : Content) → F.left file ≡ Some content → IsConverted F.left (conversion self.now content (bstr_bytes path.entry)) (F.left file) result };
+
+    /// A clone converts in the same way.
+    ghost clone_keeps_conversion: { CloneKeeps Self.is_clone conversion };
 }
 
 /// Every file is stored as it is.
@@ -43,6 +47,8 @@ pub struct NoFilter;
 
 impl ToGit for NoFilter {
     ghost conversion = { λ _ _ _. same };
+
+    ghost clone_keeps_conversion = { λ _ _ _. refl };
 
     fn convert<'a, F: ReadBytes>(
         &self,

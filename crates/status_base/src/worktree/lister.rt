@@ -1,7 +1,8 @@
 //! Listings of directories.
 
-ghost use Rattle.std.specs.Prelude.{◌≡◌, List, ℕ, Option, None, IfOk};
+ghost use Rattle.std.specs.Prelude.{◌≡◌, List, ℕ, Option, None, IfOk, refl};
 ghost use Rattle.bstr.specs.BStr.{bstr_bytes};
+ghost use Rattle.status_base.specs.Lawful.{CloneKeeps};
 ghost use Rattle.status_base.specs.Listing.{listing_of};
 ghost use Rattle.status_base.specs.declared.fscache.Stat.{Stat as ListedStat};
 
@@ -13,7 +14,7 @@ use std::alloc::AllocError;
 pub type Listing = Option<Vec<(BString, fscache::Stat)>>;
 
 /// Listings of directories, by paths from the worktree's root. The root's path is empty.
-pub trait Lister {
+pub trait Lister: Clone {
     /// The names in each directory, with their stats.
     ghost listing: { Self → List ℕ → Option (List (List ℕ × ListedStat)) };
 
@@ -23,6 +24,9 @@ pub trait Lister {
     /// Want of memory.
     fn list(&self, directory: BStr<'_>) -> Result<Listing, AllocError>
         ensures { IfOk result (λ l. listing_of l ≡ listing self.now (bstr_bytes directory.entry)) };
+
+    /// A clone lists the same.
+    ghost clone_keeps_listing: { CloneKeeps Self.is_clone listing };
 }
 
 /// No directory can be listed.
@@ -31,6 +35,8 @@ pub struct NoLister;
 
 impl Lister for NoLister {
     ghost listing = { λ _ _. None };
+
+    ghost clone_keeps_listing = { λ _ _ _. refl };
 
     fn list(&self, _directory: BStr<'_>) -> Result<Listing, AllocError> {
         Ok(None)

@@ -67,9 +67,12 @@ impl Clone for MemoryObjects {
 }
 
 impl Find for MemoryObjects {
+    ghost use Rattle.std.proofs.Common.{ap};
     ghost use Rattle.status_base.specs.Objects.{found_in};
 
     ghost found = { found_in };
+
+    ghost clone_keeps_found = { λ _ _ same. ap found_in same };
 
     fn find_blob(&self, id: &ObjectId, buffer: &mut Vec<u8>) -> Result<(), FindError> {
         let Some(content) = self.contents.get(id) else {

@@ -9,6 +9,7 @@ pub mod memory;
 pub mod memory_objects;
 pub mod objects;
 pub mod pathspec;
+pub mod prefix;
 pub mod submodule;
 pub mod tree;
 
@@ -18,6 +19,7 @@ pub use memory::{MemoryFile, MemoryWorktree, Node, TreeError};
 pub use memory_objects::MemoryObjects;
 pub use objects::{Find, FindError};
 pub use pathspec::{AllPaths, Pathspec};
+pub use prefix::Prefix;
 pub use status_index::{ByteText, Fault, Metadata, NodeKind, ReadBytes, TimeError};
 pub use submodule::{NoSubmodules, SubmoduleFault, SubmoduleStatus};
 pub use tree::Worktree;

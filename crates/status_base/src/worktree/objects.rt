@@ -3,6 +3,7 @@
 ghost use Rattle.std.specs.Prelude.{◌≡◌, List, ℕ, Result};
 ghost use Rattle.status_index.specs.declared.id.ObjectId.{ObjectId as BlobName};
 ghost use Rattle.status_base.specs.declared.worktree.objects.FindError.{FindError as NotFound};
+ghost use Rattle.status_base.specs.Lawful.{CloneKeeps};
 
 use status_index::ObjectId;
 use thiserror::Error;
@@ -19,7 +20,7 @@ pub enum FindError {
 }
 
 /// Blobs by their ids.
-pub trait Find {
+pub trait Find: Clone {
     ghost use Rattle.status_base.specs.Found.{IsFound};
 
     /// The content of each blob, or why there is none.
@@ -31,4 +32,7 @@ pub trait Find {
     /// Missing where there is no blob of that id. After an error what `buffer` holds is left open.
     fn find_blob(&self, id: &ObjectId, buffer: &mut Vec<u8>) -> Result<(), FindError>
         ensures { IsFound (found self.now id.now) result buffer.new.items };
+
+    /// A clone has the same blobs.
+    ghost clone_keeps_found: { CloneKeeps Self.is_clone found };
 }

@@ -1,12 +1,13 @@
 //! Which paths a status looks at.
 
-ghost use Rattle.std.specs.Prelude.{◌≡◌, Bool, true, List, [], ℕ};
+ghost use Rattle.std.specs.Prelude.{◌≡◌, Bool, true, List, [], ℕ, refl};
 ghost use Rattle.bstr.specs.BStr.{bstr_bytes};
+ghost use Rattle.status_base.specs.Lawful.{CloneKeeps};
 
 use bstr::BStr;
 
-/// Which paths a status looks at (git's pathspecs). Its meaning is a prefix and a test.
-pub trait Pathspec {
+/// Which paths a status looks at (git's pathspecs). Its meaning is a prefix and a test, which a clone has too.
+pub trait Pathspec: Clone {
     /// What every included path begins with.
     ghost prefix: { Self → List ℕ };
 
@@ -20,6 +21,12 @@ pub trait Pathspec {
     /// Whether the path is to be looked at. `is_dir` says whether it is a directory's.
     fn includes(&self, path: BStr<'_>, is_dir: bool) -> bool
         ensures { result ≡ included self.now (bstr_bytes path.entry) is_dir };
+
+    /// A clone has the same prefix.
+    ghost clone_keeps_prefix: { CloneKeeps Self.is_clone prefix };
+
+    /// A clone includes the same paths.
+    ghost clone_keeps_included: { CloneKeeps Self.is_clone included };
 }
 
 /// Every path.
@@ -30,6 +37,10 @@ impl Pathspec for AllPaths {
     ghost prefix = { λ _. [] };
 
     ghost included = { λ _ _ _. true };
+
+    ghost clone_keeps_prefix = { λ _ _ _. refl };
+
+    ghost clone_keeps_included = { λ _ _ _. refl };
 
     fn common_prefix(&self) -> BStr<'_> {
         BStr::new(b"")

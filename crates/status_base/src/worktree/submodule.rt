@@ -1,7 +1,8 @@
 //! The status of a submodule.
 
-ghost use Rattle.std.specs.Prelude.{◌≡◌, List, ℕ, Option, None, Result, Ok};
+ghost use Rattle.std.specs.Prelude.{◌≡◌, List, ℕ, Option, None, Result, Ok, refl};
 ghost use Rattle.bstr.specs.BStr.{bstr_bytes};
+ghost use Rattle.status_base.specs.Lawful.{CloneKeeps};
 ghost use Rattle.status_index.specs.declared.entry.Entry.{Entry as IndexedEntry};
 
 use bstr::BStr;
@@ -15,11 +16,11 @@ pub struct SubmoduleFault {
 }
 
 /// The status of submodules.
-pub trait SubmoduleStatus {
+pub trait SubmoduleStatus: Clone {
     ghost use Rattle.status_base.specs.Submodules.{IsSubmoduleAnswer};
 
     /// How a submodule changed.
-    type Output;
+    type Output: Drop;
 
     /// How the submodule of an entry at a path changed, or the text of a fault.
     ghost meaning: { Self → IndexedEntry → List ℕ → Result (Option Self.Output) (List ℕ) };
@@ -35,6 +36,9 @@ pub trait SubmoduleStatus {
     ) -> Result<Option<Self::Output>, SubmoduleFault>
         ensures answer { IsSubmoduleAnswer (meaning self.old entry.now (bstr_bytes path.entry)) result }
         ensures same { meaning self.new ≡ meaning self.old };
+
+    /// A clone says the same of every submodule.
+    ghost clone_keeps_meaning: { CloneKeeps Self.is_clone meaning };
 }
 
 /// Submodules that never change.
@@ -45,6 +49,8 @@ impl SubmoduleStatus for NoSubmodules {
     type Output = ();
 
     ghost meaning = { λ _ _ _. Ok None };
+
+    ghost clone_keeps_meaning = { λ _ _ _. refl };
 
     fn status(&mut self, _entry: &Entry, _path: BStr<'_>) -> Result<Option<()>, SubmoduleFault> {
         Ok(None)

@@ -11,9 +11,9 @@ use std::alloc::Global;
 /// How a file is compared with what an entry names.
 #[derive(Clone, Copy, Debug, PartialEq, Eq)]
 pub enum Comparer {
-    /// By its id, so that a change is told with the new id.
+    /// By its id: each file that has to be compared is read.
     Hash,
-    /// By its length first, and by its id where that doesn't tell.
+    /// By its length where that shows a change, and else by its id.
     Fast,
 }
 
@@ -39,11 +39,7 @@ pub struct ProfileOptions {
 impl ProfileOptions {
     /// Whether a status can be computed with these options.
     fn is_supported(&self) -> bool {
-        self.comparer == Comparer::Hash
-            && self.prefix.as_bytes().is_empty()
-            && !self.untracked
-            && !self.renames
-            && !self.sort
+        !self.untracked && !self.renames && !self.sort
     }
 }
 

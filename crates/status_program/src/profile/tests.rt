@@ -19,7 +19,7 @@ const SHA1: &str = "19102815663d23f8b75a47e7a01965dcdc96468c";
 const SHA256: &str = "473a0f4c3be8a93681a267e3b1e9a7dcda1185436fe141f7749120a303721813";
 
 // Options that are wrong, or not supported.
-const BAD_OPTIONS: [&str; 20] = [
+const BAD_OPTIONS: [&str; 18] = [
     r#""symlink":1"#,
     r#""executable_bit":null"#,
     r#""trust_ctime":"true""#,
@@ -35,8 +35,6 @@ const BAD_OPTIONS: [&str; 20] = [
     r#""comparer":"slow""#,
     r#""prefix":1"#,
     r#""counts":0"#,
-    r#""comparer":"fast""#,
-    r#""prefix":"a""#,
     r#""untracked":true"#,
     r#""renames":true"#,
     r#""sort":true"#,
@@ -181,6 +179,12 @@ fn options_are_read(rt: HostRuntime) -> Result<(), Fail> {
     assert_eq!(rt; options.status.chunk_size, 4294967295);
     assert_eq!(rt; options.status.thread_limit, None);
     assert!(rt; options.counts);
+    assert_eq!(rt; options.comparer, Comparer::Hash);
+    assert!(rt; options.prefix.as_bytes().is_empty());
+    let text = with_options(alloc, r#""comparer":"fast","prefix":"d/\u00e9""#)?;
+    let options = Profile::from_json(alloc, text.as_bytes())?.options;
+    assert_eq!(rt; options.comparer, Comparer::Fast);
+    assert_eq!(rt; options.prefix.as_bytes(), "d/é".as_bytes());
     Ok(())
 }
 

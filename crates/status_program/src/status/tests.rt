@@ -192,3 +192,69 @@ fn the_records_before_a_fault_stay_printed(rt: HostRuntime) -> Result<(), Fail> 
     );
     Ok(())
 }
+
+#[test]
+fn paths_outside_a_prefix_are_skipped(rt: HostRuntime) -> Result<(), Fail> {
+    let alloc = rt.alloc();
+    let cases = [
+        (
+            r#"{"timestamp":[9,0],"options":{"counts":true,"prefix":"b"},"index":[{"path":"a","id":"19102815663d23f8b75a47e7a01965dcdc96468c","size":3,"mtime":[5,0]},{"path":"b","id":"19102815663d23f8b75a47e7a01965dcdc96468c","size":3,"mtime":[5,0]},{"path":"c","id":"19102815663d23f8b75a47e7a01965dcdc96468c","size":3,"mtime":[5,0]}],"worktree":[{"path":"a","text":"foo","mtime":[5,0]},{"path":"c","text":"foo","mtime":[5,0]}]}"#,
+            "1 removed \"b\"\ntotal: to process 1, processed 1, skipped 2, lstat 1, to update 0, racy 0, read 0, bytes 0\n",
+        ),
+        (
+            r#"{"timestamp":[9,0],"options":{"counts":true,"prefix":"z"},"index":[{"path":"a","id":"19102815663d23f8b75a47e7a01965dcdc96468c","size":3,"mtime":[5,0]},{"path":"b","id":"19102815663d23f8b75a47e7a01965dcdc96468c","size":3,"mtime":[5,0]},{"path":"c","id":"19102815663d23f8b75a47e7a01965dcdc96468c","size":3,"mtime":[5,0]}],"worktree":[{"path":"a","text":"foo","mtime":[5,0]},{"path":"c","text":"foo","mtime":[5,0]}]}"#,
+            "total: to process 3, processed 3, skipped 3, lstat 0, to update 0, racy 0, read 0, bytes 0\n",
+        ),
+        (
+            r#"{"timestamp":[9,0],"options":{"counts":true,"prefix":"d/x"},"index":[{"path":"a","id":"19102815663d23f8b75a47e7a01965dcdc96468c","size":3,"mtime":[5,0]},{"path":"d/x","id":"19102815663d23f8b75a47e7a01965dcdc96468c","size":3,"mtime":[5,0]},{"path":"d/xy","id":"19102815663d23f8b75a47e7a01965dcdc96468c","size":3,"mtime":[5,0]},{"path":"d/y","id":"19102815663d23f8b75a47e7a01965dcdc96468c","size":3,"mtime":[5,0]}],"worktree":[{"path":"d/z","text":"foo","mtime":[5,0]}]}"#,
+            "1 removed \"d/x\"\n2 removed \"d/xy\"\ntotal: to process 2, processed 2, skipped 2, lstat 2, to update 0, racy 0, read 0, bytes 0\n",
+        ),
+        (
+            r#"{"timestamp":[9,0],"options":{"counts":true,"prefix":"b","comparer":"fast"},"index":[{"path":"a","id":"19102815663d23f8b75a47e7a01965dcdc96468c","size":3,"mtime":[5,0]},{"path":"b","id":"19102815663d23f8b75a47e7a01965dcdc96468c","size":3,"mtime":[5,0]}],"worktree":[{"path":"a","text":"bars","mtime":[7,0]},{"path":"b","text":"bars","mtime":[7,0]}]}"#,
+            "1 modified -c- \"b\"\ntotal: to process 1, processed 1, skipped 1, lstat 1, to update 0, racy 0, read 0, bytes 0\n",
+        ),
+    ];
+    for (text, wanted) in cases {
+        let mut output = Vec::new(alloc);
+        let mut faults = Vec::new(alloc);
+        let mut profile = text.as_bytes();
+        let status = run_status(&rt, "f", &mut profile, &mut output, &mut faults);
+        assert_eq!(rt; status, 0, "at {text}");
+        assert!(rt; faults.is_empty(), "at {text}");
+        assert_eq!(rt; output.as_slice(), wanted.as_bytes(), "at {text}");
+    }
+    Ok(())
+}
+
+#[test]
+fn sizes_decide_before_anything_is_read(rt: HostRuntime) -> Result<(), Fail> {
+    let alloc = rt.alloc();
+    let cases = [
+        (
+            r#"{"timestamp":[9,0],"options":{"counts":true,"comparer":"fast"},"index":[{"path":"a","id":"19102815663d23f8b75a47e7a01965dcdc96468c","size":3,"mtime":[5,0]}],"worktree":[{"path":"a","text":"bars","mtime":[7,0]}]}"#,
+            "0 modified -c- \"a\"\ntotal: to process 1, processed 1, skipped 0, lstat 1, to update 0, racy 0, read 0, bytes 0\n",
+        ),
+        (
+            r#"{"timestamp":[9,0],"options":{"counts":true,"comparer":"fast"},"index":[{"path":"a","id":"19102815663d23f8b75a47e7a01965dcdc96468c","size":0,"mtime":[5,0]}],"worktree":[{"path":"a","text":"foo","mtime":[5,0]}]}"#,
+            "0 update \"a\"\ntotal: to process 1, processed 1, skipped 0, lstat 1, to update 1, racy 0, read 1, bytes 3\n",
+        ),
+        (
+            r#"{"timestamp":[9,0],"options":{"counts":true,"comparer":"fast"},"index":[{"path":"a","id":"e69de29bb2d1d6434b8b29ae775ad8c2e48c5391","size":0,"mtime":[5,0]}],"worktree":[{"path":"a","text":"bars","mtime":[7,0]}]}"#,
+            "0 modified -c- \"a\"\ntotal: to process 1, processed 1, skipped 0, lstat 1, to update 0, racy 0, read 0, bytes 0\n",
+        ),
+        (
+            r#"{"timestamp":[9,0],"options":{"counts":true,"comparer":"fast"},"index":[{"path":"a","id":"19102815663d23f8b75a47e7a01965dcdc96468c","size":3,"mtime":[5,0]}],"worktree":[{"path":"a","text":"bar","mtime":[7,0]}]}"#,
+            "0 modified -c- \"a\"\ntotal: to process 1, processed 1, skipped 0, lstat 1, to update 0, racy 0, read 1, bytes 3\n",
+        ),
+    ];
+    for (text, wanted) in cases {
+        let mut output = Vec::new(alloc);
+        let mut faults = Vec::new(alloc);
+        let mut profile = text.as_bytes();
+        let status = run_status(&rt, "f", &mut profile, &mut output, &mut faults);
+        assert_eq!(rt; status, 0, "at {text}");
+        assert!(rt; faults.is_empty(), "at {text}");
+        assert_eq!(rt; output.as_slice(), wanted.as_bytes(), "at {text}");
+    }
+    Ok(())
+}
