@@ -4,33 +4,47 @@ use gix_status::index_as_worktree::function::index_as_worktree;
 use gix_status::index_as_worktree::traits::CompareBlobs;
 use gix_status::index_as_worktree::{
     Capabilities, Change, Context, EntryStatus, Error, Options, Outcome, Record, Recorder,
+    VisitEntry,
 };
-use status_base::index::State;
+use status_base::index::{ObjectId, State};
 use status_base::worktree::{
-    AllPaths, Fault, Find, MemoryObjects, NoFilter, NoLister, NoSubmodules, Pathspec, SubmoduleStatus,
+    AllPaths, Fault, MemoryObjects, NoFilter, NoLister, NoSubmodules, Pathspec, SubmoduleStatus,
     ToGit, Worktree,
 };
 use std::alloc::Global;
 use std::sync::Wait;
 use std::thread::Threads;
 
-/// What a status is asked with.
-pub struct Asked<S, O, P, T> {
+/// What a status is asked with, beside an index, a worktree and a comparer.
+pub struct Asked<S, P, T> {
     pub submodule: S,
-    pub objects: O,
+    pub objects: MemoryObjects,
     pub pathspec: P,
     pub filter: T,
     pub options: Options,
 }
 
 /// All paths as they are, with no blob or submodule. Links count, executability doesn't.
-pub fn plainly(alloc: Global) -> Asked<NoSubmodules, MemoryObjects, AllPaths, NoFilter> {
+pub fn plainly(alloc: Global) -> Asked<NoSubmodules, AllPaths, NoFilter> {
+    with_options(alloc, options())
+}
+
+/// The same, with other options.
+pub fn with_options(alloc: Global, options: Options) -> Asked<NoSubmodules, AllPaths, NoFilter> {
+    with_objects(MemoryObjects::new(alloc), options)
+}
+
+/// The same, with blobs.
+pub fn with_objects(
+    objects: MemoryObjects,
+    options: Options,
+) -> Asked<NoSubmodules, AllPaths, NoFilter> {
     Asked {
         submodule: NoSubmodules,
-        objects: MemoryObjects::new(alloc),
+        objects,
         pathspec: AllPaths,
         filter: NoFilter,
-        options: options(),
+        options,
     }
 }
 
@@ -85,25 +99,21 @@ pub struct Told<'index, T, U> {
     pub answer: Result<Outcome, Error>,
 }
 
-/// The status of an index against a worktree.
+/// The status of an index against a worktree, by a comparer that tells ids.
 pub fn ask<
     'index,
     R: AllocGlobal + Threads + Wait,
-    T: Drop,
-    U: Drop,
-    W: Worktree,
-    C: CompareBlobs<Output = T> + Drop,
-    S: SubmoduleStatus<Output = U> + Drop,
-    O: Find + Drop,
-    P: Pathspec + Drop,
-    G: ToGit + Drop,
+    W: Worktree + Sync,
+    C: CompareBlobs<Output = ObjectId> + Send,
+    P: Pathspec + Send,
+    T: ToGit + Send,
 >(
     rt: &R,
     index: &'index State,
     worktree: &W,
     compare: C,
-    asked: Asked<S, O, P, G>,
-) -> Told<'index, T, U> {
+    asked: Asked<NoSubmodules, P, T>,
+) -> Told<'index, ObjectId, ()> {
     let alloc = rt.alloc();
     let mut recorder = Recorder::new(alloc);
     let answer = tell(rt, alloc, index, worktree, &mut recorder, compare, asked);
@@ -113,27 +123,29 @@ pub fn ask<
     }
 }
 
-// Tells the records to `recorder`.
-fn tell<
+/// Tells `collector` the status of an index against a worktree.
+pub fn tell<
     'index,
     R: Threads + Wait,
-    T: Drop,
-    U: Drop,
-    W: Worktree,
-    C: CompareBlobs<Output = T> + Drop,
-    S: SubmoduleStatus<Output = U> + Drop,
-    O: Find + Drop,
-    P: Pathspec + Drop,
-    G: ToGit + Drop,
+    W: Worktree + Sync,
+    V: VisitEntry<'index>,
+    C: CompareBlobs<Output = V::ContentChange> + Send,
+    S: SubmoduleStatus<Output = V::SubmoduleStatus> + Send,
+    P: Pathspec + Send,
+    T: ToGit + Send,
 >(
     rt: &R,
     alloc: Global,
     index: &'index State,
     worktree: &W,
-    recorder: &mut Recorder<'index, T, U>,
+    collector: &mut V,
     compare: C,
-    asked: Asked<S, O, P, G>,
-) -> Result<Outcome, Error> {
+    asked: Asked<S, P, T>,
+) -> Result<Outcome, Error>
+where
+    V::ContentChange: Send + Drop,
+    V::SubmoduleStatus: Send + Drop,
+{
     let Asked {
         submodule,
         objects,
@@ -148,16 +160,7 @@ fn tell<
         should_interrupt: None,
     };
     index_as_worktree(
-        rt,
-        alloc,
-        index,
-        worktree,
-        recorder,
-        compare,
-        submodule,
-        objects,
-        context,
-        options,
+        rt, alloc, index, worktree, collector, compare, submodule, objects, context, options,
     )
 }
 

@@ -1,6 +1,6 @@
 //! Comparers as a caller writes them.
 
-ghost use Rattle.std.specs.Prelude.{◌≡◌};
+ghost use Rattle.std.specs.Prelude.{◌≡◌, refl};
 ghost use Rattle.status_compare.specs.Comparers.{hash_answer};
 ghost use Rattle.status_tests.specs.Lengths.{length_answer, length_counts};
 ghost use Rattle.status_tests.specs.Pieces.{pieces_counts};
@@ -21,6 +21,10 @@ impl CompareBlobs for BlobLength {
     ghost answer = { λ _ _ n m. length_answer n m.blob };
 
     ghost counts_after = { λ _ _ _ m k. length_counts m.blob k };
+
+    ghost clone_keeps_answer = { λ _ _ _. refl };
+
+    ghost clone_keeps_counts = { λ _ _ _. refl };
 
     fn compare_blobs<R: ReadData>(
         &mut self,
@@ -45,6 +49,10 @@ impl CompareBlobs for SmallPieces {
     ghost answer = { λ _ e _ m. hash_answer e m.file };
 
     ghost counts_after = { λ _ _ _ m k. pieces_counts m.file k };
+
+    ghost clone_keeps_answer = { λ _ _ _. refl };
+
+    ghost clone_keeps_counts = { λ _ _ _. refl };
 
     fn compare_blobs<R: ReadData>(
         &mut self,

@@ -1,6 +1,6 @@
 //! Filters as a caller writes them.
 
-ghost use Rattle.std.specs.Prelude.{◌≡◌};
+ghost use Rattle.std.specs.Prelude.{◌≡◌, refl};
 ghost use Rattle.std.specs.List.{filter};
 ghost use Rattle.status_base.specs.Converted.{refused};
 ghost use Rattle.status_tests.specs.Returns.{is_no_return, without_returns};
@@ -8,6 +8,7 @@ ghost use Rattle.status_tests.specs.Returns.{is_no_return, without_returns};
 use bstr::BStr;
 use status_base::worktree::{Fault, ReadBytes, ToGit, ToGitOutcome};
 use status_index::read_all;
+use std::alloc::AllocError;
 
 /// Takes out carriage returns, as where text is stored with line feeds alone.
 #[derive(Clone, Copy, Debug)]
@@ -22,6 +23,8 @@ fn take_returns_out(bytes: &mut Vec<u8>)
 
 impl ToGit for WithoutReturns {
     ghost conversion = { λ _ content _. without_returns content.bytes content.fault };
+
+    ghost clone_keeps_conversion = { λ _ _ _. refl };
 
     fn convert<'a, F: ReadBytes>(
         &self,
@@ -38,11 +41,23 @@ impl ToGit for WithoutReturns {
 }
 
 /// Refuses each file by the same fault.
-#[derive(Clone, Copy, Debug)]
+#[derive(Debug, Drop)]
 pub struct Refuses(pub Fault);
 
+impl Clone for Refuses {
+    ghost is_clone = { λ x y. y ≡ x };
+
+    fn clone(&self) -> Result<Refuses, AllocError> {
+        Ok(Refuses(self.0))
+    }
+}
+
 impl ToGit for Refuses {
+    ghost use Rattle.std.proofs.Common.{ap};
+
     ghost conversion = { λ filter _ _. refused filter.0 };
+
+    ghost clone_keeps_conversion = { λ _ _ same. ap (λ filter _ _. refused filter.0) same };
 
     fn convert<'a, F: ReadBytes>(
         &self,

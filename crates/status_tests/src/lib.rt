@@ -1,5 +1,5 @@
-//! Tests of the status call that cross crates: its answers over comparers, filters, submodules and worktrees as a caller
-//! writes them, each proved to mean what it says.
+//! Tests of the status call that cross crates: its answers over comparers, filters and submodules as a caller writes
+//! them, each proved to mean what it says, and over a worktree that tells nothing.
 #![tactic(auto)]
 
 #[cfg(test)]

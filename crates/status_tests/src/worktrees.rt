@@ -31,8 +31,8 @@ impl<'a> ReadBytes for Piece<'a> {
     }
 }
 
-/// Files of three bytes, as lstat has it, that were written after the entries were staged: by path, what opening answers.
-/// It tells nothing of its nodes.
+/// Files of three bytes, as lstat has it, that were written after the entries were staged: by path, what opening
+/// answers. It tells nothing of its nodes.
 #[derive(Clone, Copy)]
 pub struct Files<'a> {
     pub files: &'a [(&'a str, Result<Piece<'a>, Fault>)],

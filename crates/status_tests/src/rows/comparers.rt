@@ -1,17 +1,17 @@
 //! Comparers of a caller's own.
 
-use crate::asking::{Asked, Told, ask, changed, one_file, options, plainly, removed};
+use crate::asking::{
+    Told, ask, changed, one_file, options, plainly, removed, tell, with_objects,
+};
 use crate::comparers::{BlobLength, SmallPieces};
 use crate::given::{
     BARS, FOO, GivenEntry, GivenNode, LATER, WRITTEN, file, foo_entry, index, later_file,
     later_link, stat, worktree,
 };
 use gix_status::index_as_worktree::traits::HashEq;
-use gix_status::index_as_worktree::{EntryStatus, Error, Outcome};
+use gix_status::index_as_worktree::{EntryStatus, Error, Outcome, Recorder};
 use status_base::index::{Mode, ObjectId, State};
-use status_base::worktree::{
-    AllPaths, Fault, FindError, MemoryObjects, MemoryWorktree, NoFilter, NoSubmodules,
-};
+use status_base::worktree::{Fault, FindError, MemoryObjects, MemoryWorktree};
 use std::sync::Wait;
 use std::test::Fail;
 use std::thread::Threads;
@@ -29,14 +29,14 @@ fn ask_lengths<'index, R: AllocGlobal + Threads + Wait>(
     worktree: &MemoryWorktree,
     objects: MemoryObjects,
 ) -> Told<'index, u64, ()> {
-    let asked = Asked {
-        submodule: NoSubmodules,
-        objects,
-        pathspec: AllPaths,
-        filter: NoFilter,
-        options: options(),
-    };
-    ask(rt, index, worktree, BlobLength, asked)
+    let alloc = rt.alloc();
+    let mut recorder = Recorder::new(alloc);
+    let asked = with_objects(objects, options());
+    let answer = tell(rt, alloc, index, worktree, &mut recorder, BlobLength, asked);
+    Told {
+        records: recorder.records,
+        answer,
+    }
 }
 
 #[test]

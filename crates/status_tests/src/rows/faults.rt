@@ -1,12 +1,12 @@
 //! Faults of a worktree.
 
-use crate::asking::{Asked, Told, ask, changed, options};
+use crate::asking::{Told, ask, changed, options, with_options};
 use crate::given::{BAR, WRITTEN, foo_entry, index};
 use crate::worktrees::{Files, Piece};
 use gix_status::index_as_worktree::Options;
 use gix_status::index_as_worktree::traits::HashEq;
 use status_base::index::{ObjectId, State};
-use status_base::worktree::{AllPaths, Fault, MemoryObjects, NoFilter, NoSubmodules};
+use status_base::worktree::Fault;
 use std::sync::atomic::{AtomicUsize, Ordering};
 use std::sync::Wait;
 use std::test::Fail;
@@ -18,17 +18,12 @@ fn ask_one_by_one<'index, R: AllocGlobal + Threads + Wait>(
     index: &'index State,
     worktree: &Files<'_>,
 ) -> Told<'index, ObjectId, ()> {
-    let asked = Asked {
-        submodule: NoSubmodules,
-        objects: MemoryObjects::new(rt.alloc()),
-        pathspec: AllPaths,
-        filter: NoFilter,
-        options: Options {
-            chunk_size: 1,
-            thread_limit: Some(1),
-            ..options()
-        },
+    let options = Options {
+        chunk_size: 1,
+        thread_limit: Some(1),
+        ..options()
     };
+    let asked = with_options(rt.alloc(), options);
     ask(rt, index, worktree, HashEq, asked)
 }
 

@@ -9,7 +9,7 @@ use status_base::worktree::{AllPaths, Fault, MemoryObjects, NoSubmodules};
 use std::alloc::Global;
 use std::test::Fail;
 
-fn through<T>(alloc: Global, filter: T) -> Asked<NoSubmodules, MemoryObjects, AllPaths, T> {
+fn through<T>(alloc: Global, filter: T) -> Asked<NoSubmodules, AllPaths, T> {
     Asked {
         submodule: NoSubmodules,
         objects: MemoryObjects::new(alloc),

@@ -7,6 +7,7 @@ mod faults;
 mod filters;
 mod lengths;
 mod links;
+mod prefixes;
 mod sizes;
 mod submodules;
 mod sweep;

@@ -1,33 +1,64 @@
 //! Submodules.
 
-use crate::asking::{Asked, Told, ask, one_file, options};
+use crate::asking::{Asked, Told, one_file, options, tell};
 use crate::given::{GivenEntry, WRITTEN, directory, foo_entry, index, worktree};
 use crate::submodules::Alike;
 use gix_status::index_as_worktree::traits::HashEq;
-use gix_status::index_as_worktree::{Change, EntryStatus, Error};
+use gix_status::index_as_worktree::{
+    Change, EntryStatus, Error, Outcome, Recorder, VisitEntry,
+};
 use status_base::index::{Mode, ObjectId, State};
-use status_base::worktree::{AllPaths, MemoryObjects, MemoryWorktree, NoFilter};
+use status_base::worktree::{
+    AllPaths, MemoryObjects, MemoryWorktree, NoFilter, SubmoduleStatus,
+};
+use std::alloc::Global;
 use std::process::Abort;
 use std::sync::Wait;
 use std::test::Fail;
 use std::thread::Threads;
 
+// Tells `collector` the status with these submodules.
+fn tell_submodules<
+    'index,
+    R: Threads + Wait,
+    V: VisitEntry<'index, ContentChange = ObjectId>,
+    S: SubmoduleStatus<Output = V::SubmoduleStatus> + Send,
+>(
+    rt: &R,
+    alloc: Global,
+    index: &'index State,
+    worktree: &MemoryWorktree,
+    collector: &mut V,
+    submodule: S,
+) -> Result<Outcome, Error>
+where
+    V::SubmoduleStatus: Send + Drop,
+{
+    let asked = Asked {
+        submodule,
+        objects: MemoryObjects::new(alloc),
+        pathspec: AllPaths,
+        filter: NoFilter,
+        options: options(),
+    };
+    tell(rt, alloc, index, worktree, collector, HashEq, asked)
+}
+
 // The status where every submodule answers so.
-fn ask_submodules<'index, R: AllocGlobal + Threads + Wait + Abort>(
+fn ask_submodules<'index, R: AllocGlobal + Threads + Wait + Abort + Sync>(
     rt: &R,
     index: &'index State,
     worktree: &MemoryWorktree,
     answer: Result<Option<u32>, &[u8]>,
 ) -> Told<'index, ObjectId, u32> {
     let alloc = rt.alloc();
-    let asked = Asked {
-        submodule: Alike { rt, alloc, answer },
-        objects: MemoryObjects::new(alloc),
-        pathspec: AllPaths,
-        filter: NoFilter,
-        options: options(),
-    };
-    ask(rt, index, worktree, HashEq, asked)
+    let mut recorder = Recorder::new(alloc);
+    let submodule = Alike { rt, alloc, answer };
+    let answer = tell_submodules(rt, alloc, index, worktree, &mut recorder, submodule);
+    Told {
+        records: recorder.records,
+        answer,
+    }
 }
 
 #[test]

@@ -1,16 +1,15 @@
 //! One index with something of everything, over chunk sizes and thread limits.
 
-use crate::asking::{Asked, ask, changed, options, removed};
+use crate::asking::{ask, changed, removed, with_options};
 use crate::given::{
     BAR, BARS, FOO, GivenEntry, GivenNode, LATER, WRITTEN, directory, file, foo_entry, index,
     later_file, later_link, stage_entry, stat, worktree,
 };
 use gix_status::index_as_worktree::traits::HashEq;
 use gix_status::index_as_worktree::{
-    Capabilities, Change, Conflict, ConflictIndexEntry, EntryStatus, Options, Outcome,
+    Change, Conflict, ConflictIndexEntry, EntryStatus, Options, Outcome,
 };
 use status_base::index::{Flags, Mode, ObjectId};
-use status_base::worktree::{AllPaths, MemoryObjects, NoFilter, NoSubmodules};
 use std::test::Fail;
 
 type Status = EntryStatus<ObjectId, ()>;
@@ -200,18 +199,12 @@ fn chunk_sizes_and_thread_limits_change_nothing(rt: HostRuntime) -> Result<(), F
     let (wanted, took) = (wanted(), took());
     for chunk_size in [1, 2, 3, 7, 500] {
         for thread_limit in [None, Some(1), Some(2), Some(8)] {
-            let asked = Asked {
-                submodule: NoSubmodules,
-                objects: MemoryObjects::new(alloc),
-                pathspec: AllPaths,
-                filter: NoFilter,
-                options: Options {
-                    fs: Capabilities::default(),
-                    chunk_size,
-                    thread_limit,
-                    ..options()
-                },
+            let options = Options {
+                chunk_size,
+                thread_limit,
+                ..Options::default()
             };
+            let asked = with_options(alloc, options);
             let told = ask(&rt, &index, &worktree, HashEq, asked);
             assert!(rt; told.is_all(&wanted), "{chunk_size}, {thread_limit:?}");
             assert!(rt; told.took(&took), "{chunk_size}, {thread_limit:?}");
