@@ -1,9 +1,7 @@
 //! Indexes and worktrees to be asked about, in few words.
 
 use bstr::{BStr, BString};
-use status_base::index::{
-    Flags, IndexError, Mode, Moment, NewEntry, ObjectId, Stat, State, Time,
-};
+use status_base::index::{Flags, IndexError, Mode, Moment, NewEntry, ObjectId, Stat, State, Time};
 use status_base::worktree::{MemoryWorktree, Node, NodeKind, TreeError};
 use std::alloc::{AllocError, Global};
 
@@ -92,11 +90,7 @@ pub fn stat(mtime: u32, size: u32) -> Stat {
 }
 
 /// The index of these entries, which was written at a second.
-pub fn index(
-    alloc: Global,
-    written: u32,
-    entries: &[GivenEntry<'_>],
-) -> Result<State, IndexError> {
+pub fn index(alloc: Global, written: u32, entries: &[GivenEntry<'_>]) -> Result<State, IndexError> {
     let mut list = Vec::new(alloc);
     for entry in entries {
         list.push(NewEntry {

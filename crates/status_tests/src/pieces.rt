@@ -56,11 +56,7 @@ fn id_of_first<R: ReadBytes>(
 }
 
 /// The id of all bytes that the reader has left.
-fn id_of_all<R: ReadBytes>(
-    alloc: Global,
-    kind: HashKind,
-    reader: &mut R,
-) -> Result<ObjectId, Fault>
+fn id_of_all<R: ReadBytes>(alloc: Global, kind: HashKind, reader: &mut R) -> Result<ObjectId, Fault>
     ensures id { IfSome (R.left reader.old) (λ l. IsAnswer result (all_bytes_id kind l.bytes l.fault)) }
     ensures counted { OnOk result (IfSome (R.left reader.old) (λ l. CountsMore (R.taken reader.old) (R.taken reader.new) (length l.bytes))) }
 {

@@ -40,11 +40,7 @@ impl<'a, R: Abort + Sync> SubmoduleStatus for Alike<'a, R> {
 
     ghost clone_keeps_meaning = { λ _ _ same. ap (λ s _ _. answer_of s.answer) same };
 
-    fn status(
-        &mut self,
-        _entry: &Entry,
-        _path: BStr<'_>,
-    ) -> Result<Option<u32>, SubmoduleFault> {
+    fn status(&mut self, _entry: &Entry, _path: BStr<'_>) -> Result<Option<u32>, SubmoduleFault> {
         match self.answer {
             Ok(change) => Ok(change),
             Err(text) => Err(SubmoduleFault {

@@ -1,8 +1,6 @@
 //! Comparers of a caller's own.
 
-use crate::asking::{
-    Told, ask, changed, one_file, options, plainly, removed, tell, with_objects,
-};
+use crate::asking::{Told, ask, changed, one_file, options, plainly, removed, tell, with_objects};
 use crate::comparers::{BlobLength, SmallPieces};
 use crate::given::{
     BARS, FOO, GivenEntry, GivenNode, LATER, WRITTEN, file, foo_entry, index, later_file,
@@ -80,7 +78,13 @@ fn small_reads_tell_what_large_reads_do(rt: HostRuntime) -> Result<(), Fail> {
         mode: Mode::Symlink,
         ..foo_entry("d")
     };
-    let entries = [foo_entry("a"), foo_entry("b"), foo_entry("c"), link, foo_entry("e")];
+    let entries = [
+        foo_entry("a"),
+        foo_entry("b"),
+        foo_entry("c"),
+        link,
+        foo_entry("e"),
+    ];
     let index = index(alloc, WRITTEN, &entries)?;
     let nodes = [
         later_file("a", b"bars"),

@@ -7,8 +7,8 @@ use gix_status::index_as_worktree::Options;
 use gix_status::index_as_worktree::traits::HashEq;
 use status_base::index::{ObjectId, State};
 use status_base::worktree::Fault;
-use std::sync::atomic::{AtomicUsize, Ordering};
 use std::sync::Wait;
+use std::sync::atomic::{AtomicUsize, Ordering};
 use std::test::Fail;
 use std::thread::Threads;
 
@@ -51,7 +51,13 @@ fn a_file_that_does_not_open_ends_the_status(rt: HostRuntime) -> Result<(), Fail
     ];
     let index = index(rt.alloc(), WRITTEN, &entries)?;
     let told = ask_one_by_one(&rt, &index, &Files { files: &files });
-    assert!(rt; told.is_all(&[(0, "a", changed(BAR)), (1, "b", changed(BAR)), (2, "c", changed(BAR))]));
+    assert!(rt;
+        told.is_all(&[
+            (0, "a", changed(BAR)),
+            (1, "b", changed(BAR)),
+            (2, "c", changed(BAR))
+        ])
+    );
     assert!(rt; told.failed_by(Fault::PermissionDenied));
     assert_eq!(rt; reads.load(Ordering::SeqCst), 3);
     Ok(())

@@ -2,7 +2,9 @@
 
 use crate::asking::{Asked, ask, one_file_read, options, removed};
 use crate::filters::{Refuses, WithoutReturns};
-use crate::given::{A_LINE, GivenEntry, LATER, WRITTEN, foo_entry, index, later_file, stat, worktree};
+use crate::given::{
+    A_LINE, GivenEntry, LATER, WRITTEN, foo_entry, index, later_file, stat, worktree,
+};
 use gix_status::index_as_worktree::traits::HashEq;
 use gix_status::index_as_worktree::{EntryStatus, Outcome};
 use status_base::worktree::{AllPaths, Fault, MemoryObjects, NoSubmodules};

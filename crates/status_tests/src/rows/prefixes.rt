@@ -64,7 +64,12 @@ fn a_prefix_of_no_path_excludes_each(rt: HostRuntime) -> Result<(), Fail> {
 
 #[test]
 fn a_prefix_may_be_a_whole_path(rt: HostRuntime) -> Result<(), Fail> {
-    let entries = [foo_entry("d"), foo_entry("d/x"), foo_entry("d/xy"), foo_entry("e")];
+    let entries = [
+        foo_entry("d"),
+        foo_entry("d/x"),
+        foo_entry("d/xy"),
+        foo_entry("e"),
+    ];
     let index = index(rt.alloc(), WRITTEN, &entries)?;
     let worktree = worktree(rt.alloc(), &[later_file("d/x", b"bar")])?;
     let told = ask_prefix(&rt, &index, &worktree, "d/x")?;

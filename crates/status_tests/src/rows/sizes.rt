@@ -1,48 +1,35 @@
 //! Comparison by sizes where these decide.
 
-use crate::asking::{Told, changed, one_file, one_file_read, plainly, tell};
+use crate::asking::{Asked, Told, changed, one_file, one_file_read, plainly, tell};
 use crate::given::{
     EMPTY, GivenEntry, GivenNode, LATER, WRITTEN, foo_entry, index, later_file, stat, worktree,
 };
 use gix_status::index_as_worktree::traits::{CompareBlobs, FastEq};
-use gix_status::index_as_worktree::{EntryStatus, Error, Outcome, Recorder, VisitEntry};
+use gix_status::index_as_worktree::{EntryStatus, Outcome, Recorder};
 use status_base::index::State;
-use status_base::worktree::{Fault, MemoryWorktree};
-use std::alloc::Global;
+use status_base::worktree::{Fault, NoSubmodules, Pathspec, ToGit, Worktree};
 use std::sync::Wait;
 use std::test::Fail;
 use std::thread::Threads;
 
-// Tells `collector` the status of all paths as they are.
-fn tell_plainly<
+// The status by a comparer that tells of a change no more than that it is one.
+fn ask_sizes<
     'index,
-    R: Threads + Wait,
-    V: VisitEntry<'index, SubmoduleStatus = ()>,
-    C: CompareBlobs<Output = V::ContentChange> + Send,
+    R: AllocGlobal + Threads + Wait,
+    W: Worktree + Sync,
+    C: CompareBlobs<Output = ()> + Send,
+    P: Pathspec + Send,
+    T: ToGit + Send,
 >(
     rt: &R,
-    alloc: Global,
     index: &'index State,
-    worktree: &MemoryWorktree,
-    collector: &mut V,
+    worktree: &W,
     compare: C,
-) -> Result<Outcome, Error>
-where
-    V::ContentChange: Send + Drop,
-{
-    let asked = plainly(alloc);
-    tell(rt, alloc, index, worktree, collector, compare, asked)
-}
-
-// The status by sizes where these decide.
-fn ask_sizes<'index, R: AllocGlobal + Threads + Wait>(
-    rt: &R,
-    index: &'index State,
-    worktree: &MemoryWorktree,
+    asked: Asked<NoSubmodules, P, T>,
 ) -> Told<'index, (), ()> {
     let alloc = rt.alloc();
     let mut recorder = Recorder::new(alloc);
-    let answer = tell_plainly(rt, alloc, index, worktree, &mut recorder, FastEq);
+    let answer = tell(rt, alloc, index, worktree, &mut recorder, compare, asked);
     Told {
         records: recorder.records,
         answer,
@@ -59,8 +46,12 @@ fn sizes_that_differ_are_a_change_without_a_read(rt: HostRuntime) -> Result<(), 
     let worktree = worktree(rt.alloc(), &[later_file("a", b"bars")])?;
     for entry in [empty, foo_entry("a")] {
         let index = index(rt.alloc(), WRITTEN, &[entry])?;
-        let told = ask_sizes(&rt, &index, &worktree);
-        assert!(rt; told.is_all(&[(0, "a", changed(()))]), "size {}", entry.size);
+        let told = ask_sizes(&rt, &index, &worktree, FastEq, plainly(rt.alloc()));
+        assert!(rt;
+            told.is_all(&[(0, "a", changed(()))]),
+            "size {}",
+            entry.size
+        );
         assert!(rt; told.took(&one_file()), "size {}", entry.size);
     }
     Ok(())
@@ -74,7 +65,7 @@ fn a_size_of_zero_does_not_decide_for_other_content(rt: HostRuntime) -> Result<(
     };
     let index = index(rt.alloc(), WRITTEN, &[smudged])?;
     let worktree = worktree(rt.alloc(), &[later_file("a", b"foo")])?;
-    let told = ask_sizes(&rt, &index, &worktree);
+    let told = ask_sizes(&rt, &index, &worktree, FastEq, plainly(rt.alloc()));
     assert!(rt; told.is_all(&[(0, "a", EntryStatus::NeedsUpdate(stat(LATER, 3)))]));
     let wanted = Outcome {
         entries_to_update: 1,
@@ -92,7 +83,7 @@ fn sizes_are_compared_by_their_low_32_bits(rt: HostRuntime) -> Result<(), Fail> 
         ..later_file("a", b"foo")
     };
     let worktree = worktree(rt.alloc(), &[huge])?;
-    let told = ask_sizes(&rt, &index, &worktree);
+    let told = ask_sizes(&rt, &index, &worktree, FastEq, plainly(rt.alloc()));
     assert!(rt; told.records.is_empty());
     assert!(rt; told.failed_by(Fault::UnexpectedEnd));
     Ok(())

@@ -145,17 +145,33 @@ fn wanted() -> [(usize, &'static str, Status); 20] {
         // A promise, and the file is there.
         (9, "j-intent", EntryStatus::IntentToAdd),
         // One record a path, for each set of stages.
-        (14, "o1", conflict(Conflict::BothDeleted, true, false, false)),
+        (
+            14,
+            "o1",
+            conflict(Conflict::BothDeleted, true, false, false),
+        ),
         (15, "o2", conflict(Conflict::AddedByUs, false, true, false)),
-        (16, "o3", conflict(Conflict::DeletedByThem, true, true, false)),
-        (18, "o4", conflict(Conflict::AddedByThem, false, false, true)),
+        (
+            16,
+            "o3",
+            conflict(Conflict::DeletedByThem, true, true, false),
+        ),
+        (
+            18,
+            "o4",
+            conflict(Conflict::AddedByThem, false, false, true),
+        ),
         (19, "o5", conflict(Conflict::DeletedByUs, true, false, true)),
         (21, "o6", conflict(Conflict::BothAdded, false, true, true)),
         (23, "o7", conflict(Conflict::BothModified, true, true, true)),
         // The stat agrees but isn't older than the index: the content is read, is another, and would hide later on.
         (26, "p-racy", modified(false, Some(BAR), true)),
         // The same, where the content is the same.
-        (27, "q-racy-same", EntryStatus::NeedsUpdate(stat(WRITTEN, 3))),
+        (
+            27,
+            "q-racy-same",
+            EntryStatus::NeedsUpdate(stat(WRITTEN, 3)),
+        ),
         // A link in place of a file.
         (
             28,
