@@ -22,10 +22,13 @@ fn main(rt: HostRuntime) -> ExitCode {
 }
 
 /// Runs the command that the arguments ask for, and answers the exit status.
-fn run<R: AllocGlobal + Env + Files + Print + Threads + Wait, E: io::Write>(
+fn run<R: AllocGlobal + Env + Files + Print + Sync + Threads + Wait, E: io::Write>(
     rt: &R,
     faults: &mut E,
-) -> u8 {
+) -> u8
+where
+    R::File: Send,
+{
     match file_of_arguments(rt) {
         Ok(Some(file)) => run_on_file(rt, file.as_str(), faults),
         Ok(None) => {
@@ -53,11 +56,14 @@ fn file_of_arguments<R: AllocGlobal + Env>(rt: &R) -> Result<Option<String>, Fai
     }
 }
 
-fn run_on_file<R: AllocGlobal + Files + Print + Threads + Wait, E: io::Write>(
+fn run_on_file<R: AllocGlobal + Files + Print + Sync + Threads + Wait, E: io::Write>(
     rt: &R,
     file: &str,
     faults: &mut E,
-) -> u8 {
+) -> u8
+where
+    R::File: Send,
+{
     let mut profile = match fs::open(rt, file) {
         Ok(profile) => profile,
         Err(error) => return tell(rt, file, Failure::of_reading(error), faults),

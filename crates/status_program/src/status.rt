@@ -31,13 +31,21 @@ use std::thread::Threads;
 ///
 /// Answers the exit status: 0, or 1 after a failure, which is one line on `faults`. What was printed before stays. Where
 /// `output` can't be written nothing more is.
-pub fn run_status<R: AllocGlobal + Files + Threads + Wait, I: io::Read, O: io::Write, E: io::Write>(
+pub fn run_status<
+    R: AllocGlobal + Files + Sync + Threads + Wait,
+    I: io::Read,
+    O: io::Write,
+    E: io::Write,
+>(
     rt: &R,
     name: &str,
     profile: &mut I,
     output: &mut O,
     faults: &mut E,
-) -> u8 {
+) -> u8
+where
+    R::File: Send,
+{
     match print_status(rt, profile, output) {
         Ok(()) => 0,
         Err(failure) => {
@@ -48,11 +56,14 @@ pub fn run_status<R: AllocGlobal + Files + Threads + Wait, I: io::Read, O: io::W
     }
 }
 
-fn print_status<R: AllocGlobal + Files + Threads + Wait, I: io::Read, O: io::Write>(
+fn print_status<R: AllocGlobal + Files + Sync + Threads + Wait, I: io::Read, O: io::Write>(
     rt: &R,
     profile: &mut I,
     output: &mut O,
-) -> Result<(), Failure> {
+) -> Result<(), Failure>
+where
+    R::File: Send,
+{
     let alloc = rt.alloc();
     let Profile {
         timestamp,
@@ -98,7 +109,10 @@ fn status_of_profile<R: AllocGlobal + Threads + Wait, W: Worktree + Sync, O: io:
     worktree: &W,
     options: ProfileOptions,
     output: &mut O,
-) -> Result<(), Failure> {
+) -> Result<(), Failure>
+where
+    W::File: Send,
+{
     let prefix = options.prefix.as_bstr();
     if prefix.as_bytes().is_empty() {
         return status_of_paths(rt, index, worktree, AllPaths, options, output);
@@ -120,7 +134,10 @@ fn status_of_paths<
     pathspec: P,
     options: ProfileOptions,
     output: &mut O,
-) -> Result<(), Failure> {
+) -> Result<(), Failure>
+where
+    W::File: Send,
+{
     match options.comparer {
         Comparer::Hash => status_by(rt, index, worktree, HashEq, pathspec, options, output),
         Comparer::Fast => status_by(rt, index, worktree, FastEq, pathspec, options, output),
@@ -144,7 +161,8 @@ fn status_by<
     output: &mut O,
 ) -> Result<(), Failure>
 where
-    C::Output: Send + Drop,
+    W::File: Send,
+    C::Output: Send,
 {
     let alloc = rt.alloc();
     let counts = options.counts;
@@ -168,8 +186,8 @@ fn ask<
     'index,
     R: Threads + Wait,
     W: Worktree + Sync,
-    V: VisitEntry<'index, SubmoduleStatus = ()>,
-    C: CompareBlobs<Output = V::ContentChange> + Send,
+    V: VisitEntry<'index, ContentChange = C::Output, SubmoduleStatus = ()>,
+    C: CompareBlobs + Send,
     P: Pathspec + Send,
 >(
     rt: &R,
@@ -182,7 +200,8 @@ fn ask<
     options: Options,
 ) -> Result<Outcome, Error>
 where
-    V::ContentChange: Send + Drop,
+    W::File: Send,
+    C::Output: Send,
 {
     let context = Context {
         pathspec,

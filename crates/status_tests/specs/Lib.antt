@@ -1,0 +1,4 @@
+pub mod Lengths
+pub mod Pieces
+pub mod Returns
+pub mod Texts

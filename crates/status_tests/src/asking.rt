@@ -1,0 +1,201 @@
+//! Asking a status.
+
+use gix_status::index_as_worktree::function::index_as_worktree;
+use gix_status::index_as_worktree::traits::CompareBlobs;
+use gix_status::index_as_worktree::{
+    Capabilities, Change, Context, EntryStatus, Error, Options, Outcome, Record, Recorder,
+    VisitEntry,
+};
+use status_base::index::{ObjectId, State};
+use status_base::worktree::{
+    AllPaths, Fault, MemoryObjects, NoFilter, NoLister, NoSubmodules, Pathspec, SubmoduleStatus,
+    ToGit, Worktree,
+};
+use std::alloc::Global;
+use std::sync::Wait;
+use std::thread::Threads;
+
+/// What a status is asked with, beside an index, a worktree and a comparer.
+pub struct Asked<S, P, T> {
+    pub submodule: S,
+    pub objects: MemoryObjects,
+    pub pathspec: P,
+    pub filter: T,
+    pub options: Options,
+}
+
+/// All paths as they are, with no blob or submodule. Links count, executability doesn't.
+pub fn plainly(alloc: Global) -> Asked<NoSubmodules, AllPaths, NoFilter> {
+    with_options(alloc, options())
+}
+
+/// The same, with other options.
+pub fn with_options(alloc: Global, options: Options) -> Asked<NoSubmodules, AllPaths, NoFilter> {
+    with_objects(MemoryObjects::new(alloc), options)
+}
+
+/// The same, with blobs.
+pub fn with_objects(
+    objects: MemoryObjects,
+    options: Options,
+) -> Asked<NoSubmodules, AllPaths, NoFilter> {
+    Asked {
+        submodule: NoSubmodules,
+        objects,
+        pathspec: AllPaths,
+        filter: NoFilter,
+        options,
+    }
+}
+
+/// Options with which links count and executability doesn't.
+pub fn options() -> Options {
+    Options {
+        fs: Capabilities {
+            symlink: true,
+            executable_bit: false,
+        },
+        ..Options::default()
+    }
+}
+
+/// What one file took that was compared: one lstat, and so many bytes of one file.
+pub fn one_file_read(bytes: u64) -> Outcome {
+    Outcome {
+        worktree_files_read: 1,
+        worktree_bytes: bytes,
+        ..one_file()
+    }
+}
+
+/// What one file took of which nothing was read.
+pub fn one_file() -> Outcome {
+    Outcome {
+        entries_to_process: 1,
+        entries_processed: 1,
+        symlink_metadata_calls: 1,
+        ..Outcome::default()
+    }
+}
+
+/// A record of a file that has other content, told by a comparer in this way.
+pub fn changed<T, U>(content: T) -> EntryStatus<T, U> {
+    EntryStatus::Change(Change::Modification {
+        executable_bit_changed: false,
+        content_change: Some(content),
+        set_entry_stat_size_zero: false,
+    })
+}
+
+/// A record of a file that isn't there.
+pub fn removed<T, U>() -> EntryStatus<T, U> {
+    EntryStatus::Change(Change::Removed)
+}
+
+/// What was told: the records, and what it took or why it failed.
+#[derive(Drop)]
+pub struct Told<'index, T, U> {
+    pub records: Vec<Record<'index, T, U>>,
+    pub answer: Result<Outcome, Error>,
+}
+
+/// The status of an index against a worktree, by a comparer that tells ids.
+pub fn ask<
+    'index,
+    R: AllocGlobal + Threads + Wait,
+    W: Worktree + Sync,
+    C: CompareBlobs<Output = ObjectId> + Send,
+    P: Pathspec + Send,
+    T: ToGit + Send,
+>(
+    rt: &R,
+    index: &'index State,
+    worktree: &W,
+    compare: C,
+    asked: Asked<NoSubmodules, P, T>,
+) -> Told<'index, ObjectId, ()> {
+    let alloc = rt.alloc();
+    let mut recorder = Recorder::new(alloc);
+    let answer = tell(rt, alloc, index, worktree, &mut recorder, compare, asked);
+    Told {
+        records: recorder.records,
+        answer,
+    }
+}
+
+/// Tells `collector` the status of an index against a worktree.
+pub fn tell<
+    'index,
+    R: Threads + Wait,
+    W: Worktree + Sync,
+    V: VisitEntry<'index>,
+    C: CompareBlobs<Output = V::ContentChange> + Send,
+    S: SubmoduleStatus<Output = V::SubmoduleStatus> + Send,
+    P: Pathspec + Send,
+    T: ToGit + Send,
+>(
+    rt: &R,
+    alloc: Global,
+    index: &'index State,
+    worktree: &W,
+    collector: &mut V,
+    compare: C,
+    asked: Asked<S, P, T>,
+) -> Result<Outcome, Error>
+where
+    V::ContentChange: Send + Drop,
+    V::SubmoduleStatus: Send + Drop,
+{
+    let Asked {
+        submodule,
+        objects,
+        pathspec,
+        filter,
+        options,
+    } = asked;
+    let context = Context {
+        pathspec,
+        filter,
+        lister: NoLister,
+        should_interrupt: None,
+    };
+    index_as_worktree(
+        rt, alloc, index, worktree, collector, compare, submodule, objects, context, options,
+    )
+}
+
+impl<'index, T, U> Told<'index, T, U> {
+    /// Whether the status succeeded and took just this.
+    pub fn took(&self, wanted: &Outcome) -> bool {
+        match &self.answer {
+            Ok(outcome) => *outcome == *wanted,
+            Err(_) => false,
+        }
+    }
+
+    /// Whether the status failed by this fault of the worktree.
+    pub fn failed_by(&self, wanted: Fault) -> bool {
+        match &self.answer {
+            Err(Error::Io(fault)) => *fault == wanted,
+            _ => false,
+        }
+    }
+}
+
+impl<'index, T: PartialEq, U: PartialEq> Told<'index, T, U> {
+    /// Whether these are all the records: each by its entry's place and path, and its status.
+    pub fn is_all(&self, wanted: &[(usize, &str, EntryStatus<T, U>)]) -> bool {
+        if self.records.len() != wanted.len() {
+            return false;
+        }
+        for (record, (at, path, status)) in self.records.iter().zip(wanted) {
+            if record.entry_index != *at
+                || record.relative_path.as_bytes() != path.as_bytes()
+                || record.status != *status
+            {
+                return false;
+            }
+        }
+        true
+    }
+}

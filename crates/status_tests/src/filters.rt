@@ -1,0 +1,70 @@
+//! Filters as a caller writes them.
+
+ghost use Rattle.std.specs.Prelude.{◌≡◌, refl};
+ghost use Rattle.std.specs.List.{filter};
+ghost use Rattle.status_base.specs.Converted.{refused};
+ghost use Rattle.status_tests.specs.Returns.{is_no_return, without_returns};
+
+use bstr::BStr;
+use status_base::worktree::{Fault, ReadBytes, ToGit, ToGitOutcome};
+use status_index::read_all;
+use std::alloc::AllocError;
+
+/// Takes out carriage returns, as where text is stored with line feeds alone.
+#[derive(Clone, Copy, Debug)]
+pub struct WithoutReturns;
+
+// Takes out carriage returns.
+fn take_returns_out(bytes: &mut Vec<u8>)
+    ensures { bytes.new.items ≡ filter is_no_return bytes.old.items }
+{
+    bytes.retain(|byte| *byte != b'\r');
+}
+
+impl ToGit for WithoutReturns {
+    ghost conversion = { λ _ content _. without_returns content.bytes content.fault };
+
+    ghost clone_keeps_conversion = { λ _ _ _. refl };
+
+    fn convert<'a, F: ReadBytes>(
+        &self,
+        file: F,
+        _path: BStr<'_>,
+        buffer: &'a mut Vec<u8>,
+    ) -> Result<ToGitOutcome<'a, F>, Fault> {
+        let mut file = file;
+        buffer.clear();
+        read_all(&mut file, buffer)?;
+        take_returns_out(buffer);
+        Ok(ToGitOutcome::Buffer(buffer.as_slice()))
+    }
+}
+
+/// Refuses each file by the same fault.
+#[derive(Debug, Drop)]
+pub struct Refuses(pub Fault);
+
+impl Clone for Refuses {
+    ghost is_clone = { λ x y. y ≡ x };
+
+    fn clone(&self) -> Result<Refuses, AllocError> {
+        Ok(Refuses(self.0))
+    }
+}
+
+impl ToGit for Refuses {
+    ghost use Rattle.std.proofs.Common.{ap};
+
+    ghost conversion = { λ filter _ _. refused filter.0 };
+
+    ghost clone_keeps_conversion = { λ _ _ same. ap (λ filter _ _. refused filter.0) same };
+
+    fn convert<'a, F: ReadBytes>(
+        &self,
+        _file: F,
+        _path: BStr<'_>,
+        _buffer: &'a mut Vec<u8>,
+    ) -> Result<ToGitOutcome<'a, F>, Fault> {
+        Err(self.0)
+    }
+}

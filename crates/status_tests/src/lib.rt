@@ -1,0 +1,20 @@
+//! Tests of the status call that cross crates: its answers over comparers, filters and submodules as a caller writes
+//! them, each proved to mean what it says, and over a worktree that tells nothing.
+#![tactic(auto)]
+
+#[cfg(test)]
+mod asking;
+#[cfg(test)]
+mod comparers;
+#[cfg(test)]
+mod filters;
+#[cfg(test)]
+mod given;
+#[cfg(test)]
+mod pieces;
+#[cfg(test)]
+mod rows;
+#[cfg(test)]
+mod submodules;
+#[cfg(test)]
+mod worktrees;

@@ -1,0 +1,13 @@
+//! Small indexes and worktrees, and what is told of them.
+
+mod comparers;
+mod deep;
+mod empty;
+mod faults;
+mod filters;
+mod lengths;
+mod links;
+mod prefixes;
+mod sizes;
+mod submodules;
+mod sweep;

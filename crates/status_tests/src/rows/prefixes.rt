@@ -1,0 +1,86 @@
+//! Paths that begin with a prefix.
+
+use crate::asking::{Asked, Told, ask, changed, one_file, one_file_read, options, removed};
+use crate::given::{BAR, WRITTEN, file, foo_entry, index, later_file, worktree};
+use bstr::BStr;
+use gix_status::index_as_worktree::Outcome;
+use gix_status::index_as_worktree::traits::HashEq;
+use status_base::index::{ObjectId, State};
+use status_base::worktree::{MemoryObjects, MemoryWorktree, NoFilter, NoSubmodules, Prefix};
+use std::alloc::AllocError;
+use std::sync::Wait;
+use std::test::Fail;
+use std::thread::Threads;
+
+// The status of the paths that begin with a prefix.
+fn ask_prefix<'index, R: AllocGlobal + Threads + Wait>(
+    rt: &R,
+    index: &'index State,
+    worktree: &MemoryWorktree,
+    prefix: &str,
+) -> Result<Told<'index, ObjectId, ()>, AllocError> {
+    let asked = Asked {
+        submodule: NoSubmodules,
+        objects: MemoryObjects::new(rt.alloc()),
+        pathspec: Prefix::new(rt.alloc(), BStr::from(prefix))?,
+        filter: NoFilter,
+        options: options(),
+    };
+    Ok(ask(rt, index, worktree, HashEq, asked))
+}
+
+#[test]
+fn only_paths_below_a_prefix_are_considered(rt: HostRuntime) -> Result<(), Fail> {
+    let entries = [foo_entry("a"), foo_entry("b"), foo_entry("c")];
+    let index = index(rt.alloc(), WRITTEN, &entries)?;
+    let worktree = worktree(rt.alloc(), &[file("a", b"foo"), file("c", b"foo")])?;
+    let told = ask_prefix(&rt, &index, &worktree, "b")?;
+    assert!(rt; told.is_all(&[(1, "b", removed())]));
+    let wanted = Outcome {
+        entries_skipped_by_common_prefix: 2,
+        ..one_file()
+    };
+    assert!(rt; told.took(&wanted));
+    Ok(())
+}
+
+#[test]
+fn a_prefix_of_no_path_excludes_each(rt: HostRuntime) -> Result<(), Fail> {
+    let entries = [foo_entry("a"), foo_entry("b"), foo_entry("c")];
+    let index = index(rt.alloc(), WRITTEN, &entries)?;
+    let worktree = worktree(rt.alloc(), &[])?;
+    let told = ask_prefix(&rt, &index, &worktree, "z")?;
+    assert!(rt; told.records.is_empty());
+    let wanted = Outcome {
+        entries_to_process: 3,
+        entries_processed: 3,
+        entries_skipped_by_pathspec: 3,
+        ..Outcome::default()
+    };
+    assert!(rt; told.took(&wanted));
+    assert_eq!(rt; wanted.skipped(), 3);
+    Ok(())
+}
+
+#[test]
+fn a_prefix_may_be_a_whole_path(rt: HostRuntime) -> Result<(), Fail> {
+    let entries = [
+        foo_entry("d"),
+        foo_entry("d/x"),
+        foo_entry("d/xy"),
+        foo_entry("e"),
+    ];
+    let index = index(rt.alloc(), WRITTEN, &entries)?;
+    let worktree = worktree(rt.alloc(), &[later_file("d/x", b"bar")])?;
+    let told = ask_prefix(&rt, &index, &worktree, "d/x")?;
+    assert!(rt; told.is_all(&[(1, "d/x", changed(BAR)), (2, "d/xy", removed())]));
+    let wanted = Outcome {
+        entries_to_process: 2,
+        entries_processed: 2,
+        entries_skipped_by_common_prefix: 2,
+        symlink_metadata_calls: 2,
+        ..one_file_read(3)
+    };
+    assert!(rt; told.took(&wanted));
+    Ok(())
+}

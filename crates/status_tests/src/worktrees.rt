@@ -1,0 +1,92 @@
+//! Worktrees of a test's own.
+
+ghost use Rattle.std.specs.Prelude.{false, Err};
+ghost use Rattle.status_index.specs.declared.fault.Fault.TheVariants.{NotFound};
+
+use crate::given::{LATER, STAGED};
+use bstr::BStr;
+use status_base::index::Time;
+use status_base::worktree::{Fault, Metadata, NodeKind, ReadBytes, Worktree};
+use std::sync::atomic::{AtomicUsize, Ordering};
+
+/// Bytes, and then the end or a fault. It tells nothing, and counts how often it is read.
+#[derive(Clone, Copy)]
+pub struct Piece<'a> {
+    pub bytes: &'a [u8],
+    pub fault: Option<Fault>,
+    pub reads: &'a AtomicUsize,
+}
+
+impl<'a> ReadBytes for Piece<'a> {
+    fn read_bytes(&mut self, buffer: &mut [u8]) -> Result<usize, Fault> {
+        self.reads.fetch_add(1, Ordering::SeqCst);
+        if let (true, Some(fault)) = (self.bytes.is_empty(), self.fault) {
+            return Err(fault);
+        }
+        let count = self.bytes.len().min(buffer.len());
+        let (front, back) = self.bytes.split_at(count);
+        buffer[..count].copy_from_slice(front);
+        self.bytes = back;
+        Ok(count)
+    }
+}
+
+/// Files of three bytes, as lstat has it, that were written after the entries were staged: by path, what opening
+/// answers. It tells nothing of its nodes.
+#[derive(Clone, Copy)]
+pub struct Files<'a> {
+    pub files: &'a [(&'a str, Result<Piece<'a>, Fault>)],
+}
+
+impl<'a> Files<'a> {
+    // What opening a path answers.
+    fn opened(&self, path: BStr<'_>) -> Result<Piece<'a>, Fault> {
+        for (name, answer) in self.files {
+            if name.as_bytes() == path.as_bytes() {
+                return *answer;
+            }
+        }
+        Err(Fault::NotFound)
+    }
+}
+
+impl<'a> Worktree for Files<'a> {
+    type File = Piece<'a>;
+
+    ghost tells = { λ _. false };
+
+    ghost lstat_of = { λ _ _. Err NotFound };
+
+    ghost open_of = { λ _ _. Err NotFound };
+
+    ghost target_of = { λ _ _. Err NotFound };
+
+    fn lstat(&self, _path: BStr<'_>) -> Result<Metadata, Fault> {
+        Ok(Metadata {
+            kind: NodeKind::File,
+            len: 3,
+            executable: false,
+            mtime: Some(Time {
+                secs: LATER,
+                nsecs: 0,
+            }),
+            ctime: Some(Time {
+                secs: STAGED,
+                nsecs: 0,
+            }),
+            dev: 0,
+            ino: 0,
+            uid: 0,
+            gid: 0,
+        })
+    }
+
+    fn open(&self, path: BStr<'_>) -> Result<Piece<'a>, Fault> {
+        self.opened(path)
+    }
+
+    fn read_link(&self, _path: BStr<'_>, target: &mut Vec<u8>) -> Result<(), Fault> {
+        target.clear();
+        Err(Fault::NotFound)
+    }
+}
