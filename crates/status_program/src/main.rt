@@ -28,6 +28,7 @@ fn run<R: AllocGlobal + Env + Files + Print + Sync + Threads + Wait, E: io::Writ
 ) -> u8
 where
     R::File: Send,
+    R::Dir: Send,
 {
     match file_of_arguments(rt) {
         Ok(Some(file)) => run_on_file(rt, file.as_str(), faults),
@@ -63,6 +64,7 @@ fn run_on_file<R: AllocGlobal + Files + Print + Sync + Threads + Wait, E: io::Wr
 ) -> u8
 where
     R::File: Send,
+    R::Dir: Send,
 {
     let mut profile = match fs::open(rt, file) {
         Ok(profile) => profile,

@@ -45,6 +45,7 @@ pub fn run_status<
 ) -> u8
 where
     R::File: Send,
+    R::Dir: Send,
 {
     match print_status(rt, profile, output) {
         Ok(()) => 0,
@@ -63,6 +64,7 @@ fn print_status<R: AllocGlobal + Files + Sync + Threads + Wait, I: io::Read, O: 
 ) -> Result<(), Failure>
 where
     R::File: Send,
+    R::Dir: Send,
 {
     let alloc = rt.alloc();
     let Profile {

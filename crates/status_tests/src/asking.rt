@@ -128,9 +128,9 @@ pub fn tell<
     'index,
     R: Threads + Wait,
     W: Worktree + Sync,
-    V: VisitEntry<'index>,
-    C: CompareBlobs<Output = V::ContentChange> + Send,
-    S: SubmoduleStatus<Output = V::SubmoduleStatus> + Send,
+    V: VisitEntry<'index, ContentChange = C::Output, SubmoduleStatus = S::Output>,
+    C: CompareBlobs + Send,
+    S: SubmoduleStatus + Send,
     P: Pathspec + Send,
     T: ToGit + Send,
 >(
@@ -143,8 +143,9 @@ pub fn tell<
     asked: Asked<S, P, T>,
 ) -> Result<Outcome, Error>
 where
-    V::ContentChange: Send + Drop,
-    V::SubmoduleStatus: Send + Drop,
+    W::File: Send,
+    C::Output: Send,
+    S::Output: Send,
 {
     let Asked {
         submodule,
