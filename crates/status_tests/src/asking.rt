@@ -113,7 +113,10 @@ pub fn ask<
     worktree: &W,
     compare: C,
     asked: Asked<NoSubmodules, P, T>,
-) -> Told<'index, ObjectId, ()> {
+) -> Told<'index, ObjectId, ()>
+where
+    W::File: Send,
+{
     let alloc = rt.alloc();
     let mut recorder = Recorder::new(alloc);
     let answer = tell(rt, alloc, index, worktree, &mut recorder, compare, asked);

@@ -26,7 +26,10 @@ fn ask_sizes<
     worktree: &W,
     compare: C,
     asked: Asked<NoSubmodules, P, T>,
-) -> Told<'index, (), ()> {
+) -> Told<'index, (), ()>
+where
+    W::File: Send,
+{
     let alloc = rt.alloc();
     let mut recorder = Recorder::new(alloc);
     let answer = tell(rt, alloc, index, worktree, &mut recorder, compare, asked);

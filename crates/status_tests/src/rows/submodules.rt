@@ -29,7 +29,10 @@ fn ask_submodules<
     worktree: &W,
     compare: C,
     asked: Asked<S, P, T>,
-) -> Told<'index, ObjectId, u32> {
+) -> Told<'index, ObjectId, u32>
+where
+    W::File: Send,
+{
     let alloc = rt.alloc();
     let mut recorder = Recorder::new(alloc);
     let answer = tell(rt, alloc, index, worktree, &mut recorder, compare, asked);
