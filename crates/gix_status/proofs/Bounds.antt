@@ -113,11 +113,11 @@ module _ {T U : Type 0} (q : Query T U) (tells interruptible : Bool) (start : �
       let given : Gives n p = subst (λ (m : ℕ). Gives m p) (omega arith) (each 0 p refl) in (
         record { to = bound bounds (n + 1); inside = are.inside (n + 1) 0 (omega (arith, few)); given = given },
         λ whole.
-        let reached : p.reached ≡ bound bounds (n + 1) = subst (λ (e : End). IsThrough q tells es (bound bounds (n + 1)) p.reached e) whole given.piece.through in
-        subst (λ (at : ℕ). Row at ps) (sym reached)
-        (row_from (n + 1) ps (omega (arith, few))
-        (λ i r h. subst (λ (m : ℕ). Gives m r) (omega arith) (each (suc i) r h))
-        (λ h. ends_behind p whole ps (through (omega (arith, h))))),
+            let reached : p.reached ≡ bound bounds (n + 1) = subst (λ (e : End). IsThrough q tells es (bound bounds (n + 1)) p.reached e) whole given.piece.through in
+            subst (λ (at : ℕ). Row at ps) (sym reached)
+            (row_from (n + 1) ps (omega (arith, few))
+            (λ i r h. subst (λ (m : ℕ). Gives m r) (omega arith) (each (suc i) r h))
+            (λ h. ends_behind p whole ps (through (omega (arith, h))))),
       )
 
   -- what a round gives is in a row

@@ -36,13 +36,7 @@ pub fn run_status<
     I: io::Read,
     O: io::Write,
     E: io::Write,
->(
-    rt: &R,
-    name: &str,
-    profile: &mut I,
-    output: &mut O,
-    faults: &mut E,
-) -> u8
+>(rt: &R, name: &str, profile: &mut I, output: &mut O, faults: &mut E) -> u8
 where
     R::File: Send,
     R::Dir: Send,

@@ -10,11 +10,11 @@ ghost use Rattle.gix_status.specs.Worked.{IsRefusal};
 use crate::index_as_worktree::decide::Decide;
 use crate::index_as_worktree::piece::{End, Piece, piece_end, work_piece};
 use crate::index_as_worktree::types::Error;
-use std::snapshot::Snapshot;
 use status_base::index::{Entry, PathStorage};
 use status_round::round::{Refused, work_round};
 use status_round::work::Work;
 use std::alloc::{AllocError, Global};
+use std::snapshot::Snapshot;
 use std::sync::Wait;
 use std::sync::atomic::AtomicBool;
 use std::thread::Threads;
@@ -95,7 +95,11 @@ impl<'a, D: Decide> Work for Round<'a, D> {
 }
 
 /// As many deciders of one query as there are workers.
-fn crew_of<D: Decide + Drop>(alloc: Global, decide: &D, workers: usize) -> Result<Vec<D>, AllocError>
+fn crew_of<D: Decide + Drop>(
+    alloc: Global,
+    decide: &D,
+    workers: usize,
+) -> Result<Vec<D>, AllocError>
     ensures count { IfOk result (λ v. vec_len v ≡ workers) }
     ensures same { IfOk result (λ v. All (λ d. (D.query d ≡ D.query decide.now) × (D.tells d ≡ D.tells decide.now)) v.items) }
 {

@@ -31,6 +31,7 @@ pub(crate) struct Considered<'index> {
 
 /// The greatest number of workers, and how many there are where nothing is said.
 const MOST_WORKERS: usize = 64;
+
 const WORKERS: usize = 4;
 
 /// The number of workers at most.

@@ -34,7 +34,7 @@ returns c =
     let bounds = c.loop-at.bounds.items in
     let more : length bounds ≡ 1 → c.loop-at.at ≡ c.args.from → ⊥ = λ one same.
     elim c.loop-at-test.branch [
-      then-loop-at-test+else-len-most w ↦ omega (arith, one, w.if-len-most.false, w.len.ensures, c.loop-at.bounds.ok.0, c.requires.most)
+      | then-loop-at-test+else-len-most w ↦ omega (arith, one, w.if-len-most.false, w.len.ensures, c.loop-at.bounds.ok.0, c.requires.most)
       | else-loop-at-test w ↦ omega (arith, same, w.loop-at-test.false, c.requires.inside)
     ] in
     record {

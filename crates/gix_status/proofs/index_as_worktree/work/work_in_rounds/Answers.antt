@@ -60,10 +60,22 @@ tell_round-requires g c κs =
     let room : c.args.start + length (part_of c.args.entries.now c.args.start c.args.end) ≤ length c.args.entries.now = omega (arith, length-take (c.args.end - c.args.start) (drop c.args.start c.args.entries.now), length-drop c.args.start c.args.entries.now, c.requires.order, c.requires.inside) in
     let few : length c.as_slice.result.now ≤ 2 ^ 20 = omega (arith, ap length c.as_slice.ensures.value, c.in-Ok.ensures.few, c.in-Ok.bounds.ok.0, c.requires.most.1) in
     let some : 1 ≤ c.min-workers.result = omega (arith, c.min-workers.ensures, c.requires.most.0, c.in-Ok.ensures.bounds.pieces, c.in-Ok.bounds.ok.0, c.len.ensures) in
-    let most : c.min-workers.result ≤ 64 = omega (arith, c.min-workers.ensures, c.requires.most.1) in
-    (search rules, (search rules, (search rules, ((refl, tt),
-    (rw same (IsIndex-part (index_entries c.args.backing.now c.args.entries.now) c.args.start c.args.end c.requires.index),
-    (room, (rw c.as_slice.ensures.value c.in-Ok.ensures.bounds, (few, (some, most)))))))))
+    let most : c.min-workers.result ≤ 64 = omega (arith, c.min-workers.ensures, c.requires.most.1) in (
+      search rules,
+      (
+        search rules,
+        (
+          search rules,
+          (
+            (refl, tt),
+            (
+              rw same (IsIndex-part (index_entries c.args.backing.now c.args.entries.now) c.args.start c.args.end c.requires.index),
+              (room, (rw c.as_slice.ensures.value c.in-Ok.ensures.bounds, (few, (some, most)))),
+            ),
+          ),
+        ),
+      ),
+    )
 
 pub absorb-requires : goal.absorb-requires
 absorb-requires g c =
