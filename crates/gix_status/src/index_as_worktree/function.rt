@@ -51,9 +51,13 @@ fn chunk_size_of(options: &Options) -> usize {
 /// `objects` has the blobs that the index names. Nothing is written: where a record asks for it, the caller puts a new
 /// stat into the index or sets a size to zero, and then gives the index a later timestamp.
 ///
+/// The work is shared by as many workers as the options' thread limit has it, in threads that have all ended when the call
+/// returns. Where the context's interrupt flag is seen set, the call ends early, and the outcome says so: it then counts
+/// the first of the considered entries, whose records were told.
+///
 /// # Errors
-/// The fault of the first entry that has one, once the collector was told the records before it. Want of memory; then
-/// the collector was told a beginning of the records.
+/// The fault of the first entry that has one, once the collector was told the records before it. A refused thread, or want
+/// of memory; then the collector was told a beginning of the records.
 pub fn index_as_worktree<
     'index,
     R: Threads + Wait,

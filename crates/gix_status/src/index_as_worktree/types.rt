@@ -112,12 +112,13 @@ impl Default for Capabilities {
 }
 
 /// How a status is computed. By default links and executability count, stats are compared as `stat::Options` has it, the
-/// number of threads is left open, no listing is used, and pieces are of the usual size.
+/// number of workers is the usual one, no listing is used, and pieces are of the usual size.
 #[derive(Clone, Debug, Default, Drop, PartialEq, Eq, Hash)]
 pub struct Options {
     /// What the file system can keep.
     pub fs: Capabilities,
-    /// The greatest number of threads. None or 0 leave it open. Not looked at yet: the caller is the only worker.
+    /// The greatest number of workers. None or 0 mean 4; there are never more than 64. A single one is the caller, with no
+    /// thread.
     pub thread_limit: Option<usize>,
     /// Which parts of stats have to be equal.
     pub stat: stat::Options,
@@ -135,7 +136,7 @@ pub struct Context<'a, P, T, L> {
     pub filter: T,
     /// Listings of directories. Not asked yet.
     pub lister: L,
-    /// Once it is set the status ends early. None is never set. Not looked at yet.
+    /// Once it is seen set the status ends early. None is never set.
     pub should_interrupt: Option<&'a AtomicBool>,
 }
 
