@@ -72,7 +72,7 @@ impl<'a> Worktree for Everywhere<'a> {
     }
 }
 
-#[derive(Clone)]
+#[derive(Clone, Drop)]
 struct NoObjects;
 
 impl Find for NoObjects {

@@ -93,12 +93,16 @@ const FAULTS: [(&str, &str); 3] = [
 ];
 
 // The lines and the faults of a profile with one entry over a folder.
-fn tell<R: AllocGlobal + Files + Threads + Wait>(
+fn tell<R: AllocGlobal + Files + Sync + Threads + Wait>(
     rt: &R,
     folder: &str,
     path: &str,
     mode: &str,
-) -> Result<(Vec<u8>, Vec<u8>), AllocError> {
+) -> Result<(Vec<u8>, Vec<u8>), AllocError>
+where
+    R::File: Send,
+    R::Dir: Send,
+{
     let alloc = rt.alloc();
     let text = format!(in alloc;
         r#"{{"timestamp":[9,0],"index":[{{"path":"{path}","mode":"{mode}","id":"19102815663d23f8b75a47e7a01965dcdc96468c"}}],"folder":"{folder}"}}"#
