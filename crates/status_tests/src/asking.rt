@@ -13,6 +13,7 @@ use status_base::worktree::{
 };
 use std::alloc::Global;
 use std::sync::Wait;
+use std::sync::atomic::AtomicBool;
 use std::thread::Threads;
 
 /// What a status is asked with, beside an index, a worktree and a comparer.
@@ -117,9 +118,40 @@ pub fn ask<
 where
     W::File: Send,
 {
+    ask_until(rt, index, worktree, compare, asked, None)
+}
+
+/// The same, with an interrupt flag.
+pub fn ask_until<
+    'index,
+    R: AllocGlobal + Threads + Wait,
+    W: Worktree + Sync,
+    C: CompareBlobs<Output = ObjectId> + Send,
+    P: Pathspec + Send,
+    T: ToGit + Send,
+>(
+    rt: &R,
+    index: &'index State,
+    worktree: &W,
+    compare: C,
+    asked: Asked<NoSubmodules, P, T>,
+    interrupt: Option<&AtomicBool>,
+) -> Told<'index, ObjectId, ()>
+where
+    W::File: Send,
+{
     let alloc = rt.alloc();
     let mut recorder = Recorder::new(alloc);
-    let answer = tell(rt, alloc, index, worktree, &mut recorder, compare, asked);
+    let answer = tell(
+        rt,
+        alloc,
+        index,
+        worktree,
+        &mut recorder,
+        compare,
+        asked,
+        interrupt,
+    );
     Told {
         records: recorder.records,
         answer,
@@ -144,6 +176,7 @@ pub fn tell<
     collector: &mut V,
     compare: C,
     asked: Asked<S, P, T>,
+    interrupt: Option<&AtomicBool>,
 ) -> Result<Outcome, Error>
 where
     W::File: Send,
@@ -161,7 +194,7 @@ where
         pathspec,
         filter,
         lister: NoLister,
-        should_interrupt: None,
+        should_interrupt: interrupt,
     };
     index_as_worktree(
         rt, alloc, index, worktree, collector, compare, submodule, objects, context, options,

@@ -7,7 +7,8 @@ use crate::given::{LATER, STAGED};
 use bstr::BStr;
 use status_base::index::Time;
 use status_base::worktree::{Fault, Metadata, NodeKind, ReadBytes, Worktree};
-use std::sync::atomic::{AtomicUsize, Ordering};
+use std::sync::atomic::{AtomicBool, AtomicUsize, Ordering};
+use std::thread;
 
 /// Bytes, and then the end or a fault. It tells nothing, and counts how often it is read.
 #[derive(Clone, Copy)]
@@ -88,5 +89,90 @@ impl<'a> Worktree for Files<'a> {
     fn read_link(&self, _path: BStr<'_>, target: &mut Vec<u8>) -> Result<(), Fault> {
         target.clear();
         Err(Fault::NotFound)
+    }
+}
+
+/// Files, and a path at which a look sets a flag.
+#[derive(Clone, Copy)]
+pub struct Watched<'a> {
+    pub files: Files<'a>,
+    pub path: &'a str,
+    pub flag: &'a AtomicBool,
+}
+
+impl<'a> Worktree for Watched<'a> {
+    type File = Piece<'a>;
+
+    ghost tells = { λ _. false };
+
+    ghost lstat_of = { λ _ _. Err NotFound };
+
+    ghost open_of = { λ _ _. Err NotFound };
+
+    ghost target_of = { λ _ _. Err NotFound };
+
+    fn lstat(&self, path: BStr<'_>) -> Result<Metadata, Fault> {
+        if path.as_bytes() == self.path.as_bytes() {
+            self.flag.store(true, Ordering::SeqCst);
+        }
+        self.files.lstat(path)
+    }
+
+    fn open(&self, path: BStr<'_>) -> Result<Piece<'a>, Fault> {
+        self.files.open(path)
+    }
+
+    fn read_link(&self, path: BStr<'_>, target: &mut Vec<u8>) -> Result<(), Fault> {
+        self.files.read_link(path, target)
+    }
+}
+
+/// Files `a` and `b`, where a look at `a` ends only once `b` was looked at, or after very many turns by a fault.
+#[derive(Clone, Copy)]
+pub struct Meeting<'a> {
+    pub files: Files<'a>,
+    pub asked: &'a AtomicBool,
+}
+
+impl<'a> Meeting<'a> {
+    // Whether the other file was looked at before the turns ran out.
+    fn meets(&self) -> bool {
+        for _ in 0..100_000_000u64 {
+            if self.asked.load(Ordering::SeqCst) {
+                return true;
+            }
+            thread::yield_now();
+        }
+        false
+    }
+}
+
+impl<'a> Worktree for Meeting<'a> {
+    type File = Piece<'a>;
+
+    ghost tells = { λ _. false };
+
+    ghost lstat_of = { λ _ _. Err NotFound };
+
+    ghost open_of = { λ _ _. Err NotFound };
+
+    ghost target_of = { λ _ _. Err NotFound };
+
+    fn lstat(&self, path: BStr<'_>) -> Result<Metadata, Fault> {
+        if path.as_bytes() == "b".as_bytes() {
+            self.asked.store(true, Ordering::SeqCst);
+        }
+        if path.as_bytes() == "a".as_bytes() && !self.meets() {
+            return Err(Fault::Other(1));
+        }
+        self.files.lstat(path)
+    }
+
+    fn open(&self, path: BStr<'_>) -> Result<Piece<'a>, Fault> {
+        self.files.open(path)
+    }
+
+    fn read_link(&self, path: BStr<'_>, target: &mut Vec<u8>) -> Result<(), Fault> {
+        self.files.read_link(path, target)
     }
 }

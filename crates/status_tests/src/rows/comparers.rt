@@ -30,7 +30,16 @@ fn ask_lengths<'index, R: AllocGlobal + Threads + Wait>(
     let alloc = rt.alloc();
     let mut recorder = Recorder::new(alloc);
     let asked = with_objects(objects, options());
-    let answer = tell(rt, alloc, index, worktree, &mut recorder, BlobLength, asked);
+    let answer = tell(
+        rt,
+        alloc,
+        index,
+        worktree,
+        &mut recorder,
+        BlobLength,
+        asked,
+        None,
+    );
     Told {
         records: recorder.records,
         answer,

@@ -11,3 +11,4 @@ mod prefixes;
 mod sizes;
 mod submodules;
 mod sweep;
+mod workers;

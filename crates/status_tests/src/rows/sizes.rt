@@ -32,7 +32,16 @@ where
 {
     let alloc = rt.alloc();
     let mut recorder = Recorder::new(alloc);
-    let answer = tell(rt, alloc, index, worktree, &mut recorder, compare, asked);
+    let answer = tell(
+        rt,
+        alloc,
+        index,
+        worktree,
+        &mut recorder,
+        compare,
+        asked,
+        None,
+    );
     Told {
         records: recorder.records,
         answer,
