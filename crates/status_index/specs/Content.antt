@@ -34,13 +34,13 @@ ReadKeeps (Some old) new (Err f) buffer = FaultOf old f × (new ≡ Some old)
 abbrev pub saturate : ℕ → ℕ
 saturate n = min (2 ^ 64 - 1) n
 
--- a count that grew by n
+-- a count that grew by n; none where nothing is counted
 abbrev pub CountsMore : Option ℕ → Option ℕ → ℕ → Type 0
-CountsMore None new n = ⊤
+CountsMore None new n = new ≡ None
 CountsMore (Some a) None n = ⊥
 CountsMore (Some a) (Some b) n = saturate b ≡ saturate (a + n)
 
 -- what a read adds to the count: the bytes that it gave, and nothing for a fault
-abbrev pub ReadCounts : {E : Type 0} → Option ℕ → Option ℕ → Result ℕ E → Type 0
-ReadCounts old new (Ok n) = CountsMore old new n
-ReadCounts old new (Err f) = CountsMore old new 0
+abbrev pub CountsRead : {E : Type 0} → Option ℕ → Option ℕ → Result ℕ E → Type 0
+CountsRead old new (Ok n) = CountsMore old new n
+CountsRead old new (Err f) = CountsMore old new 0

@@ -1,15 +1,11 @@
 -- The id of the first bytes of a stream, and what is left behind them.
-use Rattle.std.specs.Prelude.{◌≡◌, ℕ, ◌⊎◌, nat_lt, length, take, drop, Option, Some, None, Result, Ok, Err, if◌then◌else◌}
+use Rattle.std.specs.Prelude.{ℕ, nat_lt, length, take, drop, Option, Some, None, Result, Ok, Err, if◌then◌else◌}
 use Rattle.status_index.specs.declared.fault.Fault.{Fault}
-use Rattle.status_index.specs.declared.fault.Fault.TheVariants.{Memory, UnexpectedEnd}
+use Rattle.status_index.specs.declared.fault.Fault.TheVariants.{UnexpectedEnd}
 use Rattle.status_index.specs.declared.id.HashKind.{HashKind}
 use Rattle.status_index.specs.declared.id.ObjectId.{ObjectId}
 use Rattle.status_index.specs.BlobId.{blob_id}
 use Rattle.status_index.specs.Content.{Content}
-
--- the answer that is meant, or want of memory
-abbrev pub IsAnswer : {A : Type 0} → Result A Fault → Result A Fault → Type 0
-IsAnswer r meant = (r ≡ meant) ⊎ (r ≡ Err Memory)
 
 -- what a reader tells that has too few bytes: the fault behind them, or that they end
 abbrev pub early_end : Option Fault → Fault

@@ -12,11 +12,17 @@ pub struct Flags(u32);
 
 bitflag_items! {
     impl Flags: u32 {
+        /// The file is known to be as the index has it.
         const UPTODATE = 0x1;
+        /// The file isn't wanted in the worktree.
         const SKIP_WORKTREE = 0x2;
+        /// A monitor of the file system vouches for the file.
         const FSMONITOR_VALID = 0x4;
+        /// Only the path was added so far.
         const INTENT_TO_ADD = 0x8;
+        /// The user vouches for the file.
         const ASSUME_VALID = 0x10;
+        /// The two bits of the stage.
         const STAGE = 0x3000;
     }
 }

@@ -95,10 +95,10 @@ impl Mode {
     }
 
     /// What the entry is in a tree object. Each of the five modes is something there.
-    pub fn to_tree_entry_mode(self) -> Option<EntryKind>
-        ensures { result ≡ entry_kind_of self }
+    pub fn to_tree_entry_mode(&self) -> Option<EntryKind>
+        ensures { result ≡ entry_kind_of self.now }
     {
-        Some(match self {
+        Some(match *self {
             Mode::Dir => EntryKind::Tree,
             Mode::File => EntryKind::Blob,
             Mode::FileExecutable => EntryKind::BlobExecutable,

@@ -1,7 +1,7 @@
 //! Bytes that come in pieces.
 
 ghost use Rattle.std.specs.Prelude.{Option, None, ℕ};
-ghost use Rattle.status_index.specs.Content.{Content, ReadFits, ReadKeeps, ReadCounts};
+ghost use Rattle.status_index.specs.Content.{Content, ReadFits, ReadKeeps, CountsRead};
 
 use crate::fault::Fault;
 
@@ -18,5 +18,5 @@ pub trait ReadBytes: Drop {
     fn read_bytes(&mut self, buffer: &mut [u8]) -> Result<usize, Fault>
         ensures fits { ReadFits result buffer.new }
         ensures bytes { ReadKeeps (left self.old) (left self.new) result buffer.new }
-        ensures count { ReadCounts (taken self.old) (taken self.new) result };
+        ensures count { CountsRead (taken self.old) (taken self.new) result };
 }

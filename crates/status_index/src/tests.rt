@@ -1,4 +1,4 @@
-use crate::{ByteText, Fault, IndexError, TimeError};
+use crate::{ByteText, EntryKind, Fault, IndexError, Mode, TimeError};
 use std::test::Fail;
 
 #[test]
@@ -37,6 +37,23 @@ fn errors_have_words(rt: HostRuntime) -> Result<(), Fail> {
         "The clock was off when reading file related metadata after updating a file on disk"
     );
     Ok(())
+}
+
+#[test]
+fn modes_are_ordered_by_their_bits(rt: HostRuntime) {
+    let modes = [
+        Mode::Dir,
+        Mode::File,
+        Mode::FileExecutable,
+        Mode::Symlink,
+        Mode::Commit,
+    ];
+    for a in modes {
+        for b in modes {
+            assert_eq!(rt; a.cmp(&b), a.bits().cmp(&b.bits()));
+        }
+    }
+    assert_eq!(rt; Mode::Symlink.to_tree_entry_mode(), Some(EntryKind::Link));
 }
 
 #[test]

@@ -49,6 +49,32 @@ fn refuses_by_place_and_then_by_reason(rt: HostRuntime) -> Result<(), Fail> {
     Ok(())
 }
 
+// Why the entries of these paths and stages are refused.
+fn refused(alloc: Global, given: &[(&str, u32)]) -> Result<Option<IndexError>, AllocError> {
+    let mut entries = Vec::new(alloc);
+    for (path, stage) in given {
+        entries.push(NewEntry {
+            flags: Flags::from_stage(*stage),
+            ..new_entry(alloc, path, HashKind::Sha1)?
+        })?;
+    }
+    Ok(State::from_entries(alloc, entries, Moment::default()).err())
+}
+
+#[test]
+fn the_lowest_place_is_told(rt: HostRuntime) -> Result<(), Fail> {
+    let alloc = rt.alloc();
+    let empty_first = refused(alloc, &[("", 0), ("", 0)])?;
+    assert_eq!(rt; empty_first, Some(IndexError::EmptyPath { at: 0 }));
+    let two_faults = refused(alloc, &[("b", 0), ("a", 0), ("", 0)])?;
+    assert_eq!(rt; two_faults, Some(IndexError::NotAscending { at: 1 }));
+    let stages = refused(alloc, &[("e", 0), ("f", 2), ("f", 1)])?;
+    assert_eq!(rt; stages, Some(IndexError::NotAscending { at: 2 }));
+    let ascending = refused(alloc, &[("e", 3), ("f", 1), ("f", 2)])?;
+    assert_eq!(rt; ascending, None);
+    Ok(())
+}
+
 #[test]
 fn finds_the_stretch_below_a_prefix(rt: HostRuntime) -> Result<(), Fail> {
     let state = index(rt.alloc())?;
