@@ -4,10 +4,6 @@ use Rattle.status_index.specs.Content.{Content}
 use Rattle.status_index.specs.declared.fault.Fault.{Fault}
 use Rattle.status_index.specs.declared.fault.Fault.TheVariants.{Memory}
 
--- the answer that is meant, or want of memory
-abbrev pub IsAnswer : {A : Type 0} → Result A Fault → Result A Fault → Type 0
-IsAnswer meant answer = (answer ≡ meant) ⊎ (answer ≡ Err Memory)
-
 -- a file that has this left to read, where opening means a file
 abbrev pub HasLeft : Result Content Fault → Option Content → Type 0
 HasLeft (Ok content) left = left ≡ Some content

@@ -1,5 +1,5 @@
 -- A worktree in memory: its nodes, its planted faults, and what it answers.
-use Rattle.std.specs.Prelude.{ℕ, Bool, true, false, List, take, Option, Some, None, Result, Ok, Err, if◌then◌else◌}
+use Rattle.std.specs.Prelude.{ℕ, Bool, true, false, List, [], ◌∷◌, take, Option, Some, None, Result, Ok, Err, if◌then◌else◌}
 use Rattle.std.specs.List.{list_any}
 use Rattle.std.specs.Ordering.{nat_cmp}
 use Rattle.std.specs.Cmp.Lexicographic.{slice_cmp}
@@ -17,12 +17,12 @@ pub record Placed : Type 0 where
   pub metadata : Metadata
   pub bytes : List ℕ
 
--- the faults that are planted at a path; a read's stands behind a number of bytes
+-- the faults that are planted at a path; those of reads stand each behind a number of bytes, in ascending order
 pub record Planted : Type 0 where
   pub lstat : Option Fault
   pub opening : Option Fault
   pub read_link : Option Fault
-  pub read : Option (ℕ × Fault)
+  pub reads : List (ℕ × Fault)
 
 abbrev pub PathMap : Type 0 → Type 0
 PathMap A = map.FinMap (slice_cmp nat_cmp) A
@@ -32,7 +32,7 @@ pub record Tree : Type 0 where
   pub planted : PathMap Planted
 
 abbrev pub no_faults : Planted
-no_faults = record { lstat = None; opening = None; read_link = None; read = None }
+no_faults = record { lstat = None; opening = None; read_link = None; reads = [] }
 
 abbrev pub planted_or_none : Option Planted → Planted
 planted_or_none (Some p) = p
@@ -90,14 +90,18 @@ lstat_of_node tree path None = if has_below tree path then Ok bare_directory els
 abbrev pub lstat_in : Tree → List ℕ → Result Metadata Fault
 lstat_in tree path = or_planted (planted_at tree path).lstat (lstat_of_node tree path (map.get tree.nodes path))
 
--- bytes, then the fault that is planted behind some of them (or in place of the end), or the end
-abbrev pub content_of : List ℕ → Option (ℕ × Fault) → Content
-content_of bytes None = record { bytes = bytes; fault = None }
-content_of bytes (Some p) = record { bytes = take p.0 bytes; fault = Some p.1 }
+-- bytes, then the first fault that is planted behind some of them (or in place of the end), or the end
+abbrev pub content_of : List ℕ → List (ℕ × Fault) → Content
+content_of bytes [] = record { bytes = bytes; fault = None }
+content_of bytes (p ∷ ps) = record { bytes = take p.0 bytes; fault = Some p.1 }
 
--- the fault of a call on a path that has no node
+abbrev pub fault_or : Option Fault → Fault → Fault
+fault_or (Some f) other = f
+fault_or None other = other
+
+-- the fault of a call for content on a path that has no node: Other(0) of a directory, else as lstat
 abbrev pub without_node : {A : Type 0} → Tree → List ℕ → Result A Fault
-without_node tree path = Err (if has_below tree path then faults.Other 0 else absence tree path)
+without_node tree path = Err (if has_below tree path then faults.Other 0 else fault_or (planted_at tree path).lstat (absence tree path))
 
 abbrev pub open_of_kind : Content → NodeKind → Result Content Fault
 open_of_kind content kinds.File = Ok content
@@ -106,7 +110,7 @@ open_of_kind content kinds.Directory = Err (faults.Other 0)
 open_of_kind content kinds.Other = Err (faults.Other 0)
 
 abbrev pub open_of_node : Tree → List ℕ → Option Placed → Result Content Fault
-open_of_node tree path (Some p) = open_of_kind (content_of p.bytes (planted_at tree path).read) p.metadata.kind
+open_of_node tree path (Some p) = open_of_kind (content_of p.bytes (planted_at tree path).reads) p.metadata.kind
 open_of_node tree path None = without_node tree path
 
 -- opening: the planted fault; the file; Other(0) for any other node or directory; else as lstat

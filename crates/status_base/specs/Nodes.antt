@@ -53,7 +53,7 @@ abbrev pub put_fault : Tree → List ℕ → NodeKind → Option TreeError
 put_fault tree path kind =
     if is_bad_path path then Some BadPath else (if is_in_the_way tree path kind then Some InTheWay else None)
 
--- the fault of a call for content on a path that has no node
+-- the fault of a call for content on a path that has no node, where no fault is planted
 abbrev pub fault_without_node : Tree → List ℕ → Fault
 fault_without_node tree path = if has_below tree path then Other 0 else absence tree path
 

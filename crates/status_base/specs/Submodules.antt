@@ -1,8 +1,10 @@
 -- The answer of a submodule that is meant.
-use Rattle.std.specs.Prelude.{◌≡◌, ℕ, List, Option, Result, Ok, Err}
+use Rattle.std.specs.Prelude.{◌≡◌, ℕ, List, Option, Result, Ok, Err, ⊤}
 use Rattle.status_base.specs.declared.worktree.submodule.SubmoduleFault.{SubmoduleFault}
+use Rattle.status_base.specs.declared.worktree.submodule.SubmoduleFault.TheVariants.{Failed, Memory}
 
--- the change that is meant, or a fault with the text that is meant
+-- the change that is meant, a fault with the text that is meant, or want of memory
 abbrev pub IsSubmoduleAnswer : {U : Type 0} → Result (Option U) (List ℕ) → Result (Option U) SubmoduleFault → Type 0
 IsSubmoduleAnswer meant (Ok change) = meant ≡ Ok change
-IsSubmoduleAnswer meant (Err fault) = meant ≡ Err fault.text
+IsSubmoduleAnswer meant (Err (Failed text)) = meant ≡ Err text
+IsSubmoduleAnswer meant (Err Memory) = ⊤

@@ -21,9 +21,9 @@ placed_code =
 
 abbrev pub planted_code : Coded Planted
 planted_code =
-    code_by (Option Fault × (Option Fault × (Option Fault × Option (ℕ × Fault))))
-    (coded× (coded_option fault_code) (coded× (coded_option fault_code) (coded× (coded_option fault_code) (coded_option (coded× coded_ℕ fault_code)))))
-    (λ p. (p.lstat, (p.opening, (p.read_link, p.read)))) (λ p. record { lstat = p.0; opening = p.1.0; read_link = p.1.1.0; read = p.1.1.1 }) (λ _. refl)
+    code_by (Option Fault × (Option Fault × (Option Fault × List (ℕ × Fault))))
+    (coded× (coded_option fault_code) (coded× (coded_option fault_code) (coded× (coded_option fault_code) (coded_list (coded× coded_ℕ fault_code)))))
+    (λ p. (p.lstat, (p.opening, (p.read_link, p.reads)))) (λ p. record { lstat = p.0; opening = p.1.0; read_link = p.1.1.0; reads = p.1.1.1 }) (λ _. refl)
 
 abbrev pub tree_code : Coded Tree
 tree_code =

@@ -5,3 +5,5 @@ pub mod fscache;
 pub mod index;
 pub mod stack;
 pub mod worktree;
+
+pub use status_board::board;

@@ -37,7 +37,10 @@ impl Model for SymlinkCheck {
 
 impl SymlinkCheck {
     ghost use Rattle.std.specs.Borrow.{sem};
+    ghost use Rattle.std.specs.Prelude.{◌≢◌};
     ghost use Rattle.std.specs.Io.BufRead.{Rests};
+    ghost use Rattle.status_index.specs.declared.fault.Fault.TheVariants.{NotFound};
+    ghost use Rattle.status_base.specs.declared.stack.error.StackError.TheVariants as errors;
     ghost use Rattle.bstr.specs.Owned.{bstring_bytes};
     ghost use Rattle.status_base.specs.contracts.stack.SymlinkCheck.{the_row};
     ghost use Rattle.status_base.specs.Verified.{IsVerified, IsNamed, IsNormal, IsAfterQuery, IsAfterVerified, accepting_absent};
@@ -110,6 +113,7 @@ impl SymlinkCheck {
         ensures named { IfErr result (IsNamed (bstr_bytes path.entry)) }
         ensures normal { OnOk result (IsNormal (bstr_bytes path.entry)) }
         ensures joined { IfOk result (λ answer. bstr_bytes answer ≡ joined self.old.root (bstr_bytes path.entry)) }
+        ensures present { IfErr result (λ e. e ≢ errors.Fault NotFound) }
         ensures* rests { sem 𝓛 (Rests the_row self.entry
             (IsAfterQuery (W.tells worktree.now) (W.lstat_of worktree.now) (bstr_bytes path.entry) self.old)) }
     {

@@ -100,6 +100,8 @@ fn refuses_paths_through_links(rt: HostRuntime) -> Result<(), Fail> {
         ("l/x", "Err(ThroughLink { prefix: \"l\" })"),
         ("", "Err(EmptyPath)"),
         ("a/../b", "Err(NotNormal { component: \"..\" })"),
+        ("./a", "Err(NotNormal { component: \".\" })"),
+        ("a//b", "Err(NotNormal { component: \"\" })"),
         ("f/x/y", "Err(Fault(NotADirectory))"),
         ("q/x", "Err(Fault(NotFound))"),
         ("f/x", "Ok(\"f/x\")"),
@@ -131,6 +133,7 @@ fn joins_paths_to_the_root(rt: HostRuntime) -> Result<(), Fail> {
     assert!(rt; check.root() == BStr::from("r"));
     let answer = check.verified_path(&worktree, BStr::from("a"));
     assert!(rt; matches!(answer, Ok(path) if path == BStr::from("r/a")));
+    assert!(rt; check.root() == BStr::from("r"));
     Ok(())
 }
 
@@ -151,6 +154,13 @@ fn counts_looks(rt: HostRuntime) -> Result<(), Fail> {
             "at {path}"
         );
     }
+    assert_eq!(rt; check.looks(), 6);
+    // A path that isn't normal is refused before any look.
+    assert!(rt;
+        check
+            .verified_path(&worktree, BStr::from("a/b/../c"))
+            .is_err()
+    );
     assert_eq!(rt; check.looks(), 6);
     Ok(())
 }

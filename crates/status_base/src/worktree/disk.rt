@@ -13,6 +13,9 @@ use std::rt::Files;
 use std::time::UNIX_EPOCH;
 use std::{fs, io};
 
+// The bytes of a whole path that needs no memory of its own.
+const SHORT_PATH_LEN: usize = 256;
+
 /// A folder of the disk. It tells nothing of its nodes, which may change between any two calls.
 ///
 /// Paths have to be UTF-8. Of a node the kind, the length and the time of its last change are asked; the time of its
@@ -37,18 +40,29 @@ impl<R: Files + AllocGlobal + Drop> DiskWorktree<R> {
         Ok(DiskWorktree { rt, front })
     }
 
-    /// The path of a node for the system.
+    /// The path of a node for the system, written into `short` where that has room, and else into `long`.
     ///
     /// # Errors
     /// A path that isn't UTF-8, or want of memory.
-    fn path_of(&self, path: BStr<'_>) -> Result<String, Fault> {
-        let Ok(path) = str::from_utf8(path.as_bytes()) else {
-            return Err(Fault::IllformedUtf8);
+    fn path_of<'b>(
+        &self,
+        path: BStr<'_>,
+        short: &'b mut [u8],
+        long: &'b mut Vec<u8>,
+    ) -> Result<&'b str, Fault> {
+        let front = self.front.as_bytes();
+        let path = path.as_bytes();
+        let whole = if path.len() <= short.len() && front.len() <= short.len() - path.len() {
+            let (start, rest) = short.split_at_mut(front.len());
+            start.copy_from_slice(front);
+            rest[..path.len()].copy_from_slice(path);
+            &short[..front.len() + path.len()]
+        } else {
+            long.extend_from_slice(front)?;
+            long.extend_from_slice(path)?;
+            long.as_slice()
         };
-        let mut whole = String::with_capacity(self.rt.alloc(), self.front.len() + path.len())?;
-        whole.push_str(self.front.as_str())?;
-        whole.push_str(path)?;
-        Ok(whole)
+        str::from_utf8(whole).map_err(|_| Fault::IllformedUtf8)
     }
 }
 
@@ -82,16 +96,18 @@ impl<R: Files + AllocGlobal + Drop> Worktree for DiskWorktree<R> {
     ghost target_of = { λ _ _. Err NotFound };
 
     fn lstat(&self, path: BStr<'_>) -> Result<Metadata, Fault> {
-        let path = self.path_of(path)?;
-        match self.rt.symlink_metadata(path.as_str()) {
+        let (mut short, mut long) = ([0u8; SHORT_PATH_LEN], Vec::new(self.rt.alloc()));
+        let path = self.path_of(path, &mut short, &mut long)?;
+        match self.rt.symlink_metadata(path) {
             Ok(found) => Ok(metadata_of(&found)),
             Err(error) => Err(fault_of(error.kind())),
         }
     }
 
     fn open(&self, path: BStr<'_>) -> Result<DiskFile<R::File>, Fault> {
-        let path = self.path_of(path)?;
-        match fs::open(&self.rt, path.as_str()) {
+        let (mut short, mut long) = ([0u8; SHORT_PATH_LEN], Vec::new(self.rt.alloc()));
+        let path = self.path_of(path, &mut short, &mut long)?;
+        match fs::open(&self.rt, path) {
             Ok(file) => Ok(DiskFile { file }),
             Err(error) => Err(fault_of(error.kind())),
         }
@@ -99,8 +115,9 @@ impl<R: Files + AllocGlobal + Drop> Worktree for DiskWorktree<R> {
 
     fn read_link(&self, path: BStr<'_>, target: &mut Vec<u8>) -> Result<(), Fault> {
         target.clear();
-        let path = self.path_of(path)?;
-        match fs::read_link(&self.rt, path.as_str()) {
+        let (mut short, mut long) = ([0u8; SHORT_PATH_LEN], Vec::new(self.rt.alloc()));
+        let path = self.path_of(path, &mut short, &mut long)?;
+        match fs::read_link(&self.rt, path) {
             Ok(found) => Ok(target.extend_from_slice(found.as_path().as_str().as_bytes())?),
             Err(error) => Err(fault_of(error.kind())),
         }

@@ -7,12 +7,29 @@ ghost use Rattle.status_index.specs.declared.entry.Entry.{Entry as IndexedEntry}
 
 use bstr::BStr;
 use status_index::{ByteText, Entry};
+use std::alloc::AllocError;
 
 /// Why the status of a submodule could not be told.
 #[derive(Debug, Drop)]
-pub struct SubmoduleFault {
-    /// What went wrong.
-    pub text: ByteText,
+pub enum SubmoduleFault {
+    /// Something went wrong.
+    Failed {
+        /// What, in words.
+        text: ByteText,
+    },
+    /// Want of memory.
+    Memory,
+}
+
+impl From<AllocError> for SubmoduleFault {
+    ghost use Rattle.std.specs.Prelude.{◌≡◌};
+    ghost use Rattle.status_base.specs.declared.worktree.submodule.SubmoduleFault.TheVariants.{Memory};
+
+    ghost from_gives = { λ _ f. f ≡ Memory };
+
+    fn from(_error: AllocError) -> SubmoduleFault {
+        SubmoduleFault::Memory
+    }
 }
 
 /// The status of submodules.
@@ -28,7 +45,7 @@ pub trait SubmoduleStatus: Clone {
     /// How the submodule of `entry` at `path` changed. None where it didn't.
     ///
     /// # Errors
-    /// Where that can't be told, in words of its own.
+    /// Where that can't be told, in words of its own, and want of memory.
     fn status(
         &mut self,
         entry: &Entry,

@@ -5,7 +5,8 @@ ghost use Rattle.bstr.specs.BStr.{bstr_bytes};
 ghost use Rattle.status_index.specs.Content.{Content};
 ghost use Rattle.status_index.specs.declared.fault.Fault.{Fault as WorktreeFault};
 ghost use Rattle.status_index.specs.declared.metadata.Metadata.{Metadata as NodeMetadata};
-ghost use Rattle.status_base.specs.Lawful.{IsAnswer, IsOpened, IsTarget};
+ghost use Rattle.status_index.specs.Answer.{IsAnswer};
+ghost use Rattle.status_base.specs.Lawful.{IsOpened, IsTarget};
 
 use bstr::BStr;
 use status_index::{Fault, Metadata, ReadBytes};

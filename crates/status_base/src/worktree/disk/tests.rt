@@ -1,3 +1,4 @@
+use super::{fault_of, metadata_of};
 use crate::worktree::{DiskWorktree, Fault, Metadata, NodeKind, ReadBytes, Worktree};
 use bstr::BStr;
 use status_index::{HashKind, ObjectId, Time, compute_stream_hash};
@@ -241,4 +242,26 @@ fn files_are_read_in_pieces(rt: HostRuntime) -> Result<(), Fail> {
     );
     fs::remove_dir_all(&rt, root)?;
     Ok(())
+}
+
+#[test]
+fn errors_of_the_system_have_faults(rt: HostRuntime) {
+    for (error, fault) in [
+        (io::ErrorKind::NotFound, Fault::NotFound),
+        (io::ErrorKind::NotADirectory, Fault::NotADirectory),
+        (io::ErrorKind::PermissionDenied, Fault::PermissionDenied),
+        (io::ErrorKind::Interrupted, Fault::Interrupted),
+        (io::ErrorKind::UnexpectedEof, Fault::UnexpectedEnd),
+        (io::ErrorKind::OutOfMemory, Fault::Memory),
+        (io::ErrorKind::InvalidData, Fault::Other(0)),
+    ] {
+        assert_eq!(rt; fault_of(error), fault);
+    }
+}
+
+#[test]
+fn a_time_that_is_not_known_is_no_stamp(rt: HostRuntime) {
+    let found = metadata_of(&fs::Metadata::of_file(3));
+    assert_eq!(rt; found.len, 3);
+    assert!(rt; found.mtime.is_none() && found.ctime.is_none());
 }

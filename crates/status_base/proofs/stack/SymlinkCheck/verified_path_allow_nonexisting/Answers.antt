@@ -23,6 +23,7 @@ returns-in-Err-Fault-NotFound g c =
         named = tt;
         normal = reached_at_absent c.verify.result (IsNormal path) absent c.verify.ensures.normal;
         joined = written;
+        present = tt;
         rests = tt;
       },
     )
