@@ -1,6 +1,6 @@
 //! Reading one entry's file and blob.
 
-ghost use Rattle.std.specs.Prelude.{◌≡◌, ◌∷◌, IsTrue, Some, None, length, if◌then◌else◌, OnOk};
+ghost use Rattle.std.specs.Prelude.{◌≡◌, ◌∷◌, IsTrue, Some, None, length, if◌then◌else◌, OnOk, OnErr};
 ghost use Rattle.bstr.specs.BStr.{bstr_bytes};
 ghost use Rattle.status_compare.specs.EntryMeaning.{entry_meaning, counts_of};
 ghost use Rattle.status_compare.specs.Reading.{IsReading, target_reading, file_reading, no_reads, with_bytes, with_file, with_object, counts_at_stream};
@@ -116,6 +116,7 @@ impl<'r, W: Worktree, T: ToGit, O: Find> EntryReader<'r, W, T, O> {
         ensures stream { IsTrue (W.tells self.old.worktree.now) → IsReading W.File.left (target_reading (W.target_of self.old.worktree.now (bstr_bytes self.old.path))) result }
         ensures same { self.new ≡ record self.old { reads = self.new.reads } }
         ensures counts { OnOk result (IsTrue (W.tells self.old.worktree.now) → counts_of self.new.reads ≡ counts_at_stream (target_reading (W.target_of self.old.worktree.now (bstr_bytes self.old.path))) (counts_of self.old.reads)) }
+        ensures uncounted { OnErr result (self.new.reads ≡ self.old.reads) }
     {
         self.worktree.read_link(self.path, buffer)?;
         self.reads.add_bytes(buffer.len() as u64);
@@ -133,6 +134,7 @@ impl<'r, W: Worktree, T: ToGit, O: Find> EntryReader<'r, W, T, O> {
         ensures stream { IsTrue (W.tells self.old.worktree.now) → IsReading W.File.left (file_reading (λ c. T.conversion self.old.filter.now c (bstr_bytes self.old.path)) self.old.len (W.open_of self.old.worktree.now (bstr_bytes self.old.path))) result }
         ensures same { self.new ≡ record self.old { reads = self.new.reads } }
         ensures counts { OnOk result (counts_of self.new.reads ≡ with_file (counts_of self.old.reads)) }
+        ensures uncounted { OnErr result (self.new.reads ≡ self.old.reads) }
     {
         let file = self.worktree.open(self.path)?;
         let source = self.filter.convert(file, self.path, buffer)?;

@@ -1,6 +1,6 @@
 //! What a comparer may read.
 
-ghost use Rattle.std.specs.Prelude.{◌≡◌, Option, IfSome, IfOk, OnOk, length};
+ghost use Rattle.std.specs.Prelude.{◌≡◌, Option, IfSome, IfOk, OnOk, OnErr, length};
 ghost use Rattle.status_compare.specs.Reading.{Meaning, ReadCounts, IsReading, counts_at_stream, with_bytes, with_object};
 ghost use Rattle.status_compare.specs.Blobs.{IsBlob};
 
@@ -23,23 +23,25 @@ pub trait ReadData {
     /// The entry's blob, read into `buffer`.
     ///
     /// # Errors
-    /// Find where there is no such blob.
+    /// Find where there is no such blob. An error counts nothing.
     fn read_blob<'a>(&mut self, buffer: &'a mut Vec<u8>) -> Result<&'a [u8], Error>
         ensures blob { IfSome (means self.old) (λ m. IsBlob m.blob result) }
         ensures same_meaning { means self.new ≡ means self.old }
-        ensures counts { IfOk result (λ b. counts self.new ≡ with_object (counts self.old) (length b.now)) };
+        ensures counts { IfOk result (λ b. counts self.new ≡ with_object (counts self.old) (length b.now)) }
+        ensures uncounted { OnErr result (counts self.new ≡ counts self.old) };
 
     /// The worktree's file as git would store it. Where it was converted, or is a link's target, it is in `buffer`.
     ///
     /// # Errors
-    /// A fault of the worktree or of the filter.
+    /// A fault of the worktree or of the filter. An error counts nothing.
     fn stream_worktree_file<'a>(
         &mut self,
         buffer: &'a mut Vec<u8>,
     ) -> Result<Stream<'a, Self::File>, Error>
         ensures stream { IfSome (means self.old) (λ m. IsReading Self.File.left m.file result) }
         ensures same_meaning { means self.new ≡ means self.old }
-        ensures counts { OnOk result (IfSome (means self.old) (λ m. counts self.new ≡ counts_at_stream m.file (counts self.old))) };
+        ensures counts { OnOk result (IfSome (means self.old) (λ m. counts self.new ≡ counts_at_stream m.file (counts self.old))) }
+        ensures uncounted { OnErr result (counts self.new ≡ counts self.old) };
 
     /// Adds the bytes that a stream counted.
     fn counted(&mut self, bytes: u64)

@@ -4,7 +4,7 @@ ghost use Rattle.std.specs.Prelude.{◌≡◌, ℕ, ◌-◌, ◌<◌, ◌≤◌,
 ghost use Rattle.std.specs.Io.{ReadsAtMost};
 ghost use Rattle.std.specs.Io.KnownBytes.{ReadConsumes};
 ghost use Rattle.std.specs.IoError.{error_kind};
-ghost use Rattle.status_index.specs.Content.{ReadCounts};
+ghost use Rattle.status_index.specs.Content.{CountsRead};
 ghost use Rattle.status_index.specs.ReadAll.{ReadsAll};
 ghost use Rattle.status_compare.specs.FaultKinds.{kind_of, known_bytes, IsKindOf};
 ghost use Rattle.status_compare.specs.StreamCounts.{count_after, counted_with, count_told};
@@ -153,7 +153,7 @@ impl<'a, F: ReadBytes> io::Read for Stream<'a, F> {
         ensures bound { ReadsAtMost result buffer.new }
         ensures bytes { ReadConsumes (known_bytes (stream_left F.left self.old)) (known_bytes (stream_left F.left self.new)) result buffer.new }
         ensures kind { IfErr result (λ e. IfSome (stream_left F.left self.old) (λ l. IsKindOf l (error_kind e))) }
-        ensures counted { ReadCounts (stream_taken self.old) (stream_taken self.new) result }
+        ensures counted { CountsRead (stream_taken self.old) (stream_taken self.new) result }
     {
         match self.read_bytes(buffer) {
             Ok(count) => Ok(count),
