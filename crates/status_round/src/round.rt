@@ -23,32 +23,12 @@ pub enum Refused {
 
 /// Works through the pieces, shared by as many workers as there are states in `crew`. The answer has what the pieces
 /// gave, in order, up to the first that ended short, whatever the schedule. A crew of one works in the caller's thread,
-/// a larger one in a thread for each; all that were started are joined, also where a thread or memory is refused.
+/// a larger one in a thread for each, with a stack of `stack_size` bytes or else of the usual size; all that were started
+/// are joined, also where a thread or memory is refused.
 ///
 /// # Errors
 /// A refused thread, or else want of memory.
 pub fn work_round<R: Threads + Wait, K: Work + Sync>(
-    rt: &R,
-    alloc: Global,
-    work: &K,
-    pieces: usize,
-    crew: Vec<K::State>,
-) -> Result<Vec<K::Out>, Refused>
-where
-    K::State: Send + Drop,
-    K::Out: Send + Drop,
-    requires count { pieces ≡ K.count work.now }
-    requires few { pieces ≤ 2 ^ 20 }
-    requires crew { (1 ≤ vec_len crew) × (vec_len crew ≤ 64) }
-    requires fits { All (K.fits work.now) crew.items }
-    ensures round { IfOk result (λ outs. IsRound (K.gives work.now) K.short pieces outs.items) }
-    ensures alone { vec_len crew ≡ 1 → result ≢ Err Refused.Thread }
-{
-    work_with_stacks(rt, alloc, None, work, pieces, crew)
-}
-
-// The same, with the bytes of a worker's stack, or the usual ones.
-pub(crate) fn work_with_stacks<R: Threads + Wait, K: Work + Sync>(
     rt: &R,
     alloc: Global,
     stack_size: Option<usize>,

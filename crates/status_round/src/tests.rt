@@ -2,7 +2,7 @@
 
 ghost use Rattle.std.specs.Prelude.{◌≡◌, ◌≤◌, ◌^◌, ⊤, false, IfOk, vec_len};
 
-use crate::round::{Refused, work_round, work_with_stacks};
+use crate::round::{Refused, work_round};
 use crate::work::Work;
 use std::alloc::{AllocError, Global};
 use std::sync::Wait;
@@ -115,10 +115,7 @@ fn outs_of<R: Threads + Wait>(
         Ok(crew) => crew,
         Err(_) => return Err(Refused::Memory),
     };
-    match stack_size {
-        Some(_) => work_with_stacks(rt, alloc, stack_size, &work, pieces, crew),
-        None => work_round(rt, alloc, &work, pieces, crew),
-    }
+    work_round(rt, alloc, stack_size, &work, pieces, crew)
 }
 
 // Whether crews of one to eight give the numbers below `end`, in order.
@@ -173,7 +170,7 @@ fn two_workers_work_at_once(rt: HostRuntime) -> Result<(), Fail> {
         second: AtomicBool::new(false),
     };
     let crew = crew_of(rt.alloc(), 2)?;
-    let met = work_round(&rt, rt.alloc(), &meeting, 2, crew);
+    let met = work_round(&rt, rt.alloc(), None, &meeting, 2, crew);
     assert!(rt; matches!(&met, Ok(outs) if outs.as_slice() == [true, true].as_slice()));
     Ok(())
 }
