@@ -18,7 +18,7 @@ use Rattle.status_index.specs.Entries.{IndexEntry, Listed, IsIndex, entry_cmp, i
 use Rattle.status_index.specs.Stretch.{part_of}
 use Rattle.gix_status.specs.Considered.{same_path}
 use Rattle.gix_status.specs.Pieces.{IsCut}
-use Rattle.gix_status.proofs.Parts.{All-take_from, All-drop_from, map-part, All-part_from, AllPairs-part}
+use Rattle.gix_status.proofs.Parts.{All-take_from, All-drop_from, All-take_at, All-drop_at, map-part, All-part_from, AllPairs-part}
 
 pub path_same : (a b : IndexEntry) → same_path a b ≡ true → a.path ≡ b.path
 path_same a b h = (bytes_eq-Decides a.path b.path).0 h
@@ -120,3 +120,17 @@ IsIndex-part es a b h = rw (map-part listed es a b) (part_index (map listed es) 
       ascending = AllPairs-part ls a b (λ a b. entry_cmp a b ≡ Less) h.ascending;
       one_kind = AllPairs-part ls a b (λ a b. id_kind a.id ≡ id_kind b.id) h.one_kind;
     }
+
+-- a path with entries on both sides of a place
+pub not_cut : (b : PathStorage) (entries : List Entry) (k : ℕ) (d e : Entry) → 0 < k → k < length entries → same_path (index_entry b (slice_index_or entries k d)) (index_entry b (slice_index_or entries (k - 1) e)) ≡ true → IsCut (index_entries b entries) k → ⊥
+not_cut b entries k d e some l same cut =
+    let es = index_entries b entries in
+    let f = index_entry b e in
+    let few : k < length es = omega (arith, length-map entries (index_entry b)) in
+    let before = All-take_at (λ x. All (λ r. same_path x r ≡ false) (drop k es)) es k cut (k - 1) f (omega arith) (omega arith) in
+    let apart = All-drop_at (λ r. same_path (slice_index_or es (k - 1) f) r ≡ false) es k before k (index_entry b d) (omega arith) few in
+    let left : slice_index_or es (k - 1) f ≡ index_entry b (slice_index_or entries (k - 1) e) = get_or-map (index_entry b) entries (k - 1) e f (omega arith) in
+    let right : slice_index_or es k (index_entry b d) ≡ index_entry b (slice_index_or entries k d) = get_or-map (index_entry b) entries k d (index_entry b d) l in
+    let far : same_path (index_entry b (slice_index_or entries (k - 1) e)) (index_entry b (slice_index_or entries k d)) ≡ false = rw (left, right) at apart in
+    let near = same_back (index_entry b (slice_index_or entries k d)) (index_entry b (slice_index_or entries (k - 1) e)) same in
+    cc

@@ -39,11 +39,12 @@ pub record IsSelf {T U : Type 0} (s : Step T U) (len : ℕ) (counts : Counts) : 
   pub counted : counts_of_outcome s.outcome ≡ counts
   pub alone : IsOfEntries s.outcome
 
-processed_within : (n flags pathspec : ℕ) → 1 ≤ n → flags ≤ 1 → pathspec ≤ 1 → IsWithin n (processed_counts flags pathspec)
-processed_within n flags pathspec l f p = record {
+processed_within : (n flags pathspec : ℕ) → 1 ≤ n → flags + pathspec ≤ 1 → IsWithin n (processed_counts flags pathspec)
+processed_within n flags pathspec l few = record {
   processed = l;
   skipped_by_flags = omega arith;
   skipped_by_pathspec = omega arith;
+  skipped = omega arith;
   lstat_calls = omega arith;
   racy_clean = omega arith;
   to_update = omega arith;
@@ -54,6 +55,7 @@ decided_within d = record {
   processed = omega arith;
   skipped_by_flags = omega arith;
   skipped_by_pathspec = omega arith;
+  skipped = omega arith;
   lstat_calls = weight_le d.asked;
   racy_clean = weight_le d.racy;
   to_update = weight_le _;
@@ -101,13 +103,13 @@ module _ (es : List IndexEntry) (index : IsIndex (map listed es)) (i : ℕ) (x :
     pub next_flagged : (s : Step T U) → IsSelf s 1 (processed_counts 1 0) → s.status ≡ None → reads_of_outcome s.outcome ≡ no_reads → is_flagged x ≡ true → IsNext q tells es i s
     next_flagged s self none read h =
         let skipped : is_skipped q x ≡ true = or_left _ _ h in
-        one_next s (processed_counts 1 0) self (processed_within 1 1 0 (omega arith) (omega arith) (omega arith)) (skipped_apart skipped)
+        one_next s (processed_counts 1 0) self (processed_within 1 1 0 (omega arith) (omega arith)) (skipped_apart skipped)
         (λ _. skipped_step s skipped none (self.counted ∙ sym (flagged_counts q es x first h)) read)
 
     pub next_excluded : (s : Step T U) → IsSelf s 1 (processed_counts 0 1) → s.status ≡ None → reads_of_outcome s.outcome ≡ no_reads → is_flagged x ≡ false → is_excluded q x ≡ true → IsNext q tells es i s
     next_excluded s self none read f h =
         let skipped : is_skipped q x ≡ true = or_right _ _ h in
-        one_next s (processed_counts 0 1) self (processed_within 1 0 1 (omega arith) (omega arith) (omega arith)) (skipped_apart skipped)
+        one_next s (processed_counts 0 1) self (processed_within 1 0 1 (omega arith) (omega arith)) (skipped_apart skipped)
         (λ _. skipped_step s skipped none (self.counted ∙ sym (excluded_counts q es x first f h)) read)
 
     module _ (kept : is_skipped q x ≡ false) where
@@ -161,7 +163,7 @@ module _ (es : List IndexEntry) (index : IsIndex (map listed es)) (i : ℕ) (x :
             record {
               more = omega arith;
               inside = omega arith;
-              few = IsWithin-same s.len (counts_of_outcome s.outcome) (processed_counts 0 0) self.counted (processed_within s.len 0 0 (omega arith) (omega arith) (omega arith));
+              few = IsWithin-same s.len (counts_of_outcome s.outcome) (processed_counts 0 0) self.counted (processed_within s.len 0 0 (omega arith) (omega arith));
               alone = self.alone;
               fresh = fresh_more es index i x l here q fresh (i + s.len) (omega arith) (λ j k d e m o p u v. run_apart es index i x l here 3 three staged q j k d e m (omega arith) (omega arith) v);
               one_path = λ d. All-part_from es i (i + s.len) (λ r. same_path (slice_index_or es i d) r ≡ true) (λ j e m o p.

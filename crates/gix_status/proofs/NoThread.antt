@@ -2,7 +2,16 @@
 use Rattle.std.proofs.Common.{◌≡◌, sym, ap, ◌∙◌, ℕ, ◌==◌, ◌||◌, Bool, true, false, cond, map, List, Option, Some, None, Result, Ok, Err}
 use Rattle.status_index.specs.declared.fault.Fault.{Fault}
 use Rattle.status_index.specs.declared.fault.Fault.TheVariants as faults
+use Rattle.status_index.specs.BlobId.{id_kind}
+use Rattle.status_index.specs.Content.{Content}
+use Rattle.status_index.specs.declared.id.HashKind.{HashKind}
+use Rattle.status_index.specs.declared.id.ObjectId.{ObjectId}
+use Rattle.status_index.specs.declared.metadata.Metadata.{Metadata}
 use Rattle.status_index.specs.Entries.{IndexEntry, stage_of}
+use Rattle.status_index.specs.StreamId.{first_bytes_id}
+use Rattle.status_base.specs.Converted.{Converted, refused as turned_down, same, other}
+use Rattle.status_compare.specs.Comparers.{worktree_result, reading_id, changed_result, hash_answer, size_decides, answer_without_id}
+use Rattle.status_compare.specs.Reading.{converted_reading, node_reading}
 use Rattle.status_compare.specs.declared.error.Error.{Error}
 use Rattle.status_compare.specs.declared.error.Error.TheVariants.{SpawnThread}
 use Rattle.status_compare.specs.Errors.{error_of}
@@ -10,7 +19,8 @@ use Rattle.gix_status.specs.declared.index_as_worktree.types.EntryStatus.{EntryS
 use Rattle.gix_status.specs.Considered.{is_skipped, is_over, stages_from}
 use Rattle.gix_status.specs.Query.{Query}
 use Rattle.gix_status.specs.Records.{verdict, conflict_status}
-use Rattle.gix_status.specs.Status.{answer, status_of}
+use Rattle.gix_status.specs.Laws.{IdsLaw, SizesLaw}
+use Rattle.gix_status.specs.Status.{answer, status_of, meaning, reads_link}
 use Rattle.gix_status.specs.StatusTable.{Row, gone, refused, in_submodule, added, unstamped, retyped, unchanged, failed, modified, to_update, IsInRow}
 use Rattle.gix_status.specs.StatusTheorem.{NeverSpawns}
 use Rattle.gix_status.proofs.LawRows.{row_of}
@@ -30,6 +40,9 @@ other_error (faults.Other n) h = cc
 abbrev error_or : {A : Type 0} → Error → Result A Error → Error
 error_or e (Ok _) = e
 error_or e (Err x) = x
+
+same_fault : {A : Type 0} (a b : Error) → ◌≡◌ {A = Result A Error} (Err a) (Err b) → a ≡ b
+same_fault a b h = ap (error_or a) h
 
 module _ {T U : Type 0} where
   abbrev err : Error → Result (Option (EntryStatus T U)) Error
@@ -66,3 +79,44 @@ module _ {T U : Type 0} (q : Query T U) (never : NeverSpawns q) where
   pub never_spawned : (es : List IndexEntry) (e : IndexEntry) → verdict q es e ≡ Err SpawnThread → ⊥
   never_spawned es e h =
       by_tests {T = T} {U = U} (is_skipped q e || is_over q es e) (stage_of e.entry == 0) (status_of q e) (conflict_status (map (λ (d : IndexEntry). d.entry) (stages_from es e))) (by_row e (row_of q e).0 (row_of q e).1) h
+
+-- the comparers by ids and by sizes never answer it
+no_result : {A : Type 0} (r : Result A Fault) → worktree_result r ≡ Err SpawnThread → ⊥
+no_result (Ok x) h = cc
+no_result {A} (Err f) h = other_error f (same_fault {A = A} (error_of f) SpawnThread h)
+
+no_converted : (kind : HashKind) (len : ℕ) (content : Content) (c : Converted) → reading_id kind (converted_reading len content c) ≡ Err SpawnThread → ⊥
+no_converted kind len content same h = no_result (first_bytes_id kind content len) h
+no_converted kind len content (other bytes) h = cc
+no_converted kind len content (turned_down f) h = other_error f (same_fault {A = ObjectId} (error_of f) SpawnThread h)
+
+no_reading : (kind : HashKind) (is_link : Bool) (conversion : Content → Converted) (len : ℕ) (opened : Result Content Fault) (linked : Result (List ℕ) Fault)
+    → reading_id kind (node_reading is_link conversion len opened linked) ≡ Err SpawnThread → ⊥
+no_reading kind true conversion len opened (Ok bytes) h = cc
+no_reading kind true conversion len opened (Err f) h = other_error f (same_fault {A = ObjectId} (error_of f) SpawnThread h)
+no_reading kind false conversion len (Ok content) linked h = no_converted kind len content (conversion content) h
+no_reading kind false conversion len (Err f) linked h = other_error f (same_fault {A = ObjectId} (error_of f) SpawnThread h)
+
+no_change : (id : ObjectId) (r : Result ObjectId Error) → (r ≡ Err SpawnThread → ⊥) → changed_result id r ≡ Err SpawnThread → ⊥
+no_change id (Ok new) f h = cc
+no_change id (Err e) f h = f (ap (λ (x : Error). Err x) (same_fault {A = Option ObjectId} e SpawnThread h))
+
+no_size : (b : Bool) (r : Result (Option ObjectId) Error) → (r ≡ Err SpawnThread → ⊥) → cond b (Ok (Some tt)) (answer_without_id r) ≡ Err SpawnThread → ⊥
+no_size true r f h = cc
+no_size false (Ok change) f h = cc
+no_size false (Err e) f h = f (ap (λ (x : Error). Err x) (same_fault {A = Option (Unit {0})} e SpawnThread h))
+
+module _ {T U : Type 0} (q : Query T U) (e : IndexEntry) (n : Metadata) where
+  -- by what an entry's file and its node give
+  no_hash : hash_answer e.entry (meaning q e n).file ≡ Err SpawnThread → ⊥
+  no_hash =
+      no_change e.entry.id (reading_id (id_kind e.entry.id) (meaning q e n).file)
+      (no_reading (id_kind e.entry.id) (reads_link q.symlink e.entry.mode n.kind) (λ c. q.conversion c e.path) n.len (q.opened e.path) (q.linked e.path))
+
+pub ids_law : {U : Type 0} (q : Query ObjectId U) → IdsLaw q
+ids_law q is e n h = no_hash q e n (sym (ap (λ f. f e.entry n.len (meaning q e n)) is) ∙ h)
+
+pub sizes_law : {U : Type 0} (q : Query (Unit {0}) U) → SizesLaw q
+sizes_law q is e n h =
+    no_size (size_decides e.entry n.len) (hash_answer e.entry (meaning q e n).file) (no_hash q e n)
+    (sym (ap (λ f. f e.entry n.len (meaning q e n)) is) ∙ h)

@@ -1,5 +1,5 @@
 -- The status theorem, from work in order and its end.
-use Rattle.std.proofs.Common.{◌≡◌, ◌≢◌, refl, sym, ap, ◌∙◌, subst, ℕ, zero, suc, ◌+◌, ◌-◌, ◌<◌, ◌≤◌, ◌⊎◌, inl, inr, Bool, true, false, IsTrue, List, [], ◌∷◌, ◌++◌, length, length-append, take, drop, map, All, arith, append_assoc, Option, Some, None, Result, Ok, Err}
+use Rattle.std.proofs.Common.{◌≡◌, ◌≢◌, refl, sym, ap, ◌∙◌, subst, ℕ, zero, suc, ◌+◌, ◌-◌, ◌<◌, ◌≤◌, ◌^◌, ◌⊎◌, inl, inr, Bool, true, false, IsTrue, List, [], ◌∷◌, ◌++◌, length, length-append, take, drop, map, All, arith, append_assoc, Option, Some, None, Result, Ok, Err}
 use Rattle.std.specs.Prelude.{AllPairs, slice_get}
 use Rattle.std.specs.List.{slice_index_or}
 use Rattle.std.proofs.lemmas.List.{take-append-drop, append-nil, length-map, length-take, length-drop, get_or-map}
@@ -14,7 +14,8 @@ use Rattle.gix_status.specs.declared.index_as_worktree.types.Finding.{Finding}
 use Rattle.gix_status.specs.declared.index_as_worktree.types.Outcome.{Outcome}
 use Rattle.gix_status.specs.Counts.{IsOutcome, counts_in, counts_of_outcome, reads_in, reads_of_outcome}
 use Rattle.gix_status.specs.Fed.{Tells}
-use Rattle.gix_status.specs.Pieces.{IsDone, IsAsMeant, IsFaultAt}
+use Rattle.gix_status.specs.Pieces.{IsDone, IsWithin, IsAsMeant, IsFaultAt}
+use Rattle.gix_status.specs.Outcomes.{skipped_of}
 use Rattle.gix_status.specs.Query.{Query}
 use Rattle.gix_status.specs.Records.{records_in, records_of, faults_in, first_fault, verdict}
 use Rattle.gix_status.specs.StatusTheorem.{IsBeginning, IsComplete, IsStatus, IsStatusOf, IsFirstFault, NeverSpawns, all_entries, considered_entries, start_of}
@@ -119,7 +120,14 @@ module _ {T U : Type 0} (q : Query T U) (entries : List Entry) (backing : PathSt
 
   module _ (workers : ℕ) (o p : Outcome) (work : IsToldWork q tells start es 0 has_flag workers (length es) entries backing old (Ok o) new)
       (counts : counts_of_outcome p ≡ counts_of_outcome o) (reads : reads_of_outcome p ≡ reads_of_outcome o)
-      (process : p.entries_to_process ≡ length es) (prefix : p.entries_skipped_by_common_prefix ≡ length all - length es) (interrupt : p.interrupted ≡ o.interrupted) where
+      (process : p.entries_to_process ≡ length es) (prefix : p.entries_skipped_by_common_prefix ≡ length all - length es) (interrupt : p.interrupted ≡ o.interrupted)
+      (room : p.entries_skipped_by_common_prefix + length es < 2 ^ 64) where
+    -- no entry is skipped twice
+    skipped_fits : skipped_of p < 2 ^ 64
+    skipped_fits =
+        let few = subst (λ k. IsWithin (work.worked.place - 0) k) (sym counts) work.worked.done.few in
+        omega (arith, few.skipped, work.worked.done.high, room)
+
     -- the first of the considered entries were worked through
     first_status : IsTrue tells → IsStatusOf q entries backing work.worked.place (map finding_of work.fed.more) p
     first_status t =
@@ -150,6 +158,7 @@ module _ {T U : Type 0} (q : Query T U) (entries : List Entry) (backing : PathSt
       interrupted = λ t seen. (work.worked.place, work.worked.done.high, first_status t);
       fault = λ t. tt;
       beginning = λ t. subst (λ l. IsBeginning l (records_of q start es)) (sym (first_status t).records) (records_begin q start es work.worked.place);
+      fits = skipped_fits;
       uninterrupted = λ still. interrupt ∙ work.worked.uninterrupted still;
       alone = λ t one spawns h. ok_not_err p SpawnThread h;
     }
@@ -206,6 +215,7 @@ module _ {T U : Type 0} (q : Query T U) (entries : List Entry) (backing : PathSt
       interrupted = λ t. tt;
       fault = λ t other others. first_fault_at t other others stop.by;
       beginning = λ t. subst (λ l. IsBeginning l (records_of q start es)) (sym work.fed.told) (begins_more work.told stop.found (records_of q start es) (told_in stop.by) (found_begins t));
+      fits = tt;
       uninterrupted = λ _. tt;
       alone = λ t one never h. no_thread t (single one) never stop.by (err_same e SpawnThread h);
     }
@@ -226,3 +236,7 @@ module _ {X Y : Type 0} (all whole : List X) (entries : List Y) (s e : ℕ) (par
 
   pub rest_len : (n : ℕ) → n ≡ length entries → n - (e - s) ≡ length all - length whole
   rest_len n h = omega (arith, part_len, h, same)
+
+  -- the considered and the others are all
+  pub skip_room : (n : ℕ) → n ≡ length entries → n < 2 ^ 64 → n - (e - s) + length whole < 2 ^ 64
+  skip_room n h few = omega (arith, part_len, order, inside, h, few)

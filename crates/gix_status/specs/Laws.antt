@@ -9,6 +9,8 @@ use Rattle.status_index.specs.declared.stat.Stat.{Stat}
 use Rattle.status_index.specs.declared.entry.Entry.{Entry}
 use Rattle.status_index.specs.Entries.{IndexEntry, IsIndex, listed, stage_of}
 use Rattle.status_compare.specs.declared.error.Error.{Error}
+use Rattle.status_index.specs.declared.id.ObjectId.{ObjectId}
+use Rattle.status_compare.specs.Comparers.{hash_answer, fast_answer}
 use Rattle.status_compare.specs.Reading.{no_reads}
 use Rattle.gix_status.specs.declared.index_as_worktree.types.Change.TheVariants.{Modification}
 use Rattle.gix_status.specs.declared.index_as_worktree.types.Conflict.{Conflict}
@@ -20,6 +22,7 @@ use Rattle.gix_status.specs.Pieces.{IsCut}
 use Rattle.gix_status.specs.Query.{Query}
 use Rattle.gix_status.specs.Records.{verdict, records_of, faults_in, first_fault}
 use Rattle.gix_status.specs.Status.{case_of, changed, status_of}
+use Rattle.gix_status.specs.StatusTheorem.{NeverSpawns}
 use Rattle.gix_status.specs.StatusTable.{IsPresent, IsStamped, trusted, racy, HasChange}
 
 -- the modes of directories
@@ -29,6 +32,14 @@ IsDirectoryMode mode = (mode ≡ modes.Commit) ⊎ (mode ≡ modes.Dir)
 -- the entries of a conflict
 abbrev pub conflict_run : List IndexEntry → IndexEntry → List Entry
 conflict_run es e = map (λ d. d.entry) (stages_from es e)
+
+-- comparison by ids never answers that a thread was refused
+abbrev pub IdsLaw : {U : Type 0} → Query ObjectId U → Type 0
+IdsLaw q = q.compared ≡ (λ e _ m. hash_answer e m.file) → NeverSpawns q
+
+-- nor does comparison by sizes
+abbrev pub SizesLaw : {U : Type 0} → Query (Unit {0}) U → Type 0
+SizesLaw q = q.compared ≡ (λ e n m. fast_answer e n m.file) → NeverSpawns q
 
 module _ {T U : Type 0} (q : Query T U) where
   -- a node whose stat agrees with the entry's, and may hide a write

@@ -25,11 +25,12 @@ IsUncut Whole = ⊤
 IsUncut (Faulty x) = ⊤
 IsUncut Cut = ⊥
 
--- each number is at most n
+-- each number is at most n, and so are those that were skipped together
 pub record IsWithin (n : ℕ) (k : Counts) : Type 0 where
   pub processed : k.processed ≤ n
   pub skipped_by_flags : k.skipped_by_flags ≤ n
   pub skipped_by_pathspec : k.skipped_by_pathspec ≤ n
+  pub skipped : k.skipped_by_flags + k.skipped_by_pathspec ≤ n
   pub lstat_calls : k.lstat_calls ≤ n
   pub racy_clean : k.racy_clean ≤ n
   pub to_update : k.to_update ≤ n

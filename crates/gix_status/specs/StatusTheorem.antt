@@ -1,5 +1,5 @@
 -- The status theorem: what a status tells its collector, and what it answers.
-use Rattle.std.specs.Prelude.{◌≡◌, ◌≢◌, ℕ, ◌<◌, ◌≤◌, Bool, false, true, IsTrue, List, ◌++◌, [], length, take, map, All, AllPairs, Option, Some, None, Result, Ok, Err, IfOk, IfErr}
+use Rattle.std.specs.Prelude.{◌≡◌, ◌≢◌, ℕ, ◌<◌, ◌≤◌, ◌^◌, Bool, false, true, IsTrue, List, ◌++◌, [], length, take, map, All, AllPairs, Option, Some, None, Result, Ok, Err, IfOk, IfErr}
 use Rattle.std.specs.List.{slice_index_or}
 use Rattle.status_index.specs.declared.entry.Entry.{Entry}
 use Rattle.status_index.specs.declared.entry.PathStorage.{PathStorage}
@@ -11,6 +11,7 @@ use Rattle.gix_status.specs.declared.index_as_worktree.types.Outcome.{Outcome}
 use Rattle.gix_status.specs.declared.index_as_worktree.types.Finding.{Finding}
 use Rattle.gix_status.specs.Considered.{considered, considered_start}
 use Rattle.gix_status.specs.Counts.{IsOutcome}
+use Rattle.gix_status.specs.Outcomes.{skipped_of}
 use Rattle.gix_status.specs.Query.{Query}
 use Rattle.gix_status.specs.Records.{records_of, records_in, faults_in, first_fault, verdict}
 use Rattle.gix_status.specs.Status.{meaning}
@@ -71,7 +72,9 @@ module _ {T U : Type 0} (q : Query T U) (entries : List Entry) (backing : PathSt
     pub fault : IsTrue tells → IfErr result (λ e. e ≢ Memory → e ≢ SpawnThread → IsFirstFault (map finding_of more) e)
     -- on every exit: a beginning of the records
     pub beginning : IsTrue tells → IsBeginning (map finding_of more) (records_of q start_of considered_entries)
+    -- over any worktree: the counts of those that were skipped add up to a number that fits
+    pub fits : IfOk result (λ o. skipped_of o < 2 ^ 64)
     -- without a flag it isn't interrupted
     pub uninterrupted : has_flag ≡ false → IfOk result (λ o. o.interrupted ≡ false)
-    -- with limit 1 no thread is refused
+    -- with limit 1 no thread is refused, where the comparer doesn't answer so
     pub alone : IsTrue tells → limit ≡ Some 1 → NeverSpawns q → result ≢ Err SpawnThread

@@ -1,10 +1,12 @@
 //! Asking a status.
 
-use gix_status::index_as_worktree::function::index_as_worktree;
+ghost use Rattle.std.specs.Prelude.{◌<◌, ◌^◌, IfOk};
+ghost use Rattle.gix_status.specs.Outcomes.{skipped_of};
+
 use gix_status::index_as_worktree::traits::CompareBlobs;
 use gix_status::index_as_worktree::{
     Capabilities, Change, Context, EntryStatus, Error, Options, Outcome, Record, Recorder,
-    VisitEntry,
+    VisitEntry, index_as_worktree,
 };
 use status_base::index::{ObjectId, State};
 use status_base::worktree::{
@@ -98,6 +100,7 @@ pub fn removed<T, U>() -> EntryStatus<T, U> {
 pub struct Told<'index, T, U> {
     pub records: Vec<Record<'index, T, U>>,
     pub answer: Result<Outcome, Error>,
+    ghost fits: { IfOk answer (λ o. skipped_of o < 2 ^ 64) },
 }
 
 /// The status of an index against a worktree, by a comparer that tells ids.
@@ -182,6 +185,7 @@ where
     W::File: Send,
     C::Output: Send,
     S::Output: Send,
+    ensures { IfOk result (λ o. skipped_of o < 2 ^ 64) }
 {
     let Asked {
         submodule,
@@ -207,6 +211,14 @@ impl<'index, T, U> Told<'index, T, U> {
         match &self.answer {
             Ok(outcome) => *outcome == *wanted,
             Err(_) => false,
+        }
+    }
+
+    /// How many entries the status skipped, where it succeeded.
+    pub fn skipped(&self) -> Option<usize> {
+        match &self.answer {
+            Ok(outcome) => Some(outcome.skipped()),
+            Err(_) => None,
         }
     }
 

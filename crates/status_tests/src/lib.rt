@@ -5,6 +5,8 @@
 #[cfg(test)]
 mod asking;
 #[cfg(test)]
+mod collectors;
+#[cfg(test)]
 mod comparers;
 #[cfg(test)]
 mod filters;

@@ -2,7 +2,8 @@
 
 ghost use Rattle.std.specs.Prelude.{◌≡◌, Ok, IfSome, OnOk, length};
 ghost use Rattle.status_index.specs.Content.{CountsMore};
-ghost use Rattle.status_index.specs.StreamId.{IsAnswer, first_bytes_id};
+ghost use Rattle.status_index.specs.Answer.{IsAnswer};
+ghost use Rattle.status_index.specs.StreamId.{first_bytes_id};
 ghost use Rattle.status_compare.specs.Reading.{Reading, IsReading};
 ghost use Rattle.status_tests.specs.Pieces.{all_bytes_id, IsPiecesId};
 
@@ -37,7 +38,7 @@ fn id_of_first<R: ReadBytes>(
     reader: &mut R,
     len: u64,
 ) -> Result<ObjectId, Fault>
-    ensures id { IfSome (R.left reader.old) (λ l. IsAnswer result (first_bytes_id kind l len)) }
+    ensures id { IfSome (R.left reader.old) (λ l. IsAnswer (first_bytes_id kind l len) result) }
     ensures counted { OnOk result (CountsMore (R.taken reader.old) (R.taken reader.new) len) }
 {
     let mut bytes = Vec::new(alloc);
@@ -57,7 +58,7 @@ fn id_of_first<R: ReadBytes>(
 
 /// The id of all bytes that the reader has left.
 fn id_of_all<R: ReadBytes>(alloc: Global, kind: HashKind, reader: &mut R) -> Result<ObjectId, Fault>
-    ensures id { IfSome (R.left reader.old) (λ l. IsAnswer result (all_bytes_id kind l.bytes l.fault)) }
+    ensures id { IfSome (R.left reader.old) (λ l. IsAnswer (all_bytes_id kind l.bytes l.fault) result) }
     ensures counted { OnOk result (IfSome (R.left reader.old) (λ l. CountsMore (R.taken reader.old) (R.taken reader.new) (length l.bytes))) }
 {
     let mut bytes = Vec::new(alloc);

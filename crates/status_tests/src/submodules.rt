@@ -7,31 +7,26 @@ use bstr::BStr;
 use status_base::index::Entry;
 use status_base::worktree::{ByteText, SubmoduleFault, SubmoduleStatus};
 use std::alloc::{AllocError, Global};
-use std::process::Abort;
 
 /// Every submodule answers the same: no change, a number, or a fault with a text.
-///
-/// A fault has no words for want of memory, so where its text is refused memory the test ends.
 #[derive(Drop)]
-pub struct Alike<'a, R: Abort + Sync> {
-    pub rt: &'a R,
+pub struct Alike<'a> {
     pub alloc: Global,
     pub answer: Result<Option<u32>, &'a [u8]>,
 }
 
-impl<'a, R: Abort + Sync> Clone for Alike<'a, R> {
+impl<'a> Clone for Alike<'a> {
     ghost is_clone = { λ x y. y ≡ x };
 
-    fn clone(&self) -> Result<Alike<'a, R>, AllocError> {
+    fn clone(&self) -> Result<Alike<'a>, AllocError> {
         Ok(Alike {
-            rt: self.rt,
             alloc: self.alloc,
             answer: self.answer,
         })
     }
 }
 
-impl<'a, R: Abort + Sync> SubmoduleStatus for Alike<'a, R> {
+impl<'a> SubmoduleStatus for Alike<'a> {
     ghost use Rattle.std.proofs.Common.{ap};
 
     type Output = u32;
@@ -43,9 +38,10 @@ impl<'a, R: Abort + Sync> SubmoduleStatus for Alike<'a, R> {
     fn status(&mut self, _entry: &Entry, _path: BStr<'_>) -> Result<Option<u32>, SubmoduleFault> {
         match self.answer {
             Ok(change) => Ok(change),
-            Err(text) => Err(SubmoduleFault {
-                text: ByteText::from_slice(self.alloc, text).expect(self.rt, "room for a text"),
-            }),
+            Err(text) => {
+                let text = ByteText::from_slice(self.alloc, text)?;
+                Err(SubmoduleFault::Failed { text })
+            }
         }
     }
 }

@@ -22,7 +22,8 @@ use bstr::{BStr, BString};
 use status_base::index::{Entry, Flags, Mode, Moment, Stat, mode, stat};
 use status_base::stack::{StackError, SymlinkCheck};
 use status_base::worktree::{
-    ByteText, Fault, Find, Metadata, NodeKind, Pathspec, SubmoduleStatus, ToGit, Worktree,
+    ByteText, Fault, Find, Metadata, NodeKind, Pathspec, SubmoduleFault, SubmoduleStatus, ToGit,
+    Worktree,
 };
 use status_compare::{CompareBlobs, EntryReader, Reads};
 use std::alloc::{AllocError, Global};
@@ -403,11 +404,11 @@ fn submodule_status<T, S: SubmoduleStatus>(
             let change = Change::SubmoduleModification(change);
             Ok(Some(EntryStatus::Change(change)))
         }
-        Err(fault) => {
+        Err(SubmoduleFault::Failed { text }) => {
             let rela_path = ByteText::from_slice(alloc, path.as_bytes())?;
-            let text = fault.text;
             Err(Error::SubmoduleStatus { rela_path, text })
         }
+        Err(SubmoduleFault::Memory) => Err(Error::Memory),
     }
 }
 

@@ -130,6 +130,7 @@ where
         part,
         chunk_size,
         options.thread_limit,
+        None,
         should_interrupt,
         decider,
         collector,

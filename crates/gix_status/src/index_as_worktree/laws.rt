@@ -2,7 +2,8 @@
 
 ghost use Rattle.std.specs.Prelude.{◌≡◌};
 ghost use Rattle.status_index.specs.Entries.{IndexEntry};
-ghost use Rattle.gix_status.specs.Laws.{ModificationLaw, UnreadLaw, ExecutableLaw, AscendLaw, CutLaw, FaultLaw, OneConflictLaw, HeadLaw};
+ghost use Rattle.status_index.specs.declared.id.ObjectId.{ObjectId as BlobId};
+ghost use Rattle.gix_status.specs.Laws.{ModificationLaw, UnreadLaw, ExecutableLaw, AscendLaw, CutLaw, FaultLaw, OneConflictLaw, HeadLaw, IdsLaw, SizesLaw};
 ghost use Rattle.gix_status.specs.Query.{Query};
 ghost use Rattle.gix_status.specs.StatusTable.{Row, IsInRow, StatusTable};
 
@@ -62,4 +63,14 @@ pub fn one_conflict_a_path<T: Drop, U: Drop>()
 /// An entry with a stage that is neither skipped nor over tells a conflict.
 pub fn head_tells_a_conflict<T: Drop, U: Drop>()
     ensures { (q : Query T U) → HeadLaw q }
+{}
+
+/// Comparison by ids never answers that a thread was refused.
+pub fn ids_refuse_no_thread<U: Drop>()
+    ensures { (q : Query BlobId U) → IdsLaw q }
+{}
+
+/// Nor does comparison by sizes.
+pub fn sizes_refuse_no_thread<U: Drop>()
+    ensures { (q : Query (Unit {0}) U) → SizesLaw q }
 {}

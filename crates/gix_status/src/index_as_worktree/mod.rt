@@ -1,17 +1,18 @@
 //! The status of an index against a worktree.
 
-pub mod conflict;
-pub mod decide;
-pub mod entry_status;
-pub mod feed;
-pub mod function;
+mod conflict;
+mod decide;
+mod entry_status;
+mod feed;
+mod function;
 pub mod laws;
-pub mod piece;
-pub mod recorder;
-pub mod round;
+mod piece;
+mod recorder;
+mod round;
 pub mod traits;
-pub mod types;
-pub mod work;
+mod types;
+mod work;
+mod workers;
 
 pub use function::index_as_worktree;
 pub use recorder::{Record, Recorder};

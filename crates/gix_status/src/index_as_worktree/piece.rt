@@ -24,6 +24,9 @@ use status_base::index::{Entry, Flags, PathStorage};
 use std::alloc::{AllocError, Global};
 use std::sync::atomic::{AtomicBool, Ordering};
 
+#[cfg(test)]
+pub(crate) mod tests;
+
 /// How a piece ended.
 #[derive(Debug, Drop)]
 pub enum End {
@@ -72,6 +75,7 @@ pub(crate) fn piece_end(
     ensures within { result ≤ length entries.now }
     ensures full { min (from + chunk) (length entries.now) ≤ result }
     ensures cut { IsCut (index_entries backing.now entries.now) result }
+    ensures tight { (k : ℕ) → from + chunk ≤ k → from < k → k < result → IsCut (index_entries backing.now entries.now) k → ⊥ }
 {
     let mut end = from + chunk.max(1).min(entries.len() - from);
     while end < entries.len() && same_path(&entries[end], &entries[end - 1], backing) {

@@ -10,6 +10,7 @@ ghost use Rattle.gix_status.specs.Worked.{IsRefusal};
 use crate::index_as_worktree::decide::Decide;
 use crate::index_as_worktree::piece::{End, Piece, piece_end, work_piece};
 use crate::index_as_worktree::types::Error;
+use crate::index_as_worktree::workers::Workers;
 use status_base::index::{Entry, PathStorage};
 use status_round::round::{Refused, work_round};
 use status_round::work::Work;
@@ -110,7 +111,7 @@ fn crew_of<D: Decide + Drop>(
     Ok(crew)
 }
 
-/// Works through the entries between the bounds with this many workers: what the pieces give in order, up to the first
+/// Works through the entries between the bounds with as many workers as `workers` has at most: what the pieces give in order, up to the first
 /// that didn't come to its end.
 ///
 /// # Errors
@@ -122,8 +123,7 @@ pub(crate) fn work_pieces<R: Threads + Wait, D: Decide + Send + Drop>(
     backing: &PathStorage,
     start: usize,
     bounds: &[usize],
-    workers: usize,
-    interrupt: Option<&AtomicBool>,
+    workers: &Workers<'_>,
     decide: &D,
 ) -> Result<Vec<Piece<D::Content, D::Submodule>>, Error>
 where
@@ -133,11 +133,10 @@ where
     requires room { start + length entries.now < 2 ^ 64 }
     requires bounds { AreBounds (index_entries backing.now entries.now) bounds.now }
     requires few { length bounds.now ≤ 2 ^ 20 }
-    requires workers { (1 ≤ workers) × (workers ≤ 64) }
-    ensures pieces { IfOk result (λ v. AreInRow (D.query decide.now) (D.tells decide.now) (is_some interrupt.entry) start (index_entries backing.now entries.now) (end_of bounds.now) (bound bounds.now 0) v.items) }
-    ensures refused { IfErr result (λ e. IsRefusal workers e) }
+    ensures pieces { IfOk result (λ v. AreInRow (D.query decide.now) (D.tells decide.now) (is_some workers.now.interrupt) start (index_entries backing.now entries.now) (end_of bounds.now) (bound bounds.now 0) v.items) }
+    ensures refused { IfErr result (λ e. IsRefusal workers.entry.now.most e) }
 {
-    let Ok(crew) = crew_of(alloc, decide, workers) else {
+    let Ok(crew) = crew_of(alloc, decide, workers.most) else {
         return Err(Error::Memory);
     };
     let round = Round {
@@ -146,10 +145,11 @@ where
         backing,
         start,
         bounds,
-        interrupt,
+        interrupt: workers.interrupt,
         decide: Snapshot::of(decide),
     };
-    match work_round(rt, alloc, &round, bounds.len() - 1, crew) {
+    let pieces = bounds.len() - 1;
+    match work_round(rt, alloc, workers.stack_size, &round, pieces, crew) {
         Ok(pieces) => Ok(pieces),
         Err(Refused::Thread) => Err(Error::SpawnThread),
         Err(Refused::Memory) => Err(Error::Memory),

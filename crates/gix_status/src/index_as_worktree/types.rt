@@ -129,6 +129,7 @@ pub struct Options {
 }
 
 /// What a status is computed with.
+#[derive(Clone, Drop)]
 pub struct Context<'a, P, T, L> {
     /// Which paths are looked at.
     pub pathspec: P,
@@ -143,21 +144,21 @@ pub struct Context<'a, P, T, L> {
 /// What a status took.
 #[derive(Clone, Debug, Default, Drop, PartialEq, Eq, PartialOrd, Ord)]
 pub struct Outcome {
-    /// The entries that were considered: those below the pathspec's common prefix.
+    /// The entries that were considered: those whose path begins with the pathspec's common prefix.
     pub entries_to_process: usize,
-    /// The considered entries that were looked at. The later stages of a conflict aren't.
+    /// The considered entries that were gone through, also those that were skipped. A conflict's later stages aren't.
     pub entries_processed: usize,
-    /// The entries that aren't below the common prefix.
+    /// The entries whose path doesn't begin with the common prefix.
     pub entries_skipped_by_common_prefix: usize,
-    /// The considered entries that the pathspec excludes.
+    /// The considered entries that the pathspec excludes and no flag does. A conflict's later stages aren't counted.
     pub entries_skipped_by_pathspec: usize,
-    /// The considered entries that a flag excludes.
+    /// The considered entries that a flag excludes. A conflict's later stages aren't counted.
     pub entries_skipped_by_entry_flags: usize,
     /// The calls of `lstat` on entries' own paths.
     pub symlink_metadata_calls: usize,
     /// The entries that need another stat.
     pub entries_to_update: usize,
-    /// The entries whose stat agrees, but may hide a write.
+    /// The entries, without an executable change, whose stat is trusted but may hide a write.
     pub racy_clean: usize,
     /// The bytes read from the worktree.
     pub worktree_bytes: u64,

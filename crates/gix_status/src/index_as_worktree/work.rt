@@ -1,6 +1,6 @@
 //! The considered entries, worked through in rounds and fed in order.
 
-ghost use Rattle.std.specs.Prelude.{◌≡◌, ◌+◌, ◌^◌, ◌≤◌, ◌<◌, length, map, is_some, Some};
+ghost use Rattle.std.specs.Prelude.{◌+◌, ◌^◌, ◌≤◌, length, map, is_some};
 ghost use Rattle.status_index.specs.Entries.{IsIndex, listed, index_entries};
 ghost use Rattle.status_index.specs.Stretch.{part_of};
 ghost use Rattle.gix_status.specs.Rounds.{AreBounds, bound, end_of};
@@ -11,11 +11,15 @@ use crate::index_as_worktree::feed::feed_piece;
 use crate::index_as_worktree::piece::is_set;
 use crate::index_as_worktree::round::{round_bounds, work_pieces};
 use crate::index_as_worktree::types::{Error, Outcome, VisitEntry};
+use crate::index_as_worktree::workers::{Workers, most_workers};
 use status_base::index::{Entry, PathStorage};
 use std::alloc::Global;
 use std::sync::Wait;
 use std::sync::atomic::AtomicBool;
 use std::thread::Threads;
+
+#[cfg(test)]
+mod tests;
 
 /// The considered entries: those from place `start` up to `end` of the whole index.
 #[derive(Drop)]
@@ -29,23 +33,8 @@ pub(crate) struct Considered<'index> {
     ghost inside: { end ≤ length entries.now },
 }
 
-/// The greatest number of workers, and how many there are where nothing is said.
-const MOST_WORKERS: usize = 64;
-
-const WORKERS: usize = 4;
-
-/// The number of workers at most.
-fn most_workers(limit: Option<usize>) -> usize
-    ensures some { (1 ≤ result) × (result ≤ 64) }
-    ensures one { limit ≡ Some 1 → result ≡ 1 }
-{
-    match limit {
-        None | Some(0) => WORKERS,
-        Some(limit) => limit.min(MOST_WORKERS),
-    }
-}
-
-/// Works through the considered entries on workers as the thread limit has it.
+/// Works through the considered entries on workers as the thread limit has it, each with a stack of `stack_size` bytes or
+/// of the usual size.
 ///
 /// # Errors
 /// As those of `work_in_rounds`.
@@ -60,6 +49,7 @@ pub(crate) fn work_through<
     considered: Considered<'index>,
     chunk: usize,
     limit: Option<usize>,
+    stack_size: Option<usize>,
     interrupt: Option<&AtomicBool>,
     decide: D,
     collector: &mut V,
@@ -70,6 +60,11 @@ where
     ensures { IsLimitedWork (D.query decide) (D.tells decide) considered.entry.start (part_of (index_entries considered.entry.backing.now considered.entry.entries.now) considered.entry.start considered.entry.end)
         (is_some interrupt.entry) limit considered.entry.entries.now considered.entry.backing.now (V.visits collector.old) result (V.visits collector.new) }
 {
+    let workers = Workers {
+        most: most_workers(limit),
+        stack_size,
+        interrupt,
+    };
     work_in_rounds(
         rt,
         alloc,
@@ -78,8 +73,7 @@ where
         considered.start,
         considered.end,
         chunk,
-        most_workers(limit),
-        interrupt,
+        &workers,
         &decide,
         collector,
     )
@@ -89,7 +83,7 @@ where
 const PIECES_OF_A_WORKER: usize = 8;
 
 /// Works through the considered entries, which are those from place `start` up to `end` of the whole index, in rounds of
-/// pieces on at most `most` workers, and tells the collector in the order of the index what the pieces find. Ends early
+/// pieces, and tells the collector in the order of the index what the pieces find. Ends early
 /// where the interrupt flag is set.
 ///
 /// # Errors
@@ -108,8 +102,7 @@ pub(crate) fn work_in_rounds<
     start: usize,
     end: usize,
     chunk: usize,
-    most: usize,
-    interrupt: Option<&AtomicBool>,
+    workers: &Workers<'_>,
     decide: &D,
     collector: &mut V,
 ) -> Result<Outcome, Error>
@@ -119,25 +112,28 @@ where
     requires index { IsIndex (map listed (index_entries backing.now entries.now)) }
     requires order { start ≤ end }
     requires inside { end ≤ length entries.now }
-    requires most { (1 ≤ most) × (most ≤ 64) }
     ensures { IsToldWork (D.query decide.now) (D.tells decide.now) start (part_of (index_entries backing.now entries.now) start end) 0
-        (is_some interrupt.entry) most (length (part_of (index_entries backing.now entries.now) start end)) entries.now backing.now (V.visits collector.old) result (V.visits collector.new) }
+        (is_some workers.entry.now.interrupt) workers.entry.now.most (length (part_of (index_entries backing.now entries.now) start end)) entries.now backing.now (V.visits collector.old) result (V.visits collector.new) }
 {
     let considered = &entries[start..end];
     let mut total = Outcome::default();
     let mut at = 0;
     while at < considered.len() {
-        if is_set(interrupt) {
+        if is_set(workers.interrupt) {
             return Ok(Outcome {
                 interrupted: true,
                 ..total
             });
         }
-        let most_pieces = most * PIECES_OF_A_WORKER;
+        let most_pieces = workers.most * PIECES_OF_A_WORKER;
         let Ok(bounds) = round_bounds(alloc, considered, backing, at, chunk, most_pieces) else {
             return Err(Error::Memory);
         };
-        let workers = most.min(bounds.len() - 1);
+        let crew = Workers {
+            most: workers.most.min(bounds.len() - 1),
+            stack_size: workers.stack_size,
+            interrupt: workers.interrupt,
+        };
         match tell_round(
             rt,
             alloc,
@@ -146,8 +142,7 @@ where
             considered,
             start,
             bounds.as_slice(),
-            workers,
-            interrupt,
+            &crew,
             decide,
             collector,
         ) {
@@ -179,8 +174,7 @@ fn tell_round<
     considered: &[Entry],
     start: usize,
     bounds: &[usize],
-    workers: usize,
-    interrupt: Option<&AtomicBool>,
+    workers: &Workers<'_>,
     decide: &D,
     collector: &mut V,
 ) -> Result<Outcome, Error>
@@ -191,12 +185,11 @@ where
     requires room { start + length considered.now ≤ length entries.now }
     requires bounds { AreBounds (index_entries backing.now considered.now) bounds.now }
     requires few { length bounds.now ≤ 2 ^ 20 }
-    requires workers { (1 ≤ workers) × (workers ≤ 64) }
     ensures { IsToldWork (D.query decide.now) (D.tells decide.now) start (index_entries backing.now considered.now) (bound bounds.now 0)
-        (is_some interrupt.entry) workers (end_of bounds.now) entries.now backing.now (V.visits collector.old) result (V.visits collector.new) }
+        (is_some workers.entry.now.interrupt) workers.entry.now.most (end_of bounds.now) entries.now backing.now (V.visits collector.old) result (V.visits collector.new) }
 {
     let pieces = match work_pieces(
-        rt, alloc, considered, backing, start, bounds, workers, interrupt, decide,
+        rt, alloc, considered, backing, start, bounds, workers, decide,
     ) {
         Ok(pieces) => pieces,
         Err(error) => return Err(error),

@@ -9,7 +9,6 @@ use status_base::index::{Mode, ObjectId, State};
 use status_base::worktree::{
     AllPaths, MemoryObjects, MemoryWorktree, NoFilter, Pathspec, SubmoduleStatus, ToGit, Worktree,
 };
-use std::process::Abort;
 use std::sync::Wait;
 use std::test::Fail;
 use std::thread::Threads;
@@ -52,7 +51,7 @@ where
 }
 
 // The status where every submodule answers so.
-fn ask_alike<'index, R: AllocGlobal + Threads + Wait + Abort + Sync>(
+fn ask_alike<'index, R: AllocGlobal + Threads + Wait>(
     rt: &R,
     index: &'index State,
     worktree: &MemoryWorktree,
@@ -60,7 +59,7 @@ fn ask_alike<'index, R: AllocGlobal + Threads + Wait + Abort + Sync>(
 ) -> Told<'index, ObjectId, u32> {
     let alloc = rt.alloc();
     let asked = Asked {
-        submodule: Alike { rt, alloc, answer },
+        submodule: Alike { alloc, answer },
         objects: MemoryObjects::new(alloc),
         pathspec: AllPaths,
         filter: NoFilter,

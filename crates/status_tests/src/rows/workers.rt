@@ -1,10 +1,11 @@
 //! Workers, and a status that ends early.
 
-use crate::asking::{ask, ask_until, changed, options, plainly, with_options};
+use crate::asking::{Told, ask, ask_until, changed, options, plainly, tell, with_options};
+use crate::collectors::Stopping;
 use crate::given::{BAR, GivenEntry, WRITTEN, foo_entry, index};
 use crate::worktrees::{Files, Meeting, Piece, Watched};
 use gix_status::index_as_worktree::traits::HashEq;
-use gix_status::index_as_worktree::{Options, Outcome};
+use gix_status::index_as_worktree::{Options, Outcome, Recorder};
 use status_base::worktree::Fault;
 use std::sync::atomic::{AtomicBool, AtomicUsize, Ordering};
 use std::test::Fail;
@@ -144,6 +145,66 @@ fn pieces_behind_the_cut_are_not_looked_at(rt: HostRuntime) -> Result<(), Fail> 
             symlink_metadata_calls: 1,
             worktree_files_read: 1,
             worktree_bytes: 3,
+            interrupted: true,
+            ..Outcome::default()
+        })
+    );
+    Ok(())
+}
+
+#[test]
+fn a_flag_that_the_collector_sets_ends_the_status_after_the_round(
+    rt: HostRuntime,
+) -> Result<(), Fail> {
+    let reads = AtomicUsize::new(0);
+    let bar = Piece {
+        bytes: b"bar",
+        fault: None,
+        reads: &reads,
+    };
+    let paths = ["a", "b", "c", "d", "e", "f", "g", "h", "i", "j"];
+    let index = index(rt.alloc(), WRITTEN, &paths.map(foo_entry))?;
+    let files = paths.map(|path| (path, Ok(bar)));
+    let flag = AtomicBool::new(false);
+    let mut collector = Stopping {
+        collector: Recorder::new(rt.alloc()),
+        flag: &flag,
+    };
+    let asked = with_options(rt.alloc(), shared(1, 1));
+    let answer = tell(
+        &rt,
+        rt.alloc(),
+        &index,
+        &Files { files: &files },
+        &mut collector,
+        HashEq,
+        asked,
+        Some(&flag),
+    );
+    let told = Told {
+        records: collector.collector.records,
+        answer,
+    };
+    // A round has eight pieces of one worker, and is told whole.
+    assert!(rt;
+        told.is_all(&[
+            (0, "a", changed(BAR)),
+            (1, "b", changed(BAR)),
+            (2, "c", changed(BAR)),
+            (3, "d", changed(BAR)),
+            (4, "e", changed(BAR)),
+            (5, "f", changed(BAR)),
+            (6, "g", changed(BAR)),
+            (7, "h", changed(BAR))
+        ])
+    );
+    assert!(rt;
+        told.took(&Outcome {
+            entries_to_process: 10,
+            entries_processed: 8,
+            symlink_metadata_calls: 8,
+            worktree_files_read: 8,
+            worktree_bytes: 24,
             interrupted: true,
             ..Outcome::default()
         })

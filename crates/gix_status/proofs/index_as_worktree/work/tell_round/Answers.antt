@@ -14,7 +14,7 @@ pub returns-in-Err : goal.returns-in-Err
 returns-in-Err g c =
     let es = index_entries c.args.backing.now c.args.considered.now in
     no_work (g.D.Decide.query c.args.decide.now) (g.D.Decide.tells c.args.decide.now) c.args.start es c.args.entries.now c.args.backing.now (bound c.args.bounds.now 0)
-    (is_some c.args.interrupt) c.args.workers (end_of c.args.bounds.now) c.in-Err.error (g.V.VisitEntry.visits c.args.collector.now)
+    (is_some c.args.workers.now.interrupt) c.args.workers.now.most (end_of c.args.bounds.now) c.in-Err.error (g.V.VisitEntry.visits c.args.collector.now)
     (c.requires.bounds.inside 0 0 (omega (arith, c.requires.bounds.pieces))) c.in-Err.ensures.refused
 
 pub loop-piece-init : goal.loop-piece-init
@@ -39,7 +39,7 @@ feed_piece-requires g c κs =
     let visits = g.V.VisitEntry.visits in
     let here = c.loop-piece.invariant in
     let p = c.in-Some.piece in
-    let interruptible = is_some c.args.interrupt in
+    let interruptible = is_some c.args.workers.now.interrupt in
     let from = bound c.args.bounds.now 0 in
     let to = end_of c.args.bounds.now in
     let row = row_next q tells interruptible c.args.start es to here.at (into_iter_items c.loop-piece.piece-iterator) (into_iter_items c.next.new.self) p c.in-Some.ensures.steps.0 here.rows in
@@ -54,14 +54,14 @@ absorb-requires g c =
     let visits = g.V.VisitEntry.visits in
     let here = c.loop-piece.invariant in
     let p = c.in-Some.piece in
-    let interruptible = is_some c.args.interrupt in
+    let interruptible = is_some c.args.workers.now.interrupt in
     let from = bound c.args.bounds.now 0 in
     let to = end_of c.args.bounds.now in
     let row = row_next q tells interruptible c.args.start es to here.at (into_iter_items c.loop-piece.piece-iterator) (into_iter_items c.next.new.self) p c.in-Some.ensures.steps.0 here.rows in
     let slice : length c.args.considered.now < 2 ^ 64 = search rules in
     let few : length es < 2 ^ 64 = omega (arith, length-map c.args.considered.now (index_entry c.args.backing.now), slice) in
     piece_fits q tells c.args.start es c.args.entries.now c.args.backing.now from
-    interruptible c.args.workers to here.at c.loop-piece.total (visits c.args.collector.now) (visits c.loop-piece.collector) here.way p row.0 c.in-Ok-feed_piece.outcome few c.in-Ok-feed_piece.ensures.0
+    interruptible c.args.workers.now.most to here.at c.loop-piece.total (visits c.args.collector.now) (visits c.loop-piece.collector) here.way p row.0 c.in-Ok-feed_piece.outcome few c.in-Ok-feed_piece.ensures.0
 
 pub returns-in-Err-feed_piece : goal.returns-in-Err-feed_piece
 returns-in-Err-feed_piece g c =
@@ -71,12 +71,12 @@ returns-in-Err-feed_piece g c =
     let visits = g.V.VisitEntry.visits in
     let here = c.loop-piece.invariant in
     let p = c.in-Some.piece in
-    let interruptible = is_some c.args.interrupt in
+    let interruptible = is_some c.args.workers.now.interrupt in
     let from = bound c.args.bounds.now 0 in
     let to = end_of c.args.bounds.now in
     let row = row_next q tells interruptible c.args.start es to here.at (into_iter_items c.loop-piece.piece-iterator) (into_iter_items c.next.new.self) p c.in-Some.ensures.steps.0 here.rows in
     stop_piece q tells c.args.start es c.args.entries.now c.args.backing.now from
-    interruptible c.args.workers to here.at c.loop-piece.total (visits c.args.collector.now) (visits c.loop-piece.collector) here.way p row.0 (visits c.feed_piece.new.collector) c.in-Err-feed_piece.error c.in-Err-feed_piece.ensures
+    interruptible c.args.workers.now.most to here.at c.loop-piece.total (visits c.args.collector.now) (visits c.loop-piece.collector) here.way p row.0 (visits c.feed_piece.new.collector) c.in-Err-feed_piece.error c.in-Err-feed_piece.ensures
 
 pub returns-then-total : goal.returns-then-total
 returns-then-total g c =
@@ -86,7 +86,7 @@ returns-then-total g c =
     let visits = g.V.VisitEntry.visits in
     let here = c.loop-piece.invariant in
     let p = c.in-Some.piece in
-    let interruptible = is_some c.args.interrupt in
+    let interruptible = is_some c.args.workers.now.interrupt in
     let from = bound c.args.bounds.now 0 in
     let to = end_of c.args.bounds.now in
     let row = row_next q tells interruptible c.args.start es to here.at (into_iter_items c.loop-piece.piece-iterator) (into_iter_items c.next.new.self) p c.in-Some.ensures.steps.0 here.rows in
@@ -98,7 +98,7 @@ returns-then-total g c =
       interrupted = c.absorb.ensures.interrupted;
     } in
     stop_cut q tells c.args.start es c.args.entries.now c.args.backing.now from
-    interruptible c.args.workers to here.at c.loop-piece.total (visits c.args.collector.now) (visits c.loop-piece.collector) here.way p row.0 (visits c.feed_piece.new.collector) c.in-Ok-feed_piece.outcome c.absorb.new.self c.in-Ok-feed_piece.ensures sums c.if-total.true
+    interruptible c.args.workers.now.most to here.at c.loop-piece.total (visits c.args.collector.now) (visits c.loop-piece.collector) here.way p row.0 (visits c.feed_piece.new.collector) c.in-Ok-feed_piece.outcome c.absorb.new.self c.in-Ok-feed_piece.ensures sums c.if-total.true
 
 pub loop-piece-preserved : goal.loop-piece-preserved
 loop-piece-preserved g c =
@@ -108,7 +108,7 @@ loop-piece-preserved g c =
     let visits = g.V.VisitEntry.visits in
     let here = c.loop-piece.invariant in
     let p = c.in-Some.piece in
-    let interruptible = is_some c.args.interrupt in
+    let interruptible = is_some c.args.workers.now.interrupt in
     let from = bound c.args.bounds.now 0 in
     let to = end_of c.args.bounds.now in
     let row = row_next q tells interruptible c.args.start es to here.at (into_iter_items c.loop-piece.piece-iterator) (into_iter_items c.next.new.self) p c.in-Some.ensures.steps.0 here.rows in
@@ -120,7 +120,7 @@ loop-piece-preserved g c =
       interrupted = c.absorb.ensures.interrupted;
     } in
     let more = way_more q tells c.args.start es c.args.entries.now c.args.backing.now from
-    interruptible c.args.workers to here.at c.loop-piece.total (visits c.args.collector.now) (visits c.loop-piece.collector) here.way p row.0 (visits c.feed_piece.new.collector) c.in-Ok-feed_piece.outcome c.absorb.new.self c.in-Ok-feed_piece.ensures sums c.if-total.false in
+    interruptible c.args.workers.now.most to here.at c.loop-piece.total (visits c.args.collector.now) (visits c.loop-piece.collector) here.way p row.0 (visits c.feed_piece.new.collector) c.in-Ok-feed_piece.outcome c.absorb.new.self c.in-Ok-feed_piece.ensures sums c.if-total.false in
     record { at = p.reached; way = more.1; rows = row.1 more.0 }
 
 pub returns : goal.returns
@@ -133,4 +133,4 @@ returns g c =
     let to = end_of c.args.bounds.now in
     let none = nil_of (into_iter_items c.loop-piece.piece-iterator) (sym c.loop-piece.piece-iterator.rest.ok.0 ∙ c.in-None.ensures.steps.0) in
     let reached : here.at ≡ to = rw none at here.rows in
-    way_end q tells c.args.start es c.args.entries.now c.args.backing.now (bound c.args.bounds.now 0) (is_some c.args.interrupt) c.args.workers here.at to c.loop-piece.total (visits c.args.collector.now) (visits c.loop-piece.collector) reached here.way
+    way_end q tells c.args.start es c.args.entries.now c.args.backing.now (bound c.args.bounds.now 0) (is_some c.args.workers.now.interrupt) c.args.workers.now.most here.at to c.loop-piece.total (visits c.args.collector.now) (visits c.loop-piece.collector) reached here.way

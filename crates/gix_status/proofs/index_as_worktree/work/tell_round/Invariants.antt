@@ -8,5 +8,5 @@ use Rattle.gix_status.proofs.index_as_worktree.work.tell_round.Given as goal
 abbrev pub invariant-loop-piece : goal.invariant-loop-piece
 invariant-loop-piece g l =
     let visits = g.V.VisitEntry.visits in
-    IsMidRound (g.D.Decide.query l.decide) (g.D.Decide.tells l.decide) (is_some l.interrupt) l.start (index_entries l.backing l.considered) l.entries l.backing
+    IsMidRound (g.D.Decide.query l.decide) (g.D.Decide.tells l.decide) (is_some l.workers.interrupt) l.start (index_entries l.backing l.considered) l.entries l.backing
     (bound l.bounds 0) (end_of l.bounds) l.total (visits l.fn.collector) (visits l.collector) (into_iter_items l.piece-iterator)

@@ -33,10 +33,10 @@ returns-then-is_set g c =
     let visits = g.V.VisitEntry.visits in
     let es = index_entries c.args.backing.now (part_of c.args.entries.now c.args.start c.args.end) in
     let same = map-part (index_entry c.args.backing.now) c.args.entries.now c.args.start c.args.end in
-    let interruptible = is_some c.args.interrupt in
+    let interruptible = is_some c.args.workers.now.interrupt in
     let way = c.loop-at.invariant.way in
-    rw (← same) (way_cut q tells c.args.start es c.args.entries.now c.args.backing.now 0 interruptible c.args.most c.loop-at.at (length es) c.loop-at.total _ (visits c.args.collector.now) (visits c.loop-at.collector) refl
-    (not_set c.args.interrupt c.is_set.result c.is_set.ensures c.if-is_set.true) way)
+    rw (← same) (way_cut q tells c.args.start es c.args.entries.now c.args.backing.now 0 interruptible c.args.workers.now.most c.loop-at.at (length es) c.loop-at.total _ (visits c.args.collector.now) (visits c.loop-at.collector) refl
+    (not_set c.args.workers.now.interrupt c.is_set.result c.is_set.ensures c.if-is_set.true) way)
 
 pub round_bounds-requires-clause-index : goal.round_bounds-requires-clause-index
 round_bounds-requires-clause-index g c =
@@ -50,17 +50,15 @@ returns-in_default g c =
     let visits = g.V.VisitEntry.visits in
     let es = index_entries c.args.backing.now (part_of c.args.entries.now c.args.start c.args.end) in
     let same = map-part (index_entry c.args.backing.now) c.args.entries.now c.args.start c.args.end in
-    let interruptible = is_some c.args.interrupt in
+    let interruptible = is_some c.args.workers.now.interrupt in
     let way = c.loop-at.invariant.way in
-    rw (← same) (way_refused q tells c.args.start es c.args.entries.now c.args.backing.now 0 interruptible c.args.most c.loop-at.at (length es) c.loop-at.total Memory (visits c.args.collector.now) (visits c.loop-at.collector) (inl refl) way)
+    rw (← same) (way_refused q tells c.args.start es c.args.entries.now c.args.backing.now 0 interruptible c.args.workers.now.most c.loop-at.at (length es) c.loop-at.total Memory (visits c.args.collector.now) (visits c.loop-at.collector) (inl refl) way)
 
 pub tell_round-requires : goal.tell_round-requires
 tell_round-requires g c κs =
     let same = map-part (index_entry c.args.backing.now) c.args.entries.now c.args.start c.args.end in
     let room : c.args.start + length (part_of c.args.entries.now c.args.start c.args.end) ≤ length c.args.entries.now = omega (arith, length-take (c.args.end - c.args.start) (drop c.args.start c.args.entries.now), length-drop c.args.start c.args.entries.now, c.requires.order, c.requires.inside) in
-    let few : length c.as_slice.result.now ≤ 2 ^ 20 = omega (arith, ap length c.as_slice.ensures.value, c.in-Ok.ensures.few, c.in-Ok.bounds.ok.0, c.requires.most.1) in
-    let some : 1 ≤ c.min-workers.result = omega (arith, c.min-workers.ensures, c.requires.most.0, c.in-Ok.ensures.bounds.pieces, c.in-Ok.bounds.ok.0, c.len.ensures) in
-    let most : c.min-workers.result ≤ 64 = omega (arith, c.min-workers.ensures, c.requires.most.1) in (
+    let few : length c.as_slice.result.now ≤ 2 ^ 20 = omega (arith, ap length c.as_slice.ensures.value, c.in-Ok.ensures.few, c.in-Ok.bounds.ok.0, c.args.workers.now.few) in (
       search rules,
       (
         search rules,
@@ -70,7 +68,7 @@ tell_round-requires g c κs =
             (refl, tt),
             (
               rw same (IsIndex-part (index_entries c.args.backing.now c.args.entries.now) c.args.start c.args.end c.requires.index),
-              (room, (rw c.as_slice.ensures.value c.in-Ok.ensures.bounds, (few, (some, most)))),
+              (room, (rw c.as_slice.ensures.value c.in-Ok.ensures.bounds, few)),
             ),
           ),
         ),
@@ -84,16 +82,16 @@ absorb-requires g c =
     let visits = g.V.VisitEntry.visits in
     let es = index_entries c.args.backing.now (part_of c.args.entries.now c.args.start c.args.end) in
     let same = map-part (index_entry c.args.backing.now) c.args.entries.now c.args.start c.args.end in
-    let interruptible = is_some c.args.interrupt in
+    let interruptible = is_some c.args.workers.now.interrupt in
     let way = c.loop-at.invariant.way in
-    let workers = c.min-workers.result in
-    let fewer : workers ≤ c.args.most = omega (arith, c.min-workers.ensures) in
+    let workers = c.min.result in
+    let fewer : workers ≤ c.args.workers.now.most = omega (arith, c.min.ensures) in
     let slice : c.as_slice.result.now ≡ c.in-Ok.bounds.items = c.as_slice.ensures.value in
     let first : bound c.as_slice.result.now 0 ≡ c.loop-at.at = ap (λ l. bound l 0) slice ∙ c.in-Ok.ensures.first in
     let told = subst (λ n. IsToldWork q tells c.args.start es n interruptible workers (end_of c.as_slice.result.now) c.args.entries.now c.args.backing.now (visits c.loop-at.collector) (Ok c.in-Ok-tell_round.outcome) (visits c.tell_round.new.collector)) first c.in-Ok-tell_round.ensures in
     let small : length es < 2 ^ 64 = omega (arith, length-map (part_of c.args.entries.now c.args.start c.args.end) (index_entry c.args.backing.now), length-take (c.args.end - c.args.start) (drop c.args.start c.args.entries.now), c.ranges.end.fits) in
     round_fits q tells c.args.start es c.args.entries.now c.args.backing.now interruptible
-    workers c.args.most 0 c.loop-at.at (end_of c.as_slice.result.now) (length es) c.loop-at.total (visits c.args.collector.now) (visits c.loop-at.collector) (visits c.tell_round.new.collector) way
+    workers c.args.workers.now.most 0 c.loop-at.at (end_of c.as_slice.result.now) (length es) c.loop-at.total (visits c.args.collector.now) (visits c.loop-at.collector) (visits c.tell_round.new.collector) way
     c.in-Ok-tell_round.outcome small told
 
 pub returns-in-Err : goal.returns-in-Err
@@ -103,15 +101,15 @@ returns-in-Err g c =
     let visits = g.V.VisitEntry.visits in
     let es = index_entries c.args.backing.now (part_of c.args.entries.now c.args.start c.args.end) in
     let same = map-part (index_entry c.args.backing.now) c.args.entries.now c.args.start c.args.end in
-    let interruptible = is_some c.args.interrupt in
+    let interruptible = is_some c.args.workers.now.interrupt in
     let way = c.loop-at.invariant.way in
-    let workers = c.min-workers.result in
-    let fewer : workers ≤ c.args.most = omega (arith, c.min-workers.ensures) in
+    let workers = c.min.result in
+    let fewer : workers ≤ c.args.workers.now.most = omega (arith, c.min.ensures) in
     let slice : c.as_slice.result.now ≡ c.in-Ok.bounds.items = c.as_slice.ensures.value in
     let first : bound c.as_slice.result.now 0 ≡ c.loop-at.at = ap (λ l. bound l 0) slice ∙ c.in-Ok.ensures.first in
     let told = subst (λ n. IsToldWork q tells c.args.start es n interruptible workers (end_of c.as_slice.result.now) c.args.entries.now c.args.backing.now (visits c.loop-at.collector) (Err c.in-Err.error) (visits c.tell_round.new.collector)) first c.in-Err.ensures in
     rw (← same) (round_stop q tells c.args.start es c.args.entries.now c.args.backing.now interruptible
-    workers c.args.most 0 c.loop-at.at (end_of c.as_slice.result.now) (length es) c.loop-at.total (visits c.args.collector.now) (visits c.loop-at.collector) (visits c.tell_round.new.collector) way
+    workers c.args.workers.now.most 0 c.loop-at.at (end_of c.as_slice.result.now) (length es) c.loop-at.total (visits c.args.collector.now) (visits c.loop-at.collector) (visits c.tell_round.new.collector) way
     c.in-Err.error fewer told)
 
 pub returns-then-total : goal.returns-then-total
@@ -121,10 +119,10 @@ returns-then-total g c =
     let visits = g.V.VisitEntry.visits in
     let es = index_entries c.args.backing.now (part_of c.args.entries.now c.args.start c.args.end) in
     let same = map-part (index_entry c.args.backing.now) c.args.entries.now c.args.start c.args.end in
-    let interruptible = is_some c.args.interrupt in
+    let interruptible = is_some c.args.workers.now.interrupt in
     let way = c.loop-at.invariant.way in
-    let workers = c.min-workers.result in
-    let fewer : workers ≤ c.args.most = omega (arith, c.min-workers.ensures) in
+    let workers = c.min.result in
+    let fewer : workers ≤ c.args.workers.now.most = omega (arith, c.min.ensures) in
     let slice : c.as_slice.result.now ≡ c.in-Ok.bounds.items = c.as_slice.ensures.value in
     let first : bound c.as_slice.result.now 0 ≡ c.loop-at.at = ap (λ l. bound l 0) slice ∙ c.in-Ok.ensures.first in
     let told = subst (λ n. IsToldWork q tells c.args.start es n interruptible workers (end_of c.as_slice.result.now) c.args.entries.now c.args.backing.now (visits c.loop-at.collector) (Ok c.in-Ok-tell_round.outcome) (visits c.tell_round.new.collector)) first c.in-Ok-tell_round.ensures in
@@ -136,7 +134,7 @@ returns-then-total g c =
       interrupted = c.absorb.ensures.interrupted;
     } in
     rw (← same) (round_cut q tells c.args.start es c.args.entries.now c.args.backing.now interruptible
-    workers c.args.most 0 c.loop-at.at (end_of c.as_slice.result.now) (length es) c.loop-at.total (visits c.args.collector.now) (visits c.loop-at.collector) (visits c.tell_round.new.collector) way
+    workers c.args.workers.now.most 0 c.loop-at.at (end_of c.as_slice.result.now) (length es) c.loop-at.total (visits c.args.collector.now) (visits c.loop-at.collector) (visits c.tell_round.new.collector) way
     c.in-Ok-tell_round.outcome c.absorb.new.self told sums c.if-total.true)
 
 pub loop-at-preserved : goal.loop-at-preserved
@@ -146,10 +144,10 @@ loop-at-preserved g c =
     let visits = g.V.VisitEntry.visits in
     let es = index_entries c.args.backing.now (part_of c.args.entries.now c.args.start c.args.end) in
     let same = map-part (index_entry c.args.backing.now) c.args.entries.now c.args.start c.args.end in
-    let interruptible = is_some c.args.interrupt in
+    let interruptible = is_some c.args.workers.now.interrupt in
     let way = c.loop-at.invariant.way in
-    let workers = c.min-workers.result in
-    let fewer : workers ≤ c.args.most = omega (arith, c.min-workers.ensures) in
+    let workers = c.min.result in
+    let fewer : workers ≤ c.args.workers.now.most = omega (arith, c.min.ensures) in
     let slice : c.as_slice.result.now ≡ c.in-Ok.bounds.items = c.as_slice.ensures.value in
     let first : bound c.as_slice.result.now 0 ≡ c.loop-at.at = ap (λ l. bound l 0) slice ∙ c.in-Ok.ensures.first in
     let told = subst (λ n. IsToldWork q tells c.args.start es n interruptible workers (end_of c.as_slice.result.now) c.args.entries.now c.args.backing.now (visits c.loop-at.collector) (Ok c.in-Ok-tell_round.outcome) (visits c.tell_round.new.collector)) first c.in-Ok-tell_round.ensures in
@@ -161,7 +159,7 @@ loop-at-preserved g c =
       interrupted = c.absorb.ensures.interrupted;
     } in
     let more = round_more q tells c.args.start es c.args.entries.now c.args.backing.now interruptible
-    workers c.args.most 0 c.loop-at.at (end_of c.as_slice.result.now) (length es) c.loop-at.total (visits c.args.collector.now) (visits c.loop-at.collector) (visits c.tell_round.new.collector) way
+    workers c.args.workers.now.most 0 c.loop-at.at (end_of c.as_slice.result.now) (length es) c.loop-at.total (visits c.args.collector.now) (visits c.loop-at.collector) (visits c.tell_round.new.collector) way
     c.in-Ok-tell_round.outcome c.absorb.new.self told sums c.if-total.false in
     let last : length c.in-Ok.bounds.items - 1 < length c.in-Ok.bounds.items = omega (arith, c.in-Ok.ensures.bounds.pieces) in
     let len = length-map (part_of c.args.entries.now c.args.start c.args.end) (index_entry c.args.backing.now) in
@@ -182,8 +180,8 @@ returns g c =
     let visits = g.V.VisitEntry.visits in
     let es = index_entries c.args.backing.now (part_of c.args.entries.now c.args.start c.args.end) in
     let same = map-part (index_entry c.args.backing.now) c.args.entries.now c.args.start c.args.end in
-    let interruptible = is_some c.args.interrupt in
+    let interruptible = is_some c.args.workers.now.interrupt in
     let way = c.loop-at.invariant.way in
     let len = length-map (part_of c.args.entries.now c.args.start c.args.end) (index_entry c.args.backing.now) in
     let whole : c.loop-at.at ≡ length es = omega (arith, c.loop-at.invariant.inside, c.loop-at-test.false, len) in
-    rw (← same) (way_end q tells c.args.start es c.args.entries.now c.args.backing.now 0 interruptible c.args.most c.loop-at.at (length es) c.loop-at.total (visits c.args.collector.now) (visits c.loop-at.collector) whole way)
+    rw (← same) (way_end q tells c.args.start es c.args.entries.now c.args.backing.now 0 interruptible c.args.workers.now.most c.loop-at.at (length es) c.loop-at.total (visits c.args.collector.now) (visits c.loop-at.collector) whole way)

@@ -1,0 +1,45 @@
+//! Collectors of a test's own.
+
+ghost use Rattle.std.specs.Prelude.{◌≡◌, ◌++◌, ◌∷◌, [], Some, OnOk, OnErr, slice_get};
+ghost use Rattle.bstr.specs.BStr.{bstr_bytes};
+
+use bstr::BStr;
+use gix_status::index_as_worktree::{EntryStatus, VisitEntry};
+use status_base::index::Entry;
+use std::alloc::AllocError;
+use std::sync::atomic::{AtomicBool, Ordering};
+
+/// Hands on what it is told, and sets a flag.
+#[derive(Drop)]
+pub struct Stopping<'a, V> {
+    pub collector: V,
+    pub flag: &'a AtomicBool,
+}
+
+impl<'index, 'a, V: VisitEntry<'index>> VisitEntry<'index> for Stopping<'a, V> {
+    ghost use Rattle.std.specs.Prelude.{◌≡◌, ◌++◌, ◌∷◌, [], Some, OnOk, OnErr, slice_get};
+    ghost use Rattle.bstr.specs.BStr.{bstr_bytes};
+
+    type ContentChange = V::ContentChange;
+
+    type SubmoduleStatus = V::SubmoduleStatus;
+
+    ghost visits = { λ s. V.visits s.collector };
+
+    fn visit_entry(
+        &mut self,
+        entries: &'index [Entry],
+        entry: &'index Entry,
+        entry_index: usize,
+        rela_path: BStr<'index>,
+        status: EntryStatus<V::ContentChange, V::SubmoduleStatus>,
+    ) -> Result<(), AllocError>
+        requires { slice_get entries.now entry_index ≡ Some entry.now }
+        ensures ok { OnOk result (V.visits self.new.collector ≡ V.visits self.old.collector ++ record { entry = entry.now; entry_index = entry_index; path = bstr_bytes rela_path.entry; status = status } ∷ []) }
+        ensures err { OnErr result (V.visits self.new.collector ≡ V.visits self.old.collector) }
+    {
+        self.flag.store(true, Ordering::SeqCst);
+        self.collector
+            .visit_entry(entries, entry, entry_index, rela_path, status)
+    }
+}
