@@ -17,8 +17,8 @@ Over a folder the program knows of a file its kind, its length and when its cont
     T              type                             A (intent)     intent
     two letters of a conflict: conflict             no line        no line, or update (only the stat differs)
 
-`-cs` is told where the content changed though the stat agrees: such a stat is racy, since in seconds the file's time isn't
-before that of the index.
+`-cs` is told where the content changed though the stat agrees: such a stat is racy, since the file's time isn't before
+that of the index, in seconds.
 
 Not known to the program, and so a difference: conversions (line ends, filters: a note tells how many paths have any),
 what is in a submodule, and the kinds of files that git has no mode for.

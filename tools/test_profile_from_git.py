@@ -212,9 +212,11 @@ class Comparison(Case):
         lines = "".join(f"100644 {FOO} {stage}\tfight\n" for stage in (1, 2, 3))
         self.git("update-index", "--index-info", given=lines.encode())
         os.utime(self.path("touched"), (5, 5))
-        for name, content in (("changed", "longer"), ("shrunk", ""), ("same-size", "bar"), ("odd\t\n\"é", "x"), ("assumed", "x")):
+        written = [("changed", "longer"), ("shrunk", ""), ("same-size", "bar"), ("odd\t\n\"é", "x"), ("assumed", "x")]
+        for name, content in written:
             self.write(name, content)
-        for name in ("removed", "d/e/gone", "becomes-link", "becomes-folder", "becomes-file", "relinked", "intended-and-gone"):
+        removed = ["removed", "d/e/gone", "becomes-link", "becomes-folder", "becomes-file", "relinked"]
+        for name in [*removed, "intended-and-gone"]:
             os.remove(self.path(name))
         os.symlink("clean", self.path("becomes-link"))
         self.write("becomes-folder/x", "foo")
