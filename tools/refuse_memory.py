@@ -15,7 +15,6 @@ status is 0 where no run was told, 1 where one was, and 2 where there is no swee
 import argparse
 import os
 import re
-import signal
 import subprocess
 import sys
 import tempfile
@@ -25,7 +24,7 @@ def run(folder, words, seconds):
     """The exit status, the output and the error output of `rt try`. No status where it didn't end in time."""
     with tempfile.TemporaryFile() as out, tempfile.TemporaryFile() as err:
         how = {"stdin": subprocess.DEVNULL, "stdout": out, "stderr": err, "cwd": folder}
-        child = subprocess.Popen(["rt", "try", *words], start_new_session=True, **how)
+        child = subprocess.Popen(["rt", "try", *words], **how)
         try:
             status = child.wait(seconds)
         except subprocess.TimeoutExpired:
@@ -43,7 +42,7 @@ def end(child):
         try:
             child.wait(30)
         except subprocess.TimeoutExpired:
-            os.killpg(child.pid, signal.SIGKILL)
+            child.kill()
 
 
 def judged(status, out, err, wanted, want):
