@@ -1,27 +1,48 @@
 #!/usr/bin/env python3
-"""Makes a git repository of N files, 100 a folder, three components deep, all of them added to its index.
+"""Makes a git repository of COUNT files, 100 a folder, three components deep, all of them added to its index.
 
-    python3 bench/folder.py FOLDER N
+    python3 bench/folder.py FOLDER COUNT
 
-FOLDER may not be there yet. The files are older than the index, so that no stat is racy.
+FOLDER may not be there yet. The files are older than the index, so that no stat is racy. It needs git.
 """
 
+import argparse
 import os
 import subprocess
 import sys
 
 
-def main():
-    top, count = sys.argv[1], int(sys.argv[2])
+def path_of(number):
+    return f"crates/part{number // 100:04}/file{number % 100:02}.txt"
+
+
+def make(top, count):
     os.makedirs(top)
-    for at in range(count):
-        path = os.path.join(top, f"crates/part{at // 100:04}/file{at % 100:02}.txt")
+    for number in range(count):
+        path = os.path.join(top, path_of(number))
         os.makedirs(os.path.dirname(path), exist_ok=True)
         with open(path, "w", encoding="ascii") as file:
-            file.write(f"line of file {at}\n" * (1 + at % 40))
+            file.write(f"line of file {number}\n" * (1 + number % 40))
         os.utime(path, (1700000000, 1700000000))
     for words in (["init", "-q"], ["add", "."], ["update-index", "--refresh"]):
         subprocess.run(["git", "-C", top, *words], check=True)
+
+
+def main():
+    parser = argparse.ArgumentParser(description="Makes a git repository of COUNT files in a new FOLDER.")
+    parser.add_argument("folder", help="where the repository is made; it may not be there yet")
+    parser.add_argument("count", type=int, help="how many files it has")
+    asked = parser.parse_args()
+    if asked.count < 0:
+        parser.error("COUNT may not be below 0")
+    try:
+        make(asked.folder, asked.count)
+    except FileExistsError:
+        sys.exit(f"refused: {asked.folder} is there already")
+    except FileNotFoundError as error:
+        sys.exit(f"refused: {error.filename} isn't there")
+    except subprocess.CalledProcessError as error:
+        sys.exit(f"refused: {' '.join(error.cmd)} ended with {error.returncode}")
 
 
 if __name__ == "__main__":

@@ -1,7 +1,8 @@
 #!/usr/bin/env python3
 """Writes a status profile of COUNT entries to standard output: even ones are clean by their stat, odd ones are hashed.
 
-With --depth the paths have so many components. With --size each file has so many bytes, and all are hashed.
+With --depth the paths have so many components, 3 where nothing is said. With --size each file has so many bytes, and all
+are hashed; with --size 0, as where nothing is said, a file has one short line.
 """
 import argparse
 import hashlib
@@ -14,7 +15,7 @@ def blob_id(content: bytes) -> str:
 
 
 def path_of(number: int, depth: int) -> str:
-    """A path of `depth` components, with 100 files in each innermost folder."""
+    """A path of `depth` components. From depth 3 on each innermost folder has 100 files; at 2 it has 1,000, at 1 all."""
     folders = ["dir%03d" % (number // 1000), "sub%02d" % (number // 100 % 10)]
     folders += ["level%02d" % level for level in range(3, depth)]
     return "/".join(folders[: depth - 1] + ["file%06d" % number])
@@ -26,11 +27,13 @@ def content_of(number: int, size: int) -> bytes:
 
 
 def main() -> None:
-    parser = argparse.ArgumentParser()
-    parser.add_argument("count", type=int)
-    parser.add_argument("--depth", type=int, default=3)
-    parser.add_argument("--size", type=int, default=0)
+    parser = argparse.ArgumentParser(description="Writes a status profile of COUNT entries to standard output.")
+    parser.add_argument("count", type=int, help="how many entries it has")
+    parser.add_argument("--depth", type=int, default=3, help="how many components a path has")
+    parser.add_argument("--size", type=int, default=0, help="how many bytes a file has; then all are hashed")
     arguments = parser.parse_args()
+    if arguments.count < 0 or arguments.depth < 1 or arguments.size < 0:
+        parser.error("COUNT and --size may not be below 0, and --depth not below 1")
     entries, nodes = [], []
     for number in range(arguments.count):
         path = path_of(number, arguments.depth)

@@ -13,9 +13,12 @@ Over a folder the program knows of a file its kind, its length and when its cont
 (core.fileMode=false). The second letter of each line of git's answer is what the program tells:
 
     git            program                          git            program
-    M              modified -c-                     D              removed
+    M              modified -c- or -cs              D              removed
     T              type                             A (intent)     intent
     two letters of a conflict: conflict             no line        no line, or update (only the stat differs)
+
+`-cs` is told where the content changed though the stat agrees: such a stat is racy, since the file's time isn't before
+that of the index, in seconds.
 
 Not known to the program, and so a difference: conversions (line ends, filters: a note tells how many paths have any),
 what is in a submodule, and the kinds of files that git has no mode for.
@@ -25,6 +28,7 @@ import argparse
 import json
 import os
 import re
+import shlex
 import subprocess
 import sys
 
@@ -60,7 +64,10 @@ class Refused(Exception):
 
 def git(folder, *words, given=None):
     """What git prints."""
-    ran = subprocess.run(["git", "-C", folder, *words], input=given, capture_output=True)
+    try:
+        ran = subprocess.run(["git", "-C", folder, *words], input=given, capture_output=True)
+    except FileNotFoundError:
+        raise Refused("git isn't installed") from None
     if ran.returncode != 0:
         raise Refused(f"git {words[0]}: {ran.stderr.decode(errors='replace').strip()}")
     return ran.stdout
@@ -140,9 +147,15 @@ def moment_of(index):
     return [number(secs, "the time of the index"), nsecs]
 
 
+def converts_lines(folder):
+    """Whether git converts line ends without being asked by an attribute: `input`, or what git takes as true."""
+    said = git(folder, "config", "--default", "false", "core.autocrlf").strip()
+    return said.lower() == b"input" or setting(folder, "core.autocrlf", "false")
+
+
 def converted(folder, entries):
     """How many paths git converts before it stores them."""
-    if setting(folder, "core.autocrlf", "false"):
+    if converts_lines(folder):
         return len(entries)
     paths = b"".join(entry["path"].encode() + b"\0" for entry in entries)
     said = git(folder, "check-attr", "-z", "--stdin", *CONVERSIONS, given=paths).split(b"\0")
@@ -153,7 +166,7 @@ def converted(folder, entries):
 def profile_of(folder, counts=False):
     """The profile of the repository whose worktree a folder is in, and how many of its paths git converts."""
     top = line_of(folder, "rev-parse", "--show-toplevel")
-    text(os.fsencode(top), "the folder's path")
+    named = text(os.fsencode(top), "the folder's path")
     kind = line_of(folder, "rev-parse", "--show-object-format")
     if kind not in ("sha1", "sha256"):
         raise Refused(f"ids of the kind {kind}")
@@ -165,14 +178,14 @@ def profile_of(folder, counts=False):
     options = {"symlink": setting(top, "core.symlinks", "true"), "trust_ctime": False, "check_stat": False}
     if counts:
         options["counts"] = True
-    profile = {"hash": kind, "timestamp": before or [0, 0], "options": options, "index": entries, "folder": top}
+    profile = {"hash": kind, "timestamp": before or [0, 0], "options": options, "index": entries, "folder": named}
     return profile, converted(top, entries)
 
 
 def comparable(folder):
     """The git command whose answer the program's is compared with."""
     words = ["git", "--no-optional-locks", "-C", folder, *COMPARABLE]
-    return [*words, "status", "--porcelain", "--untracked-files=no", "--no-renames", "--ignore-submodules=dirty", "-z"]
+    return [*words, "status", "--porcelain", "--untracked-files=no", "--no-renames", "--ignore-submodules=dirty"]
 
 
 def main():
@@ -185,11 +198,11 @@ def main():
     except Refused as refusal:
         print(f"refused: {refusal}", file=sys.stderr)
         return 1
-    json.dump(profile, sys.stdout, ensure_ascii=False, separators=(",", ":"))
+    json.dump(profile, sys.stdout, separators=(",", ":"))
     print()
     if conversions:
         print(f"note: git converts {conversions} of the paths, and the program none", file=sys.stderr)
-    print("compare with:", *comparable(profile["folder"]), file=sys.stderr)
+    print("compare with:", shlex.join(comparable(profile["folder"])), file=sys.stderr)
     return 0
 
 

@@ -6,6 +6,7 @@ Where STATUS_PROGRAM names the built program, its lines are compared with git's.
 
 import json
 import os
+import shlex
 import shutil
 import socket
 import subprocess
@@ -45,6 +46,11 @@ class Case(unittest.TestCase):
         os.makedirs(os.path.dirname(self.path(name)), exist_ok=True)
         with open(self.path(name), "w", encoding="utf-8", newline="") as file:
             file.write(text)
+
+    def run_tool(self, **settings):
+        """What the tool prints when it is run by itself, with these settings in its environment."""
+        words = [sys.executable, tool.__file__, self.top]
+        return subprocess.run(words, capture_output=True, env={**os.environ, **settings})
 
     def entries(self):
         return {(it["path"], it.get("stage", 0)): it for it in tool.profile_of(self.top)[0]["index"]}
@@ -106,6 +112,36 @@ class Profiles(Case):
         self.git("add", ".")
         self.assertEqual(tool.profile_of(self.top)[1], 2)
 
+    def test_line_ends_are_converted_as_the_setting_has_it(self):
+        for name in ("a", "b"):
+            self.write(name, "foo")
+        self.git("add", ".")
+        for value in ("input", "Input", "true", "yes", "on", "1", "false", "no", "off", "0"):
+            self.git("config", "core.autocrlf", value)
+            wanted = 0 if value in ("false", "no", "off", "0") else 2
+            self.assertEqual(tool.profile_of(self.top)[1], wanted, value)
+
+    def test_a_profile_can_be_printed_in_any_encoding(self):
+        self.write("é", "foo")
+        self.git("add", ".")
+        ran = self.run_tool(PYTHONIOENCODING="ascii")
+        self.assertEqual(ran.returncode, 0, ran.stderr)
+        self.assertEqual([entry["path"] for entry in json.loads(ran.stdout)["index"]], ["é"])
+
+    def test_the_printed_command_can_be_run_as_it_stands(self):
+        odd = os.path.join(os.path.dirname(self.top), "it's a folder")
+        os.rename(self.top, odd)
+        self.top = odd
+        self.write("a", "foo")
+        self.git("add", "a")
+        os.remove(self.path("a"))
+        said = self.run_tool().stderr.decode().splitlines()[-1]
+        self.assertTrue(said.startswith("compare with: "), said)
+        command = said[len("compare with: ") :]
+        self.assertNotIn("-z", shlex.split(command))
+        ran = subprocess.run(command, shell=True, capture_output=True, check=True)
+        self.assertEqual(ran.stdout, b"AD a\n")
+
 
 class Refusals(Case):
     def test_a_path_that_is_no_text_is_refused(self):
@@ -119,6 +155,10 @@ class Refusals(Case):
         tried = subprocess.run([sys.executable, tool.__file__, room], capture_output=True, text=True)
         self.assertEqual((tried.returncode, tried.stdout), (1, ""))
         self.assertTrue(tried.stderr.startswith("refused: git rev-parse: "), tried.stderr)
+
+    def test_a_missing_git_is_refused(self):
+        ran = self.run_tool(PATH=os.path.dirname(self.top))
+        self.assertEqual((ran.returncode, ran.stdout, ran.stderr), (1, b"", b"refused: git isn't installed\n"))
 
     def test_an_unknown_listing_is_refused(self):
         with self.assertRaisesRegex(tool.Refused, "isn't known"):
@@ -149,7 +189,7 @@ class Comparison(Case):
 
     def git_tells(self):
         told = {}
-        ran = subprocess.run(tool.comparable(self.top), capture_output=True, check=True)
+        ran = subprocess.run([*tool.comparable(self.top), "-z"], capture_output=True, check=True)
         for line in ran.stdout.decode().split("\0")[:-1]:
             pair, path = line[:2], line[3:]
             conflict = "U" in pair or pair in ("AA", "DD")
@@ -172,9 +212,11 @@ class Comparison(Case):
         lines = "".join(f"100644 {FOO} {stage}\tfight\n" for stage in (1, 2, 3))
         self.git("update-index", "--index-info", given=lines.encode())
         os.utime(self.path("touched"), (5, 5))
-        for name, content in (("changed", "longer"), ("shrunk", ""), ("same-size", "bar"), ("odd\t\n\"é", "x"), ("assumed", "x")):
+        written = [("changed", "longer"), ("shrunk", ""), ("same-size", "bar"), ("odd\t\n\"é", "x"), ("assumed", "x")]
+        for name, content in written:
             self.write(name, content)
-        for name in ("removed", "d/e/gone", "becomes-link", "becomes-folder", "becomes-file", "relinked", "intended-and-gone"):
+        removed = ["removed", "d/e/gone", "becomes-link", "becomes-folder", "becomes-file", "relinked"]
+        for name in [*removed, "intended-and-gone"]:
             os.remove(self.path(name))
         os.symlink("clean", self.path("becomes-link"))
         self.write("becomes-folder/x", "foo")
@@ -208,7 +250,7 @@ class Comparison(Case):
         self.write("a", "bar")
         os.utime(self.path("a"), (now, now))
         os.utime(self.path(".git/index"), (now, now))
-        self.assertEqual(self.program(), {"a": "M"})
+        self.assertEqual(self.lines(), ['0 modified -cs "a"'])
         self.assertEqual(self.git_tells(), {"a": "M"})
 
 
