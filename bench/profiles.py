@@ -2,7 +2,7 @@
 """Writes a status profile of COUNT entries to standard output: even ones are clean by their stat, odd ones are hashed.
 
 With --depth the paths have so many components, 3 where nothing is said. With --size each file has so many bytes, and all
-are hashed; with --size 0, as where nothing is said, a file has one short line.
+are hashed; with --size 0, as where nothing is said, a file has one short line. With --clean all are clean.
 """
 import argparse
 import hashlib
@@ -31,6 +31,7 @@ def main() -> None:
     parser.add_argument("count", type=int, help="how many entries it has")
     parser.add_argument("--depth", type=int, default=3, help="how many components a path has")
     parser.add_argument("--size", type=int, default=0, help="how many bytes a file has; then all are hashed")
+    parser.add_argument("--clean", action="store_true", help="all entries are clean by their stat")
     arguments = parser.parse_args()
     if arguments.count < 0 or arguments.depth < 1 or arguments.size < 0:
         parser.error("COUNT and --size may not be below 0, and --depth not below 1")
@@ -38,7 +39,7 @@ def main() -> None:
     for number in range(arguments.count):
         path = path_of(number, arguments.depth)
         content = content_of(number, arguments.size)
-        is_clean = arguments.size == 0 and number % 2 == 0
+        is_clean = arguments.clean or (arguments.size == 0 and number % 2 == 0)
         stamp = [5, 0] if is_clean else [6, 0]
         entries.append({"path": path, "id": blob_id(content), "size": len(content), "mtime": [5, 0]})
         nodes.append({"path": path, "text": content.decode(), "mtime": stamp})

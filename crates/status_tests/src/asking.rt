@@ -3,6 +3,7 @@
 ghost use Rattle.std.specs.Prelude.{◌<◌, ◌^◌, IfOk};
 ghost use Rattle.gix_status.specs.Outcomes.{skipped_of};
 
+use crate::collectors::Stopping;
 use gix_status::index_as_worktree::traits::CompareBlobs;
 use gix_status::index_as_worktree::{
     Capabilities, Change, Context, EntryStatus, Error, Options, Outcome, Record, Recorder,
@@ -100,7 +101,6 @@ pub fn removed<T, U>() -> EntryStatus<T, U> {
 pub struct Told<'index, T, U> {
     pub records: Vec<Record<'index, T, U>>,
     pub answer: Result<Outcome, Error>,
-    ghost fits: { IfOk answer (λ o. skipped_of o < 2 ^ 64) },
 }
 
 /// The status of an index against a worktree, by a comparer that tells ids.
@@ -161,6 +161,81 @@ where
     }
 }
 
+/// How many entries a status skips, where it succeeds.
+pub fn skipped<
+    R: AllocGlobal + Threads + Wait,
+    W: Worktree + Sync,
+    C: CompareBlobs<Output = ObjectId> + Send,
+    P: Pathspec + Send,
+    T: ToGit + Send,
+>(
+    rt: &R,
+    index: &State,
+    worktree: &W,
+    compare: C,
+    asked: Asked<NoSubmodules, P, T>,
+) -> Option<usize>
+where
+    W::File: Send,
+{
+    let alloc = rt.alloc();
+    let mut recorder = Recorder::new(alloc);
+    match tell(
+        rt,
+        alloc,
+        index,
+        worktree,
+        &mut recorder,
+        compare,
+        asked,
+        None,
+    ) {
+        Ok(outcome) => Some(outcome.skipped()),
+        Err(_) => None,
+    }
+}
+
+/// The same as `ask`, with an interrupt flag that the collector sets once it is told a record.
+pub fn ask_until_told<
+    'index,
+    R: AllocGlobal + Threads + Wait,
+    W: Worktree + Sync,
+    C: CompareBlobs<Output = ObjectId> + Send,
+    P: Pathspec + Send,
+    T: ToGit + Send,
+>(
+    rt: &R,
+    index: &'index State,
+    worktree: &W,
+    compare: C,
+    asked: Asked<NoSubmodules, P, T>,
+    flag: &AtomicBool,
+) -> Told<'index, ObjectId, ()>
+where
+    W::File: Send,
+{
+    let alloc = rt.alloc();
+    let mut stopping = Stopping {
+        collector: Recorder::new(alloc),
+        flag,
+    };
+    let interrupt = Some(flag);
+    let answer = tell(
+        rt,
+        alloc,
+        index,
+        worktree,
+        &mut stopping,
+        compare,
+        asked,
+        interrupt,
+    );
+    Told {
+        records: stopping.collector.records,
+        answer,
+    }
+}
+
 /// Tells `collector` the status of an index against a worktree.
 pub fn tell<
     'index,
@@ -211,14 +286,6 @@ impl<'index, T, U> Told<'index, T, U> {
         match &self.answer {
             Ok(outcome) => *outcome == *wanted,
             Err(_) => false,
-        }
-    }
-
-    /// How many entries the status skipped, where it succeeded.
-    pub fn skipped(&self) -> Option<usize> {
-        match &self.answer {
-            Ok(outcome) => Some(outcome.skipped()),
-            Err(_) => None,
         }
     }
 

@@ -1,31 +1,50 @@
 //! Paths that begin with a prefix.
 
-use crate::asking::{Asked, Told, ask, changed, one_file, one_file_read, options, removed};
+use crate::asking::{
+    Asked, Told, ask, changed, one_file, one_file_read, options, removed, skipped,
+};
 use crate::given::{BAR, WRITTEN, file, foo_entry, index, later_file, worktree};
 use bstr::BStr;
 use gix_status::index_as_worktree::Outcome;
 use gix_status::index_as_worktree::traits::HashEq;
 use status_base::index::{ObjectId, State};
 use status_base::worktree::{MemoryObjects, MemoryWorktree, NoFilter, NoSubmodules, Prefix};
-use std::alloc::AllocError;
+use std::alloc::{AllocError, Global};
 use std::sync::Wait;
 use std::test::Fail;
 use std::thread::Threads;
 
-// The status of the paths that begin with a prefix.
+// What a status of the paths that begin with a prefix is asked with.
+fn asked_below(
+    alloc: Global,
+    prefix: &str,
+) -> Result<Asked<NoSubmodules, Prefix, NoFilter>, AllocError> {
+    Ok(Asked {
+        submodule: NoSubmodules,
+        objects: MemoryObjects::new(alloc),
+        pathspec: Prefix::new(alloc, BStr::from(prefix))?,
+        filter: NoFilter,
+        options: options(),
+    })
+}
+
+fn skipped_by_prefix<R: AllocGlobal + Threads + Wait>(
+    rt: &R,
+    index: &State,
+    worktree: &MemoryWorktree,
+    prefix: &str,
+) -> Result<Option<usize>, AllocError> {
+    let asked = asked_below(rt.alloc(), prefix)?;
+    Ok(skipped(rt, index, worktree, HashEq, asked))
+}
+
 fn ask_prefix<'index, R: AllocGlobal + Threads + Wait>(
     rt: &R,
     index: &'index State,
     worktree: &MemoryWorktree,
     prefix: &str,
 ) -> Result<Told<'index, ObjectId, ()>, AllocError> {
-    let asked = Asked {
-        submodule: NoSubmodules,
-        objects: MemoryObjects::new(rt.alloc()),
-        pathspec: Prefix::new(rt.alloc(), BStr::from(prefix))?,
-        filter: NoFilter,
-        options: options(),
-    };
+    let asked = asked_below(rt.alloc(), prefix)?;
     Ok(ask(rt, index, worktree, HashEq, asked))
 }
 
@@ -58,7 +77,7 @@ fn a_prefix_of_no_path_excludes_each(rt: HostRuntime) -> Result<(), Fail> {
         ..Outcome::default()
     };
     assert!(rt; told.took(&wanted));
-    assert_eq!(rt; told.skipped(), Some(3));
+    assert_eq!(rt; skipped_by_prefix(&rt, &index, &worktree, "z")?, Some(3));
     Ok(())
 }
 

@@ -1,11 +1,10 @@
 //! Workers, and a status that ends early.
 
-use crate::asking::{Told, ask, ask_until, changed, options, plainly, tell, with_options};
-use crate::collectors::Stopping;
+use crate::asking::{ask, ask_until, ask_until_told, changed, options, plainly, with_options};
 use crate::given::{BAR, GivenEntry, WRITTEN, foo_entry, index};
 use crate::worktrees::{Files, Meeting, Piece, Watched};
 use gix_status::index_as_worktree::traits::HashEq;
-use gix_status::index_as_worktree::{Options, Outcome, Recorder};
+use gix_status::index_as_worktree::{Options, Outcome};
 use status_base::worktree::Fault;
 use std::sync::atomic::{AtomicBool, AtomicUsize, Ordering};
 use std::test::Fail;
@@ -166,25 +165,8 @@ fn a_flag_that_the_collector_sets_ends_the_status_after_the_round(
     let index = index(rt.alloc(), WRITTEN, &paths.map(foo_entry))?;
     let files = paths.map(|path| (path, Ok(bar)));
     let flag = AtomicBool::new(false);
-    let mut collector = Stopping {
-        collector: Recorder::new(rt.alloc()),
-        flag: &flag,
-    };
     let asked = with_options(rt.alloc(), shared(1, 1));
-    let answer = tell(
-        &rt,
-        rt.alloc(),
-        &index,
-        &Files { files: &files },
-        &mut collector,
-        HashEq,
-        asked,
-        Some(&flag),
-    );
-    let told = Told {
-        records: collector.collector.records,
-        answer,
-    };
+    let told = ask_until_told(&rt, &index, &Files { files: &files }, HashEq, asked, &flag);
     // A round has eight pieces of one worker, and is told whole.
     assert!(rt;
         told.is_all(&[

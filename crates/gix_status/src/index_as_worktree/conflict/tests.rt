@@ -1,24 +1,8 @@
+use crate::index_as_worktree::piece::tests::index_of;
 use crate::index_as_worktree::types::Conflict;
-use bstr::{BStr, BString};
-use status_base::index::{
-    Entry, Flags, HashKind, IndexError, Mode, Moment, NewEntry, ObjectId, PathStorage, Stat, State,
-};
-use std::alloc::Global;
+use bstr::BStr;
+use status_base::index::{Entry, Mode, PathStorage};
 use std::test::Fail;
-
-fn index(alloc: Global, stages: &[(&str, u32)]) -> Result<State, IndexError> {
-    let mut entries = Vec::new(alloc);
-    for (path, stage) in stages {
-        entries.push(NewEntry {
-            path: BString::from_slice(alloc, *path)?,
-            stat: Stat::default(),
-            id: ObjectId::null(HashKind::Sha1),
-            flags: Flags::from_stage(*stage),
-            mode: Mode::File,
-        })?;
-    }
-    State::from_entries(alloc, entries, Moment::default())
-}
 
 // The conflict of `f` from a place on, how many entries follow, and the modes by stage.
 fn conflict_at(
@@ -39,29 +23,29 @@ fn conflict_at(
 #[test]
 fn names_the_conflict_by_the_stages(rt: HostRuntime) -> Result<(), Fail> {
     let file = Some(Mode::File);
-    let all = index(rt.alloc(), &[("f", 1), ("f", 2), ("f", 3)])?;
+    let all = index_of(rt.alloc(), &[("f", 1), ("f", 2), ("f", 3)])?;
     assert_eq!(rt;
         conflict_at(all.entries(), all.path_backing(), 0),
         Some((Conflict::BothModified, 2, [file, file, file]))
     );
-    let deleted = index(rt.alloc(), &[("f", 1), ("f", 3)])?;
+    let deleted = index_of(rt.alloc(), &[("f", 1), ("f", 3)])?;
     assert_eq!(rt;
         conflict_at(deleted.entries(), deleted.path_backing(), 0),
         Some((Conflict::DeletedByUs, 1, [file, None, file]))
     );
-    let added = index(rt.alloc(), &[("f", 2), ("g", 3)])?;
+    let added = index_of(rt.alloc(), &[("f", 2), ("g", 3)])?;
     assert_eq!(rt;
         conflict_at(added.entries(), added.path_backing(), 0),
         Some((Conflict::AddedByUs, 0, [None, file, None]))
     );
-    let plain = index(rt.alloc(), &[("f", 0), ("g", 2)])?;
+    let plain = index_of(rt.alloc(), &[("f", 0), ("g", 2)])?;
     assert_eq!(rt; conflict_at(plain.entries(), plain.path_backing(), 0), None);
     Ok(())
 }
 
 #[test]
 fn keeps_the_last_of_a_stage_among_three_entries(rt: HostRuntime) -> Result<(), Fail> {
-    let state = index(rt.alloc(), &[("f", 2), ("f", 3)])?;
+    let state = index_of(rt.alloc(), &[("f", 2), ("f", 3)])?;
     let mut entries = Vec::new(rt.alloc());
     for entry in state.entries() {
         entries.push(entry.clone()?)?;
@@ -78,8 +62,22 @@ fn keeps_the_last_of_a_stage_among_three_entries(rt: HostRuntime) -> Result<(), 
 }
 
 #[test]
+fn stages_may_stand_out_of_place(rt: HostRuntime) -> Result<(), Fail> {
+    let state = index_of(rt.alloc(), &[("f", 1), ("f", 3)])?;
+    let mut entries = Vec::new(rt.alloc());
+    entries.push(state.entries()[1].clone()?)?;
+    entries.push(state.entries()[0].clone()?)?;
+    let file = Some(Mode::File);
+    assert_eq!(rt;
+        conflict_at(&entries, state.path_backing(), 0),
+        Some((Conflict::DeletedByUs, 1, [file, None, file]))
+    );
+    Ok(())
+}
+
+#[test]
 fn finds_nothing_past_the_end(rt: HostRuntime) -> Result<(), Fail> {
-    let state = index(rt.alloc(), &[("f", 1), ("f", 2)])?;
+    let state = index_of(rt.alloc(), &[("f", 1), ("f", 2)])?;
     for back in 0..4 {
         let start = usize::MAX - back;
         assert_eq!(rt;

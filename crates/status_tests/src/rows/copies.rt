@@ -1,0 +1,34 @@
+//! Copies of what a status is asked with, and of what it tells.
+
+use crate::asking::{ask, options, plainly};
+use crate::given::{WRITTEN, index, stage_entry, worktree};
+use gix_status::index_as_worktree::Context;
+use gix_status::index_as_worktree::traits::HashEq;
+use status_base::worktree::{AllPaths, NoFilter, NoLister};
+use std::test::Fail;
+
+#[test]
+fn copies_equal_what_was_copied(rt: HostRuntime) -> Result<(), Fail> {
+    let entries = [stage_entry("f", 1), stage_entry("f", 3)];
+    let index = index(rt.alloc(), WRITTEN, &entries)?;
+    let worktree = worktree(rt.alloc(), &[])?;
+    let told = ask(&rt, &index, &worktree, HashEq, plainly(rt.alloc()));
+    assert_eq!(rt; told.records.len(), 1);
+    let record = told.records[0].clone()?;
+    assert_eq!(rt; record.entry_index, 0);
+    assert!(rt; record.relative_path.as_bytes() == b"f".as_slice());
+    assert!(rt; record.status == told.records[0].status);
+    let Ok(outcome) = &told.answer else {
+        return Err(Fail::new("the status failed"));
+    };
+    assert!(rt; outcome.clone()? == *outcome);
+    assert!(rt; options().clone()? == options());
+    let context = Context {
+        pathspec: AllPaths,
+        filter: NoFilter,
+        lister: NoLister,
+        should_interrupt: None,
+    };
+    assert!(rt; context.clone()?.should_interrupt.is_none());
+    Ok(())
+}
