@@ -1,6 +1,9 @@
 //! Why a run of the program fails, and the line that says so.
 
-use crate::lines::path_text;
+#[cfg(test)]
+mod tests;
+
+use crate::lines::path_value;
 use crate::profile::ProfileError;
 use bstr::BStr;
 use gix_status::index_as_worktree::Error;
@@ -50,9 +53,15 @@ impl Failure {
         }
     }
 
-    /// Tells the failure in one line. `name` is the name of the profile's file. Where the output can't be written
-    /// nothing more is.
-    pub fn tell<E: io::Write>(&self, alloc: Global, name: &str, faults: &mut E) -> io::Result<()> {
+    /// Tells the failure in one line, and answers the exit status. `name` is the name of the profile's file.
+    pub fn report<E: io::Write>(&self, alloc: Global, name: &str, faults: &mut E) -> u8 {
+        // Where the line can't be written there is nowhere left to tell that.
+        let _ = self.tell(alloc, name, faults);
+        1
+    }
+
+    /// Tells the failure in one line. Where the output can't be written nothing more is.
+    fn tell<E: io::Write>(&self, alloc: Global, name: &str, faults: &mut E) -> io::Result<()> {
         match self {
             Failure::Unreadable => writeln!(faults, "cannot read {name}"),
             Failure::Profile(error) => writeln!(faults, "{error}"),
@@ -80,7 +89,7 @@ fn status_words(alloc: Global, error: &Error) -> Result<String, AllocError> {
         Error::Io(fault) => format!(in alloc; "{fault}"),
         Error::Find(_) => String::from_str(alloc, "missing object"),
         Error::SubmoduleStatus { rela_path, .. } => {
-            let path = path_text(alloc, BStr::new(rela_path.as_bytes()))?;
+            let path = path_value(alloc, BStr::new(rela_path.as_bytes()))?;
             format!(in alloc; "submodule {path}")
         }
         Error::SpawnThread => String::from_str(alloc, "no thread"),

@@ -16,7 +16,7 @@ pub fn status_line<T: Drop, U: Drop>(
     path: BStr<'_>,
     status: &EntryStatus<T, U>,
 ) -> Result<String, AllocError> {
-    let path = path_text(alloc, path)?;
+    let path = path_value(alloc, path)?;
     let told = Told(status);
     format!(in alloc; "{entry_index} {told} {path}\n")
 }
@@ -39,10 +39,10 @@ pub fn total_line(alloc: Global, outcome: &Outcome) -> Result<String, AllocError
     )
 }
 
-/// A path as the compact JSON text of a string. Bytes that aren't UTF-8 are replaced.
-pub fn path_text(alloc: Global, path: BStr<'_>) -> Result<String, AllocError> {
+/// A path as a JSON string, which is displayed as its compact text. Bytes that aren't UTF-8 are replaced.
+pub fn path_value(alloc: Global, path: BStr<'_>) -> Result<Value, AllocError> {
     let text = String::from_utf8_lossy(alloc, path.as_bytes())?;
-    Value::String(text).to_string(alloc)
+    Ok(Value::String(text))
 }
 
 /// The entries that were skipped. Their number fits, since the index had them all.

@@ -5,9 +5,12 @@ mod failure;
 pub mod lines;
 pub mod profile;
 pub mod status;
+#[cfg(test)]
+mod tests;
 
 use crate::failure::Failure;
 use crate::status::run_status;
+use std::convert::AsStr;
 use std::io::BufWriter;
 use std::process::ExitCode;
 use std::rt::{Env, Files};
@@ -21,7 +24,7 @@ fn main(rt: HostRuntime) -> ExitCode {
     ExitCode::from(run(&rt, &mut rt.stderr()))
 }
 
-/// Runs the command that the arguments ask for, and answers the exit status.
+/// Runs the command that the program's arguments ask for, and answers the exit status.
 fn run<R: AllocGlobal + Env + Files + Print + Sync + Threads + Wait, E: io::Write>(
     rt: &R,
     faults: &mut E,
@@ -30,31 +33,48 @@ where
     R::File: Send,
     R::Dir: Send,
 {
-    match file_of_arguments(rt) {
-        Ok(Some(file)) => run_on_file(rt, file.as_str(), faults),
-        Ok(None) => {
-            let _ = writeln!(faults, "{USAGE}");
-            2
+    match env::args(rt) {
+        Ok(arguments) => run_command(rt, arguments.skip(1), faults),
+        Err(error) if error.kind() == io::ErrorKind::OutOfMemory => {
+            Failure::Memory.report(rt.alloc(), "", faults)
         }
-        Err(failure) => tell(rt, "", failure, faults),
+        Err(_) => tell_usage(faults),
     }
 }
 
-/// The file whose status is asked for. None where the arguments aren't as they should be.
-fn file_of_arguments<R: AllocGlobal + Env>(rt: &R) -> Result<Option<String>, Failure> {
-    let mut arguments = match env::args(rt) {
-        Ok(arguments) => arguments.skip(1),
-        Err(error) if error.kind() == io::ErrorKind::OutOfMemory => return Err(Failure::Memory),
-        Err(_) => return Ok(None),
-    };
-    let command = arguments.next();
-    let file = arguments.next();
-    let is_status = command.is_some_and(|command| command.as_str() == "status");
-    if is_status && arguments.next().is_none() {
-        Ok(file)
-    } else {
-        Ok(None)
+/// Runs the command that these words ask for, and answers the exit status.
+fn run_command<
+    R: AllocGlobal + Files + Print + Sync + Threads + Wait,
+    W: AsStr + Drop,
+    I: Iterator<Item = W>,
+    E: io::Write,
+>(rt: &R, words: I, faults: &mut E) -> u8
+where
+    R::File: Send,
+    R::Dir: Send,
+    requires { I.can_next words }
+{
+    match file_of(words) {
+        Some(file) => run_on_file(rt, file.as_str(), faults),
+        None => tell_usage(faults),
     }
+}
+
+/// The name of the file whose status these words ask for. None where they aren't `status FILE`.
+fn file_of<W: AsStr + Drop, I: Iterator<Item = W>>(mut words: I) -> Option<W>
+    requires { I.can_next words }
+{
+    let command = words.next()?;
+    let file = words.next()?;
+    let is_status = command.as_str() == "status" && words.next().is_none();
+    is_status.then_some(file)
+}
+
+/// Tells how the program is called, and answers the exit status.
+fn tell_usage<E: io::Write>(faults: &mut E) -> u8 {
+    // Where the line can't be written there is nowhere left to tell that.
+    let _ = writeln!(faults, "{USAGE}");
+    2
 }
 
 fn run_on_file<R: AllocGlobal + Files + Print + Sync + Threads + Wait, E: io::Write>(
@@ -68,17 +88,10 @@ where
 {
     let mut profile = match fs::open(rt, file) {
         Ok(profile) => profile,
-        Err(error) => return tell(rt, file, Failure::of_reading(error), faults),
+        Err(error) => return Failure::of_reading(error).report(rt.alloc(), file, faults),
     };
     match BufWriter::new(rt.alloc(), io::writer(rt)) {
         Ok(mut output) => run_status(rt, file, &mut profile, &mut output, faults),
-        Err(_) => tell(rt, file, Failure::Memory, faults),
+        Err(_) => Failure::Memory.report(rt.alloc(), file, faults),
     }
-}
-
-/// Tells a failure, and answers its exit status.
-fn tell<R: AllocGlobal, E: io::Write>(rt: &R, file: &str, failure: Failure, faults: &mut E) -> u8 {
-    // Where the line can't be written there is nowhere left to tell that.
-    let _ = failure.tell(rt.alloc(), file, faults);
-    1
 }

@@ -43,11 +43,7 @@ where
 {
     match print_status(rt, profile, output) {
         Ok(()) => 0,
-        Err(failure) => {
-            // Where the line can't be written there is nowhere left to tell that.
-            let _ = failure.tell(rt.alloc(), name, faults);
-            1
-        }
+        Err(failure) => failure.report(rt.alloc(), name, faults),
     }
 }
 
@@ -220,7 +216,7 @@ where
     )
 }
 
-/// Prints a line a record. The records before a fault are printed too.
+/// Prints a line a record.
 fn print_records<T: Drop, U: Drop, O: io::Write>(
     alloc: Global,
     records: &[Record<'_, T, U>],

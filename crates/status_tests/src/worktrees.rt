@@ -18,6 +18,17 @@ pub struct Piece<'a> {
     pub reads: &'a AtomicUsize,
 }
 
+impl<'a> Piece<'a> {
+    /// Bytes with the end behind them.
+    pub fn new(bytes: &'a [u8], reads: &'a AtomicUsize) -> Piece<'a> {
+        Piece {
+            bytes,
+            fault: None,
+            reads,
+        }
+    }
+}
+
 impl<'a> ReadBytes for Piece<'a> {
     fn read_bytes(&mut self, buffer: &mut [u8]) -> Result<usize, Fault> {
         self.reads.fetch_add(1, Ordering::SeqCst);
@@ -89,6 +100,85 @@ impl<'a> Worktree for Files<'a> {
     fn read_link(&self, _path: BStr<'_>, target: &mut Vec<u8>) -> Result<(), Fault> {
         target.clear();
         Err(Fault::NotFound)
+    }
+}
+
+/// Files of another length, as lstat has it.
+#[derive(Clone, Copy)]
+pub struct Long<'a> {
+    pub files: Files<'a>,
+    pub len: u64,
+}
+
+impl<'a> Worktree for Long<'a> {
+    type File = Piece<'a>;
+
+    ghost tells = { λ _. false };
+
+    ghost lstat_of = { λ _ _. Err NotFound };
+
+    ghost open_of = { λ _ _. Err NotFound };
+
+    ghost target_of = { λ _ _. Err NotFound };
+
+    fn lstat(&self, path: BStr<'_>) -> Result<Metadata, Fault> {
+        let found = self.files.lstat(path)?;
+        Ok(Metadata {
+            len: self.len,
+            ..found
+        })
+    }
+
+    fn open(&self, path: BStr<'_>) -> Result<Piece<'a>, Fault> {
+        self.files.open(path)
+    }
+
+    fn read_link(&self, path: BStr<'_>, target: &mut Vec<u8>) -> Result<(), Fault> {
+        self.files.read_link(path, target)
+    }
+}
+
+/// A worktree whose looks at one path, and whose openings of it, are counted.
+#[derive(Clone, Copy)]
+pub struct Counted<'a, W> {
+    pub worktree: W,
+    pub path: &'a str,
+    pub looks: &'a AtomicUsize,
+    pub opens: &'a AtomicUsize,
+}
+
+impl<'a, W> Counted<'a, W> {
+    // Counts one more call, where it is at the path.
+    fn count(&self, path: BStr<'_>, calls: &AtomicUsize) {
+        if path.as_bytes() == self.path.as_bytes() {
+            calls.fetch_add(1, Ordering::SeqCst);
+        }
+    }
+}
+
+impl<'a, W: Worktree> Worktree for Counted<'a, W> {
+    type File = W::File;
+
+    ghost tells = { λ _. false };
+
+    ghost lstat_of = { λ _ _. Err NotFound };
+
+    ghost open_of = { λ _ _. Err NotFound };
+
+    ghost target_of = { λ _ _. Err NotFound };
+
+    fn lstat(&self, path: BStr<'_>) -> Result<Metadata, Fault> {
+        self.count(path, self.looks);
+        self.worktree.lstat(path)
+    }
+
+    fn open(&self, path: BStr<'_>) -> Result<W::File, Fault> {
+        self.count(path, self.opens);
+        self.worktree.open(path)
+    }
+
+    fn read_link(&self, path: BStr<'_>, target: &mut Vec<u8>) -> Result<(), Fault> {
+        self.worktree.read_link(path, target)
     }
 }
 

@@ -1,4 +1,4 @@
-use crate::lines::{path_text, status_line, total_line};
+use crate::lines::{path_value, status_line, total_line};
 use bstr::BStr;
 use gix_status::index_as_worktree::{Change, Conflict, ConflictIndexEntry, EntryStatus, Outcome};
 use status_base::index::{Flags, HashKind, Mode, ObjectId, Stat};
@@ -94,10 +94,12 @@ fn paths_are_json_texts(rt: HostRuntime) -> Result<(), Fail> {
         ("é\u{7f}\u{2028}", "\"é\u{7f}\u{2028}\""),
     ];
     for (path, wanted) in cases {
-        let text = path_text(alloc, BStr::new(path.as_bytes()))?;
+        let value = path_value(alloc, BStr::new(path.as_bytes()))?;
+        let text = format!(in alloc; "{value}")?;
         assert_eq!(rt; text.as_str(), wanted);
     }
-    let text = path_text(alloc, BStr::new(b"a\xff"))?;
+    let value = path_value(alloc, BStr::new(b"a\xff"))?;
+    let text = format!(in alloc; "{value}")?;
     assert_eq!(rt; text.as_str(), "\"a\u{fffd}\"");
     Ok(())
 }

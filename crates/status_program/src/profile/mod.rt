@@ -1,7 +1,7 @@
 //! A profile: an index and a worktree as JSON, with the options of a status.
 
 mod entry;
-pub mod error;
+mod error;
 mod field;
 mod members;
 mod node;

@@ -37,11 +37,6 @@ pub struct ProfileOptions {
 }
 
 impl ProfileOptions {
-    /// Whether a worktree in a folder has what these options ask for.
-    fn is_for_folder(&self) -> bool {
-        !self.untracked && !self.renames
-    }
-
     /// Whether a status can be computed with these options.
     fn is_supported(&self) -> bool {
         !self.untracked && !self.renames && !self.sort
@@ -56,7 +51,6 @@ pub fn read_options(alloc: Global, profile: Fields<'_>) -> Result<ProfileOptions
         Some(value) => Fields::of(value)?,
         None => Fields::new(&none),
     };
-    let over_folder = profile.get("folder").is_some();
     let mut options = ProfileOptions {
         status: read_status(fields)?,
         comparer: read_comparer(fields)?,
@@ -66,10 +60,10 @@ pub fn read_options(alloc: Global, profile: Fields<'_>) -> Result<ProfileOptions
         sort: fields.bool_or("sort", false)?,
         counts: fields.bool_or("counts", false)?,
     };
-    if !options.is_supported() || over_folder && !options.is_for_folder() {
+    if !options.is_supported() {
         return Err(FieldError::Form);
     }
-    if over_folder {
+    if profile.get("folder").is_some() {
         options.status.fs.executable_bit = false;
     }
     Ok(options)

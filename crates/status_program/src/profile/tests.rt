@@ -1,9 +1,10 @@
 use crate::profile::{Comparer, Key, Place, Profile, ProfileError};
 use bstr::BString;
-use gix_status::index_as_worktree::Options;
-use status_base::index::{Flags, HashKind, Mode, Moment, Time};
-use status_base::worktree::{Node, NodeKind};
+use gix_status::index_as_worktree::{Capabilities, Options};
+use status_base::index::{Flags, HashKind, Mode, Moment, NewEntry, ObjectId, Stat, Time, stat};
+use status_base::worktree::{Metadata, Node, NodeKind};
 use std::alloc::{AllocError, Global};
+use std::process::Abort;
 use std::test::Fail;
 
 const ROW: &str = r#"{"hash":"sha1","timestamp":[9,0],
@@ -15,9 +16,29 @@ const ROW: &str = r#"{"hash":"sha1","timestamp":[9,0],
 {"path":"a","text":"bars","mtime":[7,0]},
 {"path":"b","text":"bar","mtime":[5,0]}]}"#;
 
+// The id of `foo` by SHA-1, as digits and as bytes.
 const SHA1: &str = "19102815663d23f8b75a47e7a01965dcdc96468c";
 
+const FOO: ObjectId = ObjectId::Sha1([
+    0x19, 0x10, 0x28, 0x15, 0x66, 0x3d, 0x23, 0xf8, 0xb7, 0x5a, 0x47, 0xe7, 0xa0, 0x19, 0x65, 0xdc,
+    0xdc, 0x96, 0x46, 0x8c,
+]);
+
+// The id of no bytes by SHA-256, as digits and as bytes.
 const SHA256: &str = "473a0f4c3be8a93681a267e3b1e9a7dcda1185436fe141f7749120a303721813";
+
+const EMPTY: ObjectId = ObjectId::Sha256([
+    0x47, 0x3a, 0x0f, 0x4c, 0x3b, 0xe8, 0xa9, 0x36, 0x81, 0xa2, 0x67, 0xe3, 0xb1, 0xe9, 0xa7, 0xdc,
+    0xda, 0x11, 0x85, 0x43, 0x6f, 0xe1, 0x41, 0xf7, 0x74, 0x91, 0x20, 0xa3, 0x03, 0x72, 0x18, 0x13,
+]);
+
+// By default a stat's ctime counts, and its inode, group and owner, but neither nanoseconds nor the device.
+const STAT: stat::Options = stat::Options {
+    trust_ctime: true,
+    check_stat: true,
+    use_nsec: false,
+    use_stdev: false,
+};
 
 // Options that are wrong, or not supported.
 const BAD_OPTIONS: [&str; 18] = [
@@ -39,6 +60,13 @@ const BAD_OPTIONS: [&str; 18] = [
     r#""untracked":true"#,
     r#""renames":true"#,
     r#""sort":true"#,
+];
+
+// Fields of entries that lack one.
+const INCOMPLETE_ENTRIES: [&str; 3] = [
+    "",
+    r#""path":"a""#,
+    r#""id":"19102815663d23f8b75a47e7a01965dcdc96468c""#,
 ];
 
 // What makes a good entry a bad one.
@@ -70,7 +98,8 @@ const BAD_ENTRIES: [&str; 24] = [
 ];
 
 // Fields of nodes.
-const BAD_NODES: [&str; 11] = [
+const BAD_NODES: [&str; 12] = [
+    "",
     r#""text":"x""#,
     r#""path":7"#,
     r#""path":"a","kind":"pipe""#,
@@ -88,11 +117,69 @@ fn refusal(alloc: Global, text: &str) -> Option<ProfileError> {
     Profile::from_json(alloc, text.as_bytes()).err()
 }
 
-// The nodes of a profile, none where it names a folder.
-fn nodes_of(profile: &Profile) -> &[(BString, Node)] {
+// The only entry of a profile.
+fn only_entry(profile: &Profile) -> Result<&NewEntry, Fail> {
+    match profile.entries.as_slice() {
+        [entry] => Ok(entry),
+        _ => Err(Fail::new("not one entry")),
+    }
+}
+
+// The nodes of a profile.
+fn nodes_of(profile: &Profile) -> Result<&[(BString, Node)], Fail> {
     match &profile.place {
-        Place::Nodes(nodes) => nodes.as_slice(),
-        Place::Folder(_) => &[],
+        Place::Nodes(nodes) => Ok(nodes.as_slice()),
+        Place::Folder(_) => Err(Fail::new("a folder")),
+    }
+}
+
+// The only node of a profile, with its path.
+fn only_node(profile: &Profile) -> Result<(&[u8], &Node), Fail> {
+    match nodes_of(profile)? {
+        [(path, node)] => Ok((path.as_bytes(), node)),
+        _ => Err(Fail::new("not one node")),
+    }
+}
+
+// Asserts that an entry is `a` with the id of `foo`, and that all but its mode and its flags is as it is by default.
+fn assert_plain<R: Abort>(rt: &R, entry: &NewEntry, mode: Mode, flags: Flags) {
+    assert_eq!(rt; entry.path.as_bytes(), b"a".as_slice());
+    assert_eq!(rt; entry.id, FOO);
+    assert_eq!(rt; entry.stat, Stat::default());
+    assert_eq!(rt; entry.mode, mode);
+    assert_eq!(rt; entry.flags, flags);
+}
+
+// The options of a status where a profile names none.
+fn no_options() -> Options {
+    Options {
+        fs: Capabilities {
+            symlink: true,
+            executable_bit: true,
+        },
+        thread_limit: None,
+        stat: STAT,
+        fscache: false,
+        chunk_size: 0,
+    }
+}
+
+// The same, but for what the file system can keep.
+fn with_capabilities(symlink: bool, executable_bit: bool) -> Options {
+    Options {
+        fs: Capabilities {
+            symlink,
+            executable_bit,
+        },
+        ..no_options()
+    }
+}
+
+// The same, but for the parts of stats that have to be equal.
+fn with_stat(stat: stat::Options) -> Options {
+    Options {
+        stat,
+        ..no_options()
     }
 }
 
@@ -130,10 +217,11 @@ fn reads_a_whole_profile(rt: HostRuntime) -> Result<(), Fail> {
         assert_eq!(rt; entry.flags, Flags::default());
         assert_eq!(rt; entry.id.kind(), HashKind::Sha1);
     }
-    assert_eq!(rt; nodes_of(&profile).len(), 2);
-    let contents = ["bars", "bar"];
-    for ((path, node), content) in nodes_of(&profile).iter().zip(contents) {
-        assert_eq!(rt; path.as_bytes().len(), 1);
+    let nodes = nodes_of(&profile)?;
+    assert_eq!(rt; nodes.len(), 2);
+    let contents = [("a", "bars"), ("b", "bar")];
+    for ((path, node), (name, content)) in nodes.iter().zip(contents) {
+        assert_eq!(rt; path.as_bytes(), name.as_bytes());
         assert_eq!(rt; node.kind, NodeKind::File);
         assert_eq!(rt; node.bytes.as_slice(), content.as_bytes());
         assert_eq!(rt; node.len, content.len() as u64);
@@ -144,56 +232,137 @@ fn reads_a_whole_profile(rt: HostRuntime) -> Result<(), Fail> {
 
 #[test]
 fn what_is_missing_has_its_default(rt: HostRuntime) -> Result<(), Fail> {
-    let alloc = rt.alloc();
     let text = r#"{"timestamp":[4294967295,1],"index":[],"worktree":[],"clock":null,"events":0}"#;
-    let profile = Profile::from_json(alloc, text.as_bytes())?;
+    let profile = Profile::from_json(rt.alloc(), text.as_bytes())?;
     assert_eq!(rt; profile.hash, HashKind::Sha1);
-    assert_eq!(rt;
-        profile.timestamp,
-        Moment {
-            secs: 4294967295,
-            nsecs: 1
-        }
-    );
-    assert_eq!(rt; profile.options.status, Options::default());
-    assert_eq!(rt; profile.options.comparer, Comparer::Hash);
-    assert!(rt; !profile.options.counts);
-    let text = with_node(alloc, r#""path":"d/e""#)?;
-    let profile = Profile::from_json(alloc, text.as_bytes())?;
-    for (path, node) in nodes_of(&profile).iter() {
-        assert_eq!(rt; path.as_bytes(), b"d/e".as_slice());
-        assert_eq!(rt; node.kind, NodeKind::File);
-        assert_eq!(rt; node.len, 0);
-        assert!(rt; !node.executable);
-        assert_eq!(rt; node.mtime, Some(Time::default()));
-        assert_eq!(rt; node.ctime, Some(Time::default()));
+    let written = Moment {
+        secs: 4294967295,
+        nsecs: 1,
+    };
+    assert_eq!(rt; profile.timestamp, written);
+    let options = &profile.options;
+    assert_eq!(rt; options.status, no_options());
+    assert_eq!(rt; options.comparer, Comparer::Hash);
+    assert!(rt; options.prefix.as_bytes().is_empty());
+    assert!(rt; !options.untracked && !options.renames && !options.sort && !options.counts);
+    assert!(rt; profile.entries.is_empty());
+    assert!(rt; nodes_of(&profile)?.is_empty());
+    Ok(())
+}
+
+#[test]
+fn fields_of_a_node_have_defaults(rt: HostRuntime) -> Result<(), Fail> {
+    let text = with_node(rt.alloc(), r#""path":"d/e""#)?;
+    let profile = Profile::from_json(rt.alloc(), text.as_bytes())?;
+    let (path, node) = only_node(&profile)?;
+    assert_eq!(rt; path, b"d/e".as_slice());
+    assert!(rt; node.bytes.is_empty());
+    let wanted = Metadata {
+        kind: NodeKind::File,
+        len: 0,
+        executable: false,
+        mtime: Some(Time::default()),
+        ctime: Some(Time::default()),
+        dev: 0,
+        ino: 0,
+        uid: 0,
+        gid: 0,
+    };
+    assert_eq!(rt; node.metadata(), wanted);
+    Ok(())
+}
+
+#[test]
+fn the_kind_of_ids_is_read(rt: HostRuntime) -> Result<(), Fail> {
+    let text = r#"{"hash":"sha256","timestamp":[9,0],"index":[],"worktree":[]}"#;
+    let profile = Profile::from_json(rt.alloc(), text.as_bytes())?;
+    assert_eq!(rt; profile.hash, HashKind::Sha256);
+    Ok(())
+}
+
+#[test]
+fn an_option_of_the_status_changes_only_itself(rt: HostRuntime) -> Result<(), Fail> {
+    let cases = [
+        (r#""symlink":false"#, with_capabilities(false, true)),
+        (r#""executable_bit":false"#, with_capabilities(true, false)),
+        (
+            r#""trust_ctime":false"#,
+            with_stat(stat::Options {
+                trust_ctime: false,
+                ..STAT
+            }),
+        ),
+        (
+            r#""check_stat":false"#,
+            with_stat(stat::Options {
+                check_stat: false,
+                ..STAT
+            }),
+        ),
+        (
+            r#""use_nsec":true"#,
+            with_stat(stat::Options {
+                use_nsec: true,
+                ..STAT
+            }),
+        ),
+        (
+            r#""use_stdev":true"#,
+            with_stat(stat::Options {
+                use_stdev: true,
+                ..STAT
+            }),
+        ),
+    ];
+    for (option, wanted) in cases {
+        let text = with_options(rt.alloc(), option)?;
+        let options = Profile::from_json(rt.alloc(), text.as_bytes())?.options;
+        assert_eq!(rt; options.status, wanted, "at {option}");
     }
     Ok(())
 }
 
 #[test]
-fn options_are_read(rt: HostRuntime) -> Result<(), Fail> {
-    let alloc = rt.alloc();
+fn pieces_and_threads_are_read(rt: HostRuntime) -> Result<(), Fail> {
+    let cases = [
+        (r#""chunk_size":4294967295"#, 4294967295, None),
+        (r#""thread_limit":null"#, 0, None),
+        (r#""thread_limit":0"#, 0, Some(0)),
+        (r#""thread_limit":4294967295"#, 0, Some(4294967295)),
+    ];
+    for (option, chunk_size, thread_limit) in cases {
+        let text = with_options(rt.alloc(), option)?;
+        let options = Profile::from_json(rt.alloc(), text.as_bytes())?.options;
+        let wanted = Options {
+            chunk_size,
+            thread_limit,
+            ..no_options()
+        };
+        assert_eq!(rt; options.status, wanted, "at {option}");
+    }
+    Ok(())
+}
+
+#[test]
+fn other_options_are_read(rt: HostRuntime) -> Result<(), Fail> {
     let text = with_options(
-        alloc,
-        r#""symlink":false,"executable_bit":false,"trust_ctime":false,"check_stat":false,"use_nsec":true,"use_stdev":true,"chunk_size":4294967295,"thread_limit":null,"counts":true,"prefix":"","sort":false"#,
+        rt.alloc(),
+        r#""comparer":"fast","prefix":"d/\u00e9","counts":true,"untracked":false,"renames":false,"sort":false,"more":[]"#,
     )?;
-    let options = Profile::from_json(alloc, text.as_bytes())?.options;
-    assert!(rt; !options.status.fs.symlink);
-    assert!(rt; !options.status.fs.executable_bit);
-    assert!(rt; !options.status.stat.trust_ctime);
-    assert!(rt; !options.status.stat.check_stat);
-    assert!(rt; options.status.stat.use_nsec);
-    assert!(rt; options.status.stat.use_stdev);
-    assert_eq!(rt; options.status.chunk_size, 4294967295);
-    assert_eq!(rt; options.status.thread_limit, None);
-    assert!(rt; options.counts);
-    assert_eq!(rt; options.comparer, Comparer::Hash);
-    assert!(rt; options.prefix.as_bytes().is_empty());
-    let text = with_options(alloc, r#""comparer":"fast","prefix":"d/\u00e9""#)?;
-    let options = Profile::from_json(alloc, text.as_bytes())?.options;
+    let options = Profile::from_json(rt.alloc(), text.as_bytes())?.options;
     assert_eq!(rt; options.comparer, Comparer::Fast);
     assert_eq!(rt; options.prefix.as_bytes(), "d/é".as_bytes());
+    assert!(rt; options.counts);
+    assert!(rt; !options.untracked && !options.renames && !options.sort);
+    assert_eq!(rt; options.status, no_options());
+    let text = with_options(
+        rt.alloc(),
+        r#""comparer":"hash","prefix":"","counts":false"#,
+    )?;
+    let options = Profile::from_json(rt.alloc(), text.as_bytes())?.options;
+    assert_eq!(rt; options.comparer, Comparer::Hash);
+    assert!(rt; options.prefix.as_bytes().is_empty());
+    assert!(rt; !options.counts);
     Ok(())
 }
 
@@ -223,6 +392,40 @@ fn text_that_is_no_json(rt: HostRuntime) {
     let bytes = b"{\"hash\":\"\xff\"}".as_slice();
     let error = Profile::from_json(alloc, bytes).err();
     assert_eq!(rt; error, Some(ProfileError::NotJson));
+}
+
+// Lists in one another, so many levels.
+fn lists(alloc: Global, levels: usize) -> Result<String, AllocError> {
+    let mut text = String::new(alloc);
+    for _ in 0..levels {
+        text.push('[')?;
+    }
+    for _ in 0..levels {
+        text.push(']')?;
+    }
+    Ok(text)
+}
+
+// A profile is itself the first level, and its index the second.
+#[test]
+fn more_than_127_levels_are_no_json(rt: HostRuntime) -> Result<(), Fail> {
+    let alloc = rt.alloc();
+    let cases = [
+        ("", 127, "", Key::Hash),
+        (r#"{"more":"#, 126, "}", Key::Timestamp),
+        (r#"{"index":["#, 125, "]}", Key::Timestamp),
+        (r#"{"worktree":"#, 126, "}", Key::Timestamp),
+    ];
+    for (front, levels, back, key) in cases {
+        let most = lists(alloc, levels)?;
+        let text = format!(in alloc; "{front}{most}{back}")?;
+        let error = refusal(alloc, text.as_str());
+        assert_eq!(rt; error, Some(ProfileError::Bad(key)), "at {front}");
+        let text = format!(in alloc; "{front}[{most}]{back}")?;
+        let error = refusal(alloc, text.as_str());
+        assert_eq!(rt; error, Some(ProfileError::NotJson), "at {front}");
+    }
+    Ok(())
 }
 
 #[test]
@@ -289,13 +492,9 @@ fn entries_are_read(rt: HostRuntime) -> Result<(), Fail> {
     )?;
     let text = with_entry(alloc, fields.as_str())?;
     let profile = Profile::from_json(alloc, text.as_bytes())?;
-    let Some(entry) = profile.entries.first() else {
-        return Err(Fail::new("no entry"));
-    };
+    let entry = only_entry(&profile)?;
     assert_eq!(rt; entry.path.as_bytes(), "aé".as_bytes());
-    assert_eq!(rt; entry.id.kind(), HashKind::Sha256);
-    assert!(rt; entry.id.as_bytes().starts_with(&[0x47, 0x3a]));
-    assert_eq!(rt; entry.flags.stage(), 2);
+    assert_eq!(rt; entry.id, EMPTY);
     let flags = Flags::UPTODATE
         | Flags::SKIP_WORKTREE
         | Flags::ASSUME_VALID
@@ -303,11 +502,54 @@ fn entries_are_read(rt: HostRuntime) -> Result<(), Fail> {
         | Flags::INTENT_TO_ADD;
     assert_eq!(rt; entry.flags, flags | Flags::from_stage(2));
     assert_eq!(rt; entry.mode, Mode::FileExecutable);
-    let stat = entry.stat;
-    assert_eq!(rt; stat.mtime, Time { secs: 2, nsecs: 3 });
-    assert_eq!(rt; stat.ctime, Time { secs: 4, nsecs: 5 });
-    let numbers = [stat.size, stat.dev, stat.ino, stat.uid, stat.gid];
-    assert_eq!(rt; numbers, [1, 6, 7, 8, 9]);
+    let wanted = Stat {
+        mtime: Time { secs: 2, nsecs: 3 },
+        ctime: Time { secs: 4, nsecs: 5 },
+        dev: 6,
+        ino: 7,
+        uid: 8,
+        gid: 9,
+        size: 1,
+    };
+    assert_eq!(rt; entry.stat, wanted);
+    Ok(())
+}
+
+#[test]
+fn modes_are_read(rt: HostRuntime) -> Result<(), Fail> {
+    let alloc = rt.alloc();
+    let cases = [
+        ("040000", Mode::Dir),
+        ("100644", Mode::File),
+        ("100755", Mode::FileExecutable),
+        ("120000", Mode::Symlink),
+        ("160000", Mode::Commit),
+    ];
+    for (digits, mode) in cases {
+        let fields = format!(in alloc; r#""path":"a","id":"{SHA1}","mode":"{digits}""#)?;
+        let text = with_entry(alloc, fields.as_str())?;
+        let profile = Profile::from_json(alloc, text.as_bytes())?;
+        assert_plain(&rt, only_entry(&profile)?, mode, Flags::default());
+    }
+    Ok(())
+}
+
+#[test]
+fn flags_are_read(rt: HostRuntime) -> Result<(), Fail> {
+    let alloc = rt.alloc();
+    let cases = [
+        ("uptodate", Flags::UPTODATE),
+        ("skip-worktree", Flags::SKIP_WORKTREE),
+        ("assume-valid", Flags::ASSUME_VALID),
+        ("fsmonitor-valid", Flags::FSMONITOR_VALID),
+        ("intent-to-add", Flags::INTENT_TO_ADD),
+    ];
+    for (name, flag) in cases {
+        let fields = format!(in alloc; r#""path":"a","id":"{SHA1}","flags":["{name}"]"#)?;
+        let text = with_entry(alloc, fields.as_str())?;
+        let profile = Profile::from_json(alloc, text.as_bytes())?;
+        assert_plain(&rt, only_entry(&profile)?, Mode::File, flag);
+    }
     Ok(())
 }
 
@@ -316,35 +558,58 @@ fn nodes_are_read(rt: HostRuntime) -> Result<(), Fail> {
     let alloc = rt.alloc();
     let cases = [
         (
-            r#""kind":"file","text":"x","executable":true"#,
+            r#""kind":"file","text":"x\u00e9""#,
             NodeKind::File,
-            b"x".as_slice(),
+            b"x\xc3\xa9".as_slice(),
         ),
         (
             r#""kind":"link","hex":"FF00","text":3"#,
             NodeKind::Link,
-            b"\xff\x00".as_slice(),
+            b"\xff\x00",
         ),
-        (r#""kind":"directory""#, NodeKind::Directory, b"".as_slice()),
-        (
-            r#""kind":"other","mtime":[1,2],"dev":3"#,
-            NodeKind::Other,
-            b"".as_slice(),
-        ),
+        (r#""kind":"directory""#, NodeKind::Directory, b""),
+        (r#""kind":"other""#, NodeKind::Other, b""),
     ];
     for (case, kind, bytes) in cases {
-        let fields = format!(in alloc; r#""path":"a",{case}"#)?;
+        let fields = format!(in alloc;
+            r#""path":"d/e",{case},"executable":true,"mtime":[2,3],"ctime":[4,5],"dev":6,"ino":7,"uid":8,"gid":9,"more":null"#
+        )?;
         let text = with_node(alloc, fields.as_str())?;
         let profile = Profile::from_json(alloc, text.as_bytes())?;
-        assert_eq!(rt; nodes_of(&profile).len(), 1);
-        for (_, node) in nodes_of(&profile).iter() {
-            assert_eq!(rt; node.kind, kind);
-            assert_eq!(rt; node.bytes.as_slice(), bytes);
-            assert_eq!(rt; node.len, bytes.len() as u64);
-            assert_eq!(rt; node.executable, kind == NodeKind::File);
-            assert_eq!(rt; node.ctime, node.mtime);
-        }
+        let (path, node) = only_node(&profile)?;
+        assert_eq!(rt; path, b"d/e".as_slice());
+        assert_eq!(rt; node.bytes.as_slice(), bytes, "at {case}");
+        let wanted = Metadata {
+            kind,
+            len: bytes.len() as u64,
+            executable: true,
+            mtime: Some(Time { secs: 2, nsecs: 3 }),
+            ctime: Some(Time { secs: 4, nsecs: 5 }),
+            dev: 6,
+            ino: 7,
+            uid: 8,
+            gid: 9,
+        };
+        assert_eq!(rt; node.metadata(), wanted, "at {case}");
     }
+    Ok(())
+}
+
+#[test]
+fn a_ctime_that_is_missing_is_the_mtime(rt: HostRuntime) -> Result<(), Fail> {
+    let alloc = rt.alloc();
+    let mtime = Time { secs: 2, nsecs: 3 };
+    let fields = format!(in alloc; r#""path":"a","id":"{SHA1}","mtime":[2,3]"#)?;
+    let text = with_entry(alloc, fields.as_str())?;
+    let profile = Profile::from_json(alloc, text.as_bytes())?;
+    let entry = only_entry(&profile)?;
+    assert_eq!(rt; entry.stat.mtime, mtime);
+    assert_eq!(rt; entry.stat.ctime, mtime);
+    let text = with_node(alloc, r#""path":"a","mtime":[2,3]"#)?;
+    let profile = Profile::from_json(alloc, text.as_bytes())?;
+    let (_, node) = only_node(&profile)?;
+    assert_eq!(rt; node.mtime, Some(mtime));
+    assert_eq!(rt; node.ctime, Some(mtime));
     Ok(())
 }
 
@@ -359,26 +624,42 @@ fn a_folder_stands_in_place_of_nodes(rt: HostRuntime) -> Result<(), Fail> {
 }
 
 #[test]
-fn wrong_forms_are_told(rt: HostRuntime) -> Result<(), Fail> {
-    let alloc = rt.alloc();
+fn wrong_options_are_told(rt: HostRuntime) -> Result<(), Fail> {
     for options in BAD_OPTIONS {
-        let text = with_options(alloc, options)?;
-        let error = refusal(alloc, text.as_str());
+        let text = with_options(rt.alloc(), options)?;
+        let error = refusal(rt.alloc(), text.as_str());
         assert_eq!(rt;
             error,
             Some(ProfileError::Bad(Key::Options)),
             "at {options}"
         );
     }
+    Ok(())
+}
+
+#[test]
+fn wrong_entries_are_told(rt: HostRuntime) -> Result<(), Fail> {
+    let alloc = rt.alloc();
+    let wanted = Some(ProfileError::Bad(Key::Index));
+    for fields in INCOMPLETE_ENTRIES {
+        let text = with_entry(alloc, fields)?;
+        let error = refusal(alloc, text.as_str());
+        assert_eq!(rt; error, wanted, "at {fields}");
+    }
     for field in BAD_ENTRIES {
         let fields = format!(in alloc; r#""path":"a","id":"{SHA1}",{field}"#)?;
         let text = with_entry(alloc, fields.as_str())?;
         let error = refusal(alloc, text.as_str());
-        assert_eq!(rt; error, Some(ProfileError::Bad(Key::Index)), "at {field}");
+        assert_eq!(rt; error, wanted, "at {field}");
     }
+    Ok(())
+}
+
+#[test]
+fn wrong_nodes_are_told(rt: HostRuntime) -> Result<(), Fail> {
     for fields in BAD_NODES {
-        let text = with_node(alloc, fields)?;
-        let error = refusal(alloc, text.as_str());
+        let text = with_node(rt.alloc(), fields)?;
+        let error = refusal(rt.alloc(), text.as_str());
         assert_eq!(rt;
             error,
             Some(ProfileError::Bad(Key::Worktree)),

@@ -1,17 +1,17 @@
-use crate::status::run_status;
-use std::alloc::AllocError;
-use std::fs::Permissions;
+use crate::status::tests::{assert_printed, assert_refused};
+use std::alloc::{AllocError, Global};
+use std::fs::{File, FileTimes, Permissions};
 use std::os::unix::fs::{MetadataExt, PermissionsExt, symlink};
 use std::rt::{Env, Files};
-use std::sync::Wait;
 use std::test::Fail;
-use std::thread::Threads;
+use std::time::{Duration, UNIX_EPOCH};
 use std::{env, fs, io, process};
 
-// A new folder for temporary files, of this test's own.
+// A new folder for temporary files, of this test's own. One that an earlier run of the same number left is removed.
 fn new_folder<R: Env + Files + AllocGlobal>(rt: &R, test: &str, id: u32) -> io::Result<String> {
     let parent = env::temp_dir(rt)?;
     let folder = format!(in rt.alloc(); "{}/{test}_{id}", parent.as_path().as_str())?;
+    let _ = fs::remove_dir_all(rt, folder.as_str());
     fs::create_dir(rt, folder.as_str())?;
     Ok(folder)
 }
@@ -30,45 +30,73 @@ fn fill<R: Files + AllocGlobal>(rt: &R, folder: &str) -> io::Result<()> {
     symlink(rt, ".", within(rt, folder, "d")?)
 }
 
+// A profile over a folder, with two files of its index, `a` of the content `foo` and `b` of `bar`, and with more entries.
+fn two_files(alloc: Global, folder: &str, more: &str) -> Result<String, AllocError> {
+    format!(in alloc;
+        r#"{{"timestamp":[9,0],"index":[
+{{"path":"a","id":"19102815663d23f8b75a47e7a01965dcdc96468c"}},
+{{"path":"b","id":"ba0e162e1c47469e3fe4b393a8bf8c569f302116"}}{more}],
+"worktree":1,"folder":"{folder}"}}"#
+    )
+}
+
+// A profile over a folder with one entry, of this path as JSON text and this mode, with the content `foo`.
+fn one_entry(alloc: Global, folder: &str, path: &str, mode: &str) -> Result<String, AllocError> {
+    format!(in alloc;
+        r#"{{"timestamp":[9,0],"index":[
+{{"path":"{path}","mode":"{mode}","id":"19102815663d23f8b75a47e7a01965dcdc96468c"}}],
+"folder":"{folder}"}}"#
+    )
+}
+
 #[test]
 fn a_folder_is_compared(rt: HostRuntime) -> Result<(), Fail> {
-    let alloc = rt.alloc();
     let folder = new_folder(&rt, "a_folder_is_compared", process::id(rt.process()))?;
     let root = folder.as_str();
     fill(&rt, root)?;
-    let foo = r#""id":"19102815663d23f8b75a47e7a01965dcdc96468c""#;
-    let bar = r#""id":"ba0e162e1c47469e3fe4b393a8bf8c569f302116""#;
-    let link = r#""id":"2e65efe2a145dda7ee51d1741299f848e5bf752e","mode":"120000""#;
-    let files = format!(in alloc; r#"{{"path":"a",{foo}}},{{"path":"b",{bar}}}"#)?;
-    let more = format!(in alloc;
-        r#"{{"path":"c",{foo}}},{{"path":"d/a",{foo}}},{{"path":"l",{link}}}"#
-    )?;
+    let more = r#",
+{"path":"c","id":"19102815663d23f8b75a47e7a01965dcdc96468c"},
+{"path":"d/a","id":"19102815663d23f8b75a47e7a01965dcdc96468c"},
+{"path":"l","id":"2e65efe2a145dda7ee51d1741299f848e5bf752e","mode":"120000"}"#;
+    let text = two_files(rt.alloc(), root, more)?;
+    let wanted =
+        "0 update \"a\"\n1 modified -c- \"b\"\n2 removed \"c\"\n3 removed \"d/a\"\n4 update \"l\"\n";
+    assert_printed(&rt, text.as_str(), wanted);
+    fs::remove_dir_all(&rt, root)?;
+    Ok(())
+}
+
+#[test]
+fn no_folder_has_no_files(rt: HostRuntime) -> Result<(), Fail> {
+    let folder = new_folder(&rt, "no_folder_has_no_files", process::id(rt.process()))?;
+    let root = folder.as_str();
+    fs::write(&rt, within(&rt, root, "a")?, "foo")?;
+    for name in ["gone", "a"] {
+        let text = two_files(rt.alloc(), within(&rt, root, name)?.as_str(), "")?;
+        assert_printed(&rt, text.as_str(), "0 removed \"a\"\n1 removed \"b\"\n");
+    }
+    fs::remove_dir_all(&rt, root)?;
+    Ok(())
+}
+
+#[test]
+fn a_relative_folder_starts_at_the_working_folder(rt: HostRuntime) -> Result<(), Fail> {
+    let folder = new_folder(&rt, "a_relative_folder", process::id(rt.process()))?;
+    let root = folder.as_str();
+    let inner = within(&rt, root, "d")?;
+    fs::create_dir(&rt, inner.as_str())?;
+    fs::write(&rt, within(&rt, root, "a")?, "foo")?;
+    fs::write(&rt, within(&rt, inner.as_str(), "b")?, "bar")?;
+    env::set_current_dir(&rt, root)?;
     let cases = [
-        (
-            format!(in alloc;
-                r#"{{"timestamp":[9,0],"index":[{files},{more}],"folder":"{root}"}}"#
-            )?,
-            "0 update \"a\"\n1 modified -c- \"b\"\n2 removed \"c\"\n3 removed \"d/a\"\n4 update \"l\"\n",
-        ),
-        (
-            format!(in alloc;
-                r#"{{"timestamp":[9,0],"index":[{files}],"worktree":1,"folder":"{root}/gone"}}"#
-            )?,
-            "0 removed \"a\"\n1 removed \"b\"\n",
-        ),
-        (
-            format!(in alloc; r#"{{"timestamp":[9,0],"index":[{files}],"folder":"{root}/a"}}"#)?,
-            "0 removed \"a\"\n1 removed \"b\"\n",
-        ),
+        ("d", "0 removed \"a\"\n1 update \"b\"\n"),
+        ("d/..", "0 update \"a\"\n1 removed \"b\"\n"),
+        (".", "0 update \"a\"\n1 removed \"b\"\n"),
+        ("", "0 update \"a\"\n1 removed \"b\"\n"),
     ];
-    for (text, wanted) in cases {
-        let mut output = Vec::new(alloc);
-        let mut faults = Vec::new(alloc);
-        let mut profile = text.as_bytes();
-        let status = run_status(&rt, "f", &mut profile, &mut output, &mut faults);
-        assert_eq!(rt; status, 0, "at {text}");
-        assert!(rt; faults.is_empty(), "at {text}");
-        assert_eq!(rt; output.as_slice(), wanted.as_bytes(), "at {text}");
+    for (folder, wanted) in cases {
+        let text = two_files(rt.alloc(), folder, "")?;
+        assert_printed(&rt, text.as_str(), wanted);
     }
     fs::remove_dir_all(&rt, root)?;
     Ok(())
@@ -92,30 +120,9 @@ const FAULTS: [(&str, &str); 3] = [
     ("..", "status failed: not normal\n"),
 ];
 
-// The lines and the faults of a profile with one entry over a folder.
-fn tell<R: AllocGlobal + Files + Sync + Threads + Wait>(
-    rt: &R,
-    folder: &str,
-    path: &str,
-    mode: &str,
-) -> Result<(Vec<u8>, Vec<u8>), AllocError>
-where
-    R::File: Send,
-    R::Dir: Send,
-{
-    let alloc = rt.alloc();
-    let text = format!(in alloc;
-        r#"{{"timestamp":[9,0],"index":[{{"path":"{path}","mode":"{mode}","id":"19102815663d23f8b75a47e7a01965dcdc96468c"}}],"folder":"{folder}"}}"#
-    )?;
-    let mut output = Vec::new(alloc);
-    let mut faults = Vec::new(alloc);
-    let mut profile = text.as_bytes();
-    let _status = run_status(rt, "f", &mut profile, &mut output, &mut faults);
-    Ok((output, faults))
-}
-
 #[test]
 fn odd_nodes_are_told(rt: HostRuntime) -> Result<(), Fail> {
+    let alloc = rt.alloc();
     let folder = new_folder(&rt, "odd_nodes_are_told", process::id(rt.process()))?;
     let root = folder.as_str();
     fs::create_dir(&rt, within(&rt, root, "directory")?)?;
@@ -123,18 +130,15 @@ fn odd_nodes_are_told(rt: HostRuntime) -> Result<(), Fail> {
     fs::write(&rt, within(&rt, root, "line\n\u{1}")?, "foo")?;
     symlink(&rt, "loop", within(&rt, root, "loop")?)?;
     for (path, mode, records) in TOLD {
-        let (output, faults) = tell(&rt, root, path, mode)?;
-        assert_eq!(rt; output.as_slice(), records.as_bytes(), "at {path}");
-        assert!(rt; faults.is_empty(), "at {path}");
+        let text = one_entry(alloc, root, path, mode)?;
+        assert_printed(&rt, text.as_str(), records);
     }
     for (path, fault) in FAULTS {
-        let (output, faults) = tell(&rt, root, path, "100644")?;
-        assert!(rt; output.is_empty(), "at {path}");
-        assert_eq!(rt; faults.as_slice(), fault.as_bytes(), "at {path}");
+        let text = one_entry(alloc, root, path, "100644")?;
+        assert_refused(&rt, text.as_str(), fault);
     }
-    let (output, faults) = tell(&rt, "/dev", "null", "100644")?;
-    assert_eq!(rt; output.as_slice(), b"0 type 100644 \"null\"\n".as_slice());
-    assert!(rt; faults.is_empty());
+    let text = one_entry(alloc, "/dev", "null", "100644")?;
+    assert_printed(&rt, text.as_str(), "0 type 100644 \"null\"\n");
     fs::remove_dir_all(&rt, root)?;
     Ok(())
 }
@@ -142,20 +146,38 @@ fn odd_nodes_are_told(rt: HostRuntime) -> Result<(), Fail> {
 // Root may read every file.
 #[test]
 fn what_cannot_be_asked_is_a_fault(rt: HostRuntime) -> Result<(), Fail> {
+    let alloc = rt.alloc();
     let folder = new_folder(&rt, "what_cannot_be_asked", process::id(rt.process()))?;
     let root = folder.as_str();
     let is_root = fs::symlink_metadata(&rt, root)?.uid() == 0;
     let locked = within(&rt, root, "locked")?;
     fs::write(&rt, locked.as_str(), "foo")?;
     fs::set_permissions(&rt, locked.as_str(), Permissions::from_mode(0))?;
-    let (output, faults) = tell(&rt, root, "locked", "100644")?;
-    let refused = b"status failed: permission denied\n".as_slice();
-    assert_eq!(rt; output.is_empty(), !is_root);
-    assert!(rt; is_root || faults.as_slice() == refused);
-    let too_long = String::from_utf8(Vec::from_elem(rt.alloc(), b'x', 300)?)?;
-    let (output, faults) = tell(&rt, root, too_long.as_str(), "100644")?;
-    assert!(rt; output.is_empty());
-    assert_eq!(rt; faults.as_slice(), b"status failed: other 0\n".as_slice());
+    let text = one_entry(alloc, root, "locked", "100644")?;
+    if is_root {
+        assert_printed(&rt, text.as_str(), "0 update \"locked\"\n");
+    } else {
+        assert_refused(&rt, text.as_str(), "status failed: permission denied\n");
+    }
+    let too_long = String::from_utf8(Vec::from_elem(alloc, b'x', 300)?)?;
+    let text = one_entry(alloc, root, too_long.as_str(), "100644")?;
+    assert_refused(&rt, text.as_str(), "status failed: other 0\n");
+    fs::remove_dir_all(&rt, root)?;
+    Ok(())
+}
+
+// The stamps of a file with a time of 2^32 seconds are not known.
+#[test]
+fn a_time_past_all_stamps_is_a_fault(rt: HostRuntime) -> Result<(), Fail> {
+    let folder = new_folder(&rt, "a_time_past_all_stamps", process::id(rt.process()))?;
+    let root = folder.as_str();
+    let path = within(&rt, root, "a")?;
+    fs::write(&rt, path.as_str(), "foo")?;
+    let file = File::options().write(true).open(&rt, path.as_str())?;
+    let past = UNIX_EPOCH + Duration::from_secs(4294967296);
+    file.set_times(FileTimes::new().set_modified(past))?;
+    let text = one_entry(rt.alloc(), root, "a", "100644")?;
+    assert_refused(&rt, text.as_str(), "status failed: time\n");
     fs::remove_dir_all(&rt, root)?;
     Ok(())
 }

@@ -1,6 +1,9 @@
 use crate::status::run_status;
 use std::io;
-use std::test::Fail;
+use std::process::Abort;
+use std::rt::Files;
+use std::sync::Wait;
+use std::thread::Threads;
 
 // A writer with room for so many bytes.
 #[derive(Drop)]
@@ -30,231 +33,477 @@ impl io::Read for Folder {
     }
 }
 
+// The exit status, the output and the fault lines of the status that a text asks for.
+fn run<R: AllocGlobal + Files + Sync + Threads + Wait>(
+    rt: &R,
+    text: &[u8],
+) -> (u8, Vec<u8>, Vec<u8>)
+where
+    R::File: Send,
+    R::Dir: Send,
+{
+    let mut output = Vec::new(rt.alloc());
+    let mut faults = Vec::new(rt.alloc());
+    let mut profile = text;
+    let status = run_status(rt, "f", &mut profile, &mut output, &mut faults);
+    (status, output, faults)
+}
+
+// Asserts that a profile's status prints these lines, and no fault.
+pub fn assert_printed<R: AllocGlobal + Abort + Files + Sync + Threads + Wait>(
+    rt: &R,
+    text: &str,
+    lines: &str,
+)
+where
+    R::File: Send,
+    R::Dir: Send,
+{
+    let (status, output, faults) = run(rt, text.as_bytes());
+    assert_eq!(rt; status, 0, "at {text}");
+    assert!(rt; faults.is_empty(), "at {text}");
+    assert_eq!(rt; output.as_slice(), lines.as_bytes(), "at {text}");
+}
+
+// Asserts that a text is told to have this fault, and nothing else.
+pub fn assert_refused<R: AllocGlobal + Abort + Files + Sync + Threads + Wait>(
+    rt: &R,
+    text: &str,
+    fault: &str,
+)
+where
+    R::File: Send,
+    R::Dir: Send,
+{
+    let (status, output, faults) = run(rt, text.as_bytes());
+    assert_eq!(rt; status, 1, "at {text}");
+    assert!(rt; output.is_empty(), "at {text}");
+    assert_eq!(rt; faults.as_slice(), fault.as_bytes(), "at {text}");
+}
+
 #[test]
-fn a_profile_that_is_refused_is_told(rt: HostRuntime) -> Result<(), Fail> {
-    let alloc = rt.alloc();
+fn a_text_that_is_no_json_is_told(rt: HostRuntime) {
+    assert_refused(&rt, "not", "not JSON\n");
+    let (status, output, faults) = run(&rt, b"{\"hash\":\"\xff\"}");
+    assert_eq!(rt; status, 1);
+    assert!(rt; output.is_empty());
+    assert_eq!(rt; faults.as_slice(), b"not JSON\n".as_slice());
+}
+
+#[test]
+fn a_profile_that_is_refused_is_told(rt: HostRuntime) {
     let cases = [
-        ("not", "not JSON\n"),
         ("3", "bad profile: hash\n"),
         (
             r#"{"hash":"sha1","timestamp":[]}"#,
             "bad profile: timestamp\n",
         ),
         (
-            r#"{"timestamp":[9,0],"worktree":[],"index":[{"path":"","id":"19102815663d23f8b75a47e7a01965dcdc96468c"}]}"#,
+            r#"{"timestamp":[9,0],"options":{"sort":true},"index":[],"worktree":[]}"#,
+            "bad profile: options\n",
+        ),
+        (
+            r#"{"timestamp":[9,0],"index":[{"path":"a"}],"worktree":[]}"#,
+            "bad profile: index\n",
+        ),
+        (
+            r#"{"timestamp":[9,0],"index":[],"worktree":[{"text":"foo"}]}"#,
+            "bad profile: worktree\n",
+        ),
+        (
+            r#"{"timestamp":[9,0],"index":[],"worktree":[],"folder":7}"#,
+            "bad profile: worktree\n",
+        ),
+    ];
+    for (text, fault) in cases {
+        assert_refused(&rt, text, fault);
+    }
+}
+
+#[test]
+fn an_index_that_is_refused_is_told(rt: HostRuntime) {
+    let cases = [
+        (
+            r#"{"timestamp":[9,0],"worktree":[],
+"index":[
+{"path":"","id":"19102815663d23f8b75a47e7a01965dcdc96468c"}]}"#,
             "bad index: empty path at 0\n",
         ),
         (
-            r#"{"timestamp":[9,0],"worktree":[],"index":[{"path":"a","id":"19102815663d23f8b75a47e7a01965dcdc96468c"},{"path":"a","id":"19102815663d23f8b75a47e7a01965dcdc96468c"}]}"#,
+            r#"{"timestamp":[9,0],"worktree":[],
+"index":[
+{"path":"a","id":"19102815663d23f8b75a47e7a01965dcdc96468c"},
+{"path":"a","id":"19102815663d23f8b75a47e7a01965dcdc96468c"}]}"#,
             "bad index: not ascending at 1\n",
         ),
         (
-            r#"{"timestamp":[9,0],"worktree":[{"path":"a//b"}],"index":[{"path":"a","id":"19102815663d23f8b75a47e7a01965dcdc96468c"},{"path":"b","id":"473a0f4c3be8a93681a267e3b1e9a7dcda1185436fe141f7749120a303721813"}]}"#,
+            r#"{"timestamp":[9,0],
+"worktree":[
+{"path":"a//b"}],
+"index":[
+{"path":"a","id":"19102815663d23f8b75a47e7a01965dcdc96468c"},
+{"path":"b","id":"473a0f4c3be8a93681a267e3b1e9a7dcda1185436fe141f7749120a303721813"}]}"#,
             "bad index: mixed hash at 1\n",
         ),
+    ];
+    for (text, fault) in cases {
+        assert_refused(&rt, text, fault);
+    }
+}
+
+#[test]
+fn a_worktree_that_is_refused_is_told(rt: HostRuntime) {
+    let cases = [
         (
-            r#"{"timestamp":[9,0],"index":[],"worktree":[{"path":"a"},{"path":"../b"}]}"#,
+            r#"{"timestamp":[9,0],"index":[],
+"worktree":[
+{"path":"a"},
+{"path":"../b"}]}"#,
             "bad worktree: bad path at 1\n",
         ),
         (
-            r#"{"timestamp":[9,0],"index":[],"worktree":[{"path":"a"},{"path":"a/b"}]}"#,
+            r#"{"timestamp":[9,0],"index":[],
+"worktree":[
+{"path":"a"},
+{"path":"a/b"}]}"#,
             "bad worktree: in the way at 1\n",
         ),
     ];
-    for (text, wanted) in cases {
-        let mut output = Vec::new(alloc);
-        let mut faults = Vec::new(alloc);
-        let mut profile = text.as_bytes();
-        let status = run_status(&rt, "f", &mut profile, &mut output, &mut faults);
-        assert_eq!(rt; status, 1, "at {text}");
-        assert!(rt; output.is_empty(), "at {text}");
-        assert_eq!(rt; faults.as_slice(), wanted.as_bytes(), "at {text}");
+    for (text, fault) in cases {
+        assert_refused(&rt, text, fault);
     }
-    let mut output = Vec::new(alloc);
-    let mut faults = Vec::new(alloc);
+}
+
+#[test]
+fn a_file_that_cannot_be_read_is_told(rt: HostRuntime) {
+    let mut output = Vec::new(rt.alloc());
+    let mut faults = Vec::new(rt.alloc());
     let status = run_status(&rt, "d/f", &mut Folder, &mut output, &mut faults);
     assert_eq!(rt; status, 1);
     assert!(rt; output.is_empty());
     assert_eq!(rt; faults.as_slice(), b"cannot read d/f\n".as_slice());
-    Ok(())
 }
 
 #[test]
-fn lines_are_printed(rt: HostRuntime) -> Result<(), Fail> {
-    let alloc = rt.alloc();
-    let cases = [
-        (
-            r#"{"timestamp":[9,0],"options":{"counts":true,"chunk_size":1,"thread_limit":2},"index":[{"path":"a","id":"19102815663d23f8b75a47e7a01965dcdc96468c","size":3,"mtime":[5,0]},{"path":"b","id":"ba0e162e1c47469e3fe4b393a8bf8c569f302116","size":3,"mtime":[5,0]}],"worktree":[{"path":"a","text":"bars","mtime":[7,0]},{"path":"b","text":"bar","mtime":[5,0]}]}"#,
-            "0 modified -c- \"a\"\ntotal: to process 2, processed 2, skipped 0, lstat 2, to update 0, racy 0, read 1, bytes 4\n",
-        ),
-        (
-            r#"{"timestamp":[5,0],"options":{"counts":true},"index":[{"path":"a","id":"19102815663d23f8b75a47e7a01965dcdc96468c","size":3,"mtime":[5,0]}],"worktree":[{"path":"a","text":"foo","mtime":[5,0]}]}"#,
-            "0 update \"a\"\ntotal: to process 1, processed 1, skipped 0, lstat 1, to update 1, racy 1, read 1, bytes 3\n",
-        ),
-        (
-            r#"{"timestamp":[9,0],"index":[{"path":"a","id":"19102815663d23f8b75a47e7a01965dcdc96468c","size":3}],"worktree":[{"path":"a","kind":"link","text":"foo"}]}"#,
-            "0 type 120000 \"a\"\n",
-        ),
-        (r#"{"timestamp":[9,0],"index":[],"worktree":[]}"#, ""),
-    ];
-    for (text, wanted) in cases {
-        let mut output = Vec::new(alloc);
-        let mut faults = Vec::new(alloc);
-        let mut profile = text.as_bytes();
-        let status = run_status(&rt, "f", &mut profile, &mut output, &mut faults);
-        assert_eq!(rt; status, 0, "at {text}");
-        assert!(rt; faults.is_empty(), "at {text}");
-        assert_eq!(rt; output.as_slice(), wanted.as_bytes(), "at {text}");
-    }
-    Ok(())
+fn a_changed_file_is_told_with_the_counts(rt: HostRuntime) {
+    let text = r#"{"timestamp":[9,0],
+"options":{"counts":true,"chunk_size":1,"thread_limit":2},
+"index":[
+{"path":"a","id":"19102815663d23f8b75a47e7a01965dcdc96468c","size":3,"mtime":[5,0]},
+{"path":"b","id":"ba0e162e1c47469e3fe4b393a8bf8c569f302116","size":3,"mtime":[5,0]}],
+"worktree":[
+{"path":"a","text":"bars","mtime":[7,0]},
+{"path":"b","text":"bar","mtime":[5,0]}]}"#;
+    let wanted =
+        "0 modified -c- \"a\"\ntotal: to process 2, processed 2, skipped 0, lstat 2, to update 0, racy 0, read 1, bytes 4\n";
+    assert_printed(&rt, text, wanted);
 }
 
 #[test]
-fn a_full_output_is_a_failure_with_no_line(rt: HostRuntime) -> Result<(), Fail> {
-    let alloc = rt.alloc();
+fn a_racy_file_is_read_and_needs_an_update(rt: HostRuntime) {
+    let text = r#"{"timestamp":[5,0],
+"options":{"counts":true},
+"index":[
+{"path":"a","id":"19102815663d23f8b75a47e7a01965dcdc96468c","size":3,"mtime":[5,0]}],
+"worktree":[
+{"path":"a","text":"foo","mtime":[5,0]}]}"#;
+    let wanted =
+        "0 update \"a\"\ntotal: to process 1, processed 1, skipped 0, lstat 1, to update 1, racy 1, read 1, bytes 3\n";
+    assert_printed(&rt, text, wanted);
+}
+
+#[test]
+fn a_link_in_place_of_a_file_is_a_change_of_type(rt: HostRuntime) {
+    let text = r#"{"timestamp":[9,0],
+"index":[
+{"path":"a","id":"19102815663d23f8b75a47e7a01965dcdc96468c","size":3}],
+"worktree":[
+{"path":"a","kind":"link","text":"foo"}]}"#;
+    let wanted = "0 type 120000 \"a\"\n";
+    assert_printed(&rt, text, wanted);
+}
+
+#[test]
+fn an_empty_index_prints_nothing(rt: HostRuntime) {
+    let text = r#"{"timestamp":[9,0],"index":[],"worktree":[]}"#;
+    assert_printed(&rt, text, "");
+}
+
+#[test]
+fn a_full_output_is_a_failure_with_no_line(rt: HostRuntime) {
     let text = r#"{"timestamp":[9,0],"options":{"counts":true},"index":[],"worktree":[]}"#;
     for room in [0, 5] {
-        let mut faults = Vec::new(alloc);
+        let mut faults = Vec::new(rt.alloc());
         let mut output = Full { room };
         let status = run_status(&rt, "f", &mut text.as_bytes(), &mut output, &mut faults);
         assert_eq!(rt; status, 1);
         assert!(rt; faults.is_empty());
     }
-    Ok(())
 }
 
 #[test]
-fn conflicts_links_and_intents_are_told(rt: HostRuntime) -> Result<(), Fail> {
-    let alloc = rt.alloc();
+fn a_conflict_is_told_once_where_pieces_meet(rt: HostRuntime) {
+    let text = r#"{"timestamp":[9,0],
+"options":{"counts":true,"chunk_size":2},
+"index":[
+{"path":"a","id":"19102815663d23f8b75a47e7a01965dcdc96468c","size":3,"mtime":[5,0]},
+{"path":"f","id":"19102815663d23f8b75a47e7a01965dcdc96468c","stage":1},
+{"path":"f","id":"19102815663d23f8b75a47e7a01965dcdc96468c","stage":2},
+{"path":"f","id":"19102815663d23f8b75a47e7a01965dcdc96468c","stage":3},
+{"path":"g","id":"19102815663d23f8b75a47e7a01965dcdc96468c","size":3,"mtime":[5,0]}],
+"worktree":[
+{"path":"a","text":"foo","mtime":[5,0]},
+{"path":"g","text":"foo","mtime":[5,0]}]}"#;
+    let wanted =
+        "1 conflict both-modified 123 \"f\"\ntotal: to process 5, processed 3, skipped 0, lstat 2, to update 0, racy 0, read 0, bytes 0\n";
+    assert_printed(&rt, text, wanted);
+}
+
+#[test]
+fn a_conflict_begins_behind_its_skipped_stages(rt: HostRuntime) {
     let cases = [
         (
-            r#"{"timestamp":[9,0],"options":{"counts":true,"chunk_size":2},"index":[{"path":"a","id":"19102815663d23f8b75a47e7a01965dcdc96468c","size":3,"mtime":[5,0]},{"path":"f","id":"19102815663d23f8b75a47e7a01965dcdc96468c","stage":1},{"path":"f","id":"19102815663d23f8b75a47e7a01965dcdc96468c","stage":2},{"path":"f","id":"19102815663d23f8b75a47e7a01965dcdc96468c","stage":3},{"path":"g","id":"19102815663d23f8b75a47e7a01965dcdc96468c","size":3,"mtime":[5,0]}],"worktree":[{"path":"a","text":"foo","mtime":[5,0]},{"path":"g","text":"foo","mtime":[5,0]}]}"#,
-            "1 conflict both-modified 123 \"f\"\ntotal: to process 5, processed 3, skipped 0, lstat 2, to update 0, racy 0, read 0, bytes 0\n",
-        ),
-        (
-            r#"{"timestamp":[9,0],"options":{"counts":true,"chunk_size":2},"index":[{"path":"a","id":"19102815663d23f8b75a47e7a01965dcdc96468c","size":3,"mtime":[5,0]},{"path":"f","id":"19102815663d23f8b75a47e7a01965dcdc96468c","stage":1,"flags":["assume-valid"]},{"path":"f","id":"19102815663d23f8b75a47e7a01965dcdc96468c","stage":2},{"path":"f","id":"19102815663d23f8b75a47e7a01965dcdc96468c","stage":3},{"path":"g","id":"19102815663d23f8b75a47e7a01965dcdc96468c","size":3,"mtime":[5,0]}],"worktree":[{"path":"a","text":"foo","mtime":[5,0]},{"path":"g","text":"foo","mtime":[5,0]}]}"#,
+            r#"{"timestamp":[9,0],
+"options":{"counts":true,"chunk_size":2},
+"index":[
+{"path":"a","id":"19102815663d23f8b75a47e7a01965dcdc96468c","size":3,"mtime":[5,0]},
+{"path":"f","id":"19102815663d23f8b75a47e7a01965dcdc96468c","stage":1,"flags":["assume-valid"]},
+{"path":"f","id":"19102815663d23f8b75a47e7a01965dcdc96468c","stage":2},
+{"path":"f","id":"19102815663d23f8b75a47e7a01965dcdc96468c","stage":3},
+{"path":"g","id":"19102815663d23f8b75a47e7a01965dcdc96468c","size":3,"mtime":[5,0]}],
+"worktree":[
+{"path":"a","text":"foo","mtime":[5,0]},
+{"path":"g","text":"foo","mtime":[5,0]}]}"#,
             "2 conflict both-added 23 \"f\"\ntotal: to process 5, processed 4, skipped 1, lstat 2, to update 0, racy 0, read 0, bytes 0\n",
         ),
         (
-            r#"{"timestamp":[9,0],"options":{"counts":true},"index":[{"path":"f","id":"19102815663d23f8b75a47e7a01965dcdc96468c","stage":1,"flags":["assume-valid"]},{"path":"f","id":"19102815663d23f8b75a47e7a01965dcdc96468c","stage":2,"flags":["assume-valid"]},{"path":"f","id":"19102815663d23f8b75a47e7a01965dcdc96468c","stage":3}],"worktree":[]}"#,
+            r#"{"timestamp":[9,0],
+"options":{"counts":true},
+"index":[
+{"path":"f","id":"19102815663d23f8b75a47e7a01965dcdc96468c","stage":1,"flags":["assume-valid"]},
+{"path":"f","id":"19102815663d23f8b75a47e7a01965dcdc96468c","stage":2,"flags":["assume-valid"]},
+{"path":"f","id":"19102815663d23f8b75a47e7a01965dcdc96468c","stage":3}],"worktree":[]}"#,
             "2 conflict added-by-them 3 \"f\"\ntotal: to process 3, processed 3, skipped 2, lstat 0, to update 0, racy 0, read 0, bytes 0\n",
         ),
-        (
-            r#"{"timestamp":[9,0],"options":{"counts":true},"index":[{"path":"f","id":"19102815663d23f8b75a47e7a01965dcdc96468c","stage":1},{"path":"f","id":"19102815663d23f8b75a47e7a01965dcdc96468c","stage":2,"flags":["assume-valid"]}],"worktree":[]}"#,
-            "0 conflict deleted-by-them 12 \"f\"\ntotal: to process 2, processed 1, skipped 0, lstat 0, to update 0, racy 0, read 0, bytes 0\n",
-        ),
-        (
-            r#"{"timestamp":[9,0],"options":{"counts":true,"chunk_size":1},"index":[{"path":"f","id":"19102815663d23f8b75a47e7a01965dcdc96468c","size":3,"mtime":[5,0]},{"path":"f","id":"19102815663d23f8b75a47e7a01965dcdc96468c","stage":1},{"path":"f","id":"19102815663d23f8b75a47e7a01965dcdc96468c","stage":3}],"worktree":[{"path":"f","text":"foo","mtime":[5,0]}]}"#,
-            "1 conflict deleted-by-us 13 \"f\"\ntotal: to process 3, processed 2, skipped 0, lstat 1, to update 0, racy 0, read 0, bytes 0\n",
-        ),
-        (
-            r#"{"timestamp":[9,0],"options":{"counts":true},"index":[{"path":"a","id":"19102815663d23f8b75a47e7a01965dcdc96468c","flags":["intent-to-add"]},{"path":"b","id":"19102815663d23f8b75a47e7a01965dcdc96468c","flags":["intent-to-add"]},{"path":"c","id":"19102815663d23f8b75a47e7a01965dcdc96468c","flags":["intent-to-add"]}],"worktree":[{"path":"a","text":"foo","mtime":[5,0]},{"path":"c/d","text":"foo","mtime":[5,0]}]}"#,
-            "0 intent \"a\"\n1 removed \"b\"\n2 removed \"c\"\ntotal: to process 3, processed 3, skipped 0, lstat 3, to update 0, racy 0, read 0, bytes 0\n",
-        ),
-        (
-            r#"{"timestamp":[9,0],"options":{"counts":true},"index":[{"path":"d/x","id":"19102815663d23f8b75a47e7a01965dcdc96468c","size":3,"mtime":[5,0]},{"path":"d/y","id":"19102815663d23f8b75a47e7a01965dcdc96468c","size":3,"mtime":[5,0]}],"worktree":[{"path":"d","kind":"link","text":"e"}]}"#,
-            "0 removed \"d/x\"\n1 removed \"d/y\"\ntotal: to process 2, processed 2, skipped 0, lstat 0, to update 0, racy 0, read 0, bytes 0\n",
-        ),
-        (
-            r#"{"timestamp":[9,0],"options":{"counts":true},"index":[{"path":"a/b","id":"19102815663d23f8b75a47e7a01965dcdc96468c","size":3,"mtime":[5,0]},{"path":"a/b/c","id":"19102815663d23f8b75a47e7a01965dcdc96468c","size":3,"mtime":[5,0]}],"worktree":[{"path":"a","text":"foo","mtime":[5,0]}]}"#,
-            "0 removed \"a/b\"\n1 removed \"a/b/c\"\ntotal: to process 2, processed 2, skipped 0, lstat 1, to update 0, racy 0, read 0, bytes 0\n",
-        ),
-        (
-            r#"{"timestamp":[9,0],"options":{"counts":true},"index":[{"path":"sub","id":"19102815663d23f8b75a47e7a01965dcdc96468c","mode":"160000"}],"worktree":[{"path":"sub","kind":"directory"}]}"#,
-            "total: to process 1, processed 1, skipped 0, lstat 1, to update 0, racy 0, read 0, bytes 0\n",
-        ),
     ];
     for (text, wanted) in cases {
-        let mut output = Vec::new(alloc);
-        let mut faults = Vec::new(alloc);
-        let mut profile = text.as_bytes();
-        let status = run_status(&rt, "f", &mut profile, &mut output, &mut faults);
-        assert_eq!(rt; status, 0, "at {text}");
-        assert!(rt; faults.is_empty(), "at {text}");
-        assert_eq!(rt; output.as_slice(), wanted.as_bytes(), "at {text}");
+        assert_printed(&rt, text, wanted);
     }
-    Ok(())
 }
 
 #[test]
-fn the_records_before_a_fault_stay_printed(rt: HostRuntime) -> Result<(), Fail> {
-    let alloc = rt.alloc();
-    let text =
-        r#"{"timestamp":[9,0],"options":{"counts":true},"index":[{"path":"a","id":"19102815663d23f8b75a47e7a01965dcdc96468c","size":3,"mtime":[5,0]},{"path":"a//b","id":"19102815663d23f8b75a47e7a01965dcdc96468c","size":3,"mtime":[5,0]}],"worktree":[{"path":"a","text":"bar","mtime":[7,0]}]}"#;
-    let mut output = Vec::new(alloc);
-    let mut faults = Vec::new(alloc);
-    let status = run_status(&rt, "f", &mut text.as_bytes(), &mut output, &mut faults);
+fn a_skipped_stage_behind_the_head_is_told_with_it(rt: HostRuntime) {
+    let text = r#"{"timestamp":[9,0],
+"options":{"counts":true},
+"index":[
+{"path":"f","id":"19102815663d23f8b75a47e7a01965dcdc96468c","stage":1},
+{"path":"f","id":"19102815663d23f8b75a47e7a01965dcdc96468c","stage":2,"flags":["assume-valid"]}],"worktree":[]}"#;
+    let wanted =
+        "0 conflict deleted-by-them 12 \"f\"\ntotal: to process 2, processed 1, skipped 0, lstat 0, to update 0, racy 0, read 0, bytes 0\n";
+    assert_printed(&rt, text, wanted);
+}
+
+#[test]
+fn an_entry_of_stage_zero_may_stand_before_a_conflict(rt: HostRuntime) {
+    let text = r#"{"timestamp":[9,0],
+"options":{"counts":true,"chunk_size":1},
+"index":[
+{"path":"f","id":"19102815663d23f8b75a47e7a01965dcdc96468c","size":3,"mtime":[5,0]},
+{"path":"f","id":"19102815663d23f8b75a47e7a01965dcdc96468c","stage":1},
+{"path":"f","id":"19102815663d23f8b75a47e7a01965dcdc96468c","stage":3}],
+"worktree":[
+{"path":"f","text":"foo","mtime":[5,0]}]}"#;
+    let wanted =
+        "1 conflict deleted-by-us 13 \"f\"\ntotal: to process 3, processed 2, skipped 0, lstat 1, to update 0, racy 0, read 0, bytes 0\n";
+    assert_printed(&rt, text, wanted);
+}
+
+#[test]
+fn a_file_to_be_added_is_an_intent_or_removed(rt: HostRuntime) {
+    let text = r#"{"timestamp":[9,0],
+"options":{"counts":true},
+"index":[
+{"path":"a","id":"19102815663d23f8b75a47e7a01965dcdc96468c","flags":["intent-to-add"]},
+{"path":"b","id":"19102815663d23f8b75a47e7a01965dcdc96468c","flags":["intent-to-add"]},
+{"path":"c","id":"19102815663d23f8b75a47e7a01965dcdc96468c","flags":["intent-to-add"]}],
+"worktree":[
+{"path":"a","text":"foo","mtime":[5,0]},
+{"path":"c/d","text":"foo","mtime":[5,0]}]}"#;
+    let wanted =
+        "0 intent \"a\"\n1 removed \"b\"\n2 removed \"c\"\ntotal: to process 3, processed 3, skipped 0, lstat 3, to update 0, racy 0, read 0, bytes 0\n";
+    assert_printed(&rt, text, wanted);
+}
+
+#[test]
+fn what_lies_behind_a_link_is_removed(rt: HostRuntime) {
+    let text = r#"{"timestamp":[9,0],
+"options":{"counts":true},
+"index":[
+{"path":"d/x","id":"19102815663d23f8b75a47e7a01965dcdc96468c","size":3,"mtime":[5,0]},
+{"path":"d/y","id":"19102815663d23f8b75a47e7a01965dcdc96468c","size":3,"mtime":[5,0]}],
+"worktree":[
+{"path":"d","kind":"link","text":"e"}]}"#;
+    let wanted =
+        "0 removed \"d/x\"\n1 removed \"d/y\"\ntotal: to process 2, processed 2, skipped 0, lstat 0, to update 0, racy 0, read 0, bytes 0\n";
+    assert_printed(&rt, text, wanted);
+}
+
+#[test]
+fn what_lies_below_a_file_is_removed(rt: HostRuntime) {
+    let text = r#"{"timestamp":[9,0],
+"options":{"counts":true},
+"index":[
+{"path":"a/b","id":"19102815663d23f8b75a47e7a01965dcdc96468c","size":3,"mtime":[5,0]},
+{"path":"a/b/c","id":"19102815663d23f8b75a47e7a01965dcdc96468c","size":3,"mtime":[5,0]}],
+"worktree":[
+{"path":"a","text":"foo","mtime":[5,0]}]}"#;
+    let wanted =
+        "0 removed \"a/b\"\n1 removed \"a/b/c\"\ntotal: to process 2, processed 2, skipped 0, lstat 1, to update 0, racy 0, read 0, bytes 0\n";
+    assert_printed(&rt, text, wanted);
+}
+
+#[test]
+fn a_submodule_with_a_directory_is_not_told(rt: HostRuntime) {
+    let text = r#"{"timestamp":[9,0],
+"options":{"counts":true},
+"index":[
+{"path":"sub","id":"19102815663d23f8b75a47e7a01965dcdc96468c","mode":"160000"}],
+"worktree":[
+{"path":"sub","kind":"directory"}]}"#;
+    let wanted =
+        "total: to process 1, processed 1, skipped 0, lstat 1, to update 0, racy 0, read 0, bytes 0\n";
+    assert_printed(&rt, text, wanted);
+}
+
+#[test]
+fn the_records_before_a_fault_stay_printed(rt: HostRuntime) {
+    let text = r#"{"timestamp":[9,0],
+"options":{"counts":true},
+"index":[
+{"path":"a","id":"19102815663d23f8b75a47e7a01965dcdc96468c","size":3,"mtime":[5,0]},
+{"path":"a//b","id":"19102815663d23f8b75a47e7a01965dcdc96468c","size":3,"mtime":[5,0]}],
+"worktree":[
+{"path":"a","text":"bar","mtime":[7,0]}]}"#;
+    let (status, output, faults) = run(&rt, text.as_bytes());
     assert_eq!(rt; status, 1);
     assert_eq!(rt; output.as_slice(), b"0 modified -c- \"a\"\n".as_slice());
-    assert_eq!(rt;
-        faults.as_slice(),
-        b"status failed: not normal\n".as_slice()
-    );
-    Ok(())
+    let fault = b"status failed: not normal\n".as_slice();
+    assert_eq!(rt; faults.as_slice(), fault);
 }
 
 #[test]
-fn paths_outside_a_prefix_are_skipped(rt: HostRuntime) -> Result<(), Fail> {
-    let alloc = rt.alloc();
-    let cases = [
-        (
-            r#"{"timestamp":[9,0],"options":{"counts":true,"prefix":"b"},"index":[{"path":"a","id":"19102815663d23f8b75a47e7a01965dcdc96468c","size":3,"mtime":[5,0]},{"path":"b","id":"19102815663d23f8b75a47e7a01965dcdc96468c","size":3,"mtime":[5,0]},{"path":"c","id":"19102815663d23f8b75a47e7a01965dcdc96468c","size":3,"mtime":[5,0]}],"worktree":[{"path":"a","text":"foo","mtime":[5,0]},{"path":"c","text":"foo","mtime":[5,0]}]}"#,
-            "1 removed \"b\"\ntotal: to process 1, processed 1, skipped 2, lstat 1, to update 0, racy 0, read 0, bytes 0\n",
-        ),
-        (
-            r#"{"timestamp":[9,0],"options":{"counts":true,"prefix":"z"},"index":[{"path":"a","id":"19102815663d23f8b75a47e7a01965dcdc96468c","size":3,"mtime":[5,0]},{"path":"b","id":"19102815663d23f8b75a47e7a01965dcdc96468c","size":3,"mtime":[5,0]},{"path":"c","id":"19102815663d23f8b75a47e7a01965dcdc96468c","size":3,"mtime":[5,0]}],"worktree":[{"path":"a","text":"foo","mtime":[5,0]},{"path":"c","text":"foo","mtime":[5,0]}]}"#,
-            "total: to process 3, processed 3, skipped 3, lstat 0, to update 0, racy 0, read 0, bytes 0\n",
-        ),
-        (
-            r#"{"timestamp":[9,0],"options":{"counts":true,"prefix":"d/x"},"index":[{"path":"a","id":"19102815663d23f8b75a47e7a01965dcdc96468c","size":3,"mtime":[5,0]},{"path":"d/x","id":"19102815663d23f8b75a47e7a01965dcdc96468c","size":3,"mtime":[5,0]},{"path":"d/xy","id":"19102815663d23f8b75a47e7a01965dcdc96468c","size":3,"mtime":[5,0]},{"path":"d/y","id":"19102815663d23f8b75a47e7a01965dcdc96468c","size":3,"mtime":[5,0]}],"worktree":[{"path":"d/z","text":"foo","mtime":[5,0]}]}"#,
-            "1 removed \"d/x\"\n2 removed \"d/xy\"\ntotal: to process 2, processed 2, skipped 2, lstat 2, to update 0, racy 0, read 0, bytes 0\n",
-        ),
-        (
-            r#"{"timestamp":[9,0],"options":{"counts":true,"prefix":"b","comparer":"fast"},"index":[{"path":"a","id":"19102815663d23f8b75a47e7a01965dcdc96468c","size":3,"mtime":[5,0]},{"path":"b","id":"19102815663d23f8b75a47e7a01965dcdc96468c","size":3,"mtime":[5,0]}],"worktree":[{"path":"a","text":"bars","mtime":[7,0]},{"path":"b","text":"bars","mtime":[7,0]}]}"#,
-            "1 modified -c- \"b\"\ntotal: to process 1, processed 1, skipped 1, lstat 1, to update 0, racy 0, read 0, bytes 0\n",
-        ),
-    ];
-    for (text, wanted) in cases {
-        let mut output = Vec::new(alloc);
-        let mut faults = Vec::new(alloc);
-        let mut profile = text.as_bytes();
-        let status = run_status(&rt, "f", &mut profile, &mut output, &mut faults);
-        assert_eq!(rt; status, 0, "at {text}");
-        assert!(rt; faults.is_empty(), "at {text}");
-        assert_eq!(rt; output.as_slice(), wanted.as_bytes(), "at {text}");
-    }
-    Ok(())
+fn paths_outside_a_prefix_are_skipped(rt: HostRuntime) {
+    let text = r#"{"timestamp":[9,0],
+"options":{"counts":true,"prefix":"b"},
+"index":[
+{"path":"a","id":"19102815663d23f8b75a47e7a01965dcdc96468c","size":3,"mtime":[5,0]},
+{"path":"b","id":"19102815663d23f8b75a47e7a01965dcdc96468c","size":3,"mtime":[5,0]},
+{"path":"c","id":"19102815663d23f8b75a47e7a01965dcdc96468c","size":3,"mtime":[5,0]}],
+"worktree":[
+{"path":"a","text":"foo","mtime":[5,0]},
+{"path":"c","text":"foo","mtime":[5,0]}]}"#;
+    let wanted =
+        "1 removed \"b\"\ntotal: to process 1, processed 1, skipped 2, lstat 1, to update 0, racy 0, read 0, bytes 0\n";
+    assert_printed(&rt, text, wanted);
 }
 
 #[test]
-fn sizes_decide_before_anything_is_read(rt: HostRuntime) -> Result<(), Fail> {
-    let alloc = rt.alloc();
+fn a_prefix_of_no_path_skips_every_entry(rt: HostRuntime) {
+    let text = r#"{"timestamp":[9,0],
+"options":{"counts":true,"prefix":"z"},
+"index":[
+{"path":"a","id":"19102815663d23f8b75a47e7a01965dcdc96468c","size":3,"mtime":[5,0]},
+{"path":"b","id":"19102815663d23f8b75a47e7a01965dcdc96468c","size":3,"mtime":[5,0]},
+{"path":"c","id":"19102815663d23f8b75a47e7a01965dcdc96468c","size":3,"mtime":[5,0]}],
+"worktree":[
+{"path":"a","text":"foo","mtime":[5,0]},
+{"path":"c","text":"foo","mtime":[5,0]}]}"#;
+    let wanted =
+        "total: to process 3, processed 3, skipped 3, lstat 0, to update 0, racy 0, read 0, bytes 0\n";
+    assert_printed(&rt, text, wanted);
+}
+
+#[test]
+fn a_prefix_may_be_a_whole_path(rt: HostRuntime) {
+    let text = r#"{"timestamp":[9,0],
+"options":{"counts":true,"prefix":"d/x"},
+"index":[
+{"path":"a","id":"19102815663d23f8b75a47e7a01965dcdc96468c","size":3,"mtime":[5,0]},
+{"path":"d/x","id":"19102815663d23f8b75a47e7a01965dcdc96468c","size":3,"mtime":[5,0]},
+{"path":"d/xy","id":"19102815663d23f8b75a47e7a01965dcdc96468c","size":3,"mtime":[5,0]},
+{"path":"d/y","id":"19102815663d23f8b75a47e7a01965dcdc96468c","size":3,"mtime":[5,0]}],
+"worktree":[
+{"path":"d/z","text":"foo","mtime":[5,0]}]}"#;
+    let wanted =
+        "1 removed \"d/x\"\n2 removed \"d/xy\"\ntotal: to process 2, processed 2, skipped 2, lstat 2, to update 0, racy 0, read 0, bytes 0\n";
+    assert_printed(&rt, text, wanted);
+}
+
+#[test]
+fn a_prefix_is_asked_with_either_comparer(rt: HostRuntime) {
+    let text = r#"{"timestamp":[9,0],
+"options":{"counts":true,"prefix":"b","comparer":"fast"},
+"index":[
+{"path":"a","id":"19102815663d23f8b75a47e7a01965dcdc96468c","size":3,"mtime":[5,0]},
+{"path":"b","id":"19102815663d23f8b75a47e7a01965dcdc96468c","size":3,"mtime":[5,0]}],
+"worktree":[
+{"path":"a","text":"bars","mtime":[7,0]},
+{"path":"b","text":"bars","mtime":[7,0]}]}"#;
+    let wanted =
+        "1 modified -c- \"b\"\ntotal: to process 1, processed 1, skipped 1, lstat 1, to update 0, racy 0, read 0, bytes 0\n";
+    assert_printed(&rt, text, wanted);
+}
+
+#[test]
+fn sizes_that_differ_are_told_with_nothing_read(rt: HostRuntime) {
     let cases = [
         (
-            r#"{"timestamp":[9,0],"options":{"counts":true,"comparer":"fast"},"index":[{"path":"a","id":"19102815663d23f8b75a47e7a01965dcdc96468c","size":3,"mtime":[5,0]}],"worktree":[{"path":"a","text":"bars","mtime":[7,0]}]}"#,
+            r#"{"timestamp":[9,0],
+"options":{"counts":true,"comparer":"fast"},
+"index":[
+{"path":"a","id":"19102815663d23f8b75a47e7a01965dcdc96468c","size":3,"mtime":[5,0]}],
+"worktree":[
+{"path":"a","text":"bars","mtime":[7,0]}]}"#,
             "0 modified -c- \"a\"\ntotal: to process 1, processed 1, skipped 0, lstat 1, to update 0, racy 0, read 0, bytes 0\n",
         ),
         (
-            r#"{"timestamp":[9,0],"options":{"counts":true,"comparer":"fast"},"index":[{"path":"a","id":"19102815663d23f8b75a47e7a01965dcdc96468c","size":0,"mtime":[5,0]}],"worktree":[{"path":"a","text":"foo","mtime":[5,0]}]}"#,
+            r#"{"timestamp":[9,0],
+"options":{"counts":true,"comparer":"fast"},
+"index":[
+{"path":"a","id":"e69de29bb2d1d6434b8b29ae775ad8c2e48c5391","size":0,"mtime":[5,0]}],
+"worktree":[
+{"path":"a","text":"bars","mtime":[7,0]}]}"#,
+            "0 modified -c- \"a\"\ntotal: to process 1, processed 1, skipped 0, lstat 1, to update 0, racy 0, read 0, bytes 0\n",
+        ),
+    ];
+    for (text, wanted) in cases {
+        assert_printed(&rt, text, wanted);
+    }
+}
+
+#[test]
+fn a_file_is_read_where_its_size_says_nothing(rt: HostRuntime) {
+    let cases = [
+        (
+            r#"{"timestamp":[9,0],
+"options":{"counts":true,"comparer":"fast"},
+"index":[
+{"path":"a","id":"19102815663d23f8b75a47e7a01965dcdc96468c","size":0,"mtime":[5,0]}],
+"worktree":[
+{"path":"a","text":"foo","mtime":[5,0]}]}"#,
             "0 update \"a\"\ntotal: to process 1, processed 1, skipped 0, lstat 1, to update 1, racy 0, read 1, bytes 3\n",
         ),
         (
-            r#"{"timestamp":[9,0],"options":{"counts":true,"comparer":"fast"},"index":[{"path":"a","id":"e69de29bb2d1d6434b8b29ae775ad8c2e48c5391","size":0,"mtime":[5,0]}],"worktree":[{"path":"a","text":"bars","mtime":[7,0]}]}"#,
-            "0 modified -c- \"a\"\ntotal: to process 1, processed 1, skipped 0, lstat 1, to update 0, racy 0, read 0, bytes 0\n",
-        ),
-        (
-            r#"{"timestamp":[9,0],"options":{"counts":true,"comparer":"fast"},"index":[{"path":"a","id":"19102815663d23f8b75a47e7a01965dcdc96468c","size":3,"mtime":[5,0]}],"worktree":[{"path":"a","text":"bar","mtime":[7,0]}]}"#,
+            r#"{"timestamp":[9,0],
+"options":{"counts":true,"comparer":"fast"},
+"index":[
+{"path":"a","id":"19102815663d23f8b75a47e7a01965dcdc96468c","size":3,"mtime":[5,0]}],
+"worktree":[
+{"path":"a","text":"bar","mtime":[7,0]}]}"#,
             "0 modified -c- \"a\"\ntotal: to process 1, processed 1, skipped 0, lstat 1, to update 0, racy 0, read 1, bytes 3\n",
         ),
     ];
     for (text, wanted) in cases {
-        let mut output = Vec::new(alloc);
-        let mut faults = Vec::new(alloc);
-        let mut profile = text.as_bytes();
-        let status = run_status(&rt, "f", &mut profile, &mut output, &mut faults);
-        assert_eq!(rt; status, 0, "at {text}");
-        assert!(rt; faults.is_empty(), "at {text}");
-        assert_eq!(rt; output.as_slice(), wanted.as_bytes(), "at {text}");
+        assert_printed(&rt, text, wanted);
     }
-    Ok(())
 }

@@ -81,6 +81,18 @@ fn a_comparer_may_read_the_blob(rt: HostRuntime) -> Result<(), Fail> {
 }
 
 #[test]
+fn the_records_before_a_missing_blob_are_told(rt: HostRuntime) -> Result<(), Fail> {
+    let alloc = rt.alloc();
+    let entries = [foo_entry("a"), foo_entry("b"), foo_entry("c")];
+    let index = index(alloc, WRITTEN, &entries)?;
+    let worktree = worktree(alloc, &[later_file("b", b"bar")])?;
+    let told = ask_lengths(&rt, &index, &worktree, MemoryObjects::new(alloc));
+    assert!(rt; told.is_all(&[(0, "a", removed())]));
+    assert!(rt; matches!(&told.answer, Err(Error::Find(FindError::Missing))));
+    Ok(())
+}
+
+#[test]
 fn small_reads_tell_what_large_reads_do(rt: HostRuntime) -> Result<(), Fail> {
     let alloc = rt.alloc();
     let link = GivenEntry {

@@ -1,23 +1,32 @@
 //! Faults of a worktree.
 
-use crate::asking::{Told, ask, changed, options, with_options};
+use crate::asking::{Told, ask, changed, one_file_read, options, with_options};
 use crate::given::{BAR, WRITTEN, foo_entry, index};
-use crate::worktrees::{Files, Piece};
+use crate::worktrees::{Counted, Files, Long, Piece};
 use gix_status::index_as_worktree::Options;
 use gix_status::index_as_worktree::traits::HashEq;
 use status_base::index::{ObjectId, State};
-use status_base::worktree::Fault;
+use status_base::worktree::{Fault, Worktree};
 use std::sync::Wait;
 use std::sync::atomic::{AtomicUsize, Ordering};
 use std::test::Fail;
 use std::thread::Threads;
 
+// The id of 200,000 times `x`, by git.
+const LONG: ObjectId = ObjectId::Sha1([
+    0xa2, 0x13, 0xaa, 0x40, 0xf1, 0x1f, 0x7a, 0xf2, 0xa9, 0xc9, 0xe9, 0x73, 0xdf, 0x59, 0x92, 0x78,
+    0x41, 0x30, 0x60, 0xbb,
+]);
+
 // The status with pieces of one entry, by one worker.
-fn ask_one_by_one<'index, R: AllocGlobal + Threads + Wait>(
+fn ask_one_by_one<'index, R: AllocGlobal + Threads + Wait, W: Worktree + Sync>(
     rt: &R,
     index: &'index State,
-    worktree: &Files<'_>,
-) -> Told<'index, ObjectId, ()> {
+    worktree: &W,
+) -> Told<'index, ObjectId, ()>
+where
+    W::File: Send,
+{
     let options = Options {
         chunk_size: 1,
         thread_limit: Some(1),
@@ -30,11 +39,7 @@ fn ask_one_by_one<'index, R: AllocGlobal + Threads + Wait>(
 #[test]
 fn a_file_that_does_not_open_ends_the_status(rt: HostRuntime) -> Result<(), Fail> {
     let reads = AtomicUsize::new(0);
-    let bar = Piece {
-        bytes: b"bar",
-        fault: None,
-        reads: &reads,
-    };
+    let bar = Piece::new(b"bar", &reads);
     let files = [
         ("a", Ok(bar)),
         ("b", Ok(bar)),
@@ -66,11 +71,7 @@ fn a_file_that_does_not_open_ends_the_status(rt: HostRuntime) -> Result<(), Fail
 #[test]
 fn a_read_that_fails_is_not_tried_again(rt: HostRuntime) -> Result<(), Fail> {
     let reads = AtomicUsize::new(0);
-    let bar = Piece {
-        bytes: b"bar",
-        fault: None,
-        reads: &reads,
-    };
+    let bar = Piece::new(b"bar", &reads);
     let interrupted = Piece {
         bytes: b"ba",
         fault: Some(Fault::Interrupted),
@@ -84,5 +85,31 @@ fn a_read_that_fails_is_not_tried_again(rt: HostRuntime) -> Result<(), Fail> {
     assert!(rt; told.failed_by(Fault::Interrupted));
     // One of `a`, and of `b` the one that gave bytes and the one that failed.
     assert_eq!(rt; reads.load(Ordering::SeqCst), 3);
+    Ok(())
+}
+
+#[test]
+fn a_long_file_is_opened_once_and_read_in_large_pieces(rt: HostRuntime) -> Result<(), Fail> {
+    let content = Vec::from_elem(rt.alloc(), b'x', 200_000)?;
+    let reads = AtomicUsize::new(0);
+    let files = [("a", Ok(Piece::new(content.as_slice(), &reads)))];
+    let (looks, opens) = (AtomicUsize::new(0), AtomicUsize::new(0));
+    let worktree = Counted {
+        worktree: Long {
+            files: Files { files: &files },
+            len: 200_000,
+        },
+        path: "a",
+        looks: &looks,
+        opens: &opens,
+    };
+    let index = index(rt.alloc(), WRITTEN, &[foo_entry("a")])?;
+    let told = ask_one_by_one(&rt, &index, &worktree);
+    assert!(rt; told.is_all(&[(0, "a", changed(LONG))]));
+    assert!(rt; told.took(&one_file_read(200_000)));
+    assert_eq!(rt; looks.load(Ordering::SeqCst), 1);
+    assert_eq!(rt; opens.load(Ordering::SeqCst), 1);
+    // Four of 64 KiB give the bytes, and one more may meet the end.
+    assert!(rt; reads.load(Ordering::SeqCst) <= 5);
     Ok(())
 }

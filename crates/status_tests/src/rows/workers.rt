@@ -2,7 +2,7 @@
 
 use crate::asking::{ask, ask_until, ask_until_told, changed, options, plainly, with_options};
 use crate::given::{BAR, GivenEntry, WRITTEN, foo_entry, index};
-use crate::worktrees::{Files, Meeting, Piece, Watched};
+use crate::worktrees::{Counted, Files, Meeting, Piece, Watched};
 use gix_status::index_as_worktree::traits::HashEq;
 use gix_status::index_as_worktree::{Options, Outcome};
 use status_base::worktree::Fault;
@@ -32,11 +32,7 @@ fn five_entries() -> [GivenEntry<'static>; 5] {
 #[test]
 fn a_flag_that_is_set_ends_the_status_at_once(rt: HostRuntime) -> Result<(), Fail> {
     let reads = AtomicUsize::new(0);
-    let bar = Piece {
-        bytes: b"bar",
-        fault: None,
-        reads: &reads,
-    };
+    let bar = Piece::new(b"bar", &reads);
     let files = [("a", Ok(bar)), ("b", Ok(bar))];
     let index = index(rt.alloc(), WRITTEN, &[foo_entry("a"), foo_entry("b")])?;
     let flag = AtomicBool::new(true);
@@ -64,11 +60,7 @@ fn a_flag_that_is_set_ends_the_status_at_once(rt: HostRuntime) -> Result<(), Fai
 #[test]
 fn a_piece_is_cut_where_the_flag_is_seen(rt: HostRuntime) -> Result<(), Fail> {
     let reads = AtomicUsize::new(0);
-    let bar = Piece {
-        bytes: b"bar",
-        fault: None,
-        reads: &reads,
-    };
+    let bar = Piece::new(b"bar", &reads);
     let files = [
         ("a", Ok(bar)),
         ("b", Ok(bar)),
@@ -110,29 +102,25 @@ fn a_piece_is_cut_where_the_flag_is_seen(rt: HostRuntime) -> Result<(), Fail> {
 #[test]
 fn pieces_behind_the_cut_are_not_looked_at(rt: HostRuntime) -> Result<(), Fail> {
     let reads = AtomicUsize::new(0);
-    let bar = Piece {
-        bytes: b"bar",
-        fault: None,
-        reads: &reads,
-    };
+    let bar = Piece::new(b"bar", &reads);
     let files = [
         ("a", Ok(bar)),
         ("b", Ok(bar)),
         ("c", Err(Fault::PermissionDenied)),
         ("d", Ok(bar)),
     ];
-    let entries = [
-        foo_entry("a"),
-        foo_entry("b"),
-        foo_entry("c"),
-        foo_entry("d"),
-    ];
-    let index = index(rt.alloc(), WRITTEN, &entries)?;
+    let index = index(rt.alloc(), WRITTEN, &five_entries()[..4])?;
     let flag = AtomicBool::new(false);
-    let worktree = Watched {
-        files: Files { files: &files },
-        path: "a",
-        flag: &flag,
+    let (looks, opens) = (AtomicUsize::new(0), AtomicUsize::new(0));
+    let worktree = Counted {
+        worktree: Watched {
+            files: Files { files: &files },
+            path: "a",
+            flag: &flag,
+        },
+        path: "c",
+        looks: &looks,
+        opens: &opens,
     };
     let asked = with_options(rt.alloc(), shared(1, 1));
     let told = ask_until(&rt, &index, &worktree, HashEq, asked, Some(&flag));
@@ -148,6 +136,8 @@ fn pieces_behind_the_cut_are_not_looked_at(rt: HostRuntime) -> Result<(), Fail> 
             ..Outcome::default()
         })
     );
+    assert_eq!(rt; looks.load(Ordering::SeqCst), 0);
+    assert_eq!(rt; opens.load(Ordering::SeqCst), 0);
     Ok(())
 }
 
@@ -197,11 +187,7 @@ fn a_flag_that_the_collector_sets_ends_the_status_after_the_round(
 #[test]
 fn two_workers_run_at_the_same_time(rt: HostRuntime) -> Result<(), Fail> {
     let reads = AtomicUsize::new(0);
-    let bar = Piece {
-        bytes: b"bar",
-        fault: None,
-        reads: &reads,
-    };
+    let bar = Piece::new(b"bar", &reads);
     let files = [("a", Ok(bar)), ("b", Ok(bar))];
     let index = index(rt.alloc(), WRITTEN, &[foo_entry("a"), foo_entry("b")])?;
     let asked_of_b = AtomicBool::new(false);
@@ -212,17 +198,23 @@ fn two_workers_run_at_the_same_time(rt: HostRuntime) -> Result<(), Fail> {
     let asked = with_options(rt.alloc(), shared(1, 2));
     let told = ask(&rt, &index, &worktree, HashEq, asked);
     assert!(rt; told.is_all(&[(0, "a", changed(BAR)), (1, "b", changed(BAR))]));
+    assert!(rt;
+        told.took(&Outcome {
+            entries_to_process: 2,
+            entries_processed: 2,
+            symlink_metadata_calls: 2,
+            worktree_files_read: 2,
+            worktree_bytes: 6,
+            ..Outcome::default()
+        })
+    );
     Ok(())
 }
 
 #[test]
 fn the_first_fault_is_told_by_any_number_of_workers(rt: HostRuntime) -> Result<(), Fail> {
     let reads = AtomicUsize::new(0);
-    let bar = Piece {
-        bytes: b"bar",
-        fault: None,
-        reads: &reads,
-    };
+    let bar = Piece::new(b"bar", &reads);
     let files = [
         ("a", Ok(bar)),
         ("b", Ok(bar)),

@@ -1,0 +1,109 @@
+use crate::failure::Failure;
+use crate::profile::{Key, ProfileError};
+use gix_status::index_as_worktree::Error;
+use status_base::index::IndexError;
+use status_base::worktree::{Fault, FindError, TreeError};
+use status_index::ByteText;
+use std::io;
+use std::process::Abort;
+use std::test::Fail;
+
+// Asserts that a failure ends the program with status 1 and this line.
+fn assert_told<R: AllocGlobal + Abort>(rt: &R, failure: Failure, line: &str) {
+    let mut faults = Vec::new(rt.alloc());
+    let status = failure.report(rt.alloc(), "d/f", &mut faults);
+    assert_eq!(rt; status, 1, "at {line}");
+    assert_eq!(rt; faults.as_slice(), line.as_bytes(), "at {line}");
+}
+
+#[test]
+fn each_fault_of_a_status_has_its_words(rt: HostRuntime) {
+    let cases = [
+        (Fault::NotFound, "status failed: not found\n"),
+        (Fault::NotADirectory, "status failed: not a directory\n"),
+        (
+            Fault::PermissionDenied,
+            "status failed: permission denied\n",
+        ),
+        (Fault::Interrupted, "status failed: interrupted\n"),
+        (Fault::IllformedUtf8, "status failed: ill-formed UTF-8\n"),
+        (Fault::UnexpectedEnd, "status failed: unexpected end\n"),
+        (Fault::NotNormal, "status failed: not normal\n"),
+        (Fault::Other(0), "status failed: other 0\n"),
+        (
+            Fault::Other(4294967295),
+            "status failed: other 4294967295\n",
+        ),
+    ];
+    for (fault, line) in cases {
+        assert_told(&rt, Failure::from(Error::Io(fault)), line);
+    }
+}
+
+#[test]
+fn each_error_of_a_status_has_its_words(rt: HostRuntime) -> Result<(), Fail> {
+    let submodule = Error::SubmoduleStatus {
+        rela_path: ByteText::from_slice(rt.alloc(), b"d/\"s\"\n\xff")?,
+        text: ByteText::from_slice(rt.alloc(), b"no words of its own")?,
+    };
+    let cases = [
+        (Error::IllformedUtf8, "status failed: ill-formed UTF-8\n"),
+        (Error::Time, "status failed: time\n"),
+        (
+            Error::Find(FindError::Missing),
+            "status failed: missing object\n",
+        ),
+        (
+            submodule,
+            "status failed: submodule \"d/\\\"s\\\"\\n\u{fffd}\"\n",
+        ),
+        (Error::SpawnThread, "status failed: no thread\n"),
+    ];
+    for (error, line) in cases {
+        assert_told(&rt, Failure::from(error), line);
+    }
+    Ok(())
+}
+
+#[test]
+fn want_of_memory_has_one_line_wherever_it_is_met(rt: HostRuntime) {
+    let unread = io::Error::from(io::ErrorKind::OutOfMemory);
+    let cases = [
+        Failure::Memory,
+        Failure::of_reading(unread),
+        Failure::from(ProfileError::Memory),
+        Failure::from(IndexError::Memory),
+        Failure::of_node(TreeError::Memory, 3),
+        Failure::from(Error::Memory),
+        Failure::from(Error::Io(Fault::Memory)),
+        Failure::from(Error::Find(FindError::Memory)),
+    ];
+    for failure in cases {
+        assert_told(&rt, failure, "out of memory\n");
+    }
+}
+
+#[test]
+fn what_comes_before_a_status_has_its_line(rt: HostRuntime) {
+    let cases = [
+        (Failure::Unreadable, "cannot read d/f\n"),
+        (Failure::from(ProfileError::NotJson), "not JSON\n"),
+        (
+            Failure::from(ProfileError::Bad(Key::Timestamp)),
+            "bad profile: timestamp\n",
+        ),
+        (
+            Failure::from(IndexError::EmptyPath { at: 12 }),
+            "bad index: empty path at 12\n",
+        ),
+        (
+            Failure::of_node(TreeError::InTheWay, 7),
+            "bad worktree: in the way at 7\n",
+        ),
+        // Where the output can't be written nothing more is printed.
+        (Failure::Output, ""),
+    ];
+    for (failure, line) in cases {
+        assert_told(&rt, failure, line);
+    }
+}
