@@ -1,5 +1,8 @@
 //! The lines that a status prints.
 
+ghost use Rattle.std.specs.Prelude.{◌<◌, ◌^◌};
+ghost use Rattle.gix_status.specs.Outcomes.{skipped_of};
+
 #[cfg(test)]
 mod tests;
 
@@ -22,8 +25,10 @@ pub fn status_line<T: Drop, U: Drop>(
 }
 
 /// The line of what a status took, with its line feed.
-pub fn total_line(alloc: Global, outcome: &Outcome) -> Result<String, AllocError> {
-    let skipped = skipped(outcome);
+pub fn total_line(alloc: Global, outcome: &Outcome) -> Result<String, AllocError>
+    requires { skipped_of outcome.now < 2 ^ 64 }
+{
+    let skipped = outcome.skipped();
     let Outcome {
         entries_to_process,
         entries_processed,
@@ -43,14 +48,6 @@ pub fn total_line(alloc: Global, outcome: &Outcome) -> Result<String, AllocError
 pub fn path_value(alloc: Global, path: BStr<'_>) -> Result<Value, AllocError> {
     let text = String::from_utf8_lossy(alloc, path.as_bytes())?;
     Ok(Value::String(text))
-}
-
-/// The entries that were skipped. Their number fits, since the index had them all.
-fn skipped(outcome: &Outcome) -> usize {
-    outcome
-        .entries_skipped_by_common_prefix
-        .saturating_add(outcome.entries_skipped_by_pathspec)
-        .saturating_add(outcome.entries_skipped_by_entry_flags)
 }
 
 /// What is told of an entry, as it stands between its index and its path.

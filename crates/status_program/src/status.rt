@@ -1,5 +1,8 @@
 //! The status of a profile's index against its worktree.
 
+ghost use Rattle.std.specs.Prelude.{◌<◌, ◌^◌, IfOk};
+ghost use Rattle.gix_status.specs.Outcomes.{skipped_of};
+
 #[cfg(test)]
 mod folder_tests;
 #[cfg(test)]
@@ -9,10 +12,9 @@ use crate::failure::Failure;
 use crate::lines::{status_line, total_line};
 use crate::profile::{Comparer, Place, Profile, ProfileOptions};
 use bstr::BString;
-use gix_status::index_as_worktree::function::index_as_worktree;
 use gix_status::index_as_worktree::traits::{CompareBlobs, FastEq, HashEq};
 use gix_status::index_as_worktree::{
-    Context, Error, Options, Outcome, Record, Recorder, VisitEntry,
+    Context, Error, Options, Outcome, Record, Recorder, VisitEntry, index_as_worktree,
 };
 use status_base::index::State;
 use status_base::worktree::{
@@ -170,7 +172,10 @@ where
         options.status,
     );
     print_records(alloc, recorder.records.as_slice(), output)?;
-    print_totals(alloc, &answer?, counts, output)
+    match answer {
+        Ok(outcome) => print_totals(alloc, &outcome, counts, output),
+        Err(error) => Err(Failure::from(error)),
+    }
 }
 
 /// Asks the status, with no filter, listing, submodule or blob.
@@ -194,6 +199,7 @@ fn ask<
 where
     W::File: Send,
     C::Output: Send,
+    ensures { IfOk result (λ o. skipped_of o < 2 ^ 64) }
 {
     let context = Context {
         pathspec,
@@ -240,7 +246,9 @@ fn print_totals<O: io::Write>(
     outcome: &Outcome,
     counts: bool,
     output: &mut O,
-) -> Result<(), Failure> {
+) -> Result<(), Failure>
+    requires { skipped_of outcome.now < 2 ^ 64 }
+{
     if counts {
         print(total_line(alloc, outcome)?.as_str(), output)?;
     }

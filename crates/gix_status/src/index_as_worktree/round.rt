@@ -111,8 +111,8 @@ fn crew_of<D: Decide + Drop>(
     Ok(crew)
 }
 
-/// Works through the entries between the bounds with as many workers as `workers` has at most: what the pieces give in order, up to the first
-/// that didn't come to its end.
+/// Works through the entries between the bounds with as many workers as `workers` has at most: what the pieces give in
+/// order, up to the first that didn't come to its end.
 ///
 /// # Errors
 /// A refused thread, or else want of memory.

@@ -21,6 +21,9 @@ use std::thread::Threads;
 #[cfg(test)]
 mod tests;
 
+/// How many pieces a worker has in a round, at most.
+const PIECES_OF_A_WORKER: usize = 8;
+
 /// The considered entries: those from place `start` up to `end` of the whole index.
 #[derive(Drop)]
 pub(crate) struct Considered<'index> {
@@ -79,12 +82,9 @@ where
     )
 }
 
-/// How many pieces a worker has in a round, at most.
-const PIECES_OF_A_WORKER: usize = 8;
-
 /// Works through the considered entries, which are those from place `start` up to `end` of the whole index, in rounds of
-/// pieces, and tells the collector in the order of the index what the pieces find. Ends early
-/// where the interrupt flag is set.
+/// pieces, and tells the collector in the order of the index what the pieces find. Ends early where the interrupt flag is
+/// set.
 ///
 /// # Errors
 /// The first fault, once the collector was told what stands before it. A refused thread; then nothing of its round was

@@ -4,9 +4,10 @@ ghost use Rattle.std.specs.Prelude.{◌≡◌, ◌≤◌, Some};
 
 use std::sync::atomic::AtomicBool;
 
-/// The greatest number of workers, and how many there are where nothing is said.
+/// The greatest number of workers.
 const MOST_WORKERS: usize = 64;
 
+/// How many workers there are where nothing is said.
 const WORKERS: usize = 4;
 
 /// The workers of a call.

@@ -146,11 +146,7 @@ fn a_flag_that_the_collector_sets_ends_the_status_after_the_round(
     rt: HostRuntime,
 ) -> Result<(), Fail> {
     let reads = AtomicUsize::new(0);
-    let bar = Piece {
-        bytes: b"bar",
-        fault: None,
-        reads: &reads,
-    };
+    let bar = Piece::new(b"bar", &reads);
     let paths = ["a", "b", "c", "d", "e", "f", "g", "h", "i", "j"];
     let index = index(rt.alloc(), WRITTEN, &paths.map(foo_entry))?;
     let files = paths.map(|path| (path, Ok(bar)));
