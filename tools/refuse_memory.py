@@ -8,8 +8,9 @@ In the crate's folder it calls `rt try --fail-alloc N`: with arguments on the pr
 tests, since `rt try` has no filter. A first run, in which nothing is refused, has to pass. Each later one may pass as it
 did, a program with the same output, or fail by want of memory: each failure says one of the words of --want. Every other
 end is told with its N and what was printed: a fault, another answer, and a run that takes longer than --seconds. `rt`
-builds anew for each run, and doesn't say whether there was an Nth allocation: --calm passes in a row end the sweep. The
-status is 0 where no run was told, 1 where one was, and 2 where there is no sweep.
+builds anew for each run, and doesn't say whether there was an Nth allocation: --calm passes in a row end the sweep, or
+--last. Sweeps by --step share the work, each in a clone of its own. The status is 0 where no run was told, 1 where one
+was, and 2 where there is no sweep.
 """
 
 import argparse
@@ -66,14 +67,14 @@ def sweep(asked, arguments):
         print(f"{out}{err}refused: where nothing is refused, rt try ends with {status}", file=sys.stderr)
         return 2
     wanted, told, calm, at = out if arguments else None, 0, 0, asked.first
-    while calm < asked.calm:
+    while calm < asked.calm and (asked.last is None or at <= asked.last):
         status, out, err = run(asked.folder, ["--fail-alloc", str(at), *words], asked.seconds)
         how = judged(status, out, err, wanted, asked.want)
         print(f"{at}: {how}", flush=True)
         if how.isupper():
             told = 1
             print(f"status {status}\n{out}{err}", flush=True)
-        calm, at = (calm + 1 if how == "pass" else 0), at + 1
+        calm, at = (calm + 1 if how == "pass" else 0), at + asked.step
     return told
 
 
@@ -81,14 +82,16 @@ def main():
     parser = argparse.ArgumentParser(epilog="Behind -- come the program's arguments.")
     parser.add_argument("folder", help="a crate's folder")
     parser.add_argument("--first", type=int, default=1, help="the first N (1)")
+    parser.add_argument("--last", type=int, help="the last N")
+    parser.add_argument("--step", type=int, default=1, help="from one N to the next (1)")
     parser.add_argument("--calm", type=int, default=3, help="how many passes in a row are the end (3)")
     parser.add_argument("--seconds", type=float, default=300, help="a run's limit, its build included (300)")
     parser.add_argument("--want", default=r"AllocError|AllocFailed|Memory|[Oo]ut of memory", help="a pattern")
     words = sys.argv[1:]
     cut = words.index("--") if "--" in words else len(words)
     asked = parser.parse_args(words[:cut])
-    if min(asked.first, asked.calm) < 1 or not os.path.isdir(f"{asked.folder}/src"):
-        parser.error("a crate's folder is wanted, and --first and --calm above 0")
+    if min(asked.first, asked.calm, asked.step) < 1 or not os.path.isdir(f"{asked.folder}/src"):
+        parser.error("a crate's folder is wanted, and --first, --step and --calm above 0")
     try:
         return sweep(asked, words[cut + 1 :])
     except FileNotFoundError:

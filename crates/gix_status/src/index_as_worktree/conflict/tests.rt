@@ -65,8 +65,9 @@ fn keeps_the_last_of_a_stage_among_three_entries(rt: HostRuntime) -> Result<(), 
 fn stages_may_stand_out_of_place(rt: HostRuntime) -> Result<(), Fail> {
     let state = index_of(rt.alloc(), &[("f", 1), ("f", 3)])?;
     let mut entries = Vec::new(rt.alloc());
-    entries.push(state.entries()[1].clone()?)?;
-    entries.push(state.entries()[0].clone()?)?;
+    for entry in state.entries().iter().rev() {
+        entries.push(entry.clone()?)?;
+    }
     let file = Some(Mode::File);
     assert_eq!(rt;
         conflict_at(&entries, state.path_backing(), 0),
