@@ -1,4 +1,4 @@
-//! The workers of a round, each in a thread of its own, or one in the caller's.
+//! The workers of a round: one in the caller's thread, and each other one in a thread of its own.
 
 ghost use Rattle.std.specs.Prelude.{◌≡◌, ◌≢◌, ◌≤◌, ◌+◌, ℕ, All, IfOk, IfErr, OnOk, vec_len, [], Err};
 ghost use Rattle.status_board.specs.Seats.{fresh};
@@ -41,8 +41,8 @@ impl<'a, K> Drop for Brings<'a, K> {
 
 type Handle<'a, K> = PromisedHandle<Answer<<K as Work>::Out>, Brings<'a, K>>;
 
-/// Lets the crew work through the pieces of the board: a single worker in the caller's thread, several in threads of
-/// their own, all of which are joined.
+/// Lets the crew work through the pieces of the board: one worker in the caller's thread, and each other one in a thread
+/// of its own. All threads that were started are joined.
 ///
 /// # Errors
 /// A refused thread, or else want of memory.
@@ -60,6 +60,7 @@ where
     K::Out: Send + Drop,
     requires seats { All (λ s. s ≡ fresh board.now.id) seats.items }
     requires as_many { (vec_len seats ≡ board.now.seats) × (vec_len crew ≡ board.now.seats) }
+    requires some { 1 ≤ board.now.seats }
     requires count { board.now.id.pieces ≡ K.count work.now }
     requires fits { All (K.fits work.now) crew.items }
     ensures gathered { IfOk result (λ a. IsGathered (K.gives work.now) K.short board.now.id a.seats.items a.finished.items × (vec_len a.seats ≡ board.now.seats)) }
@@ -72,7 +73,7 @@ where
         thread::scope_env(),
         rt,
         move |scope| -> Result<Gathered<K::Out>, Refused>
-            requires { All (λ s. s ≡ fresh board.now.id) seats.items × (vec_len seats ≡ board.now.seats) × (vec_len crew ≡ board.now.seats) × (board.now.id.pieces ≡ K.count work.now) × All (K.fits work.now) crew.items }
+            requires { All (λ s. s ≡ fresh board.now.id) seats.items × (vec_len seats ≡ board.now.seats) × (vec_len crew ≡ board.now.seats) × (1 ≤ board.now.seats) × (board.now.id.pieces ≡ K.count work.now) × All (K.fits work.now) crew.items }
             ensures { IfOk result (λ a. IsGathered (K.gives work.entry.now) K.short board.entry.now.id a.seats.items a.finished.items × (vec_len a.seats ≡ board.entry.now.seats)) }
         { work_in_scope(rt, alloc, scope, stack_size, work, board, seats, crew) },
     )
@@ -115,7 +116,7 @@ where
     gather(work, board, nothing(alloc), worked)
 }
 
-// Starts a thread for each worker, and joins all that were started.
+// Starts a thread for each worker but one, which works here, and joins all that were started.
 fn work_in_scope<'s, E, R: Threads, K: Work + Sync + 's>(
     rt: &R,
     alloc: Global,
@@ -123,18 +124,25 @@ fn work_in_scope<'s, E, R: Threads, K: Work + Sync + 's>(
     stack_size: Option<usize>,
     work: &'s K,
     board: &'s Board,
-    seats: Vec<Seat>,
-    crew: Vec<K::State>,
+    mut seats: Vec<Seat>,
+    mut crew: Vec<K::State>,
 ) -> Result<Gathered<K::Out>, Refused>
 where
     K::State: Send + Drop + 's,
     K::Out: Send + Drop + 's,
     requires seats { All (λ s. s ≡ fresh board.now.id) seats.items }
     requires as_many { (vec_len seats ≡ board.now.seats) × (vec_len crew ≡ board.now.seats) }
+    requires some { 1 ≤ board.now.seats }
     requires count { board.now.id.pieces ≡ K.count work.now }
     requires fits { All (K.fits work.now) crew.items }
     ensures { IfOk result (λ a. IsGathered (K.gives work.now) K.short board.now.id a.seats.items a.finished.items × (vec_len a.seats ≡ board.now.seats)) }
 {
+    let Some(seat) = seats.pop() else {
+        unreachable!();
+    };
+    let Some(state) = crew.pop() else {
+        unreachable!();
+    };
     let mut handles = Vec::new(alloc);
     let started = start(
         rt,
@@ -147,11 +155,13 @@ where
         crew,
         &mut handles,
     );
-    let gathered = join_all(rt, alloc, work, board, handles);
-    match started {
-        Ok(()) => or_refused(gathered),
-        Err(refused) => Err(refused),
+    if let Err(refused) = started {
+        drop(join_all(rt, alloc, work, board, handles));
+        return Err(refused);
     }
+    let own = work_through(alloc, board, work, seat, state);
+    let others = join_all(rt, alloc, work, board, handles);
+    or_refused(gather(work, board, others, own))
 }
 
 // Starts a thread for each worker, until one is refused.
@@ -170,12 +180,12 @@ where
     K::State: Send + Drop + 's,
     K::Out: Send + Drop + 's,
     requires seats { All (λ s. s ≡ fresh board.now.id) seats.items }
-    requires as_many { (vec_len seats ≡ board.now.seats) × (vec_len crew ≡ board.now.seats) }
+    requires as_many { vec_len seats ≡ vec_len crew }
     requires count { board.now.id.pieces ≡ K.count work.now }
     requires fits { All (K.fits work.now) crew.items }
     requires none { handles.old.items ≡ [] }
     ensures same { All (λ h. (h.promise.work.now ≡ work.now) × (h.promise.board.now ≡ board.now)) handles.new.items }
-    ensures all { OnOk result (vec_len handles.new ≡ board.now.seats) }
+    ensures all { OnOk result (vec_len handles.new ≡ vec_len crew) }
 {
     while let Some(state) = crew.pop() {
         let Some(seat) = seats.pop() else {

@@ -22,8 +22,8 @@ pub enum Refused {
 }
 
 /// Works through the pieces, shared by as many workers as there are states in `crew`. The answer has what the pieces
-/// gave, in order, up to the first that ended short, whatever the schedule. A crew of one works in the caller's thread,
-/// a larger one in a thread for each, with a stack of `stack_size` bytes or else of the usual size; all that were started
+/// gave, in order, up to the first that ended short, whatever the schedule. One worker works in the caller's thread, each
+/// other one in a thread of its own, with a stack of `stack_size` bytes or else of the usual size; all that were started
 /// are joined, also where a thread or memory is refused.
 ///
 /// # Errors
