@@ -51,6 +51,25 @@ pub struct Piece<T, U> {
     pub end: End,
 }
 
+impl<T, U> Piece<T, U> {
+    /// A piece that ended at a place.
+    fn ended(
+        findings: Vec<Finding<T, U>>,
+        outcome: Outcome,
+        reached: usize,
+        end: End,
+    ) -> Piece<T, U>
+        ensures { result ≡ record { findings = findings; outcome = outcome; reached = reached; end = end } }
+    {
+        Piece {
+            findings,
+            outcome,
+            reached,
+            end,
+        }
+    }
+}
+
 /// What the next entries give: one, or all stages of a conflict.
 #[derive(Debug, Drop)]
 pub struct Step<T, U> {
@@ -127,41 +146,19 @@ pub(crate) fn work_piece<D: Decide>(
     let mut at = from;
     while at < to {
         if is_set(interrupt) {
-            return Piece {
-                findings,
-                outcome,
-                reached: at,
-                end: End::Cut,
-            };
+            return Piece::ended(findings, outcome, at, End::Cut);
         }
         let step = match next_step(entries, backing, at, decide) {
             Ok(step) => step,
-            Err(error) => {
-                return Piece {
-                    findings,
-                    outcome,
-                    reached: at,
-                    end: End::Faulty(error),
-                };
-            }
+            Err(error) => return Piece::ended(findings, outcome, at, End::Faulty(error)),
         };
         if push_status(&mut findings, start + at, step.status).is_err() {
-            return Piece {
-                findings,
-                outcome,
-                reached: at,
-                end: End::Faulty(Error::Memory),
-            };
+            return Piece::ended(findings, outcome, at, End::Faulty(Error::Memory));
         }
         outcome.absorb(&step.outcome);
         at += step.len;
     }
-    Piece {
-        findings,
-        outcome,
-        reached: at,
-        end: End::Whole,
-    }
+    Piece::ended(findings, outcome, at, End::Whole)
 }
 
 /// Appends the finding of the entry at place `entry_index`, if there is one.

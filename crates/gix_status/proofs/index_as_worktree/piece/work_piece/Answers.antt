@@ -32,18 +32,18 @@ pub returns-in-Err-clause-piece : goal.returns-in-Err-clause-piece
 returns-in-Err-clause-piece g c =
     let es = index_entries c.args.backing.now c.args.entries.now in
     let here = c.loop-at.invariant in
-    record {
+    rw c.ended-in-Err.ensures (record {
       done = here.0.done;
       through = (c.loop-at-test.true, IsFault-kept _ _ _ _ here.1 here.2 es c.loop-at.at c.in-Err.error c.in-Err.ensures.next);
-    }
+    })
 
 pub returns-then-is_err-clause-piece : goal.returns-then-is_err-clause-piece
 returns-then-is_err-clause-piece g c =
     let same = when_err (c.push_status.new.findings.items ≡ c.loop-at.findings.items) c.push_status.result c.is_err.result c.is_err.ensures.value c.if-is_err.true c.push_status.ensures.err in
-    record {
+    rw c.ended-then-is_err.ensures (record {
       done = rw same c.loop-at.invariant.0.done;
       through = (c.loop-at-test.true, λ _. inr refl);
-    }
+    })
 
 pub loop-at-preserved : goal.loop-at-preserved
 loop-at-preserved g c =
