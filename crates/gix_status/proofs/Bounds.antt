@@ -1,5 +1,5 @@
 -- The bounds of pieces, as they grow, and what pieces in a row give.
-use Rattle.std.proofs.Common.{◌≡◌, refl, sym, ap, ◌∙◌, subst, ℕ, zero, suc, ◌+◌, ◌-◌, ◌<◌, ◌≤◌, inl, inr, Bool, true, false, List, [], ◌∷◌, ◌++◌, length, length-append, All, Option, Some, None, arith}
+use Rattle.std.proofs.Common.{◌≡◌, refl, sym, ap, ◌∙◌, subst, ℕ, zero, suc, ◌+◌, ◌-◌, ◌<◌, ◌≤◌, inl, inr, Bool, true, List, [], ◌∷◌, ◌++◌, length, length-append, All, Option, Some, None, arith}
 use Rattle.std.specs.Prelude.{AllPairs, slice_get}
 use Rattle.std.specs.List.{slice_index_or}
 use Rattle.std.proofs.lemmas.Bool.{cases_lt}
@@ -12,7 +12,7 @@ use Rattle.gix_status.specs.declared.index_as_worktree.piece.End.{End}
 use Rattle.gix_status.specs.declared.index_as_worktree.piece.Piece.{Piece}
 use Rattle.gix_status.specs.Pieces.{IsCut, IsThrough}
 use Rattle.gix_status.specs.Query.{Query}
-use Rattle.gix_status.specs.Rounds.{AreBounds, AreInRow, IsGiven, IsInRow, bound, end_of, is_short}
+use Rattle.gix_status.specs.Rounds.{AreBounds, AreInRow, IsGiven, bound, end_of, is_short}
 use Rattle.gix_status.proofs.Parts.{AllPairs-append}
 
 -- bounds from a place up to another

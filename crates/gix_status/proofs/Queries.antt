@@ -1,14 +1,7 @@
 -- Queries of interfaces that mean the same.
-use Rattle.std.proofs.Common.{◌≡◌, ℕ, Bool, List, Option, Result}
-use Rattle.status_index.specs.Content.{Content}
-use Rattle.status_index.specs.declared.entry.Entry.{Entry}
-use Rattle.status_index.specs.declared.id.ObjectId.{ObjectId}
+use Rattle.std.proofs.Common.{◌≡◌, Bool}
 use Rattle.status_index.specs.declared.stat.Moment.{Moment}
 use Rattle.status_index.specs.declared.stat.Options.{Options as StatOptions}
-use Rattle.status_base.specs.Converted.{Converted}
-use Rattle.status_base.specs.declared.worktree.objects.FindError.{FindError}
-use Rattle.status_compare.specs.declared.error.Error.{Error}
-use Rattle.status_compare.specs.Reading.{Meaning, ReadCounts}
 use Rattle.gix_status.specs.Asked.{Comparing, Interfaces, Telling, query_of}
 
 pub same_query : {T U : Type 0} (options : StatOptions) (symlink executable_bit : Bool) (timestamp : Moment) (worktree : Telling) (i j : Interfaces U) (a b : Comparing T)

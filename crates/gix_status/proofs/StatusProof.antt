@@ -1,27 +1,26 @@
 -- The status theorem, from work in order and its end.
-use Rattle.std.proofs.Common.{◌≡◌, ◌≢◌, refl, sym, ap, ◌∙◌, subst, ℕ, zero, suc, ◌+◌, ◌-◌, ◌<◌, ◌≤◌, ◌^◌, ◌⊎◌, inl, inr, Bool, true, false, IsTrue, List, [], ◌∷◌, ◌++◌, length, length-append, take, drop, map, All, arith, append_assoc, Option, Some, None, Result, Ok, Err}
+use Rattle.std.proofs.Common.{◌≡◌, ◌≢◌, refl, sym, ap, ◌∙◌, subst, ℕ, ◌+◌, ◌-◌, ◌<◌, ◌≤◌, ◌^◌, ◌⊎◌, inl, inr, Bool, true, false, IsTrue, List, [], ◌∷◌, ◌++◌, length, length-append, take, drop, map, arith, append_assoc, Option, Some, None, Result, Ok, Err}
 use Rattle.std.specs.Prelude.{AllPairs, slice_get}
 use Rattle.std.specs.List.{slice_index_or}
 use Rattle.std.proofs.lemmas.List.{take-append-drop, append-nil, length-map, length-take, length-drop, get_or-map}
 use Rattle.std.proofs.Math.ListN.{get_or-append}
 use Rattle.status_index.specs.declared.entry.Entry.{Entry}
 use Rattle.status_index.specs.declared.entry.PathStorage.{PathStorage}
-use Rattle.status_index.specs.Entries.{IndexEntry, index_entries}
+use Rattle.status_index.specs.Entries.{IndexEntry}
 use Rattle.status_index.specs.Stretch.{part_of}
 use Rattle.status_compare.specs.declared.error.Error.{Error}
 use Rattle.status_compare.specs.declared.error.Error.TheVariants.{Memory, SpawnThread}
 use Rattle.gix_status.specs.declared.index_as_worktree.types.Finding.{Finding}
 use Rattle.gix_status.specs.declared.index_as_worktree.types.Outcome.{Outcome}
 use Rattle.gix_status.specs.Counts.{IsOutcome, counts_in, counts_of_outcome, reads_in, reads_of_outcome}
-use Rattle.gix_status.specs.Fed.{Tells}
-use Rattle.gix_status.specs.Pieces.{IsDone, IsWithin, IsAsMeant, IsFaultAt}
+use Rattle.gix_status.specs.Pieces.{IsWithin, IsAsMeant, IsFaultAt}
 use Rattle.gix_status.specs.Outcomes.{skipped_of}
 use Rattle.gix_status.specs.Query.{Query}
 use Rattle.gix_status.specs.Records.{records_in, records_of, faults_in, first_fault, verdict}
 use Rattle.gix_status.specs.StatusTheorem.{IsBeginning, IsComplete, IsStatus, IsStatusOf, IsFirstFault, NeverSpawns, all_entries, considered_entries, start_of}
 use Rattle.gix_status.specs.Visits.{Visit, finding_of}
 use Rattle.gix_status.specs.Worked.{IsRefusal, IsStopped, IsToldWork}
-use Rattle.gix_status.proofs.Groups.{records-append, faults-append}
+use Rattle.gix_status.proofs.Groups.{records-append}
 use Rattle.gix_status.proofs.LawRecords.{fault_law}
 use Rattle.gix_status.proofs.NoThread.{never_spawned}
 

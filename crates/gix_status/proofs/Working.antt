@@ -1,5 +1,5 @@
 -- Pieces in a row, told one after another, and rounds of them.
-use Rattle.std.proofs.Common.{◌≡◌, refl, sym, ap, ◌∙◌, subst, ℕ, ◌+◌, ◌-◌, ◌<◌, ◌≤◌, ◌^◌, ◌⊎◌, inl, inr, Bool, true, false, IsTrue, ◌||◌, List, [], ◌∷◌, ◌++◌, length, take, drop, map, All, arith, append_assoc, Option, Some, None, is_some, Result, Ok, Err}
+use Rattle.std.proofs.Common.{◌≡◌, refl, sym, ap, ◌∙◌, subst, ℕ, ◌+◌, ◌-◌, ◌<◌, ◌≤◌, ◌^◌, inl, inr, Bool, true, false, IsTrue, ◌||◌, List, [], ◌∷◌, ◌++◌, length, take, drop, All, arith, append_assoc, Option, Some, None, is_some, Result, Ok, Err}
 use Rattle.std.proofs.lemmas.List.{take-append-drop, append-nil}
 use Rattle.std.proofs.lemmas.List.Elements.{All-weaker}
 use Rattle.status_index.specs.declared.entry.Entry.{Entry}
@@ -10,7 +10,7 @@ use Rattle.status_compare.specs.declared.error.Error.{Error}
 use Rattle.status_compare.specs.declared.error.Error.TheVariants.{Memory}
 use Rattle.status_compare.specs.Reading.{no_reads}
 use Rattle.gix_status.specs.declared.index_as_worktree.piece.End.{End}
-use Rattle.gix_status.specs.declared.index_as_worktree.piece.End.TheVariants.{Whole, Cut, Faulty}
+use Rattle.gix_status.specs.declared.index_as_worktree.piece.End.TheVariants.{Whole, Faulty}
 use Rattle.gix_status.specs.declared.index_as_worktree.piece.Piece.{Piece}
 use Rattle.gix_status.specs.declared.index_as_worktree.types.Finding.{Finding}
 use Rattle.gix_status.specs.declared.index_as_worktree.types.Outcome.{Outcome}
@@ -20,10 +20,9 @@ use Rattle.gix_status.specs.Pieces.{IsDone, IsWithin, IsFaultAt, IsPiece, IsThro
 use Rattle.gix_status.specs.PieceFed.{IsCounted, IsPieceFed}
 use Rattle.gix_status.specs.Query.{Query}
 use Rattle.gix_status.specs.Rounds.{AreInRow, IsInRow}
-use Rattle.gix_status.specs.StatusTheorem.{IsBeginning}
 use Rattle.gix_status.specs.Sums.{IsOfEntries, SumFits, no_counts, plus_counts, plus_reads}
 use Rattle.gix_status.specs.Visits.{Visit}
-use Rattle.gix_status.specs.Worked.{IsRefusal, IsStopped, IsWorkedTo, IsWorked, IsUnderWay, IsToldWork}
+use Rattle.gix_status.specs.Worked.{IsRefusal, IsUnderWay, IsToldWork}
 use Rattle.gix_status.proofs.Dones.{done_none, done_more, or_false, sums_fit}
 use Rattle.gix_status.proofs.Feeding.{tells_none, tells_more}
 

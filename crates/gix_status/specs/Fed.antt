@@ -1,5 +1,5 @@
 -- What a collector was told of findings.
-use Rattle.std.specs.Prelude.{◌≡◌, ℕ, ◌<◌, ◌≤◌, ◌++◌, List, [], ◌∷◌, All, length, map, take, Result, Ok, Err, OnOk, ⊤}
+use Rattle.std.specs.Prelude.{◌≡◌, ℕ, ◌<◌, ◌≤◌, ◌++◌, List, [], ◌∷◌, All, length, map, take, Result, Ok, Err}
 use Rattle.status_index.specs.declared.entry.Entry.{Entry}
 use Rattle.status_index.specs.declared.entry.PathStorage.{PathStorage}
 use Rattle.gix_status.specs.declared.index_as_worktree.types.Finding.{Finding}

@@ -1,6 +1,6 @@
 -- Parts of the considered entries, and what they give.
-use Rattle.std.specs.Prelude.{◌≡◌, ◌⊎◌, ℕ, ◌+◌, ◌-◌, ◌<◌, ◌≤◌, Bool, false, true, IsTrue, List, [], length, take, drop, All, AllPairs, Option, Result, Ok, Err, ⊤}
-use Rattle.std.specs.List.{slice_index_or, list_any}
+use Rattle.std.specs.Prelude.{◌≡◌, ◌⊎◌, ℕ, ◌+◌, ◌-◌, ◌<◌, ◌≤◌, Bool, false, IsTrue, List, [], length, take, drop, All, AllPairs, Err, ⊤}
+use Rattle.std.specs.List.{slice_index_or}
 use Rattle.status_index.specs.Entries.{IndexEntry}
 use Rattle.status_index.specs.Stretch.{part_of}
 use Rattle.status_compare.specs.declared.error.Error.{Error}
@@ -10,7 +10,7 @@ use Rattle.gix_status.specs.declared.index_as_worktree.piece.End.TheVariants.{Wh
 use Rattle.gix_status.specs.declared.index_as_worktree.piece.Piece.{Piece}
 use Rattle.gix_status.specs.declared.index_as_worktree.types.Finding.{Finding}
 use Rattle.gix_status.specs.declared.index_as_worktree.types.Outcome.{Outcome}
-use Rattle.gix_status.specs.Considered.{same_path, takes_over}
+use Rattle.gix_status.specs.Considered.{same_path}
 use Rattle.gix_status.specs.Counts.{Counts, counts_in, counts_of_outcome, reads_in, reads_of_outcome, TellsReads}
 use Rattle.gix_status.specs.Query.{Query}
 use Rattle.gix_status.specs.Records.{verdict, records_in, faults_in}

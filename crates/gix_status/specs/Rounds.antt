@@ -1,5 +1,5 @@
 -- The pieces of a round.
-use Rattle.std.specs.Prelude.{◌≡◌, ℕ, ◌+◌, ◌-◌, ◌<◌, ◌≤◌, Bool, false, true, List, [], ◌∷◌, length, All, AllPairs}
+use Rattle.std.specs.Prelude.{◌≡◌, ℕ, ◌-◌, ◌<◌, ◌≤◌, Bool, false, true, List, [], ◌∷◌, length, All, AllPairs}
 use Rattle.std.specs.List.{slice_index_or}
 use Rattle.status_index.specs.Entries.{IndexEntry}
 use Rattle.gix_status.specs.declared.index_as_worktree.piece.End.{End}

@@ -1,5 +1,5 @@
 -- The status theorem: what a status tells its collector, and what it answers.
-use Rattle.std.specs.Prelude.{◌≡◌, ◌≢◌, ℕ, ◌<◌, ◌≤◌, ◌^◌, Bool, false, true, IsTrue, List, ◌++◌, [], length, take, map, All, AllPairs, Option, Some, None, Result, Ok, Err, IfOk, IfErr}
+use Rattle.std.specs.Prelude.{◌≡◌, ◌≢◌, ℕ, ◌<◌, ◌≤◌, ◌^◌, Bool, false, true, IsTrue, List, ◌++◌, [], length, take, map, All, AllPairs, Option, Some, None, Result, Err, IfOk, IfErr}
 use Rattle.std.specs.List.{slice_index_or}
 use Rattle.status_index.specs.declared.entry.Entry.{Entry}
 use Rattle.status_index.specs.declared.entry.PathStorage.{PathStorage}

@@ -1,6 +1,6 @@
 //! The considered entries, worked through in rounds and fed in order.
 
-ghost use Rattle.std.specs.Prelude.{◌+◌, ◌^◌, ◌≤◌, length, map, is_some};
+ghost use Rattle.std.specs.Prelude.{◌^◌, ◌≤◌, length, map, is_some};
 ghost use Rattle.status_index.specs.Entries.{IsIndex, listed, index_entries};
 ghost use Rattle.status_index.specs.Stretch.{part_of};
 ghost use Rattle.gix_status.specs.Rounds.{AreBounds, bound, end_of};
@@ -36,8 +36,8 @@ pub(crate) struct Considered<'index> {
     ghost inside: { end ≤ length entries.now },
 }
 
-/// Works through the considered entries on workers as the thread limit has it, each with a stack of `stack_size` bytes or
-/// of the usual size.
+/// Works through the considered entries on workers as the thread limit has it, whose threads have stacks of `stack_size`
+/// bytes or of the usual size.
 ///
 /// # Errors
 /// As those of `work_in_rounds`.
@@ -68,23 +68,11 @@ where
         stack_size,
         interrupt,
     };
-    work_in_rounds(
-        rt,
-        alloc,
-        considered.entries,
-        considered.backing,
-        considered.start,
-        considered.end,
-        chunk,
-        &workers,
-        &decide,
-        collector,
-    )
+    work_in_rounds(rt, alloc, &considered, chunk, &workers, &decide, collector)
 }
 
-/// Works through the considered entries, which are those from place `start` up to `end` of the whole index, in rounds of
-/// pieces, and tells the collector in the order of the index what the pieces find. Ends early where the interrupt flag is
-/// set.
+/// Works through the considered entries in rounds of pieces, and tells the collector in the order of the index what the
+/// pieces find. Ends early where the interrupt flag is set.
 ///
 /// # Errors
 /// The first fault, once the collector was told what stands before it. A refused thread; then nothing of its round was
@@ -97,10 +85,7 @@ pub(crate) fn work_in_rounds<
 >(
     rt: &R,
     alloc: Global,
-    entries: &'index [Entry],
-    backing: &'index PathStorage,
-    start: usize,
-    end: usize,
+    considered: &Considered<'index>,
     chunk: usize,
     workers: &Workers<'_>,
     decide: &D,
@@ -109,16 +94,14 @@ pub(crate) fn work_in_rounds<
 where
     D::Content: Send,
     D::Submodule: Send,
-    requires index { IsIndex (map listed (index_entries backing.now entries.now)) }
-    requires order { start ≤ end }
-    requires inside { end ≤ length entries.now }
-    ensures { IsToldWork (D.query decide.now) (D.tells decide.now) start (part_of (index_entries backing.now entries.now) start end) 0
-        (is_some workers.entry.now.interrupt) workers.entry.now.most (length (part_of (index_entries backing.now entries.now) start end)) entries.now backing.now (V.visits collector.old) result (V.visits collector.new) }
+    ensures { let es = part_of (index_entries considered.entry.now.backing.now considered.entry.now.entries.now) considered.entry.now.start considered.entry.now.end in
+        IsToldWork (D.query decide.now) (D.tells decide.now) considered.entry.now.start es 0
+        (is_some workers.entry.now.interrupt) workers.entry.now.most (length es) considered.entry.now.entries.now considered.entry.now.backing.now (V.visits collector.old) result (V.visits collector.new) }
 {
-    let considered = &entries[start..end];
+    let part = &considered.entries[considered.start..considered.end];
     let mut total = Outcome::default();
     let mut at = 0;
-    while at < considered.len() {
+    while at < part.len() {
         if is_set(workers.interrupt) {
             return Ok(Outcome {
                 interrupted: true,
@@ -126,7 +109,8 @@ where
             });
         }
         let most_pieces = workers.most * PIECES_OF_A_WORKER;
-        let Ok(bounds) = round_bounds(alloc, considered, backing, at, chunk, most_pieces) else {
+        let Ok(bounds) = round_bounds(alloc, part, considered.backing, at, chunk, most_pieces)
+        else {
             return Err(Error::Memory);
         };
         let crew = Workers {
@@ -137,10 +121,7 @@ where
         match tell_round(
             rt,
             alloc,
-            entries,
-            backing,
             considered,
-            start,
             bounds.as_slice(),
             &crew,
             decide,
@@ -169,10 +150,7 @@ fn tell_round<
 >(
     rt: &R,
     alloc: Global,
-    entries: &'index [Entry],
-    backing: &'index PathStorage,
-    considered: &[Entry],
-    start: usize,
+    considered: &Considered<'index>,
     bounds: &[usize],
     workers: &Workers<'_>,
     decide: &D,
@@ -181,22 +159,21 @@ fn tell_round<
 where
     D::Content: Send,
     D::Submodule: Send,
-    requires index { IsIndex (map listed (index_entries backing.now considered.now)) }
-    requires room { start + length considered.now ≤ length entries.now }
-    requires bounds { AreBounds (index_entries backing.now considered.now) bounds.now }
+    requires bounds { AreBounds (index_entries considered.now.backing.now (part_of considered.now.entries.now considered.now.start considered.now.end)) bounds.now }
     requires few { length bounds.now ≤ 2 ^ 20 }
-    ensures { IsToldWork (D.query decide.now) (D.tells decide.now) start (index_entries backing.now considered.now) (bound bounds.now 0)
-        (is_some workers.entry.now.interrupt) workers.entry.now.most (end_of bounds.now) entries.now backing.now (V.visits collector.old) result (V.visits collector.new) }
+    ensures { let es = index_entries considered.entry.now.backing.now (part_of considered.entry.now.entries.now considered.entry.now.start considered.entry.now.end) in
+        IsToldWork (D.query decide.now) (D.tells decide.now) considered.entry.now.start es (bound bounds.now 0)
+        (is_some workers.entry.now.interrupt) workers.entry.now.most (end_of bounds.now) considered.entry.now.entries.now considered.entry.now.backing.now (V.visits collector.old) result (V.visits collector.new) }
 {
-    let pieces = match work_pieces(
-        rt, alloc, considered, backing, start, bounds, workers, decide,
-    ) {
+    let (start, backing) = (considered.start, considered.backing);
+    let part = &considered.entries[start..considered.end];
+    let pieces = match work_pieces(rt, alloc, part, backing, start, bounds, workers, decide) {
         Ok(pieces) => pieces,
         Err(error) => return Err(error),
     };
     let mut total = Outcome::default();
     for piece in pieces {
-        match feed_piece(entries, backing, piece, collector) {
+        match feed_piece(considered.entries, backing, piece, collector) {
             Ok(outcome) => total.absorb(&outcome),
             Err(error) => return Err(error),
         }

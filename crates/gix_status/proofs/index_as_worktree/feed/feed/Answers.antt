@@ -1,6 +1,6 @@
-use Rattle.std.proofs.Common.{◌≡◌, ◌++◌, ◌∷◌, [], sym, ap, ◌∙◌, append_assoc, All, rules, refl}
+use Rattle.std.proofs.Common.{◌∷◌, [], sym, ◌∙◌, append_assoc, rules, refl}
 use Rattle.std.specs.Vec.Iter.{into_iter_items}
-use Rattle.gix_status.specs.Fed.{Tells, IsPlacedIn}
+use Rattle.gix_status.specs.Fed.{IsPlacedIn}
 use Rattle.gix_status.proofs.Feeding.{tells_none, tells_more, all_middle, fed_all, fed_until}
 use Rattle.gix_status.proofs.index_as_worktree.feed.feed.Goals as goal
 

@@ -1,6 +1,4 @@
-use denote.Param.Send.{sendable}
-use Rattle.std.proofs.Crossing.{crosses}
-use Rattle.std.proofs.Common.{rules, refl, ap, ◌<◌, ◌^◌, length, is_some}
+use Rattle.std.proofs.Common.{rules, refl, ap, ◌<◌, ◌^◌, length}
 use Rattle.std.proofs.lemmas.List.{length-map}
 use Rattle.status_index.specs.Entries.{index_entry}
 use Rattle.status_index.specs.States.{entries_of, backing_of, index_of}

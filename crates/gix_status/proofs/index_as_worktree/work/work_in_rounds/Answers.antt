@@ -1,5 +1,5 @@
-use Rattle.std.proofs.Common.{rules, ◌≡◌, ap, ◌≤◌, ◌<◌, ◌+◌, ◌-◌, ◌^◌, length, map, arith, refl, subst, ◌∙◌, drop, inl, is_some, Ok, Err, ℕ, slice_index_or}
-use Rattle.std.proofs.lemmas.List.{get_or_default, length-map, length-take, length-drop}
+use Rattle.std.proofs.Common.{rules, ◌≡◌, ap, ◌≤◌, ◌<◌, ◌-◌, ◌^◌, length, arith, refl, subst, ◌∙◌, drop, inl, is_some, Ok, Err, ℕ, slice_index_or}
+use Rattle.std.proofs.lemmas.List.{get_or_default, length-map, length-take}
 use Rattle.status_compare.specs.Reading.{no_reads}
 use Rattle.status_index.specs.Entries.{index_entry, index_entries}
 use Rattle.status_index.specs.Stretch.{part_of}
@@ -15,13 +15,13 @@ use Rattle.gix_status.proofs.index_as_worktree.work.work_in_rounds.Goals as goal
 
 pub loop-at-init : goal.loop-at-init
 loop-at-init g c =
-    let es = index_entries c.args.backing.now (part_of c.args.entries.now c.args.start c.args.end) in
+    let es = index_entries c.args.considered.now.backing.now (part_of c.args.considered.now.entries.now c.args.considered.now.start c.args.considered.now.end) in
     let o = c.default-total.result in
     let counted : counts_of_outcome o ≡ no_counts = search rules in
     let read : reads_of_outcome o ≡ no_reads = search rules in
     let alone : IsOfEntries o = search rules in
     record {
-      way = way_none (g.D.Decide.query c.args.decide.now) (g.D.Decide.tells c.args.decide.now) c.args.start es c.args.entries.now c.args.backing.now 0 o (g.V.VisitEntry.visits c.args.collector.now) (omega arith) counted read alone;
+      way = way_none (g.D.Decide.query c.args.decide.now) (g.D.Decide.tells c.args.decide.now) c.args.considered.now.start es c.args.considered.now.entries.now c.args.considered.now.backing.now 0 o (g.V.VisitEntry.visits c.args.collector.now) (omega arith) counted read alone;
       cut = λ k d h. absurd (omega arith);
       inside = omega arith;
     }
@@ -31,33 +31,31 @@ returns-then-is_set g c =
     let q = g.D.Decide.query c.args.decide.now in
     let tells = g.D.Decide.tells c.args.decide.now in
     let visits = g.V.VisitEntry.visits in
-    let es = index_entries c.args.backing.now (part_of c.args.entries.now c.args.start c.args.end) in
-    let same = map-part (index_entry c.args.backing.now) c.args.entries.now c.args.start c.args.end in
+    let es = index_entries c.args.considered.now.backing.now (part_of c.args.considered.now.entries.now c.args.considered.now.start c.args.considered.now.end) in
+    let same = map-part (index_entry c.args.considered.now.backing.now) c.args.considered.now.entries.now c.args.considered.now.start c.args.considered.now.end in
     let interruptible = is_some c.args.workers.now.interrupt in
     let way = c.loop-at.invariant.way in
-    rw (← same) (way_cut q tells c.args.start es c.args.entries.now c.args.backing.now 0 interruptible c.args.workers.now.most c.loop-at.at (length es) c.loop-at.total _ (visits c.args.collector.now) (visits c.loop-at.collector) refl
+    rw (← same) (way_cut q tells c.args.considered.now.start es c.args.considered.now.entries.now c.args.considered.now.backing.now 0 interruptible c.args.workers.now.most c.loop-at.at (length es) c.loop-at.total _ (visits c.args.collector.now) (visits c.loop-at.collector) refl
     (not_set c.args.workers.now.interrupt c.is_set.result c.is_set.ensures c.if-is_set.true) way)
 
 pub round_bounds-requires-clause-index : goal.round_bounds-requires-clause-index
 round_bounds-requires-clause-index g c =
-    let same = map-part (index_entry c.args.backing.now) c.args.entries.now c.args.start c.args.end in
-    rw same (IsIndex-part (index_entries c.args.backing.now c.args.entries.now) c.args.start c.args.end c.requires.index)
+    let same = map-part (index_entry c.args.considered.now.backing.now) c.args.considered.now.entries.now c.args.considered.now.start c.args.considered.now.end in
+    rw same (IsIndex-part (index_entries c.args.considered.now.backing.now c.args.considered.now.entries.now) c.args.considered.now.start c.args.considered.now.end c.args.considered.now.index)
 
 pub returns-in_default : goal.returns-in_default
 returns-in_default g c =
     let q = g.D.Decide.query c.args.decide.now in
     let tells = g.D.Decide.tells c.args.decide.now in
     let visits = g.V.VisitEntry.visits in
-    let es = index_entries c.args.backing.now (part_of c.args.entries.now c.args.start c.args.end) in
-    let same = map-part (index_entry c.args.backing.now) c.args.entries.now c.args.start c.args.end in
+    let es = index_entries c.args.considered.now.backing.now (part_of c.args.considered.now.entries.now c.args.considered.now.start c.args.considered.now.end) in
+    let same = map-part (index_entry c.args.considered.now.backing.now) c.args.considered.now.entries.now c.args.considered.now.start c.args.considered.now.end in
     let interruptible = is_some c.args.workers.now.interrupt in
     let way = c.loop-at.invariant.way in
-    rw (← same) (way_refused q tells c.args.start es c.args.entries.now c.args.backing.now 0 interruptible c.args.workers.now.most c.loop-at.at (length es) c.loop-at.total Memory (visits c.args.collector.now) (visits c.loop-at.collector) (inl refl) way)
+    rw (← same) (way_refused q tells c.args.considered.now.start es c.args.considered.now.entries.now c.args.considered.now.backing.now 0 interruptible c.args.workers.now.most c.loop-at.at (length es) c.loop-at.total Memory (visits c.args.collector.now) (visits c.loop-at.collector) (inl refl) way)
 
 pub tell_round-requires : goal.tell_round-requires
 tell_round-requires g c κs =
-    let same = map-part (index_entry c.args.backing.now) c.args.entries.now c.args.start c.args.end in
-    let room : c.args.start + length (part_of c.args.entries.now c.args.start c.args.end) ≤ length c.args.entries.now = omega (arith, length-take (c.args.end - c.args.start) (drop c.args.start c.args.entries.now), length-drop c.args.start c.args.entries.now, c.requires.order, c.requires.inside) in
     let few : length c.as_slice.result.now ≤ 2 ^ 20 = omega (arith, ap length c.as_slice.ensures.value, c.in-Ok.ensures.few, c.in-Ok.bounds.ok.0, c.args.workers.now.few) in (
       search rules,
       (
@@ -66,10 +64,7 @@ tell_round-requires g c κs =
           search rules,
           (
             (refl, tt),
-            (
-              rw same (IsIndex-part (index_entries c.args.backing.now c.args.entries.now) c.args.start c.args.end c.requires.index),
-              (room, (rw c.as_slice.ensures.value c.in-Ok.ensures.bounds, few)),
-            ),
+            (rw c.as_slice.ensures.value c.in-Ok.ensures.bounds, few),
           ),
         ),
       ),
@@ -80,17 +75,18 @@ absorb-requires g c =
     let q = g.D.Decide.query c.args.decide.now in
     let tells = g.D.Decide.tells c.args.decide.now in
     let visits = g.V.VisitEntry.visits in
-    let es = index_entries c.args.backing.now (part_of c.args.entries.now c.args.start c.args.end) in
-    let same = map-part (index_entry c.args.backing.now) c.args.entries.now c.args.start c.args.end in
+    let es = index_entries c.args.considered.now.backing.now (part_of c.args.considered.now.entries.now c.args.considered.now.start c.args.considered.now.end) in
+    let same = map-part (index_entry c.args.considered.now.backing.now) c.args.considered.now.entries.now c.args.considered.now.start c.args.considered.now.end in
     let interruptible = is_some c.args.workers.now.interrupt in
     let way = c.loop-at.invariant.way in
     let workers = c.min.result in
     let fewer : workers ≤ c.args.workers.now.most = omega (arith, c.min.ensures) in
     let slice : c.as_slice.result.now ≡ c.in-Ok.bounds.items = c.as_slice.ensures.value in
     let first : bound c.as_slice.result.now 0 ≡ c.loop-at.at = ap (λ l. bound l 0) slice ∙ c.in-Ok.ensures.first in
-    let told = subst (λ n. IsToldWork q tells c.args.start es n interruptible workers (end_of c.as_slice.result.now) c.args.entries.now c.args.backing.now (visits c.loop-at.collector) (Ok c.in-Ok-tell_round.outcome) (visits c.tell_round.new.collector)) first c.in-Ok-tell_round.ensures in
-    let small : length es < 2 ^ 64 = omega (arith, length-map (part_of c.args.entries.now c.args.start c.args.end) (index_entry c.args.backing.now), length-take (c.args.end - c.args.start) (drop c.args.start c.args.entries.now), c.ranges.end.fits) in
-    round_fits q tells c.args.start es c.args.entries.now c.args.backing.now interruptible
+    let told = subst (λ n. IsToldWork q tells c.args.considered.now.start es n interruptible workers (end_of c.as_slice.result.now) c.args.considered.now.entries.now c.args.considered.now.backing.now (visits c.loop-at.collector) (Ok c.in-Ok-tell_round.outcome) (visits c.tell_round.new.collector)) first c.in-Ok-tell_round.ensures in
+    let end_fits : c.args.considered.now.end < 2 ^ 64 = search rules in
+    let small : length es < 2 ^ 64 = omega (arith, length-map (part_of c.args.considered.now.entries.now c.args.considered.now.start c.args.considered.now.end) (index_entry c.args.considered.now.backing.now), length-take (c.args.considered.now.end - c.args.considered.now.start) (drop c.args.considered.now.start c.args.considered.now.entries.now), end_fits) in
+    round_fits q tells c.args.considered.now.start es c.args.considered.now.entries.now c.args.considered.now.backing.now interruptible
     workers c.args.workers.now.most 0 c.loop-at.at (end_of c.as_slice.result.now) (length es) c.loop-at.total (visits c.args.collector.now) (visits c.loop-at.collector) (visits c.tell_round.new.collector) way
     c.in-Ok-tell_round.outcome small told
 
@@ -99,16 +95,16 @@ returns-in-Err g c =
     let q = g.D.Decide.query c.args.decide.now in
     let tells = g.D.Decide.tells c.args.decide.now in
     let visits = g.V.VisitEntry.visits in
-    let es = index_entries c.args.backing.now (part_of c.args.entries.now c.args.start c.args.end) in
-    let same = map-part (index_entry c.args.backing.now) c.args.entries.now c.args.start c.args.end in
+    let es = index_entries c.args.considered.now.backing.now (part_of c.args.considered.now.entries.now c.args.considered.now.start c.args.considered.now.end) in
+    let same = map-part (index_entry c.args.considered.now.backing.now) c.args.considered.now.entries.now c.args.considered.now.start c.args.considered.now.end in
     let interruptible = is_some c.args.workers.now.interrupt in
     let way = c.loop-at.invariant.way in
     let workers = c.min.result in
     let fewer : workers ≤ c.args.workers.now.most = omega (arith, c.min.ensures) in
     let slice : c.as_slice.result.now ≡ c.in-Ok.bounds.items = c.as_slice.ensures.value in
     let first : bound c.as_slice.result.now 0 ≡ c.loop-at.at = ap (λ l. bound l 0) slice ∙ c.in-Ok.ensures.first in
-    let told = subst (λ n. IsToldWork q tells c.args.start es n interruptible workers (end_of c.as_slice.result.now) c.args.entries.now c.args.backing.now (visits c.loop-at.collector) (Err c.in-Err.error) (visits c.tell_round.new.collector)) first c.in-Err.ensures in
-    rw (← same) (round_stop q tells c.args.start es c.args.entries.now c.args.backing.now interruptible
+    let told = subst (λ n. IsToldWork q tells c.args.considered.now.start es n interruptible workers (end_of c.as_slice.result.now) c.args.considered.now.entries.now c.args.considered.now.backing.now (visits c.loop-at.collector) (Err c.in-Err.error) (visits c.tell_round.new.collector)) first c.in-Err.ensures in
+    rw (← same) (round_stop q tells c.args.considered.now.start es c.args.considered.now.entries.now c.args.considered.now.backing.now interruptible
     workers c.args.workers.now.most 0 c.loop-at.at (end_of c.as_slice.result.now) (length es) c.loop-at.total (visits c.args.collector.now) (visits c.loop-at.collector) (visits c.tell_round.new.collector) way
     c.in-Err.error fewer told)
 
@@ -117,15 +113,15 @@ returns-then-total g c =
     let q = g.D.Decide.query c.args.decide.now in
     let tells = g.D.Decide.tells c.args.decide.now in
     let visits = g.V.VisitEntry.visits in
-    let es = index_entries c.args.backing.now (part_of c.args.entries.now c.args.start c.args.end) in
-    let same = map-part (index_entry c.args.backing.now) c.args.entries.now c.args.start c.args.end in
+    let es = index_entries c.args.considered.now.backing.now (part_of c.args.considered.now.entries.now c.args.considered.now.start c.args.considered.now.end) in
+    let same = map-part (index_entry c.args.considered.now.backing.now) c.args.considered.now.entries.now c.args.considered.now.start c.args.considered.now.end in
     let interruptible = is_some c.args.workers.now.interrupt in
     let way = c.loop-at.invariant.way in
     let workers = c.min.result in
     let fewer : workers ≤ c.args.workers.now.most = omega (arith, c.min.ensures) in
     let slice : c.as_slice.result.now ≡ c.in-Ok.bounds.items = c.as_slice.ensures.value in
     let first : bound c.as_slice.result.now 0 ≡ c.loop-at.at = ap (λ l. bound l 0) slice ∙ c.in-Ok.ensures.first in
-    let told = subst (λ n. IsToldWork q tells c.args.start es n interruptible workers (end_of c.as_slice.result.now) c.args.entries.now c.args.backing.now (visits c.loop-at.collector) (Ok c.in-Ok-tell_round.outcome) (visits c.tell_round.new.collector)) first c.in-Ok-tell_round.ensures in
+    let told = subst (λ n. IsToldWork q tells c.args.considered.now.start es n interruptible workers (end_of c.as_slice.result.now) c.args.considered.now.entries.now c.args.considered.now.backing.now (visits c.loop-at.collector) (Ok c.in-Ok-tell_round.outcome) (visits c.tell_round.new.collector)) first c.in-Ok-tell_round.ensures in
     let sums : AddsUp c.loop-at.total c.in-Ok-tell_round.outcome c.absorb.new.self = record {
       counts = c.absorb.ensures.counts;
       reads = c.absorb.ensures.reads;
@@ -133,7 +129,7 @@ returns-then-total g c =
       skipped_by_prefix = c.absorb.ensures.skipped_by_prefix;
       interrupted = c.absorb.ensures.interrupted;
     } in
-    rw (← same) (round_cut q tells c.args.start es c.args.entries.now c.args.backing.now interruptible
+    rw (← same) (round_cut q tells c.args.considered.now.start es c.args.considered.now.entries.now c.args.considered.now.backing.now interruptible
     workers c.args.workers.now.most 0 c.loop-at.at (end_of c.as_slice.result.now) (length es) c.loop-at.total (visits c.args.collector.now) (visits c.loop-at.collector) (visits c.tell_round.new.collector) way
     c.in-Ok-tell_round.outcome c.absorb.new.self told sums c.if-total.true)
 
@@ -142,15 +138,15 @@ loop-at-preserved g c =
     let q = g.D.Decide.query c.args.decide.now in
     let tells = g.D.Decide.tells c.args.decide.now in
     let visits = g.V.VisitEntry.visits in
-    let es = index_entries c.args.backing.now (part_of c.args.entries.now c.args.start c.args.end) in
-    let same = map-part (index_entry c.args.backing.now) c.args.entries.now c.args.start c.args.end in
+    let es = index_entries c.args.considered.now.backing.now (part_of c.args.considered.now.entries.now c.args.considered.now.start c.args.considered.now.end) in
+    let same = map-part (index_entry c.args.considered.now.backing.now) c.args.considered.now.entries.now c.args.considered.now.start c.args.considered.now.end in
     let interruptible = is_some c.args.workers.now.interrupt in
     let way = c.loop-at.invariant.way in
     let workers = c.min.result in
     let fewer : workers ≤ c.args.workers.now.most = omega (arith, c.min.ensures) in
     let slice : c.as_slice.result.now ≡ c.in-Ok.bounds.items = c.as_slice.ensures.value in
     let first : bound c.as_slice.result.now 0 ≡ c.loop-at.at = ap (λ l. bound l 0) slice ∙ c.in-Ok.ensures.first in
-    let told = subst (λ n. IsToldWork q tells c.args.start es n interruptible workers (end_of c.as_slice.result.now) c.args.entries.now c.args.backing.now (visits c.loop-at.collector) (Ok c.in-Ok-tell_round.outcome) (visits c.tell_round.new.collector)) first c.in-Ok-tell_round.ensures in
+    let told = subst (λ n. IsToldWork q tells c.args.considered.now.start es n interruptible workers (end_of c.as_slice.result.now) c.args.considered.now.entries.now c.args.considered.now.backing.now (visits c.loop-at.collector) (Ok c.in-Ok-tell_round.outcome) (visits c.tell_round.new.collector)) first c.in-Ok-tell_round.ensures in
     let sums : AddsUp c.loop-at.total c.in-Ok-tell_round.outcome c.absorb.new.self = record {
       counts = c.absorb.ensures.counts;
       reads = c.absorb.ensures.reads;
@@ -158,15 +154,15 @@ loop-at-preserved g c =
       skipped_by_prefix = c.absorb.ensures.skipped_by_prefix;
       interrupted = c.absorb.ensures.interrupted;
     } in
-    let more = round_more q tells c.args.start es c.args.entries.now c.args.backing.now interruptible
+    let more = round_more q tells c.args.considered.now.start es c.args.considered.now.entries.now c.args.considered.now.backing.now interruptible
     workers c.args.workers.now.most 0 c.loop-at.at (end_of c.as_slice.result.now) (length es) c.loop-at.total (visits c.args.collector.now) (visits c.loop-at.collector) (visits c.tell_round.new.collector) way
     c.in-Ok-tell_round.outcome c.absorb.new.self told sums c.if-total.false in
     let last : length c.in-Ok.bounds.items - 1 < length c.in-Ok.bounds.items = omega (arith, c.in-Ok.ensures.bounds.pieces) in
-    let len = length-map (part_of c.args.entries.now c.args.start c.args.end) (index_entry c.args.backing.now) in
+    let len = length-map (part_of c.args.considered.now.entries.now c.args.considered.now.start c.args.considered.now.end) (index_entry c.args.considered.now.backing.now) in
     let items = c.in-Ok.bounds.items in
     let count : c.len-in-loop-at.result ≡ length items = omega (arith, c.len-in-loop-at.ensures, c.in-Ok.bounds.ok.0) in
     let here : c.index-at.result.now ≡ end_of items = c.index-at.ensures ∙ ap (λ (n : ℕ). slice_index_or items (n - 1) c.index-at.result.now) count ∙ get_or_default items (length items - 1) c.index-at.result.now 0 last in
-    let way = subst (λ n. IsUnderWay q tells c.args.start es 0 c.args.entries.now c.args.backing.now n c.absorb.new.self (visits c.args.collector.now) (visits c.tell_round.new.collector)) (ap end_of slice) more in
+    let way = subst (λ n. IsUnderWay q tells c.args.considered.now.start es 0 c.args.considered.now.entries.now c.args.considered.now.backing.now n c.absorb.new.self (visits c.args.collector.now) (visits c.tell_round.new.collector)) (ap end_of slice) more in
     rw here (record {
       way = way;
       cut = c.in-Ok.ensures.bounds.cuts (length c.in-Ok.bounds.items - 1) 0 last;
@@ -178,10 +174,10 @@ returns g c =
     let q = g.D.Decide.query c.args.decide.now in
     let tells = g.D.Decide.tells c.args.decide.now in
     let visits = g.V.VisitEntry.visits in
-    let es = index_entries c.args.backing.now (part_of c.args.entries.now c.args.start c.args.end) in
-    let same = map-part (index_entry c.args.backing.now) c.args.entries.now c.args.start c.args.end in
+    let es = index_entries c.args.considered.now.backing.now (part_of c.args.considered.now.entries.now c.args.considered.now.start c.args.considered.now.end) in
+    let same = map-part (index_entry c.args.considered.now.backing.now) c.args.considered.now.entries.now c.args.considered.now.start c.args.considered.now.end in
     let interruptible = is_some c.args.workers.now.interrupt in
     let way = c.loop-at.invariant.way in
-    let len = length-map (part_of c.args.entries.now c.args.start c.args.end) (index_entry c.args.backing.now) in
+    let len = length-map (part_of c.args.considered.now.entries.now c.args.considered.now.start c.args.considered.now.end) (index_entry c.args.considered.now.backing.now) in
     let whole : c.loop-at.at ≡ length es = omega (arith, c.loop-at.invariant.inside, c.loop-at-test.false, len) in
-    rw (← same) (way_end q tells c.args.start es c.args.entries.now c.args.backing.now 0 interruptible c.args.workers.now.most c.loop-at.at (length es) c.loop-at.total (visits c.args.collector.now) (visits c.loop-at.collector) whole way)
+    rw (← same) (way_end q tells c.args.considered.now.start es c.args.considered.now.entries.now c.args.considered.now.backing.now 0 interruptible c.args.workers.now.most c.loop-at.at (length es) c.loop-at.total (visits c.args.collector.now) (visits c.loop-at.collector) whole way)
