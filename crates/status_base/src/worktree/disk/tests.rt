@@ -62,20 +62,37 @@ fn link_fault<W: Worktree>(worktree: &W, path: &[u8], buffer: &mut Vec<u8>) -> O
 }
 
 #[test]
-fn nodes_are_told(rt: HostRuntime) -> Result<(), Fail> {
-    let alloc = rt.alloc();
-    let folder = new_folder(&rt, "nodes_are_told", process::id(rt.process()))?;
+fn stamps_are_told(rt: HostRuntime) -> Result<(), Fail> {
+    let folder = new_folder(&rt, "stamps_are_told", process::id(rt.process()))?;
     let root = folder.as_str();
+    let first = Duration::from_secs(5) + Duration::from_nanos(7);
     let last = Duration::from_secs(4294967295);
-    write_at(
-        &rt,
-        root,
-        "a",
-        "foo",
-        Duration::from_secs(5) + Duration::from_nanos(7),
-    )?;
+    write_at(&rt, root, "a", "foo", first)?;
     write_at(&rt, root, "late", "", last)?;
     write_at(&rt, root, "later", "", last + Duration::from_secs(1))?;
+
+    let worktree = DiskWorktree::new(&rt, Path::new(root))?;
+    let stamps = |path: &[u8]| {
+        let found = worktree.lstat(BStr::new(path));
+        found.map(|found| (found.mtime, found.ctime))
+    };
+    let early = Some(Time { secs: 5, nsecs: 7 });
+    assert_eq!(rt; stamps(b"a"), Ok((early, early)));
+    let late = Some(Time {
+        secs: 4294967295,
+        nsecs: 0,
+    });
+    assert_eq!(rt; stamps(b"late"), Ok((late, late)));
+    assert_eq!(rt; stamps(b"later"), Ok((None, None)));
+    fs::remove_dir_all(&rt, root)?;
+    Ok(())
+}
+
+#[test]
+fn nodes_are_told(rt: HostRuntime) -> Result<(), Fail> {
+    let folder = new_folder(&rt, "nodes_are_told", process::id(rt.process()))?;
+    let root = folder.as_str();
+    write_at(&rt, root, "a", "foo", Duration::from_secs(5))?;
     let path = within(&rt, root, "a")?;
     fs::set_permissions(&rt, path.as_str(), Permissions::from_mode(0o755))?;
     symlink(&rt, "a", within(&rt, root, "l")?)?;
@@ -84,7 +101,7 @@ fn nodes_are_told(rt: HostRuntime) -> Result<(), Fail> {
     fs::write(&rt, within(&rt, root, name)?, "x")?;
 
     let worktree = DiskWorktree::new(&rt, Path::new(root))?;
-    let changed = Some(Time { secs: 5, nsecs: 7 });
+    let changed = Some(Time { secs: 5, nsecs: 0 });
     let file = Metadata {
         kind: NodeKind::File,
         len: 3,
@@ -97,17 +114,6 @@ fn nodes_are_told(rt: HostRuntime) -> Result<(), Fail> {
         gid: 0,
     };
     assert_eq!(rt; worktree.lstat(BStr::new(b"a")), Ok(file));
-    let late = worktree.lstat(BStr::new(b"late"));
-    let known = Some(Time {
-        secs: 4294967295,
-        nsecs: 0,
-    });
-    assert_eq!(rt; late.map(|found| found.mtime), Ok(known));
-    let later = worktree.lstat(BStr::new(b"later"));
-    assert_eq!(rt;
-        later.map(|found| (found.mtime, found.ctime)),
-        Ok((None, None))
-    );
     assert_eq!(rt; kind_and_len(&worktree, b"l"), Ok((NodeKind::Link, 1)));
     let directory = worktree.lstat(BStr::new(b"d"));
     assert_eq!(rt; directory.map(|found| found.kind), Ok(NodeKind::Directory));
@@ -118,7 +124,7 @@ fn nodes_are_told(rt: HostRuntime) -> Result<(), Fail> {
     let devices = DiskWorktree::new(&rt, Path::new("/dev"))?;
     let null = devices.lstat(BStr::new(b"null"));
     assert_eq!(rt; null.map(|found| found.kind), Ok(NodeKind::Other));
-    let mut target = Vec::from_slice(alloc, b"before")?;
+    let mut target = Vec::from_slice(rt.alloc(), b"before")?;
     assert_eq!(rt; worktree.read_link(BStr::new(b"l"), &mut target), Ok(()));
     assert_eq!(rt; target.as_slice(), b"a".as_slice());
     fs::remove_dir_all(&rt, root)?;
