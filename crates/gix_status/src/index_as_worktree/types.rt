@@ -117,8 +117,8 @@ impl Default for Capabilities {
 pub struct Options {
     /// What the file system can keep.
     pub fs: Capabilities,
-    /// The greatest number of workers. None or 0 mean 4; there are never more than 64. A single one is the caller, with no
-    /// thread.
+    /// The greatest number of workers. None or 0 mean 4; there are never more than 64. One of them is the caller; each other
+    /// one takes a thread.
     pub thread_limit: Option<usize>,
     /// Which parts of stats have to be equal.
     pub stat: stat::Options,

@@ -15,7 +15,7 @@ const WORKERS: usize = 4;
 pub(crate) struct Workers<'a> {
     /// How many there are at most.
     pub(crate) most: usize,
-    /// The bytes of each one's stack, or None for the usual ones.
+    /// The bytes of the stack of each one's thread, or None for the usual ones.
     pub(crate) stack_size: Option<usize>,
     /// The flag that they look at.
     pub(crate) interrupt: Option<&'a AtomicBool>,
