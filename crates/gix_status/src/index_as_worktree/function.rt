@@ -52,8 +52,8 @@ fn chunk_size_of(options: &Options) -> usize {
 /// stat into the index or sets a size to zero, and then gives the index a later timestamp.
 ///
 /// The work is shared by as many workers as the options' thread limit has it: one in the caller's thread, each other one in
-/// a thread that has ended when the call returns. Where the context's interrupt flag is seen set, the call ends early, and the outcome says so: it then counts
-/// the first of the considered entries, whose records were told.
+/// a thread that has ended when the call returns. Where the context's interrupt flag is seen set, the call ends early, and
+/// the outcome says so: it then counts the first of the considered entries, whose records were told.
 ///
 /// # Errors
 /// The fault of the first entry that has one, once the collector was told the records before it. A refused thread, or want
