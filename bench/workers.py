@@ -4,8 +4,8 @@
     python3 bench/workers.py crates/status_program/out/status_program PROFILE [--runs 7]
 
 For each limit and chunk size it prints the least wall time and the least processor time of the runs, in milliseconds,
-without those of a run over the same profile in which each entry is flagged and so skipped: that leaves out the reading of
-the profile. The runs of all settings are taken in turns.
+without those of a run over the same profile with a prefix that no path has, so that each entry is left out: that is the
+reading of the profile and the walk over the index. The runs of all settings are taken in turns.
 """
 
 import argparse
@@ -20,11 +20,9 @@ import time
 SETTINGS = [(limit, chunk) for chunk in (500, 1) for limit in (1, 2, 4)]
 
 
-def variant(profile, folder, name, limit, chunk, flagged=False):
+def variant(profile, folder, name, **options):
     """The path of the profile with these options."""
-    changed = dict(profile, options=dict(profile.get("options", {}), thread_limit=limit, chunk_size=chunk))
-    if flagged:
-        changed["index"] = [dict(entry, flags=["assume-valid"]) for entry in profile["index"]]
+    changed = dict(profile, options=dict(profile.get("options", {}), **options))
     path = os.path.join(folder, f"{name}.json")
     with open(path, "w", encoding="utf-8") as out:
         json.dump(changed, out)
@@ -55,8 +53,11 @@ def main():
     with open(asked.profile, encoding="utf-8") as text:
         profile = json.load(text)
     with tempfile.TemporaryDirectory() as folder:
-        paths = {key: variant(profile, folder, f"{key[0]}_{key[1]}", *key) for key in SETTINGS}
-        paths["none"] = variant(profile, folder, "none", 1, 500, flagged=True)
+        paths = {
+            (limit, chunk): variant(profile, folder, f"{limit}_{chunk}", thread_limit=limit, chunk_size=chunk)
+            for limit, chunk in SETTINGS
+        }
+        paths["none"] = variant(profile, folder, "none", thread_limit=1, chunk_size=500, prefix="no path/")
         least = dict.fromkeys(paths, (float("inf"), float("inf")))
         for _ in range(asked.runs):
             for key, path in paths.items():
