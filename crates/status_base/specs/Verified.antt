@@ -63,14 +63,14 @@ pub record IsNormal (path : List ℕ) : Type 0 where
   pub even : odd_component path ≡ None
 
 -- a check after a query: one for a path that isn't normal leaves it as it was
-pub record IsAfterQuery (tells : Bool) (lstat : List ℕ → Result Metadata Fault) (query : List ℕ) (old new : CheckState) : Type 0 where
+pub record IsAfterQuery (modelled : Bool) (lstat : List ℕ → Result Metadata Fault) (query : List ℕ) (old new : CheckState) : Type 0 where
   pub root : new.root ≡ old.root
-  pub clear : IsTrue tells → IsClear lstat old.path → IsClear lstat new.path
+  pub clear : IsTrue modelled → IsClear lstat old.path → IsClear lstat new.path
   pub looks : old.looks ≤ new.looks
   pub few : new.looks ≤ old.looks + length (directories query)
-  pub unasked : (IsNormal query → ⊥) → new ≡ old
+  pub unlooked : (IsNormal query → ⊥) → new ≡ old
 
 -- a check after a query that was answered by its path only where each directory above is open
-pub record IsAfterVerified {A E : Type 0} (tells : Bool) (lstat : List ℕ → Result Metadata Fault) (query : List ℕ) (result : Result A E) (old new : CheckState) : Type 0 where
+pub record IsAfterVerified {A E : Type 0} (modelled : Bool) (lstat : List ℕ → Result Metadata Fault) (query : List ℕ) (result : Result A E) (old new : CheckState) : Type 0 where
   pub path : OnOk result (new.path ≡ query)
-  pub after : IsAfterQuery tells lstat query old new
+  pub after : IsAfterQuery modelled lstat query old new

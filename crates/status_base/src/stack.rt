@@ -84,13 +84,13 @@ impl SymlinkCheck {
         worktree: &W,
         path: BStr<'p>,
     ) -> Result<BStr<'s>, StackError<'p>>
-        ensures answer { IsTrue (W.tells worktree.now) → IsClear (W.lstat_of worktree.now) self.old.path
+        ensures answer { IsTrue (W.modelled worktree.now) → IsClear (W.lstat_of worktree.now) self.old.path
             → IsVerified (link_check (W.lstat_of worktree.now) (bstr_bytes path.entry)) (joined self.old.root (bstr_bytes path.entry)) result }
         ensures named { IfErr result (IsNamed (bstr_bytes path.entry)) }
         ensures normal { OnOk result (IsNormal (bstr_bytes path.entry)) }
         ensures joined { IfOk result (λ answer. bstr_bytes answer ≡ joined self.old.root (bstr_bytes path.entry)) }
         ensures* rests { sem 𝓛 (Rests the_row self.entry
-            (IsAfterVerified (W.tells worktree.now) (W.lstat_of worktree.now) (bstr_bytes path.entry) result self.old)) }
+            (IsAfterVerified (W.modelled worktree.now) (W.lstat_of worktree.now) (bstr_bytes path.entry) result self.old)) }
     {
         match self.parts.verify(worktree, path.as_bytes()) {
             Ok(()) => Ok(BStr::new(self.parts.buffer.as_slice())),
@@ -107,7 +107,7 @@ impl SymlinkCheck {
         worktree: &W,
         path: BStr<'p>,
     ) -> Result<BStr<'s>, StackError<'p>>
-        ensures answer { IsTrue (W.tells worktree.now) → IsClear (W.lstat_of worktree.now) self.old.path
+        ensures answer { IsTrue (W.modelled worktree.now) → IsClear (W.lstat_of worktree.now) self.old.path
             → IsVerified (accepting_absent (link_check (W.lstat_of worktree.now) (bstr_bytes path.entry)))
             (joined self.old.root (bstr_bytes path.entry)) result }
         ensures named { IfErr result (IsNamed (bstr_bytes path.entry)) }
@@ -115,7 +115,7 @@ impl SymlinkCheck {
         ensures joined { IfOk result (λ answer. bstr_bytes answer ≡ joined self.old.root (bstr_bytes path.entry)) }
         ensures present { IfErr result (λ e. e ≢ errors.Fault NotFound) }
         ensures* rests { sem 𝓛 (Rests the_row self.entry
-            (IsAfterQuery (W.tells worktree.now) (W.lstat_of worktree.now) (bstr_bytes path.entry) self.old)) }
+            (IsAfterQuery (W.modelled worktree.now) (W.lstat_of worktree.now) (bstr_bytes path.entry) self.old)) }
     {
         match self.parts.verify(worktree, path.as_bytes()) {
             Ok(()) => Ok(BStr::new(self.parts.buffer.as_slice())),
@@ -158,12 +158,12 @@ impl Parts {
         worktree: &W,
         path: &'p [u8],
     ) -> Result<(), StackError<'p>>
-        ensures answer { IsTrue (W.tells worktree.now) → IsChecked (link_check (W.lstat_of worktree.now) path.now) result }
+        ensures answer { IsTrue (W.modelled worktree.now) → IsChecked (link_check (W.lstat_of worktree.now) path.now) result }
         ensures named { IfErr result (IsNamed path.now) }
         ensures normal { OnReached result (IsNormal path.now) }
         ensures joined { OnReached result (self.new.buffer.items ≡ joined (bstring_bytes self.old.root) path.now) }
         ensures tested { OnOk result ((state_of self.new).path ≡ path.now) }
-        ensures after { IsAfterQuery (W.tells worktree.now) (W.lstat_of worktree.now) path.now (state_of self.old) (state_of self.new) }
+        ensures after { IsAfterQuery (W.modelled worktree.now) (W.lstat_of worktree.now) path.now (state_of self.old) (state_of self.new) }
     {
         if path.is_empty() {
             return Err(StackError::EmptyPath);
@@ -217,7 +217,7 @@ struct Stop<'p> {
 
 /// The leftmost proper directory prefix of a path that is a link or has a fault. Each `lstat` is counted.
 fn first_barrier<'p, W: Worktree>(worktree: &W, path: &'p [u8], looks: &mut u64) -> Option<Stop<'p>>
-    ensures way { IsTrue (W.tells worktree.now) → IsWay (W.lstat_of worktree.now) path.now result }
+    ensures way { IsTrue (W.modelled worktree.now) → IsWay (W.lstat_of worktree.now) path.now result }
     ensures stop { IfSome result (IsStop path.now) }
     ensures looks { looks.old ≤ looks.new }
     ensures few { looks.new ≤ looks.old + length (directories path.now) }
@@ -235,7 +235,7 @@ fn first_barrier<'p, W: Worktree>(worktree: &W, path: &'p [u8], looks: &mut u64)
 
 /// What keeps paths from leading through a directory: a link there, or a fault.
 fn barrier<'p, W: Worktree>(worktree: &W, directory: &'p [u8]) -> Option<StackError<'p>>
-    ensures told { IsTrue (W.tells worktree.now) → IsBarrier directory.now (barrier_of (W.lstat_of worktree.now directory.now)) result }
+    ensures reported { IsTrue (W.modelled worktree.now) → IsBarrier directory.now (barrier_of (W.lstat_of worktree.now directory.now)) result }
     ensures of_directory { IfSome result (IsOfDirectory directory.now) }
 {
     let prefix = BStr::new(directory);

@@ -7,14 +7,15 @@ use Rattle.std.proofs.lemmas.Slice.Eq.{bytes_eq-Decides}
 use Rattle.status_index.specs.BlobId.{blob_id, id_kind, same_id, is_empty_blob}
 use Rattle.status_index.specs.Content.{Content}
 use Rattle.status_index.specs.StreamId.{first_bytes_id}
-use Rattle.status_index.specs.declared.entry.Entry.{Entry}
+use Rattle.status_index.specs.Entries.{IndexEntry}
 use Rattle.status_index.specs.declared.id.HashKind.{HashKind}
 use Rattle.status_index.specs.declared.id.HashKind.TheVariants.{Sha1, Sha256}
 use Rattle.status_index.specs.declared.id.ObjectId.{ObjectId}
 use Rattle.status_index.specs.declared.id.ObjectId.TheVariants.{Sha1 as Sha1Id, Sha256 as Sha256Id}
 use Rattle.status_compare.specs.declared.error.Error.{Error}
 use Rattle.status_compare.specs.Comparers.{changed_id, hash_answer, size_decides, answer_without_id}
-use Rattle.status_compare.specs.FastAgrees.{FastAgrees, HasOwnId, IsKeptSize, plain_reading, tells_change}
+use Rattle.status_compare.specs.FastAgrees.{FastAgrees, HasOwnId, IsKeptSize, IsWholly, reports_change}
+use Rattle.status_compare.specs.Reading.{Reading, fails, streams, target}
 
 -- ids that pass the test are one
 same_id_is : (a b : ObjectId) → same_id a b ≡ true → a ≡ b
@@ -32,12 +33,12 @@ first_of_all : (kind : HashKind) (content : Content) → first_bytes_id kind con
 first_of_all kind content = rw (le-ltb (length content.bytes) (length content.bytes) (omega arith), take-length content.bytes)
 
 -- another id is a change
-tells_by_test : (same : Bool) (new : ObjectId) → (same ≡ true → ⊥) → tells_change {A = ObjectId} (Ok (if same then None else Some new)) ≡ true
-tells_by_test true new other = absurd (other refl)
-tells_by_test false new other = refl
+reports_by_test : (same : Bool) (new : ObjectId) → (same ≡ true → ⊥) → reports_change {A = ObjectId} (Ok (if same then None else Some new)) ≡ true
+reports_by_test true new other = absurd (other refl)
+reports_by_test false new other = refl
 
 -- where sizes decide, it is enough that ids tell a change
-agree_by_test : (decides : Bool) (answer : Result (Option ObjectId) Error) → (decides ≡ true → tells_change answer ≡ true) → tells_change (if decides then Ok (Some tt) else answer_without_id answer) ≡ tells_change answer
+agree_by_test : (decides : Bool) (answer : Result (Option ObjectId) Error) → (decides ≡ true → reports_change answer ≡ true) → reports_change (if decides then Ok (Some tt) else answer_without_id answer) ≡ reports_change answer
 agree_by_test true answer h = sym (h refl)
 agree_by_test false (Ok (Some _)) h = refl
 agree_by_test false (Ok None) h = refl
@@ -61,7 +62,7 @@ size_kept size staged bytes (inl kept) same empty = kept ∙ ap (λ xs. length x
 size_kept size staged bytes (inr zero) same empty = zero ∙ ap (λ xs. length xs % 2 ^ 32) (sym (empty zero) ∙ same)
 
 -- where sizes decide, the file's id is another
-other_id : (entry : Entry) (kind : HashKind) (staged bytes : List ℕ) → entry.id ≡ blob_id kind staged →
+other_id : (entry : IndexEntry) (kind : HashKind) (staged bytes : List ℕ) → entry.id ≡ blob_id kind staged →
     IsKeptSize entry.stat.size staged → HasOwnId kind staged bytes → HasOwnId kind staged [] →
     size_decides entry (length bytes) ≡ true → same_id entry.id (blob_id kind bytes) ≡ true → ⊥
 other_id entry kind staged bytes id kept own own_empty decides same =
@@ -69,15 +70,20 @@ other_id entry kind staged bytes id kept own own_empty decides same =
     let one : staged ≡ bytes = own (sym id ∙ same_id_is _ _ same) in
     parts.0 (size_kept entry.stat.size staged bytes kept one (λ zero. staged_empty entry.id kind staged id own_empty (parts.1 zero)))
 
--- the comparison by ids, of a file that delivers as many bytes as its length
-hash_of_plain : (entry : Entry) (kind : HashKind) (staged : List ℕ) (content : Content) → entry.id ≡ blob_id kind staged → hash_answer entry (plain_reading content) ≡ Ok (changed_id entry.id (blob_id kind content.bytes))
-hash_of_plain entry kind staged content id =
+-- the comparison by ids of a whole file or link
+hash_of_whole : (entry : IndexEntry) (kind : HashKind) (staged bytes : List ℕ) (reading : Reading) → entry.id ≡ blob_id kind staged →
+    IsWholly bytes reading → hash_answer entry reading ≡ Ok (changed_id entry.id (blob_id kind bytes))
+hash_of_whole entry kind staged bytes (streams content size) id whole =
     let one : id_kind entry.id ≡ kind = ap id_kind id ∙ kind_of_blob kind staged in
-    rw (one, first_of_all kind content)
+    rw (whole.1, sym whole.0, one, first_of_all kind content)
+hash_of_whole entry kind staged bytes (target t) id whole =
+    let one : id_kind entry.id ≡ kind = ap id_kind id ∙ kind_of_blob kind staged in
+    rw (whole, one)
+hash_of_whole entry kind staged bytes (fails e) id whole = absurd whole
 
-pub agrees : (entry : Entry) → FastAgrees entry
-agrees entry kind staged content id kept own own_empty =
-    agree_by_test (size_decides entry (length content.bytes)) (hash_answer entry (plain_reading content)) (λ decides.
-    ap tells_change (hash_of_plain entry kind staged content id)
-    ∙ tells_by_test (same_id entry.id (blob_id kind content.bytes)) (blob_id kind content.bytes)
-    (other_id entry kind staged content.bytes id kept own own_empty decides))
+pub agrees : (entry : IndexEntry) → FastAgrees entry
+agrees entry kind staged bytes reading id kept whole own own_empty =
+    agree_by_test (size_decides entry (length bytes)) (hash_answer entry reading) (λ decides.
+    ap reports_change (hash_of_whole entry kind staged bytes reading id whole)
+    ∙ reports_by_test (same_id entry.id (blob_id kind bytes)) (blob_id kind bytes)
+    (other_id entry kind staged bytes id kept own own_empty decides))

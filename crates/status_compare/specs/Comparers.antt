@@ -2,13 +2,15 @@
 use Rattle.std.specs.Prelude.{ℕ, ◌%◌, ◌^◌, ◌==◌, Bool, not, ◌||◌, ◌&&◌, List, length, Option, Some, None, Result, Ok, Err, if◌then◌else◌}
 use Rattle.status_index.specs.BlobId.{id_kind, blob_id, same_id, is_empty_blob}
 use Rattle.status_index.specs.StreamId.{first_bytes_id}
-use Rattle.status_index.specs.declared.entry.Entry.{Entry}
+use Rattle.status_index.specs.Entries.{IndexEntry}
 use Rattle.status_index.specs.declared.fault.Fault.{Fault}
 use Rattle.status_index.specs.declared.id.HashKind.{HashKind}
 use Rattle.status_index.specs.declared.id.ObjectId.{ObjectId}
 use Rattle.status_compare.specs.declared.error.Error.{Error}
 use Rattle.status_compare.specs.Errors.{error_of}
-use Rattle.status_compare.specs.Reading.{Reading, fails, streams, target, ReadCounts, with_bytes, counts_at_stream}
+use Rattle.status_compare.specs.Reading.{Reading, fails, streams, target, counts_at_stream}
+use Rattle.status_compare.specs.Reads.{with_bytes}
+use Rattle.status_compare.specs.declared.reads.Reads.{Reads}
 
 -- a fault as a status tells it
 abbrev pub worktree_result : {A : Type 0} → Result A Fault → Result A Error
@@ -37,12 +39,12 @@ changed_result old (Ok new) = Ok (changed_id old new)
 changed_result old (Err e) = Err e
 
 -- comparison by ids: the reading's error, or a change where the id isn't the entry's
-abbrev pub hash_answer : Entry → Reading → Result (Option ObjectId) Error
+abbrev pub hash_answer : IndexEntry → Reading → Result (Option ObjectId) Error
 hash_answer entry reading = changed_result entry.id (reading_id (id_kind entry.id) reading)
 
 -- whether the sizes alone show a change: the entry's size isn't the low 32 bits of the file's length, and the entry
 -- isn't marked by size 0 (its id is the empty blob's, or its size isn't 0)
-abbrev pub size_decides : Entry → ℕ → Bool
+abbrev pub size_decides : IndexEntry → ℕ → Bool
 size_decides entry len = not (entry.stat.size == len % 2 ^ 32) && (is_empty_blob entry.id || not (entry.stat.size == 0))
 
 -- a change without its id
@@ -56,7 +58,7 @@ answer_without_id (Ok change) = Ok (without_id change)
 answer_without_id (Err e) = Err e
 
 -- comparison by sizes where these decide, else by ids
-abbrev pub fast_answer : Entry → ℕ → Reading → Result (Option (Unit {0})) Error
+abbrev pub fast_answer : IndexEntry → ℕ → Reading → Result (Option (Unit {0})) Error
 fast_answer entry len reading =
     if size_decides entry len then Ok (Some tt) else answer_without_id (hash_answer entry reading)
 
@@ -68,11 +70,11 @@ hashed_bytes (target bytes) = 0
 hashed_bytes (fails e) = 0
 
 -- the counts after a comparison by ids
-abbrev pub counts_after_hash : Reading → ReadCounts → ReadCounts
+abbrev pub counts_after_hash : Reading → Reads → Reads
 counts_after_hash (fails e) k = k
 counts_after_hash (streams content size) k = with_bytes (counts_at_stream (streams content size) k) (hashed_bytes (streams content size))
 counts_after_hash (target bytes) k = with_bytes (counts_at_stream (target bytes) k) (hashed_bytes (target bytes))
 
 -- the counts after a comparison by sizes where these decide: nothing is read
-abbrev pub counts_after_fast : Entry → ℕ → Reading → ReadCounts → ReadCounts
+abbrev pub counts_after_fast : IndexEntry → ℕ → Reading → Reads → Reads
 counts_after_fast entry len reading k = if size_decides entry len then k else counts_after_hash reading k

@@ -5,6 +5,7 @@ pub mod Errors
 pub mod FastAgrees
 pub mod FaultKinds
 pub mod Reading
+pub mod Reads
 pub mod StreamCounts
 pub mod StreamIds
 pub mod Streams

@@ -1,13 +1,15 @@
 -- What a comparer can learn of an entry's file and blob, and what it counts.
 use Rattle.std.specs.Prelude.{◌≡◌, ◌⊎◌, ℕ, ◌+◌, Bool, true, false, List, length, Option, Some, None, Result, Ok, Err}
-use Rattle.status_index.specs.Content.{Content, saturate}
+use Rattle.status_index.specs.Content.{Content}
 use Rattle.status_index.specs.declared.fault.Fault.{Fault}
 use Rattle.status_base.specs.Converted.{Converted, refused, same, other}
 use Rattle.status_base.specs.declared.worktree.objects.FindError.{FindError}
 use Rattle.status_compare.specs.declared.error.Error.{Error}
 use Rattle.status_compare.specs.declared.error.Error.TheVariants.{Memory}
+use Rattle.status_compare.specs.declared.reads.Reads.{Reads}
 use Rattle.status_compare.specs.declared.stream.Stream.{Stream}
 use Rattle.status_compare.specs.Errors.{error_of, find_error_of}
+use Rattle.status_compare.specs.Reads.{with_bytes, with_file}
 use Rattle.status_compare.specs.Streams.{whole, stream_left, stream_taken}
 
 -- what comes of reading an entry's file: an error; bytes, then the end or a fault, with or without a known size; or a
@@ -22,27 +24,8 @@ pub record Meaning : Type 0 where
   pub file : Reading
   pub blob : Result (List ℕ) Error
 
--- how much was read: bytes of files, files, bytes of blobs, blobs
-pub record ReadCounts : Type 0 where
-  pub bytes : ℕ
-  pub files : ℕ
-  pub object_bytes : ℕ
-  pub objects : ℕ
-
-abbrev pub no_reads : ReadCounts
-no_reads = record { bytes = 0; files = 0; object_bytes = 0; objects = 0 }
-
-abbrev pub with_bytes : ReadCounts → ℕ → ReadCounts
-with_bytes k n = record k { bytes = saturate (k.bytes + n) }
-
-abbrev pub with_file : ReadCounts → ReadCounts
-with_file k = record k { files = saturate (k.files + 1) }
-
-abbrev pub with_object : ReadCounts → ℕ → ReadCounts
-with_object k n = record k { object_bytes = saturate (k.object_bytes + n); objects = saturate (k.objects + 1) }
-
 -- what making a stream counts: one file, and a link's target at once
-abbrev pub counts_at_stream : Reading → ReadCounts → ReadCounts
+abbrev pub counts_at_stream : Reading → Reads → Reads
 counts_at_stream (fails e) k = k
 counts_at_stream (streams content size) k = with_file k
 counts_at_stream (target bytes) k = with_file (with_bytes k (length bytes))

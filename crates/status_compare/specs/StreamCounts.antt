@@ -19,5 +19,5 @@ count_or_none true n = n
 count_or_none false n = 0
 
 -- how many bytes a stream tells that it counted
-abbrev pub count_told : {F : Type 0} → Stream F → ℕ
-count_told s = count_or_none s.counts s.counted
+abbrev pub count_reported : {F : Type 0} → Stream F → ℕ
+count_reported s = count_or_none s.counts s.counted

@@ -1,9 +1,10 @@
 //! Comparison of a worktree's file with an entry's blob.
 
-ghost use Rattle.std.specs.Prelude.{◌≡◌, ℕ, Option, None, Result, IfSome, OnOk};
-ghost use Rattle.status_index.specs.declared.entry.Entry.{Entry as IndexedEntry};
+ghost use Rattle.std.specs.Prelude.{◌≡◌, ℕ, List, Option, None, Result, IfSome, OnOk};
+ghost use Rattle.status_index.specs.Entries.{IndexEntry, entry_at};
 ghost use Rattle.status_compare.specs.declared.error.Error.{Error as StatusError};
-ghost use Rattle.status_compare.specs.Reading.{Meaning, ReadCounts, IsMeant};
+ghost use Rattle.status_compare.specs.Reading.{Meaning, IsMeant};
+ghost use Rattle.status_compare.specs.declared.reads.Reads.{Reads};
 ghost use Rattle.status_base.specs.Lawful.{CloneKeeps};
 
 use crate::error::Error;
@@ -13,17 +14,16 @@ use std::alloc::Global;
 
 /// Compares a worktree's file with the blob that an index entry names.
 pub trait CompareBlobs: Clone {
-    /// What is told of a change.
+    /// What is reported of a change.
     type Output: Drop;
 
-    /// The answer, by entry, the file's length, and what there is to be read.
-    ghost answer: { Self → IndexedEntry → ℕ → Meaning → Result (Option Self.Output) StatusError };
+    /// The answer, by what the index says of the entry, the file's length, and what there is to be read.
+    ghost answer: { Self → IndexEntry → ℕ → Meaning → Result (Option Self.Output) StatusError };
 
-    /// How much was read in all after an answer, by how much was read before. None for a comparer that doesn't tell.
-    ghost counts_after: { Self → IndexedEntry → ℕ → Meaning → ReadCounts → Option ReadCounts } = { λ _ _ _ _ _. None };
+    /// How much was read in all after an answer, by how much was read before. None where that isn't modelled.
+    ghost counts_after: { Self → IndexEntry → ℕ → Meaning → Reads → Option Reads } = { λ _ _ _ _ _. None };
 
-    /// Compares the file with the blob of `entry`: None where they are the same. `size` is the file's length as the
-    /// worktree tells it, `data` reads file and blob, and `buffer` may be used for either.
+    /// Compares the file with the blob of `entry`: None where they are the same. `size` is the file's length by `lstat`, `data` reads file and blob, and `buffer` may be used for either.
     ///
     /// # Errors
     /// An error of reading.
@@ -35,10 +35,11 @@ pub trait CompareBlobs: Clone {
         data: &mut R,
         buffer: &mut Vec<u8>,
     ) -> Result<Option<Self::Output>, Error>
-        ensures answer { IfSome (R.means «data».old) (λ m. IsMeant (answer self.old entry.now size m) result) }
+        ensures answer { (path : List ℕ) → IfSome (R.means «data».old) (λ m. IsMeant (answer self.old (entry_at path entry.now) size m) result) }
         ensures same_answer { answer self.new ≡ answer self.old }
         ensures same_counts { counts_after self.new ≡ counts_after self.old }
-        ensures counts { OnOk result (IfSome (R.means «data».old) (λ m. IfSome (counts_after self.old entry.now size m (R.counts «data».old)) (λ k. R.counts «data».new ≡ k))) };
+        ensures counts { (path : List ℕ) → OnOk result (IfSome (R.means «data».old) (λ m.
+            IfSome (counts_after self.old (entry_at path entry.now) size m (R.counts «data».old)) (λ k. R.counts «data».new ≡ k))) };
 
     /// A clone answers the same.
     ghost clone_keeps_answer: { CloneKeeps Self.is_clone answer };

@@ -2,61 +2,17 @@
 
 ghost use Rattle.std.specs.Prelude.{◌≡◌, ◌∷◌, IsTrue, Some, None, length, if◌then◌else◌, OnOk, OnErr};
 ghost use Rattle.bstr.specs.BStr.{bstr_bytes};
-ghost use Rattle.status_compare.specs.EntryMeaning.{entry_meaning, counts_of};
-ghost use Rattle.status_compare.specs.Reading.{IsReading, target_reading, file_reading, no_reads, with_bytes, with_file, with_object, counts_at_stream};
+ghost use Rattle.status_compare.specs.EntryMeaning.{entry_meaning, if_modelled};
+ghost use Rattle.status_compare.specs.Reads.{no_reads, with_file};
+ghost use Rattle.status_compare.specs.Reading.{IsReading, target_reading, file_reading, counts_at_stream};
 
 use crate::error::Error;
 use crate::read_data::ReadData;
+use crate::reads::Reads;
 use crate::stream::Stream;
 use bstr::BStr;
 use status_base::index::ObjectId;
 use status_base::worktree::{Find, ToGit, ToGitOutcome, Worktree};
-
-/// How much was read. Each number stops growing at its type's greatest.
-#[derive(Clone, Copy, Debug, Default, PartialEq, Eq)]
-pub struct Reads {
-    /// The bytes of worktree files and links.
-    pub bytes: u64,
-    /// The worktree files and links.
-    pub files: usize,
-    /// The bytes of blobs.
-    pub object_bytes: u64,
-    /// The blobs.
-    pub objects: usize,
-}
-
-impl Reads {
-    // Nothing was read.
-    fn none() -> Reads
-        ensures { counts_of result ≡ no_reads }
-    {
-        Reads {
-            bytes: 0,
-            files: 0,
-            object_bytes: 0,
-            objects: 0,
-        }
-    }
-
-    fn add_bytes(&mut self, bytes: u64)
-        ensures { counts_of self.new ≡ with_bytes (counts_of self.old) bytes }
-    {
-        self.bytes = self.bytes.saturating_add(bytes);
-    }
-
-    fn add_file(&mut self)
-        ensures { counts_of self.new ≡ with_file (counts_of self.old) }
-    {
-        self.files = self.files.saturating_add(1);
-    }
-
-    fn add_object(&mut self, bytes: u64)
-        ensures { counts_of self.new ≡ with_object (counts_of self.old) bytes }
-    {
-        self.object_bytes = self.object_bytes.saturating_add(bytes);
-        self.objects = self.objects.saturating_add(1);
-    }
-}
 
 /// Reads one entry's file, as git would store it, and its blob.
 #[derive(Drop)]
@@ -84,12 +40,11 @@ impl<'r, W: Worktree, T: ToGit, O: Find> EntryReader<'r, W, T, O> {
         len: u64,
     ) -> EntryReader<'r, W, T, O>
         ensures means { ⟦<EntryReader<'r, W, T, O> as ReadData>⟧.means result
-            ≡ (if W.tells worktree.entry.now
-            then Some (entry_meaning is_link (λ c. T.conversion filter.entry.now c (bstr_bytes path.entry)) len
+            ≡ if_modelled (W.modelled worktree.entry.now) (O.modelled objects.entry.now)
+            (entry_meaning is_link (λ c. T.conversion filter.entry.now c (bstr_bytes path.entry)) len
             (W.open_of worktree.entry.now (bstr_bytes path.entry))
             (W.target_of worktree.entry.now (bstr_bytes path.entry))
-            (O.found objects.entry.now id))
-            else None) }
+            (O.found objects.entry.now id)) }
         ensures counts { ⟦<EntryReader<'r, W, T, O> as ReadData>⟧.counts result ≡ no_reads }
     {
         EntryReader {
@@ -106,16 +61,16 @@ impl<'r, W: Worktree, T: ToGit, O: Find> EntryReader<'r, W, T, O> {
 
     /// How much was read.
     pub fn reads(&self) -> Reads
-        ensures { counts_of result ≡ ⟦<EntryReader<'r, W, T, O> as ReadData>⟧.counts self.now }
+        ensures { result ≡ ⟦<EntryReader<'r, W, T, O> as ReadData>⟧.counts self.now }
     {
         self.reads
     }
 
     // The target of the link, which is counted at once.
     fn stream_target<'a>(&mut self, buffer: &'a mut Vec<u8>) -> Result<Stream<'a, W::File>, Error>
-        ensures stream { IsTrue (W.tells self.old.worktree.now) → IsReading W.File.left (target_reading (W.target_of self.old.worktree.now (bstr_bytes self.old.path))) result }
+        ensures stream { IsTrue (W.modelled self.old.worktree.now) → IsReading W.File.left (target_reading (W.target_of self.old.worktree.now (bstr_bytes self.old.path))) result }
         ensures same { self.new ≡ record self.old { reads = self.new.reads } }
-        ensures counts { OnOk result (IsTrue (W.tells self.old.worktree.now) → counts_of self.new.reads ≡ counts_at_stream (target_reading (W.target_of self.old.worktree.now (bstr_bytes self.old.path))) (counts_of self.old.reads)) }
+        ensures counts { OnOk result (IsTrue (W.modelled self.old.worktree.now) → self.new.reads ≡ counts_at_stream (target_reading (W.target_of self.old.worktree.now (bstr_bytes self.old.path))) (self.old.reads)) }
         ensures uncounted { OnErr result (self.new.reads ≡ self.old.reads) }
     {
         self.worktree.read_link(self.path, buffer)?;
@@ -131,9 +86,9 @@ impl<'r, W: Worktree, T: ToGit, O: Find> EntryReader<'r, W, T, O> {
 
     // The file, converted. Its length is its size only where it is stored as it is.
     fn stream_file<'a>(&mut self, buffer: &'a mut Vec<u8>) -> Result<Stream<'a, W::File>, Error>
-        ensures stream { IsTrue (W.tells self.old.worktree.now) → IsReading W.File.left (file_reading (λ c. T.conversion self.old.filter.now c (bstr_bytes self.old.path)) self.old.len (W.open_of self.old.worktree.now (bstr_bytes self.old.path))) result }
+        ensures stream { IsTrue (W.modelled self.old.worktree.now) → IsReading W.File.left (file_reading (λ c. T.conversion self.old.filter.now c (bstr_bytes self.old.path)) self.old.len (W.open_of self.old.worktree.now (bstr_bytes self.old.path))) result }
         ensures same { self.new ≡ record self.old { reads = self.new.reads } }
-        ensures counts { OnOk result (counts_of self.new.reads ≡ with_file (counts_of self.old.reads)) }
+        ensures counts { OnOk result (self.new.reads ≡ with_file (self.old.reads)) }
         ensures uncounted { OnErr result (self.new.reads ≡ self.old.reads) }
     {
         let file = self.worktree.open(self.path)?;
@@ -150,14 +105,13 @@ impl<'r, W: Worktree, T: ToGit, O: Find> EntryReader<'r, W, T, O> {
 impl<'r, W: Worktree, T: ToGit, O: Find> ReadData for EntryReader<'r, W, T, O> {
     type File = W::File;
 
-    ghost means = { λ r. if W.tells r.worktree.now
-        then Some (entry_meaning r.is_link (λ c. T.conversion r.filter.now c (bstr_bytes r.path)) r.len
+    ghost means = { λ r. if_modelled (W.modelled r.worktree.now) (O.modelled r.objects.now)
+        (entry_meaning r.is_link (λ c. T.conversion r.filter.now c (bstr_bytes r.path)) r.len
         (W.open_of r.worktree.now (bstr_bytes r.path))
         (W.target_of r.worktree.now (bstr_bytes r.path))
-        (O.found r.objects.now r.id))
-        else None };
+        (O.found r.objects.now r.id)) };
 
-    ghost counts = { λ r. counts_of r.reads };
+    ghost counts = { λ r. r.reads };
 
     fn read_blob<'a>(&mut self, buffer: &'a mut Vec<u8>) -> Result<&'a [u8], Error> {
         self.objects.find_blob(&self.id, buffer)?;

@@ -1,8 +1,8 @@
 //! Comparison by sizes where these decide, else by ids.
 
-ghost use Rattle.std.specs.Prelude.{◌≡◌, Some, refl};
+ghost use Rattle.std.specs.Prelude.{◌≡◌, ℕ, List, Some, refl};
 ghost use Rattle.status_compare.specs.Comparers.{fast_answer, counts_after_fast, size_decides};
-ghost use Rattle.status_compare.specs.FastAgrees.{FastAgrees};
+ghost use Rattle.status_index.specs.Entries.{entry_at};
 
 use crate::compare::CompareBlobs;
 use crate::error::Error;
@@ -46,15 +46,10 @@ impl CompareBlobs for FastEq {
 // Whether the sizes alone show a change. An entry keeps the low 32 bits of a length. One that was marked as not to be
 // trusted has size 0, which for the empty blob alone is a length.
 fn size_decides(entry: &Entry, size: u64) -> bool
-    ensures { result ≡ size_decides entry.now size }
+    ensures { (path : List ℕ) → result ≡ size_decides (entry_at path entry.now) size }
 {
     u64::from(entry.stat.size) != size % (1 << 32)
         && (entry.id.is_empty_blob() || entry.stat.size != 0)
 }
 
-/// A law: both comparisons tell a change of a file, or neither does. It holds where the file delivers as many bytes as its
-/// length, nothing converts it, the contents at hand have ids of their own, and the entry keeps its content's size or 0.
-#[tactic(auto, using(crate::proofs::Agree::agrees))]
-pub fn fast_agrees_with_hash(entry: &Entry)
-    ensures { FastAgrees entry.now }
-{}
+

@@ -1,7 +1,9 @@
 //! What a comparer may read.
 
 ghost use Rattle.std.specs.Prelude.{◌≡◌, Option, IfSome, IfOk, OnOk, OnErr, length};
-ghost use Rattle.status_compare.specs.Reading.{Meaning, ReadCounts, IsReading, counts_at_stream, with_bytes, with_object};
+ghost use Rattle.status_compare.specs.Reading.{Meaning, IsReading, counts_at_stream};
+ghost use Rattle.status_compare.specs.Reads.{with_bytes, with_object};
+ghost use Rattle.status_compare.specs.declared.reads.Reads.{Reads};
 ghost use Rattle.status_compare.specs.Blobs.{IsBlob};
 
 use crate::error::Error;
@@ -18,7 +20,7 @@ pub trait ReadData {
     ghost means: { Self → Option Meaning };
 
     /// How much was read.
-    ghost counts: { Self → ReadCounts };
+    ghost counts: { Self → Reads };
 
     /// The entry's blob, read into `buffer`.
     ///

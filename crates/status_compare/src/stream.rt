@@ -7,7 +7,7 @@ ghost use Rattle.std.specs.IoError.{error_kind};
 ghost use Rattle.status_index.specs.Content.{CountsRead};
 ghost use Rattle.status_index.specs.ReadAll.{ReadsAll};
 ghost use Rattle.status_compare.specs.FaultKinds.{kind_of, known_bytes, IsKindOf};
-ghost use Rattle.status_compare.specs.StreamCounts.{count_after, counted_with, count_told};
+ghost use Rattle.status_compare.specs.StreamCounts.{count_after, counted_with, count_reported};
 ghost use Rattle.status_compare.specs.Streams.{stream_left, stream_taken, outcome_buffer};
 
 use status_base::worktree::{Fault, ReadBytes, ToGitOutcome};
@@ -65,7 +65,7 @@ impl<'a, F> Stream<'a, F> {
 
     /// How many bytes the stream counted: 0 where it doesn't count.
     pub fn bytes(&self) -> u64
-        ensures { result ≡ count_told self.now }
+        ensures { result ≡ count_reported self.now }
     {
         if self.counts { self.counted } else { 0 }
     }

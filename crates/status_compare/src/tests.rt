@@ -49,7 +49,7 @@ struct Everywhere<'a>(Piece<'a>);
 impl<'a> Worktree for Everywhere<'a> {
     type File = Piece<'a>;
 
-    ghost tells = { λ _. false };
+    ghost modelled = { λ _. false };
 
     ghost lstat_of = { λ _ _. Err NotFound };
 
@@ -161,7 +161,7 @@ fn plain(bytes: &[u8], len: u64, size: u32) -> Case<'_> {
 }
 
 #[test]
-fn ids_tell_a_change_by_the_new_id(rt: HostRuntime) -> Result<(), Fail> {
+fn ids_report_a_change_by_the_new_id(rt: HostRuntime) -> Result<(), Fail> {
     let alloc = rt.alloc();
     let bars = Some(ObjectId::Sha1(BARS));
     assert_eq!(rt;

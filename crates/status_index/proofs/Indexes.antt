@@ -1,18 +1,18 @@
 -- Entries in whose place others stand, and what stays of an index then.
-use Rattle.std.proofs.Common.{refl, inl, inr, ◌≡◌, ℕ, ◌<◌, List, length, map, slice_index_or, slice_set, sym, ap, ◌∙◌, arith, length-set}
+use Rattle.std.proofs.Common.{refl, inl, inr, ◌≡◌, ℕ, ◌<◌, List, length, slice_index_or, slice_set, sym, ap, ◌∙◌, arith, length-set}
 use Rattle.std.proofs.lemmas.List.{length-map, get_or-map, get_or-set_same, get_or-set_other, map-set}
 use Rattle.std.proofs.lemmas.Bool.{cases_eq}
 use Rattle.status_index.specs.declared.entry.Entry.{Entry}
 use Rattle.status_index.specs.declared.entry.PathStorage.{PathStorage}
-use Rattle.status_index.specs.Entries.{Listed, IndexEntry, IsIndex, listed, index_entry, index_entries}
+use Rattle.status_index.specs.Entries.{IndexEntry, IsIndex, index_entry, index_entries}
 
 -- two entries that an index can't tell apart, but for stat and mode
-pub record IsAlike (a b : Listed) : Type 0 where
+pub record IsAlike (a b : IndexEntry) : Type 0 where
   pub path : b.path ≡ a.path
   pub id : b.id ≡ a.id
   pub flags : b.flags ≡ a.flags
 
-pub IsIndex-alike : (xs ys : List Listed) → length ys ≡ length xs → ((k : ℕ) (d : Listed) → k < length xs → IsAlike (slice_index_or xs k d) (slice_index_or ys k d)) → IsIndex xs → IsIndex ys
+pub IsIndex-alike : (xs ys : List IndexEntry) → length ys ≡ length xs → ((k : ℕ) (d : IndexEntry) → k < length xs → IsAlike (slice_index_or xs k d) (slice_index_or ys k d)) → IsIndex xs → IsIndex ys
 IsIndex-alike xs ys n same h = record {
   named = λ k d l.
       let m : k < length xs = omega arith in
@@ -30,17 +30,17 @@ IsIndex-alike xs ys n same h = record {
       rw (s.id, t.id) (h.one_kind i j d l n);
 }
 
-IsAlike-self : (a : Listed) → IsAlike a a
+IsAlike-self : (a : IndexEntry) → IsAlike a a
 IsAlike-self a = record { path = refl; id = refl; flags = refl }
 
-alike_at_set : (xs : List Listed) (i : ℕ) (y : Listed) → i < length xs → ((d : Listed) → IsAlike (slice_index_or xs i d) y) → (k : ℕ) (d : Listed) → k < length xs → IsAlike (slice_index_or xs k d) (slice_index_or (slice_set xs i y) k d)
+alike_at_set : (xs : List IndexEntry) (i : ℕ) (y : IndexEntry) → i < length xs → ((d : IndexEntry) → IsAlike (slice_index_or xs i d) y) → (k : ℕ) (d : IndexEntry) → k < length xs → IsAlike (slice_index_or xs k d) (slice_index_or (slice_set xs i y) k d)
 alike_at_set xs i y h same k d l =
     elim (cases_eq k i) [
       | inl e ↦ rw (e, get_or-set_same xs i y d h) (same d)
       | inr apart ↦ rw (get_or-set_other xs i k y d apart) (IsAlike-self (slice_index_or xs k d))
     ]
 
-pub IsIndex-set : (xs : List Listed) (i : ℕ) (y : Listed) → i < length xs → ((d : Listed) → IsAlike (slice_index_or xs i d) y) → IsIndex xs → IsIndex (slice_set xs i y)
+pub IsIndex-set : (xs : List IndexEntry) (i : ℕ) (y : IndexEntry) → i < length xs → ((d : IndexEntry) → IsAlike (slice_index_or xs i d) y) → IsIndex xs → IsIndex (slice_set xs i y)
 IsIndex-set xs i y l same h =
     IsIndex-alike xs (slice_set xs i y) (length-set xs i y) (alike_at_set xs i y l same) h
 
@@ -53,10 +53,8 @@ pub index_after : (b : PathStorage) (es : List Entry) (i : ℕ) (x y : Entry) (f
 index_after b es i x y f l e same d =
     map-set (index_entry b) es i y ∙ ap (slice_set (index_entries b es) i) (sym (ap f (index_entry_read b es i x l e d) ∙ same))
 
-pub IsIndex-after : (b : PathStorage) (es : List Entry) (i : ℕ) (x y : Entry) → i < length es → x ≡ slice_index_or es i x → IsAlike (listed (index_entry b x)) (listed (index_entry b y)) → IsIndex (map listed (index_entries b es)) → IsIndex (map listed (index_entries b (slice_set es i y)))
+pub IsIndex-after : (b : PathStorage) (es : List Entry) (i : ℕ) (x y : Entry) → i < length es → x ≡ slice_index_or es i x → IsAlike (index_entry b x) (index_entry b y) → IsIndex (index_entries b es) → IsIndex (index_entries b (slice_set es i y))
 IsIndex-after b es i x y l e same h =
-    let read : (d : Listed) → slice_index_or (map listed (index_entries b es)) i d ≡ listed (index_entry b x) = λ d.
-    get_or-map listed (index_entries b es) i (index_entry b x) d (omega (arith, length-map es (index_entry b))) ∙ ap listed (index_entry_read b es i x l e (index_entry b x)) in
-    let within : i < length (map listed (index_entries b es)) = omega (arith, length-map es (index_entry b), length-map (index_entries b es) listed) in
-    rw (map-set (index_entry b) es i y, map-set listed (index_entries b es) i (index_entry b y))
-    (IsIndex-set (map listed (index_entries b es)) i (listed (index_entry b y)) within (λ d. rw (read d) same) h)
+    let within : i < length (index_entries b es) = omega (arith, length-map es (index_entry b)) in
+    rw (map-set (index_entry b) es i y)
+    (IsIndex-set (index_entries b es) i (index_entry b y) within (λ d. rw (index_entry_read b es i x l e d) same) h)

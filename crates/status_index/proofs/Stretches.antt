@@ -1,14 +1,14 @@
 -- In an index, what begins with a prefix stands together.
-use Rattle.std.proofs.Common.{◌≡◌, refl, sym, ◌∙◌, ℕ, ◌+◌, ◌-◌, ◌<◌, ◌≤◌, ◌⊎◌, inl, inr, Bool, true, false, List, [], ◌∷◌, length, map, drop, slice_index_or, nat_eq, arith}
+use Rattle.std.proofs.Common.{◌≡◌, refl, sym, ◌∙◌, ℕ, ◌+◌, ◌-◌, ◌<◌, ◌≤◌, ◌⊎◌, inl, inr, Bool, true, false, List, [], ◌∷◌, length, drop, slice_index_or, nat_eq, arith}
 use Rattle.std.specs.List.{AllWithin, HoldsAt, starts_with}
 use Rattle.std.specs.Ordering.{nat_cmp, ordering_then, is_gt}
 use Rattle.std.specs.Cmp.Lexicographic.{slice_cmp}
 use Rattle.std.specs.declared.cmp.Ordering.{Ordering}
 use Rattle.std.specs.declared.cmp.Ordering.TheVariants.{Less, Equal, Greater}
-use Rattle.std.proofs.lemmas.List.{length-map, length-take, length-drop, get_or-map, get_or-take, get_or-drop}
+use Rattle.std.proofs.lemmas.List.{length-take, length-drop, get_or-take, get_or-drop}
 use Rattle.std.proofs.lemmas.Bool.{cases_eq}
 use Rattle.std.proofs.lemmas.Bool.Decides.{nat_tests}
-use Rattle.status_index.specs.Entries.{IndexEntry, IsIndex, listed}
+use Rattle.status_index.specs.Entries.{IndexEntry, IsIndex}
 use Rattle.status_index.specs.Stretch.{is_under, IsStretch}
 
 unless_true : (b : Bool) → (b ≡ true → ⊥) → b ≡ false
@@ -47,12 +47,11 @@ between (c ∷ p) (a ∷ x) (b ∷ y) (e ∷ z) below above first last =
     ]
 
 -- the same of three entries of an index
-between_entries : (es : List IndexEntry) (p : List ℕ) → IsIndex (map listed es) → (i j k : ℕ) (d : IndexEntry) → i < j → j < k → k < length es → is_under p (slice_index_or es i d) ≡ true → is_under p (slice_index_or es k d) ≡ true → is_under p (slice_index_or es j d) ≡ true
+between_entries : (es : List IndexEntry) (p : List ℕ) → IsIndex es → (i j k : ℕ) (d : IndexEntry) → i < j → j < k → k < length es → is_under p (slice_index_or es i d) ≡ true → is_under p (slice_index_or es k d) ≡ true → is_under p (slice_index_or es j d) ≡ true
 between_entries es p h i j k d l m n first last =
     let path = λ (i : ℕ). (slice_index_or es i d).path in
     let below : (i j : ℕ) → i < j → j < length es → is_gt (slice_cmp nat_cmp (path i) (path j)) ≡ false = λ i j l m.
-    let less = h.ascending i j (listed d) l (omega (arith, length-map es listed)) in
-    not_above _ _ (rw (get_or-map listed es i d (listed d) (omega arith), get_or-map listed es j d (listed d) m) at less) in
+    not_above _ _ (h.ascending i j d l m) in
     between p (path i) (path j) (path k) (below i j l (omega arith)) (below j k m n) first last
 
 entry_in : (es : List IndexEntry) → 0 < length es → IndexEntry
@@ -70,7 +69,7 @@ module _ (es : List IndexEntry) (p : List ℕ) (a b : ℕ) (order : a ≤ b) (fi
   pub starts_below : a < length es → a < b
   starts_below l = nonempty_stretch (entry_in es (omega arith)) l
 
-  none_after : IsIndex (map listed es) → AllWithin (λ e. is_under p e ≡ false) es b (length es)
+  none_after : IsIndex es → AllWithin (λ e. is_under p e ≡ false) es b (length es)
   none_after h k d l m =
       elim (cases_eq b k) [
         | inl e ↦ rw (sym e) (end (omega arith) d)
@@ -82,7 +81,7 @@ module _ (es : List IndexEntry) (p : List ℕ) (a b : ℕ) (order : a ≤ b) (fi
             let u = between_entries es p h a b k d (nonempty_stretch d start_in) (omega arith) m (first start_in d) t in cc)
       ]
 
-  pub IsStretch-from_runs : IsIndex (map listed es) → b ≤ length es → AllWithin (λ e. is_under p e ≡ false) es 0 a → AllWithin (λ e. is_under p e ≡ true) es a b → IsStretch es p a b
+  pub IsStretch-from_runs : IsIndex es → b ≤ length es → AllWithin (λ e. is_under p e ≡ false) es 0 a → AllWithin (λ e. is_under p e ≡ true) es a b → IsStretch es p a b
   IsStretch-from_runs h inside before within = record {
     order = order;
     inside = inside;

@@ -18,67 +18,64 @@ use Rattle.status_index.specs.declared.state.IndexError.TheVariants.{EmptyPath, 
 use Rattle.status_index.specs.FlagBits.{stage_of_bits}
 use Rattle.status_index.specs.BlobId.{id_kind}
 
--- the stage of an entry
-abbrev pub stage_of : Entry → ℕ
-stage_of e = stage_of_bits e.flags.0
-
--- the path that a storage has for an entry, or the empty one
-abbrev pub path_in : PathStorage → Entry → List ℕ
-path_in backing e = unwrap_or (option_map bstring_bytes (slice_get backing.paths.items e.path)) []
-
 -- what an index says of one entry
-pub record Listed : Type 0 where
+pub record IndexEntry : Type 0 where
   pub path : List ℕ
   pub stat : Stat
   pub id : ObjectId
   pub flags : Flags
   pub mode : Mode
 
--- an entry with its path
-pub record IndexEntry : Type 0 where
-  pub path : List ℕ
-  pub entry : Entry
+-- the stage of an entry
+abbrev pub stage_of : IndexEntry → ℕ
+stage_of e = stage_of_bits e.flags.0
+
+-- what a stored entry says, with its path
+abbrev pub entry_at : List ℕ → Entry → IndexEntry
+entry_at path e = record { path = path; stat = e.stat; id = e.id; flags = e.flags; mode = e.mode }
+
+-- the path that a storage has for an entry, or the empty one
+abbrev pub path_in : PathStorage → Entry → List ℕ
+path_in backing e = unwrap_or (option_map bstring_bytes (slice_get backing.paths.items e.path)) []
 
 abbrev pub index_entry : PathStorage → Entry → IndexEntry
-index_entry backing e = record { path = path_in backing e; entry = e }
+index_entry backing e = entry_at (path_in backing e) e
 
 abbrev pub index_entries : PathStorage → List Entry → List IndexEntry
 index_entries backing = map (index_entry backing)
 
-abbrev pub listed : IndexEntry → Listed
-listed e = record { path = e.path; stat = e.entry.stat; id = e.entry.id; flags = e.entry.flags; mode = e.entry.mode }
-
-abbrev pub listed_new : NewEntry → Listed
-listed_new e = record { path = bstring_bytes e.path; stat = e.stat; id = e.id; flags = e.flags; mode = e.mode }
+-- what an entry says that is to be put into an index
+abbrev pub new_entry : NewEntry → IndexEntry
+new_entry e = record { path = bstring_bytes e.path; stat = e.stat; id = e.id; flags = e.flags; mode = e.mode }
 
 -- by the paths' bytes, a proper prefix first, and then by stage
-abbrev pub entry_cmp : Listed → Listed → Ordering
-entry_cmp a b = ordering_then (slice_cmp nat_cmp a.path b.path) (nat_cmp (stage_of_bits a.flags.0) (stage_of_bits b.flags.0))
+abbrev pub entry_cmp : IndexEntry → IndexEntry → Ordering
+entry_cmp a b = ordering_then (slice_cmp nat_cmp a.path b.path) (nat_cmp (stage_of a) (stage_of b))
 
 -- no path is empty, the entries ascend strictly, and their ids are of one kind
-pub record IsIndex (es : List Listed) : Type 0 where
+pub record IsIndex (es : List IndexEntry) : Type 0 where
   pub named : All (λ e. 0 < length e.path) es
   pub ascending : AllPairs (λ a b. entry_cmp a b ≡ Less) es
   pub one_kind : AllPairs (λ a b. id_kind a.id ≡ id_kind b.id) es
 
 -- the entry at a place has an empty path
-abbrev pub IsUnnamed : List Listed → ℕ → Type 0
-IsUnnamed es at = (d : Listed) → (slice_index_or es at d).path ≡ []
+abbrev pub IsUnnamed : List IndexEntry → ℕ → Type 0
+IsUnnamed es at = (d : IndexEntry) → (slice_index_or es at d).path ≡ []
 
 -- the entry at a place isn't above its predecessor
-abbrev pub IsOutOfOrder : List Listed → ℕ → Type 0
-IsOutOfOrder es at = (0 < at) × ((d : Listed) → entry_cmp (slice_index_or es (at - 1) d) (slice_index_or es at d) ≢ Less)
+abbrev pub IsOutOfOrder : List IndexEntry → ℕ → Type 0
+IsOutOfOrder es at = (0 < at) × ((d : IndexEntry) → entry_cmp (slice_index_or es (at - 1) d) (slice_index_or es at d) ≢ Less)
 
 -- the id at a place is of another kind than that of entry 0
-abbrev pub IsOfOtherKind : List Listed → ℕ → Type 0
-IsOfOtherKind es at = (d : Listed) → id_kind (slice_index_or es at d).id ≢ id_kind (slice_index_or es 0 d).id
+abbrev pub IsOfOtherKind : List IndexEntry → ℕ → Type 0
+IsOfOtherKind es at = (d : IndexEntry) → id_kind (slice_index_or es at d).id ≢ id_kind (slice_index_or es 0 d).id
 
 -- the place is in the list, and the entries before it are an index
-abbrev pub IsFirstAt : List Listed → ℕ → Type 0
+abbrev pub IsFirstAt : List IndexEntry → ℕ → Type 0
 IsFirstAt es at = (at < length es) × IsIndex (take at es)
 
 -- when a list of entries is refused: at the lowest place at which it is no index, and there for the first reason
-abbrev pub IsRefusal : List Listed → IndexError → Type 0
+abbrev pub IsRefusal : List IndexEntry → IndexError → Type 0
 IsRefusal es (EmptyPath at) = IsFirstAt es at × IsUnnamed es at
 IsRefusal es (NotAscending at) = IsFirstAt es at × (IsUnnamed es at → ⊥) × IsOutOfOrder es at
 IsRefusal es (MixedHash at) = IsFirstAt es at × (IsUnnamed es at → ⊥) × (IsOutOfOrder es at → ⊥) × IsOfOtherKind es at

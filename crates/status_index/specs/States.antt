@@ -8,7 +8,7 @@ use Rattle.status_index.specs.declared.stat.Moment.{Moment}
 use Rattle.status_index.specs.declared.stat.Stat.{Stat}
 use Rattle.status_index.specs.Entries.{IndexEntry, index_entries}
 
--- the entries, without their paths
+-- the entries as they are stored, without their paths
 abbrev pub entries_of : State → List Entry
 entries_of s = s.entries.items
 
@@ -18,7 +18,7 @@ backing_of s = s.backing
 abbrev pub timestamp_of : State → Moment
 timestamp_of s = s.timestamp
 
--- the entries, each with its path
+-- what the index says of each entry
 abbrev pub index_of : State → List IndexEntry
 index_of s = index_entries (backing_of s) (entries_of s)
 
@@ -27,13 +27,9 @@ abbrev pub ChangesAt : {X : Type 0} → (X → X) → ℕ → List X → List X 
 ChangesAt {X} f at old new = (d : X) → new ≡ slice_set old at (f (slice_index_or old at d))
 
 -- an entry with this stat
-abbrev pub with_stat : Stat → Entry → Entry
+abbrev pub with_stat : Stat → IndexEntry → IndexEntry
 with_stat stat e = record e { stat = stat }
 
 -- an entry whose stat has the size 0
-abbrev pub smudged : Entry → Entry
+abbrev pub smudged : IndexEntry → IndexEntry
 smudged e = record e { stat = record e.stat { size = 0 } }
-
--- an entry changed, at its path
-abbrev pub at_its_path : (Entry → Entry) → IndexEntry → IndexEntry
-at_its_path f e = record e { entry = f e.entry }

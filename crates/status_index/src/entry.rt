@@ -47,13 +47,14 @@ pub struct NewEntry {
 }
 
 impl Entry {
-    ghost use Rattle.status_index.specs.Entries.{stage_of, path_in};
+    ghost use Rattle.status_index.specs.Entries.{path_in};
+    ghost use Rattle.status_index.specs.FlagBits.{stage_of_bits};
     ghost use Rattle.std.specs.Prelude.{◌≡◌};
     ghost use Rattle.bstr.specs.BStr.{bstr_bytes};
 
     /// The stage: 0 for a plain entry, 1 to 3 for the sides of a conflict.
     pub fn stage_raw(&self) -> u32
-        ensures { result ≡ stage_of self.now }
+        ensures { result ≡ stage_of_bits self.now.flags.0 }
     {
         self.flags.stage()
     }

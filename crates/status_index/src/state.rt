@@ -1,7 +1,7 @@
 //! An index: its entries in order, and the moment at which it was written.
 
 ghost use Rattle.std.specs.Prelude.{map};
-ghost use Rattle.status_index.specs.Entries.{IsIndex, listed, index_entries};
+ghost use Rattle.status_index.specs.Entries.{IsIndex, index_entries};
 
 use crate::entry::{Entry, NewEntry, PathStorage};
 use crate::id::ObjectId;
@@ -66,15 +66,15 @@ pub struct State {
     entries: Vec<Entry>,
     backing: PathStorage,
     timestamp: Moment,
-    pub ghost valid: { IsIndex (map listed (index_entries backing entries.items)) },
+    pub ghost valid: { IsIndex (index_entries backing entries.items) },
 }
 
 impl State {
     ghost use Rattle.std.specs.Prelude.{◌≡◌, ◌<◌, ◌≤◌, length, map, not, [], ◌∷◌, ◌++◌, IfOk, IfErr, OnOk};
     ghost use Rattle.std.specs.List.{AllWithin, HoldsAt};
     ghost use Rattle.bstr.specs.BStr.{bstr_bytes};
-    ghost use Rattle.status_index.specs.Entries.{IsIndex, IsRefusal, entry_cmp, index_entry, listed, listed_new};
-    ghost use Rattle.status_index.specs.States.{entries_of, backing_of, timestamp_of, index_of, ChangesAt, with_stat, smudged, at_its_path};
+    ghost use Rattle.status_index.specs.Entries.{IsIndex, IsRefusal, entry_cmp, index_entry, new_entry};
+    ghost use Rattle.status_index.specs.States.{entries_of, backing_of, timestamp_of, index_of, ChangesAt, with_stat, smudged};
     ghost use Rattle.status_index.specs.Stretch.{is_under, IsPrefixed};
 
     /// The index of these entries. The paths are moved and not copied; on an error the list is given up.
@@ -87,9 +87,9 @@ impl State {
         entries: Vec<NewEntry>,
         timestamp: Moment,
     ) -> Result<State, IndexError>
-        ensures valid { IsIndex (map listed_new entries.items) → IfErr result (λ e. e ≡ IndexError.Memory) }
-        ensures ok { IfOk result (λ s. IsIndex (map listed_new entries.items) × (map listed (index_of s) ≡ map listed_new entries.items) × (timestamp_of s ≡ timestamp)) }
-        ensures refused { IfErr result (IsRefusal (map listed_new entries.items)) }
+        ensures valid { IsIndex (map new_entry entries.items) → IfErr result (λ e. e ≡ IndexError.Memory) }
+        ensures ok { IfOk result (λ s. IsIndex (map new_entry entries.items) × ((index_of s) ≡ map new_entry entries.items) × (timestamp_of s ≡ timestamp)) }
+        ensures refused { IfErr result (IsRefusal (map new_entry entries.items)) }
     {
         let mut state = State::with_room(alloc, entries.len(), timestamp)?;
         for entry in entries {
@@ -114,8 +114,8 @@ impl State {
 
     /// Adds an entry behind the others, or says why it can't stand there.
     fn append(&mut self, entry: NewEntry) -> Result<(), IndexError>
-        ensures ok { OnOk result (map listed (index_of self.new) ≡ map listed (index_of self.old) ++ listed_new entry ∷ []) }
-        ensures refused { IfErr result (IsRefusal (map listed (index_of self.old) ++ listed_new entry ∷ [])) }
+        ensures ok { OnOk result ((index_of self.new) ≡ (index_of self.old) ++ new_entry entry ∷ []) }
+        ensures refused { IfErr result (IsRefusal ((index_of self.old) ++ new_entry entry ∷ [])) }
         ensures timestamp { timestamp_of self.new ≡ timestamp_of self.old }
     {
         self.check_next(&entry)?;
@@ -140,8 +140,8 @@ impl State {
 
     /// Whether `entry` may stand behind the others. The last of them is enough to tell, since they are an index.
     fn check_next(&self, entry: &NewEntry) -> Result<(), IndexError>
-        ensures ok { OnOk result (IsIndex (map listed (index_of self.now) ++ listed_new entry.now ∷ [])) }
-        ensures refused { IfErr result (IsRefusal (map listed (index_of self.now) ++ listed_new entry.now ∷ [])) }
+        ensures ok { OnOk result (IsIndex ((index_of self.now) ++ new_entry entry.now ∷ [])) }
+        ensures refused { IfErr result (IsRefusal ((index_of self.now) ++ new_entry entry.now ∷ [])) }
     {
         let at = self.entries.len();
         if entry.path.as_bytes().is_empty() {
@@ -161,7 +161,7 @@ impl State {
 
     /// How `last`, an entry of this index, stands to `entry`: by path and then by stage.
     fn order(&self, last: &Entry, entry: &NewEntry) -> Ordering
-        ensures { result ≡ entry_cmp (listed (index_entry (backing_of self.now) last.now)) (listed_new entry.now) }
+        ensures { result ≡ entry_cmp (index_entry (backing_of self.now) last.now) (new_entry entry.now) }
     {
         let path = last.path_in(&self.backing).as_bytes();
         let by_path = path.cmp(entry.path.as_bytes());
@@ -171,7 +171,7 @@ impl State {
     /// The entries, in ascending order of path and stage.
     pub fn entries(&self) -> &[Entry]
         ensures value { result.now ≡ entries_of self.now }
-        ensures valid { IsIndex (map listed (index_of self.now)) }
+        ensures valid { IsIndex (index_of self.now) }
     {
         self.entries.as_slice()
     }
@@ -235,9 +235,8 @@ impl State {
     /// Replaces the stat of the entry at `i`.
     pub fn set_stat(&mut self, i: usize, stat: Stat)
         requires { i < length (entries_of self.old) }
-        ensures entries { ChangesAt (with_stat stat) i (entries_of self.old) (entries_of self.new) }
         ensures len { length (entries_of self.new) ≡ length (entries_of self.old) }
-        ensures index { ChangesAt (at_its_path (with_stat stat)) i (index_of self.old) (index_of self.new) }
+        ensures index { ChangesAt (with_stat stat) i (index_of self.old) (index_of self.new) }
         ensures backing { backing_of self.new ≡ backing_of self.old }
         ensures timestamp { timestamp_of self.new ≡ timestamp_of self.old }
     {
@@ -247,9 +246,8 @@ impl State {
     /// Makes the size in the stat of the entry at `i` 0, so that the next status compares its content.
     pub fn smudge(&mut self, i: usize)
         requires { i < length (entries_of self.old) }
-        ensures entries { ChangesAt smudged i (entries_of self.old) (entries_of self.new) }
         ensures len { length (entries_of self.new) ≡ length (entries_of self.old) }
-        ensures index { ChangesAt (at_its_path smudged) i (index_of self.old) (index_of self.new) }
+        ensures index { ChangesAt smudged i (index_of self.old) (index_of self.new) }
         ensures backing { backing_of self.new ≡ backing_of self.old }
         ensures timestamp { timestamp_of self.new ≡ timestamp_of self.old }
     {

@@ -7,8 +7,8 @@ use crate::lines::path_value;
 use crate::profile::ProfileError;
 use bstr::BStr;
 use gix_status::index_as_worktree::Error;
-use status_base::index::IndexError;
-use status_base::worktree::{Fault, FindError, TreeError};
+use gix_status::index::IndexError;
+use gix_status::worktree::{Fault, FindError, TreeError};
 use std::alloc::{AllocError, Global};
 use std::io;
 

@@ -1,7 +1,7 @@
 //! The lines that a status prints.
 
 ghost use Rattle.std.specs.Prelude.{◌<◌, ◌^◌};
-ghost use Rattle.gix_status.specs.Outcomes.{skipped_of};
+ghost use Rattle.status_call.specs.Outcomes.{skipped_of};
 
 #[cfg(test)]
 mod tests;

@@ -1,7 +1,7 @@
 //! The status of a profile's index against its worktree.
 
 ghost use Rattle.std.specs.Prelude.{◌<◌, ◌^◌, IfOk};
-ghost use Rattle.gix_status.specs.Outcomes.{skipped_of};
+ghost use Rattle.status_call.specs.Outcomes.{skipped_of};
 
 #[cfg(test)]
 mod folder_tests;
@@ -16,8 +16,8 @@ use gix_status::index_as_worktree::traits::{CompareBlobs, FastEq, HashEq};
 use gix_status::index_as_worktree::{
     Context, Error, Options, Outcome, Record, Recorder, VisitEntry, index_as_worktree,
 };
-use status_base::index::State;
-use status_base::worktree::{
+use gix_status::index::State;
+use gix_status::worktree::{
     AllPaths, DiskWorktree, MemoryObjects, MemoryWorktree, NoFilter, NoLister, NoSubmodules, Node,
     Pathspec, Prefix, Worktree,
 };

@@ -1,7 +1,7 @@
 //! Asking a status.
 
 ghost use Rattle.std.specs.Prelude.{◌<◌, ◌^◌, IfOk};
-ghost use Rattle.gix_status.specs.Outcomes.{skipped_of};
+ghost use Rattle.status_call.specs.Outcomes.{skipped_of};
 
 use crate::collectors::Stopping;
 use gix_status::index_as_worktree::traits::CompareBlobs;
@@ -9,8 +9,8 @@ use gix_status::index_as_worktree::{
     Capabilities, Change, Context, EntryStatus, Error, Options, Outcome, Record, Recorder,
     VisitEntry, index_as_worktree,
 };
-use status_base::index::{ObjectId, State};
-use status_base::worktree::{
+use gix_status::index::{ObjectId, State};
+use gix_status::worktree::{
     AllPaths, Fault, MemoryObjects, NoFilter, NoLister, NoSubmodules, Pathspec, SubmoduleStatus,
     ToGit, Worktree,
 };

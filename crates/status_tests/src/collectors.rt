@@ -5,7 +5,7 @@ ghost use Rattle.bstr.specs.BStr.{bstr_bytes};
 
 use bstr::BStr;
 use gix_status::index_as_worktree::{EntryStatus, VisitEntry};
-use status_base::index::Entry;
+use gix_status::index::Entry;
 use std::alloc::AllocError;
 use std::sync::atomic::{AtomicBool, Ordering};
 

@@ -6,7 +6,7 @@ ghost use Rattle.status_base.specs.Converted.{refused};
 ghost use Rattle.status_tests.specs.Returns.{is_no_return, without_returns};
 
 use bstr::BStr;
-use status_base::worktree::{Fault, ReadBytes, ToGit, ToGitOutcome};
+use gix_status::worktree::{Fault, ReadBytes, ToGit, ToGitOutcome};
 use status_index::read_all;
 use std::alloc::AllocError;
 

@@ -1,8 +1,8 @@
 //! Indexes and worktrees to be asked about, in few words.
 
 use bstr::{BStr, BString};
-use status_base::index::{Flags, IndexError, Mode, Moment, NewEntry, ObjectId, Stat, State, Time};
-use status_base::worktree::{MemoryWorktree, Node, NodeKind, TreeError};
+use gix_status::index::{Flags, IndexError, Mode, Moment, NewEntry, ObjectId, Stat, State, Time};
+use gix_status::worktree::{MemoryWorktree, Node, NodeKind, TreeError};
 use std::alloc::{AllocError, Global};
 
 /// The id of `foo`, by git.

@@ -9,9 +9,9 @@ ghost use Rattle.status_tests.specs.Pieces.{all_bytes_id, IsPiecesId};
 
 use gix_status::index_as_worktree::Error;
 use gix_status::index_as_worktree::traits::Stream;
-use status_base::index::{HashKind, ObjectId};
-use status_base::worktree::{Fault, ReadBytes};
-use status_index::compute_hash;
+use gix_status::index::{HashKind, ObjectId};
+use gix_status::worktree::{Fault, ReadBytes};
+use gix_status::index::compute_hash;
 use std::alloc::Global;
 
 // How many bytes one read asks for.

@@ -4,8 +4,8 @@ ghost use Rattle.std.specs.Prelude.{◌≡◌};
 ghost use Rattle.status_tests.specs.Texts.{answer_of};
 
 use bstr::BStr;
-use status_base::index::Entry;
-use status_base::worktree::{ByteText, SubmoduleFault, SubmoduleStatus};
+use gix_status::index::Entry;
+use gix_status::worktree::{ByteText, SubmoduleFault, SubmoduleStatus};
 use std::alloc::{AllocError, Global};
 
 /// Every submodule answers the same: no change, a number, or a fault with a text.

@@ -5,8 +5,8 @@ ghost use Rattle.status_index.specs.declared.fault.Fault.TheVariants.{NotFound};
 
 use crate::given::{LATER, STAGED};
 use bstr::BStr;
-use status_base::index::Time;
-use status_base::worktree::{Fault, Metadata, NodeKind, ReadBytes, Worktree};
+use gix_status::index::Time;
+use gix_status::worktree::{Fault, Metadata, NodeKind, ReadBytes, Worktree};
 use std::sync::atomic::{AtomicBool, AtomicUsize, Ordering};
 use std::thread;
 

@@ -31,7 +31,7 @@ impl Worktree for Table {
 
     type File = NoFile;
 
-    ghost tells = { λ _. false };
+    ghost modelled = { λ _. false };
 
     ghost lstat_of = { λ _ _. Err NotFound };
 
@@ -79,7 +79,7 @@ fn second_of_two<'s, 'p, W: Worktree>(
     second: BStr<'p>,
 ) -> Result<BStr<'s>, StackError<'p>>
     requires { check.old.path ≡ [] }
-    ensures { IsTrue (W.tells worktree.now) → IsVerified (link_check (W.lstat_of worktree.now) (bstr_bytes second.entry)) (joined check.old.root (bstr_bytes second.entry)) result }
+    ensures { IsTrue (W.modelled worktree.now) → IsVerified (link_check (W.lstat_of worktree.now) (bstr_bytes second.entry)) (joined check.old.root (bstr_bytes second.entry)) result }
 {
     let _ = check.verified_path(worktree, first);
     check.verified_path(worktree, second)

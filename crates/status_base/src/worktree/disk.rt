@@ -87,7 +87,7 @@ impl<R: Files + AllocGlobal + Drop> Worktree for DiskWorktree<R> {
 
     type File = DiskFile<R::File>;
 
-    ghost tells = { λ _. false };
+    ghost modelled = { λ _. false };
 
     ghost lstat_of = { λ _ _. Err NotFound };
 

@@ -1,6 +1,6 @@
 //! Listings of directories.
 
-ghost use Rattle.std.specs.Prelude.{◌≡◌, List, ℕ, Option, None, IfOk, refl};
+ghost use Rattle.std.specs.Prelude.{◌≡◌, Bool, true, IsTrue, List, ℕ, Option, None, IfOk, refl};
 ghost use Rattle.bstr.specs.BStr.{bstr_bytes};
 ghost use Rattle.status_base.specs.Lawful.{CloneKeeps};
 ghost use Rattle.status_base.specs.Listing.{listing_of};
@@ -17,8 +17,12 @@ use std::alloc::AllocError;
 /// What a listing of a directory gives: names with their stats, or None where the directory can't be listed.
 pub type Listing = Option<Vec<(BString, fscache::Stat)>>;
 
-/// Listings of directories, by paths from the worktree's root. The root's path is empty.
+/// Listings of directories, by paths from the worktree's root. The root's path is empty. They are either modelled, and
+/// then answered by a function from paths, or not, as those of real directories.
 pub trait Lister: Clone {
+    /// Whether they are modelled.
+    ghost modelled: { Self → Bool };
+
     /// The names in each directory, with their stats.
     ghost listing: { Self → List ℕ → Option (List (List ℕ × ListedStat)) };
 
@@ -27,7 +31,10 @@ pub trait Lister: Clone {
     /// # Errors
     /// Want of memory.
     fn list(&self, directory: BStr<'_>) -> Result<Listing, AllocError>
-        ensures { IfOk result (λ l. listing_of l ≡ listing self.now (bstr_bytes directory.entry)) };
+        ensures { IsTrue (modelled self.now) → IfOk result (λ l. listing_of l ≡ listing self.now (bstr_bytes directory.entry)) };
+
+    /// A clone is modelled where its original is.
+    ghost clone_keeps_modelled: { CloneKeeps Self.is_clone modelled };
 
     /// A clone lists the same.
     ghost clone_keeps_listing: { CloneKeeps Self.is_clone listing };
@@ -38,7 +45,11 @@ pub trait Lister: Clone {
 pub struct NoLister;
 
 impl Lister for NoLister {
+    ghost modelled = { λ _. true };
+
     ghost listing = { λ _ _. None };
+
+    ghost clone_keeps_modelled = { λ _ _ _. refl };
 
     ghost clone_keeps_listing = { λ _ _ _. refl };
 

@@ -329,7 +329,7 @@ impl Worktree for MemoryWorktree {
 
     type File = MemoryFile;
 
-    ghost tells = { λ _. true };
+    ghost modelled = { λ _. true };
 
     ghost lstat_of = { lstat_in };
 

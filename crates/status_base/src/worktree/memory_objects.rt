@@ -67,10 +67,15 @@ impl Clone for MemoryObjects {
 }
 
 impl Find for MemoryObjects {
+    ghost use Rattle.std.specs.Prelude.{true, refl};
     ghost use Rattle.std.proofs.Common.{ap};
     ghost use Rattle.status_base.specs.Objects.{found_in};
 
+    ghost modelled = { λ _. true };
+
     ghost found = { found_in };
+
+    ghost clone_keeps_modelled = { λ _ _ _. refl };
 
     ghost clone_keeps_found = { λ _ _ same. ap found_in same };
 

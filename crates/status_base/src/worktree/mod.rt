@@ -22,6 +22,6 @@ pub use memory_objects::MemoryObjects;
 pub use objects::{Find, FindError};
 pub use pathspec::{AllPaths, Pathspec};
 pub use prefix::Prefix;
-pub use status_index::{ByteText, Fault, Metadata, NodeKind, ReadBytes, TimeError};
+pub use status_index::{ByteText, Fault, Metadata, NodeKind, ReadBytes, TimeError, read_all};
 pub use submodule::{NoSubmodules, SubmoduleFault, SubmoduleStatus};
 pub use tree::Worktree;

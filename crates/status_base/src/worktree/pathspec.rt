@@ -8,13 +8,15 @@ use bstr::BStr;
 
 /// Which paths a status looks at (git's pathspecs). Its meaning is a prefix and a test, which a clone has too.
 pub trait Pathspec: Clone {
-    /// What every included path begins with.
+    /// What entries are searched by.
     ghost prefix: { Self → List ℕ };
 
     /// Whether a path is included, by whether it is a directory's.
     ghost included: { Self → List ℕ → Bool → Bool };
 
-    /// A prefix of the paths to be looked at. Empty where there is none.
+    /// By which prefix entries are searched: those whose paths begin with it are considered, or all where no path does.
+    /// Nothing asks that each included path begins with it; one that doesn't is left out where the prefix begins another.
+    /// An empty one narrows nothing.
     fn common_prefix(&self) -> BStr<'_>
         ensures { bstr_bytes result ≡ prefix self.now };
 

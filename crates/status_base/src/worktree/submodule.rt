@@ -1,15 +1,15 @@
 //! The status of a submodule.
 
-ghost use Rattle.std.specs.Prelude.{◌≡◌, List, ℕ, Option, None, Result, Ok, refl};
+ghost use Rattle.std.specs.Prelude.{◌≡◌, Bool, true, IsTrue, List, ℕ, Option, None, Result, Ok, refl};
 ghost use Rattle.bstr.specs.BStr.{bstr_bytes};
 ghost use Rattle.status_base.specs.Lawful.{CloneKeeps};
-ghost use Rattle.status_index.specs.declared.entry.Entry.{Entry as IndexedEntry};
+ghost use Rattle.status_index.specs.Entries.{IndexEntry, entry_at};
 
 use bstr::BStr;
 use status_index::{ByteText, Entry};
 use std::alloc::AllocError;
 
-/// Why the status of a submodule could not be told.
+/// Why a submodule has no status.
 #[derive(Debug, Drop)]
 pub enum SubmoduleFault {
     /// Something went wrong.
@@ -32,27 +32,35 @@ impl From<AllocError> for SubmoduleFault {
     }
 }
 
-/// The status of submodules.
+/// The status of submodules. They are either modelled, and then answer by a function from what the index says of an
+/// entry, or not, as repositories on a disk.
 pub trait SubmoduleStatus: Clone {
     ghost use Rattle.status_base.specs.Submodules.{IsSubmoduleAnswer};
 
     /// How a submodule changed.
     type Output: Drop;
 
-    /// How the submodule of an entry at a path changed, or the text of a fault.
-    ghost meaning: { Self → IndexedEntry → List ℕ → Result (Option Self.Output) (List ℕ) };
+    /// Whether they are modelled.
+    ghost modelled: { Self → Bool };
+
+    /// How the submodule of an entry changed, or the text of a fault.
+    ghost meaning: { Self → IndexEntry → Result (Option Self.Output) (List ℕ) };
 
     /// How the submodule of `entry` at `path` changed. None where it didn't.
     ///
     /// # Errors
-    /// Where that can't be told, in words of its own, and want of memory.
+    /// Where there is no status, in words of its own, and want of memory.
     fn status(
         &mut self,
         entry: &Entry,
         path: BStr<'_>,
     ) -> Result<Option<Self::Output>, SubmoduleFault>
-        ensures answer { IsSubmoduleAnswer (meaning self.old entry.now (bstr_bytes path.entry)) result }
-        ensures same { meaning self.new ≡ meaning self.old };
+        ensures answer { IsTrue (modelled self.old) → IsSubmoduleAnswer (meaning self.old (entry_at (bstr_bytes path.entry) entry.now)) result }
+        ensures same { meaning self.new ≡ meaning self.old }
+        ensures modelled { modelled self.new ≡ modelled self.old };
+
+    /// A clone is modelled where its original is.
+    ghost clone_keeps_modelled: { CloneKeeps Self.is_clone modelled };
 
     /// A clone says the same of every submodule.
     ghost clone_keeps_meaning: { CloneKeeps Self.is_clone meaning };
@@ -65,7 +73,11 @@ pub struct NoSubmodules;
 impl SubmoduleStatus for NoSubmodules {
     type Output = ();
 
-    ghost meaning = { λ _ _ _. Ok None };
+    ghost modelled = { λ _. true };
+
+    ghost meaning = { λ _ _. Ok None };
+
+    ghost clone_keeps_modelled = { λ _ _ _. refl };
 
     ghost clone_keeps_meaning = { λ _ _ _. refl };
 

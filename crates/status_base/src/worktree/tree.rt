@@ -18,7 +18,7 @@ pub trait Worktree {
     type File: ReadBytes;
 
     /// Whether it tells its nodes.
-    ghost tells: { Self → Bool };
+    ghost modelled: { Self → Bool };
 
     /// What `lstat` answers.
     ghost lstat_of: { Self → List ℕ → Result NodeMetadata WorktreeFault };
@@ -34,19 +34,19 @@ pub trait Worktree {
     /// # Errors
     /// The worktree's fault.
     fn lstat(&self, path: BStr<'_>) -> Result<Metadata, Fault>
-        ensures { IsTrue (tells self.now) → IsAnswer (lstat_of self.now (bstr_bytes path.entry)) result };
+        ensures { IsTrue (modelled self.now) → IsAnswer (lstat_of self.now (bstr_bytes path.entry)) result };
 
     /// Opens the file at a path for reading.
     ///
     /// # Errors
     /// The worktree's fault.
     fn open(&self, path: BStr<'_>) -> Result<Self::File, Fault>
-        ensures { IsTrue (tells self.now) → IsOpened Self.File.left (open_of self.now (bstr_bytes path.entry)) result };
+        ensures { IsTrue (modelled self.now) → IsOpened Self.File.left (open_of self.now (bstr_bytes path.entry)) result };
 
     /// Reads the target of the link at a path, in place of what `target` held. After an error `target` is empty.
     ///
     /// # Errors
     /// The worktree's fault.
     fn read_link(&self, path: BStr<'_>, target: &mut Vec<u8>) -> Result<(), Fault>
-        ensures { IsTrue (tells self.now) → IsTarget (target_of self.now (bstr_bytes path.entry)) result target.new.items };
+        ensures { IsTrue (modelled self.now) → IsTarget (target_of self.now (bstr_bytes path.entry)) result target.new.items };
 }

@@ -1,9 +1,9 @@
 use crate::failure::Failure;
 use crate::profile::{Key, ProfileError};
 use gix_status::index_as_worktree::Error;
-use status_base::index::IndexError;
-use status_base::worktree::{Fault, FindError, TreeError};
-use status_index::ByteText;
+use gix_status::index::IndexError;
+use gix_status::worktree::{Fault, FindError, TreeError};
+use gix_status::worktree::ByteText;
 use std::io;
 use std::process::Abort;
 use std::test::Fail;

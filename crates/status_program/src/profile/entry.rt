@@ -5,7 +5,7 @@ use crate::profile::field::{Fields, text_of};
 use crate::profile::members::Item;
 use bstr::BString;
 use serde_json::Value;
-use status_base::index::{Flags, Mode, NewEntry, ObjectId};
+use gix_status::index::{Flags, Mode, NewEntry, ObjectId};
 use std::alloc::Global;
 
 impl Item for NewEntry {

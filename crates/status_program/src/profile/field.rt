@@ -2,7 +2,7 @@
 
 use crate::profile::error::FieldError;
 use serde_json::{Map, Value};
-use status_base::index::{Stat, Time};
+use gix_status::index::{Stat, Time};
 
 /// The fields of an object. Of equal keys the last counts.
 #[derive(Clone, Copy)]

@@ -5,8 +5,8 @@ use crate::profile::field::Fields;
 use bstr::BString;
 use serde::{Deserialize, DeserializeOwned, Deserializer, Format, Kind};
 use serde_json::{Map, Value};
-use status_base::index::NewEntry;
-use status_base::worktree::Node;
+use gix_status::index::NewEntry;
+use gix_status::worktree::Node;
 use std::alloc::Global;
 
 /// What stands in a list of a profile: made from the fields of an object.

@@ -16,7 +16,7 @@ use crate::profile::options::read_options;
 pub use error::{FieldError, Key, ProfileError};
 pub use node::Place;
 pub use options::{Comparer, ProfileOptions};
-use status_base::index::{HashKind, Moment, NewEntry};
+use gix_status::index::{HashKind, Moment, NewEntry};
 use std::alloc::Global;
 
 /// What a profile says.

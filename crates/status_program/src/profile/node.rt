@@ -4,7 +4,7 @@ use crate::profile::error::FieldError;
 use crate::profile::field::{Fields, text_of};
 use crate::profile::members::{Item, List};
 use bstr::BString;
-use status_base::worktree::{Node, NodeKind};
+use gix_status::worktree::{Node, NodeKind};
 use std::alloc::Global;
 
 /// Where a profile's worktree is.

@@ -1,8 +1,8 @@
 use crate::profile::{Comparer, Key, Place, Profile, ProfileError};
 use bstr::BString;
 use gix_status::index_as_worktree::{Capabilities, Options};
-use status_base::index::{Flags, HashKind, Mode, Moment, NewEntry, ObjectId, Stat, Time, stat};
-use status_base::worktree::{Metadata, Node, NodeKind};
+use gix_status::index::{Flags, HashKind, Mode, Moment, NewEntry, ObjectId, Stat, Time, stat};
+use gix_status::worktree::{Metadata, Node, NodeKind};
 use std::alloc::{AllocError, Global};
 use std::process::Abort;
 use std::test::Fail;

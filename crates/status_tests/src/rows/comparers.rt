@@ -8,8 +8,8 @@ use crate::given::{
 };
 use gix_status::index_as_worktree::traits::HashEq;
 use gix_status::index_as_worktree::{EntryStatus, Error, Outcome, Recorder};
-use status_base::index::{Mode, ObjectId, State};
-use status_base::worktree::{Fault, FindError, MemoryObjects, MemoryWorktree};
+use gix_status::index::{Mode, ObjectId, State};
+use gix_status::worktree::{Fault, FindError, MemoryObjects, MemoryWorktree};
 use std::sync::Wait;
 use std::test::Fail;
 use std::thread::Threads;

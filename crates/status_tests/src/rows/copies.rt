@@ -4,7 +4,7 @@ use crate::asking::{ask, options, plainly};
 use crate::given::{WRITTEN, index, stage_entry, worktree};
 use gix_status::index_as_worktree::Context;
 use gix_status::index_as_worktree::traits::HashEq;
-use status_base::worktree::{AllPaths, NoFilter, NoLister};
+use gix_status::worktree::{AllPaths, NoFilter, NoLister};
 use std::test::Fail;
 
 #[test]

@@ -7,7 +7,7 @@ use crate::given::{
 };
 use gix_status::index_as_worktree::traits::HashEq;
 use gix_status::index_as_worktree::{EntryStatus, Outcome};
-use status_base::worktree::{AllPaths, Fault, MemoryObjects, NoSubmodules};
+use gix_status::worktree::{AllPaths, Fault, MemoryObjects, NoSubmodules};
 use std::alloc::Global;
 use std::test::Fail;
 

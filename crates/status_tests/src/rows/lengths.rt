@@ -4,7 +4,7 @@ use crate::asking::{ask, one_file_read, plainly, removed};
 use crate::given::{GivenNode, LATER, WRITTEN, file, foo_entry, index, later_file, stat, worktree};
 use gix_status::index_as_worktree::traits::HashEq;
 use gix_status::index_as_worktree::{EntryStatus, Outcome};
-use status_base::worktree::Fault;
+use gix_status::worktree::Fault;
 use std::test::Fail;
 
 #[test]

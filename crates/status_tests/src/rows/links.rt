@@ -3,7 +3,7 @@
 use crate::asking::{ask, changed, one_file_read, plainly};
 use crate::given::{BARS, GivenEntry, WRITTEN, foo_entry, index, later_link, worktree};
 use gix_status::index_as_worktree::traits::HashEq;
-use status_base::index::Mode;
+use gix_status::index::Mode;
 use std::test::Fail;
 
 #[test]

@@ -6,8 +6,8 @@ use crate::given::{
 };
 use gix_status::index_as_worktree::traits::{CompareBlobs, FastEq};
 use gix_status::index_as_worktree::{EntryStatus, Outcome, Recorder};
-use status_base::index::State;
-use status_base::worktree::{Fault, NoSubmodules, Pathspec, ToGit, Worktree};
+use gix_status::index::State;
+use gix_status::worktree::{Fault, NoSubmodules, Pathspec, ToGit, Worktree};
 use std::sync::Wait;
 use std::test::Fail;
 use std::thread::Threads;

@@ -5,8 +5,8 @@ use crate::given::{GivenEntry, WRITTEN, directory, foo_entry, index, worktree};
 use crate::submodules::Alike;
 use gix_status::index_as_worktree::traits::{CompareBlobs, HashEq};
 use gix_status::index_as_worktree::{Change, EntryStatus, Error, Recorder};
-use status_base::index::{Mode, ObjectId, State};
-use status_base::worktree::{
+use gix_status::index::{Mode, ObjectId, State};
+use gix_status::worktree::{
     AllPaths, MemoryObjects, MemoryWorktree, NoFilter, Pathspec, SubmoduleStatus, ToGit, Worktree,
 };
 use std::sync::Wait;

@@ -9,7 +9,7 @@ use gix_status::index_as_worktree::traits::HashEq;
 use gix_status::index_as_worktree::{
     Change, Conflict, ConflictIndexEntry, EntryStatus, Options, Outcome,
 };
-use status_base::index::{Flags, Mode, ObjectId};
+use gix_status::index::{Flags, Mode, ObjectId};
 use std::test::Fail;
 
 type Status = EntryStatus<ObjectId, ()>;

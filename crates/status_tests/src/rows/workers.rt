@@ -5,7 +5,7 @@ use crate::given::{BAR, GivenEntry, WRITTEN, foo_entry, index};
 use crate::worktrees::{Counted, Files, Meeting, Piece, Watched};
 use gix_status::index_as_worktree::traits::HashEq;
 use gix_status::index_as_worktree::{Options, Outcome};
-use status_base::worktree::Fault;
+use gix_status::worktree::Fault;
 use std::sync::atomic::{AtomicBool, AtomicUsize, Ordering};
 use std::test::Fail;
 

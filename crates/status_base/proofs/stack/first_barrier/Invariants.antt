@@ -6,7 +6,7 @@ use Rattle.status_base.proofs.stack.first_barrier.Given as goal
 -- no directory passed is a link or a fault
 abbrev pub invariant-loop-at : goal.invariant-loop-at
 invariant-loop-at g l = record {
-  clear : IsTrue (g.W.Worktree.tells l.worktree) → IsClearBelow (g.W.Worktree.lstat_of l.worktree) l.path l.at;
+  clear : IsTrue (g.W.Worktree.modelled l.worktree) → IsClearBelow (g.W.Worktree.lstat_of l.worktree) l.path l.at;
   looks : l.initial.looks ≤ l.looks;
   few : l.looks ≤ l.initial.looks + length (directories_below l.path l.at);
 }

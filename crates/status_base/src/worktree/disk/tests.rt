@@ -62,8 +62,8 @@ fn link_fault<W: Worktree>(worktree: &W, path: &[u8], buffer: &mut Vec<u8>) -> O
 }
 
 #[test]
-fn stamps_are_told(rt: HostRuntime) -> Result<(), Fail> {
-    let folder = new_folder(&rt, "stamps_are_told", process::id(rt.process()))?;
+fn stamps_are_reported(rt: HostRuntime) -> Result<(), Fail> {
+    let folder = new_folder(&rt, "stamps_are_reported", process::id(rt.process()))?;
     let root = folder.as_str();
     let first = Duration::from_secs(5) + Duration::from_nanos(7);
     let last = Duration::from_secs(4294967295);
@@ -89,8 +89,8 @@ fn stamps_are_told(rt: HostRuntime) -> Result<(), Fail> {
 }
 
 #[test]
-fn nodes_are_told(rt: HostRuntime) -> Result<(), Fail> {
-    let folder = new_folder(&rt, "nodes_are_told", process::id(rt.process()))?;
+fn nodes_are_reported(rt: HostRuntime) -> Result<(), Fail> {
+    let folder = new_folder(&rt, "nodes_are_reported", process::id(rt.process()))?;
     let root = folder.as_str();
     write_at(&rt, root, "a", "foo", Duration::from_secs(5))?;
     let path = within(&rt, root, "a")?;

@@ -19,7 +19,7 @@ returns-in-Err-Fault-NotFound g c =
     rw (← c.self.view_is, ← c.as_bytes.ensures) (
       (refl, λ _. tt, c.verify.ensures.after),
       record {
-        answer = λ told _. (absent_accepted check c.verify.result absent (c.verify.ensures.answer told), written);
+        answer = λ reported _. (absent_accepted check c.verify.result absent (c.verify.ensures.answer reported), written);
         named = tt;
         normal = reached_at_absent c.verify.result (IsNormal path) absent c.verify.ensures.normal;
         joined = written;

@@ -1,5 +1,5 @@
 use Rattle.std.proofs.Common.{refl, arith}
-use Rattle.status_index.specs.States.{with_stat, at_its_path}
+use Rattle.status_index.specs.States.{with_stat}
 use Rattle.status_index.proofs.Indexes.{index_after, IsIndex-after}
 use Rattle.status_index.proofs.state.State.set_stat.Goals as goal
 
@@ -11,4 +11,4 @@ invariant_of-self c =
 pub returns-clause-index : goal.returns-clause-index
 returns-clause-index c =
     let s = c.args.self.now in
-    index_after s.backing s.entries.items c.args.i c.index_mut.result.now _ (at_its_path (with_stat c.args.stat)) (omega arith) c.index_mut.ensures.value refl
+    index_after s.backing s.entries.items c.args.i c.index_mut.result.now _ (with_stat c.args.stat) (omega arith) c.index_mut.ensures.value refl

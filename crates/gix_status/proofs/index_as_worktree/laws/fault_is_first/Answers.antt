@@ -1,5 +1,0 @@
-use Rattle.gix_status.proofs.LawRecords.{fault_law}
-use Rattle.gix_status.proofs.index_as_worktree.laws.fault_is_first.Goals as goal
-
-pub returns : goal.returns
-returns g c = λ q. fault_law q

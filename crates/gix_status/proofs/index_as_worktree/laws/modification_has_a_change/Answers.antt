@@ -1,5 +1,0 @@
-use Rattle.gix_status.proofs.LawChanges.{modification_law}
-use Rattle.gix_status.proofs.index_as_worktree.laws.modification_has_a_change.Goals as goal
-
-pub returns : goal.returns
-returns g c = λ q. modification_law q

@@ -1,5 +1,0 @@
-use Rattle.gix_status.proofs.LawRows.{one_row}
-use Rattle.gix_status.proofs.index_as_worktree.laws.rows_exclude.Goals as goal
-
-pub returns : goal.returns
-returns g c = λ q e. one_row q e

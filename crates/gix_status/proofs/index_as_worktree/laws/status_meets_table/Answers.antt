@@ -1,5 +1,0 @@
-use Rattle.gix_status.proofs.LawTable.{status_table}
-use Rattle.gix_status.proofs.index_as_worktree.laws.status_meets_table.Goals as goal
-
-pub returns : goal.returns
-returns g c = λ q e. status_table q e

@@ -1,6 +1,0 @@
--- What an outcome counts.
-use Rattle.std.specs.Prelude.{ℕ, ◌+◌}
-use Rattle.gix_status.specs.declared.index_as_worktree.types.Outcome.{Outcome}
-
-abbrev pub skipped_of : Outcome → ℕ
-skipped_of o = o.entries_skipped_by_common_prefix + o.entries_skipped_by_pathspec + o.entries_skipped_by_entry_flags

@@ -1,0 +1,241 @@
+-- The status theorem, from work in order and its end.
+use Rattle.std.proofs.Common.{◌≡◌, ◌≢◌, refl, sym, ap, ◌∙◌, subst, ℕ, ◌+◌, ◌-◌, ◌<◌, ◌≤◌, ◌^◌, ◌⊎◌, inl, inr, Bool, true, false, IsTrue, List, [], ◌∷◌, ◌++◌, length, length-append, take, drop, map, arith, append_assoc, Option, Some, None, Result, Ok, Err}
+use Rattle.std.specs.Prelude.{AllPairs, slice_get}
+use Rattle.std.specs.List.{slice_index_or}
+use Rattle.std.proofs.lemmas.List.{take-append-drop, append-nil, length-map, length-take, length-drop, get_or-map}
+use Rattle.std.proofs.Math.ListN.{get_or-append}
+use Rattle.status_index.specs.declared.entry.Entry.{Entry}
+use Rattle.status_index.specs.declared.entry.PathStorage.{PathStorage}
+use Rattle.status_index.specs.Entries.{IndexEntry}
+use Rattle.status_index.specs.Stretch.{part_of}
+use Rattle.status_compare.specs.declared.error.Error.{Error}
+use Rattle.status_compare.specs.declared.error.Error.TheVariants.{Memory, SpawnThread}
+use Rattle.status_call.specs.declared.index_as_worktree.types.Finding.{Finding}
+use Rattle.status_call.specs.declared.index_as_worktree.types.Outcome.{Outcome}
+use Rattle.status_call.specs.Counts.{IsOutcome, counts_in, counts_of_outcome, reads_in, reads_of_outcome}
+use Rattle.status_call.specs.Pieces.{IsWithin, IsAsMeant, IsFaultAt}
+use Rattle.status_call.specs.Outcomes.{skipped_of}
+use Rattle.status_call.specs.Query.{Query}
+use Rattle.status_call.specs.Records.{records_in, records_of, faults_in, first_fault, verdict}
+use Rattle.status_call.specs.StatusTheorem.{IsBeginning, IsComplete, IsStatus, IsStatusOf, IsFirstFault, NeverSpawns, all_entries, considered_entries, start_of}
+use Rattle.status_call.specs.Visits.{Visit, finding_of}
+use Rattle.status_call.specs.Worked.{IsRefusal, IsStopped, IsReportedWork}
+use Rattle.status_call.proofs.Groups.{records-append}
+use Rattle.status_call.proofs.LawRecords.{fault_law}
+use Rattle.status_call.proofs.NoThread.{never_spawned}
+
+-- a part from the front
+pub part_front : {X : Type 0} (xs : List X) (n : ℕ) → part_of xs 0 n ≡ take n xs
+part_front xs n = ap (λ (k : ℕ). take k xs) (omega arith)
+
+-- what ascends goes on to ascend at its front
+pub front_ascends : {X : Type 0} (R : X → X → Type 0) (xs ys zs : List X) → xs ++ ys ≡ zs → AllPairs R zs → AllPairs R xs
+front_ascends {X} R xs ys zs e h =
+    let k : AllPairs R (xs ++ ys) = subst (λ l. AllPairs R l) (sym e) h in
+    λ i j d l m.
+    let first = get_or-append xs ys d i (omega arith) in
+    let second = get_or-append xs ys d j m in
+    let r = k i j d l (omega (arith, length-append xs ys)) in
+    subst (λ (y : X). R (slice_index_or xs i d) y) second (subst (λ (x : X). R x (slice_index_or (xs ++ ys) j d)) first r)
+
+-- what ascends in a list's image ascends in the list
+pub map_ascends : {T U : Type 0} (vs : List (Visit T U)) (fs : List (Finding T U)) → map finding_of vs ≡ fs
+    → AllPairs (λ a b. a.entry_index < b.entry_index) fs → AllPairs (λ a b. a.entry_index < b.entry_index) vs
+map_ascends {T} {U} vs fs e h =
+    let k : AllPairs (λ (a b : Finding T U). a.entry_index < b.entry_index) (map finding_of vs) = subst (λ l. AllPairs (λ a b. a.entry_index < b.entry_index) l) (sym e) h in
+    λ i j d l m.
+    let first = get_or-map finding_of vs i d (finding_of d) (omega arith) in
+    let second = get_or-map finding_of vs j d (finding_of d) m in
+    let r = k i j (finding_of d) l (omega (arith, length-map vs finding_of)) in
+    subst (λ (y : Finding T U). (slice_index_or vs i d).entry_index < y.entry_index) second (subst (λ (x : Finding T U). x.entry_index < (slice_index_or (map finding_of vs) j (finding_of d)).entry_index) first r)
+
+true_not_false : (b : Bool) → b ≡ true → b ≡ false → ⊥
+true_not_false b h k = cc
+
+abbrev result_of : Outcome → Result Outcome Error
+result_of o = Ok o
+
+abbrev error_of : Error → Result Outcome Error
+error_of e = Err e
+
+ok_not_err : (o : Outcome) (e : Error) → result_of o ≡ error_of e → ⊥
+ok_not_err o e h = cc
+
+err_same : (a b : Error) → error_of a ≡ error_of b → a ≡ b
+err_same a b h = cc
+
+pub take_all : {X : Type 0} (xs : List X) → take (length xs) xs ≡ xs
+take_all [] = refl
+take_all (x ∷ xs) = ap (λ (l : List _). x ∷ l) (take_all xs)
+
+-- an entry's own fault
+fault_here : {T U : Type 0} (q : Query T U) (es : List IndexEntry) (n : ℕ) (e : Error) → e ≢ Memory → IsFaultAt q es n e → (d : IndexEntry) → verdict q es (slice_index_or es n d) ≡ Err e
+fault_here q es n e other (inl h) = h
+fault_here q es n e other (inr h) = absurd (other h)
+
+fault_not_thread : {T U : Type 0} (q : Query T U) → NeverSpawns q → (es : List IndexEntry) (n : ℕ) (e : Error) → n < length es → e ≡ SpawnThread → IsFaultAt q es n e → ⊥
+fault_not_thread q never [] n e inside spawned (inl h) = absurd (omega arith)
+fault_not_thread q never (x ∷ es) n e inside spawned (inl h) = never_spawned q never (x ∷ es) (slice_index_or (x ∷ es) n x) (h x ∙ ap (λ (v : Error). Err v) spawned)
+fault_not_thread q never es n e inside spawned (inr h) = cc
+
+module _ {T U : Type 0} (q : Query T U) (start : ℕ) (es : List IndexEntry) where
+  -- the records of the first entries are a beginning of all
+  pub records_begin : (n : ℕ) → IsBeginning (records_in q es start (take n es)) (records_of q start es)
+  records_begin n = (
+    records_in q es (start + length (take n es)) (drop n es),
+    sym (records-append q es start (take n es) (drop n es)) ∙ ap (records_in q es start) (take-append-drop n es),
+  )
+
+  -- where no entry has a fault there is no first one
+  pub none_first : faults_in q es es ≡ [] → first_fault q es ≡ None
+  none_first h = ap (λ (l : List Error). slice_get l 0) h
+
+  -- the records of a part from the front
+  front_records : (n : ℕ) → records_in q es (start + 0) (part_of es 0 n) ≡ records_in q es start (take n es)
+  front_records n = ap (λ (i : ℕ). records_in q es i (part_of es 0 n)) (omega arith) ∙ ap (records_in q es start) (part_front es n)
+
+begins_more : {A : Type 0} (xs ys zs : List A) → IsBeginning xs ys → IsBeginning ys zs → IsBeginning xs zs
+begins_more xs ys zs a b = (a.0 ++ b.0, sym (append_assoc xs a.0 b.0) ∙ ap (λ (l : List _). l ++ b.0) a.1 ∙ b.1)
+
+module _ {T U : Type 0} (q : Query T U) (entries : List Entry) (backing : PathStorage) (modelled has_flag : Bool) (limit : Option ℕ) (old new : List (Visit T U)) where
+  abbrev all : List IndexEntry
+  all = all_entries q entries backing
+
+  abbrev es : List IndexEntry
+  es = considered_entries q entries backing
+
+  abbrev start : ℕ
+  start = start_of q entries backing
+
+  -- what an outcome counts of the first considered entries
+  front_outcome : (n : ℕ) (reported : List (Finding T U)) (o p : Outcome) → IsAsMeant q start es 0 n reported o → counts_of_outcome p ≡ counts_of_outcome o → reads_of_outcome p ≡ reads_of_outcome o
+      → p.entries_to_process ≡ length es → p.entries_skipped_by_common_prefix ≡ length all - length es → IsOutcome q all es (take n es) p
+  front_outcome n reported o p m counts reads process prefix = record {
+    to_process = process;
+    skipped_by_prefix = prefix;
+    counts = counts ∙ m.counts ∙ ap (counts_in q es) (part_front es n);
+    reads = λ r. reads ∙ m.reads r ∙ ap (reads_in q) (part_front es n);
+  }
+
+  module _ (workers : ℕ) (o p : Outcome) (work : IsReportedWork q modelled start es 0 has_flag workers (length es) entries backing old (Ok o) new)
+      (counts : counts_of_outcome p ≡ counts_of_outcome o) (reads : reads_of_outcome p ≡ reads_of_outcome o)
+      (process : p.entries_to_process ≡ length es) (prefix : p.entries_skipped_by_common_prefix ≡ length all - length es) (interrupt : p.interrupted ≡ o.interrupted)
+      (room : p.entries_skipped_by_common_prefix + length es < 2 ^ 64) where
+    -- no entry is skipped twice
+    skipped_fits : skipped_of p < 2 ^ 64
+    skipped_fits =
+        let few = subst (λ k. IsWithin (work.worked.place - 0) k) (sym counts) work.worked.done.few in
+        omega (arith, few.skipped, work.worked.done.high, room)
+
+    -- the first of the considered entries were worked through
+    first_status : IsTrue modelled → IsStatusOf q entries backing work.worked.place (map finding_of work.fed.more) p
+    first_status t =
+        let m = work.worked.done.meant t in
+        record {
+          clear = sym (ap (faults_in q es) (part_front es work.worked.place)) ∙ m.clear;
+          records = work.fed.reported ∙ m.records ∙ front_records q start es work.worked.place;
+          outcome = front_outcome work.worked.place work.reported o p m counts reads process prefix;
+        }
+
+    whole_status : (n : ℕ) → n ≡ length es → IsStatusOf q entries backing n (map finding_of work.fed.more) p → IsComplete q entries backing (map finding_of work.fed.more) p
+    whole_status n e h =
+        let all_of : take n es ≡ es = ap (λ (k : ℕ). take k es) e ∙ take_all es in
+        record {
+          no_fault = none_first q start es (sym (ap (faults_in q es) all_of) ∙ h.clear);
+          records = h.records ∙ ap (records_in q es start) all_of;
+          outcome = subst (λ (part : List IndexEntry). IsOutcome q all es part p) all_of h.outcome;
+        }
+
+    -- all considered entries were worked through, or an interrupt flag was seen
+    pub status_ok : IsStatus q entries backing modelled has_flag limit old (Ok p) new
+    status_ok = record {
+      more = work.fed.more;
+      grew = work.fed.grew;
+      faithful = work.fed.faithful;
+      ascends = map_ascends work.fed.more work.reported work.fed.reported work.worked.done.ascending;
+      complete = λ t still. whole_status work.worked.place (work.worked.reached (sym interrupt ∙ still)) (first_status t);
+      interrupted = λ t seen. (work.worked.place, work.worked.done.high, first_status t);
+      fault = λ t. tt;
+      beginning = λ t. subst (λ l. IsBeginning l (records_of q start es)) (sym (first_status t).records) (records_begin q start es work.worked.place);
+      fits = skipped_fits;
+      uninterrupted = λ still. interrupt ∙ work.worked.uninterrupted still;
+      alone = λ t one spawns h. ok_not_err p SpawnThread h;
+    }
+
+  module _ (workers : ℕ) (e : Error) (single : limit ≡ Some 1 → workers ≡ 1) (work : IsReportedWork q modelled start es 0 has_flag workers (length es) entries backing old (Err e) new) where
+    abbrev stop : IsStopped q modelled start es 0 workers work.reported e
+    stop = work.worked
+
+    -- what was found up to the stop is a beginning of the records
+    found_begins : IsTrue modelled → IsBeginning stop.found (records_of q start es)
+    found_begins t =
+        let m = stop.done.meant t in
+        subst (λ l. IsBeginning l (records_of q start es)) (sym (m.records ∙ front_records q start es stop.place)) (records_begin q start es stop.place)
+
+    no_refusal : e ≢ Memory → e ≢ SpawnThread → IsRefusal workers e → ⊥
+    no_refusal other others (inl h) = other h
+    no_refusal other others (inr h) = others h.0
+
+    reported_in : ((work.reported ≡ stop.found) × (stop.place < length es) × (IsTrue modelled → IsFaultAt q es stop.place e)) ⊎ (IsRefusal workers e × IsBeginning work.reported stop.found) → IsBeginning work.reported stop.found
+    reported_in (inl h) = ([], append-nil work.reported ∙ h.0)
+    reported_in (inr h) = h.1
+
+    first_fault_at : IsTrue modelled → e ≢ Memory → e ≢ SpawnThread → ((work.reported ≡ stop.found) × (stop.place < length es) × (IsTrue modelled → IsFaultAt q es stop.place e)) ⊎ (IsRefusal workers e × IsBeginning work.reported stop.found) → IsFirstFault q entries backing (map finding_of work.fed.more) e
+    first_fault_at t other others (inr h) = absurd (no_refusal other others h.0)
+    first_fault_at t other others (inl h) =
+        let m = stop.done.meant t in
+        let clear : faults_in q es (take stop.place es) ≡ [] = sym (ap (faults_in q es) (part_front es stop.place)) ∙ m.clear in
+        let here = fault_here q es stop.place e other (h.2 t) in
+        record {
+          first = fault_law q es stop.place e h.1 clear here;
+          place = stop.place;
+          inside = h.1;
+          clear = clear;
+          here = here;
+          records = work.fed.reported ∙ h.0 ∙ m.records ∙ front_records q start es stop.place;
+        }
+
+    lone_refusal : workers ≡ 1 → IsRefusal workers e → e ≡ SpawnThread → ⊥
+    lone_refusal one (inl h) spawned = cc
+    lone_refusal one (inr h) spawned = absurd (omega (arith, one, h.1))
+
+    no_thread : IsTrue modelled → workers ≡ 1 → NeverSpawns q → ((work.reported ≡ stop.found) × (stop.place < length es) × (IsTrue modelled → IsFaultAt q es stop.place e)) ⊎ (IsRefusal workers e × IsBeginning work.reported stop.found) → e ≡ SpawnThread → ⊥
+    no_thread t one never (inl h) spawned = fault_not_thread q never es stop.place e h.1 spawned (h.2 t)
+    no_thread t one never (inr h) spawned = lone_refusal one h.0 spawned
+
+    -- the work ended
+    pub status_err : IsStatus q entries backing modelled has_flag limit old (Err e) new
+    status_err = record {
+      more = work.fed.more;
+      grew = work.fed.grew;
+      faithful = work.fed.faithful;
+      ascends = map_ascends work.fed.more work.reported work.fed.reported (front_ascends (λ a b. a.entry_index < b.entry_index) work.reported (reported_in stop.by).0 stop.found (reported_in stop.by).1 stop.done.ascending);
+      complete = λ t. tt;
+      interrupted = λ t. tt;
+      fault = λ t other others. first_fault_at t other others stop.by;
+      beginning = λ t. subst (λ l. IsBeginning l (records_of q start es)) (sym work.fed.reported) (begins_more work.reported stop.found (records_of q start es) (reported_in stop.by) (found_begins t));
+      fits = tt;
+      uninterrupted = λ _. tt;
+      alone = λ t one never h. no_thread t (single one) never stop.by (err_same e SpawnThread h);
+    }
+
+-- the same work, by an equal query and of an equal part
+pub work_kept : {T U : Type 0} (q r : Query T U) (modelled also interruptible : Bool) (workers start place : ℕ) (whole part : List IndexEntry) (entries : List Entry) (backing : PathStorage) (old new : List (Visit T U)) (result : Result Outcome Error)
+    → r ≡ q → also ≡ modelled → place ≡ start → part ≡ whole → IsReportedWork r also place part 0 interruptible workers (length part) entries backing old result new → IsReportedWork q modelled start whole 0 interruptible workers (length whole) entries backing old result new
+work_kept q r modelled also interruptible workers start place whole part entries backing old new result same so at of work =
+    subst (λ l. IsReportedWork q modelled start l 0 interruptible workers (length l) entries backing old result new) of
+    (subst (λ n. IsReportedWork q modelled n part 0 interruptible workers (length part) entries backing old result new) at
+    (subst (λ b. IsReportedWork q b place part 0 interruptible workers (length part) entries backing old result new) so
+    (subst (λ x. IsReportedWork x also place part 0 interruptible workers (length part) entries backing old result new) same work)))
+
+-- how many entries are considered, and how many aren't
+module _ {X Y : Type 0} (all whole : List X) (entries : List Y) (s e : ℕ) (part : part_of all s e ≡ whole) (order : s ≤ e) (inside : e ≤ length entries) (same : length all ≡ length entries) where
+  pub part_len : e - s ≡ length whole
+  part_len = sym (ap length (sym part) ∙ omega (arith, length-take (e - s) (drop s all), length-drop s all, order, inside, same))
+
+  pub rest_len : (n : ℕ) → n ≡ length entries → n - (e - s) ≡ length all - length whole
+  rest_len n h = omega (arith, part_len, h, same)
+
+  -- the considered and the others are all
+  pub skip_room : (n : ℕ) → n ≡ length entries → n < 2 ^ 64 → n - (e - s) + length whole < 2 ^ 64
+  skip_room n h few = omega (arith, part_len, order, inside, h, few)

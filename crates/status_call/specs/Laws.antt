@@ -1,0 +1,106 @@
+-- Laws of the definitions.
+use Rattle.std.specs.Prelude.{◌≡◌, ◌⊎◌, ℕ, ◌<◌, Bool, true, List, [], length, take, drop, map, All, AllPairs, Option, Some, None, option_map, is_some, Ok, Err, IsTrue, IsFalse}
+use Rattle.std.specs.List.{slice_index_or}
+use Rattle.status_index.specs.declared.metadata.Metadata.{Metadata}
+use Rattle.status_index.specs.declared.metadata.NodeKind.TheVariants as kinds
+use Rattle.status_index.specs.declared.mode.Mode.{Mode}
+use Rattle.status_index.specs.declared.mode.Mode.TheVariants as modes
+use Rattle.status_index.specs.declared.stat.Stat.{Stat}
+use Rattle.status_index.specs.declared.entry.Entry.{Entry}
+use Rattle.status_index.specs.Entries.{IndexEntry, IsIndex, listed, stage_of}
+use Rattle.status_compare.specs.declared.error.Error.{Error}
+use Rattle.status_index.specs.declared.id.ObjectId.{ObjectId}
+use Rattle.status_compare.specs.Comparers.{hash_answer, fast_answer}
+use Rattle.status_compare.specs.Reading.{no_reads}
+use Rattle.status_call.specs.declared.index_as_worktree.types.Change.TheVariants.{Modification}
+use Rattle.status_call.specs.declared.index_as_worktree.types.Conflict.{Conflict}
+use Rattle.status_call.specs.declared.index_as_worktree.types.EntryStatus.TheVariants as statuses
+use Rattle.status_call.specs.Conflicts.{conflict_of, places_of, kept_of}
+use Rattle.status_call.specs.Considered.{same_path, is_skipped, is_over, stages_from}
+use Rattle.status_call.specs.Counts.{is_compared_case, reads_of}
+use Rattle.status_call.specs.Pieces.{IsCut}
+use Rattle.status_call.specs.Query.{Query}
+use Rattle.status_call.specs.Records.{verdict, records_of, faults_in, first_fault}
+use Rattle.status_call.specs.Status.{case_of, changed, status_of}
+use Rattle.status_call.specs.StatusTheorem.{NeverSpawns}
+use Rattle.status_call.specs.StatusTable.{IsPresent, IsStamped, trusted, racy, HasChange}
+
+-- the modes of directories
+abbrev pub IsDirectoryMode : Mode → Type 0
+IsDirectoryMode mode = (mode ≡ modes.Commit) ⊎ (mode ≡ modes.Dir)
+
+-- the entries of a conflict
+abbrev pub conflict_run : List IndexEntry → IndexEntry → List Entry
+conflict_run es e = map (λ d. d.entry) (stages_from es e)
+
+-- comparison by ids never answers that a thread was refused
+abbrev pub IdsLaw : {U : Type 0} → Query ObjectId U → Type 0
+IdsLaw q = q.compared ≡ (λ e _ m. hash_answer e m.file) → NeverSpawns q
+
+-- nor does comparison by sizes
+abbrev pub SizesLaw : {U : Type 0} → Query (Unit {0}) U → Type 0
+SizesLaw q = q.compared ≡ (λ e n m. fast_answer e n m.file) → NeverSpawns q
+
+module _ {T U : Type 0} (q : Query T U) where
+  -- a node whose stat agrees with the entry's, and may hide a write
+  pub record HidesWrites (e : IndexEntry) : Type 0 where
+    pub node : Metadata
+    pub stat : Stat
+    pub stamped : IsStamped q e node stat
+    pub trusted_stat : IsTrue (trusted q e stat)
+    pub racy_stat : IsTrue (racy q e stat)
+
+  -- what a modification says: there is a change, of executability or of content; and the size is set to zero with a
+  -- change of content alone, where the entry's stat would hide it
+  pub record IsChange (e : IndexEntry) (x : Bool) (c : Option T) (zero : Bool) : Type 0 where
+    pub change : HasChange q e x c
+    pub of_content : IsTrue zero → IsTrue (is_some c)
+    pub hidden : IsTrue zero → HidesWrites e
+
+  abbrev pub ModificationLaw : Type 0
+  ModificationLaw = (e : IndexEntry) (x : Bool) (c : Option T) (zero : Bool) → status_of q e ≡ changed (Modification x c zero) → IsChange e x c zero
+
+  -- a regular file that is executable at a mode that isn't, or the other way round
+  pub record IsOtherExecutable (e : IndexEntry) : Type 0 where
+    pub node : Metadata
+    pub present : IsPresent q e node
+    pub file : node.kind ≡ kinds.File
+    pub other : ((e.entry.mode ≡ modes.File) × IsTrue node.executable) ⊎ ((e.entry.mode ≡ modes.FileExecutable) × IsFalse node.executable)
+
+  -- only where executability counts
+  abbrev pub ExecutableLaw : Type 0
+  ExecutableLaw = (e : IndexEntry) (c : Option T) (zero : Bool) → status_of q e ≡ changed (Modification true c zero) → IsTrue q.executable_bit × IsOtherExecutable e
+
+  -- of a directory's entry the comparer isn't asked, and nothing is read
+  abbrev pub UnreadLaw : Type 0
+  UnreadLaw = (e : IndexEntry) → IsDirectoryMode e.entry.mode → IsFalse (is_compared_case (case_of q e)) × (reads_of q e ≡ no_reads)
+
+  -- the records ascend strictly
+  abbrev pub AscendLaw : Type 0
+  AscendLaw = (start : ℕ) (es : List IndexEntry) → AllPairs (λ a b. a.entry_index < b.entry_index) (records_of q start es)
+
+  -- where no path has entries on both sides of a place, what an entry gives depends on its own side alone
+  abbrev pub CutLaw : Type 0
+  CutLaw = (es : List IndexEntry) (k : ℕ) → IsCut es k
+      → All (λ e. verdict q es e ≡ verdict q (take k es) e) (take k es) × All (λ e. verdict q es e ≡ verdict q (drop k es) e) (drop k es)
+
+  -- an entry's fault before which there is none is the first
+  abbrev pub FaultLaw : Type 0
+  FaultLaw = (es : List IndexEntry) (n : ℕ) (x : Error) → n < length es → faults_in q es (take n es) ≡ []
+      → ((d : IndexEntry) → verdict q es (slice_index_or es n d) ≡ Err x) → first_fault q es ≡ Some x
+
+  -- after an entry with a stage that isn't skipped no entry of its path gives anything
+  abbrev pub OneConflictLaw : Type 0
+  OneConflictLaw = (es : List IndexEntry) → IsIndex (map listed es)
+      → AllPairs (λ a b. IsTrue (same_path a b) → IsFalse (is_skipped q a) → 0 < stage_of a.entry → verdict q es b ≡ Ok None) es
+
+  -- the record of a conflict, by the entries of its path from a stage upward
+  abbrev pub ReportsConflict : List IndexEntry → IndexEntry → Conflict → Type 0
+  ReportsConflict es e c =
+      (conflict_of (conflict_run es e) ≡ Some c)
+      × (verdict q es e ≡ Ok (Some (statuses.Conflict c (map (option_map kept_of) (places_of (conflict_run es e))))))
+
+  -- an entry with a stage that is neither skipped nor over tells a conflict
+  abbrev pub HeadLaw : Type 0
+  HeadLaw = (es : List IndexEntry)
+      → All (λ e. 0 < stage_of e.entry → IsFalse (is_skipped q e) → IsFalse (is_over q es e) → (c : Conflict) × ReportsConflict es e c) es

@@ -1,0 +1,165 @@
+-- The status of one entry of stage 0 that isn't skipped: the case that it falls in, and what each case answers.
+use Rattle.std.specs.Prelude.{ℕ, ◌==◌, Bool, true, false, not, ◌&&◌, List, Option, Some, None, Result, Ok, Err, if◌then◌else◌}
+use Rattle.status_index.specs.declared.fault.Fault.{Fault}
+use Rattle.status_index.specs.declared.fault.Fault.TheVariants as faults
+use Rattle.status_index.specs.declared.metadata.Metadata.{Metadata}
+use Rattle.status_index.specs.declared.metadata.NodeKind.{NodeKind}
+use Rattle.status_index.specs.declared.metadata.NodeKind.TheVariants as kinds
+use Rattle.status_index.specs.declared.mode.Mode.{Mode}
+use Rattle.status_index.specs.declared.mode.Mode.TheVariants as modes
+use Rattle.status_index.specs.declared.mode.Change.{Change as ModeChange}
+use Rattle.status_index.specs.declared.mode.Change.TheVariants.{TypeChange, ExecutableBit}
+use Rattle.status_index.specs.declared.stat.Stat.{Stat}
+use Rattle.status_index.specs.declared.flags.TheConstants.Flags.{INTENT_TO_ADD}
+use Rattle.status_index.specs.BlobId.{is_empty_blob}
+use Rattle.status_index.specs.Entries.{IndexEntry}
+use Rattle.status_index.specs.Mode.{is_submodule, mode_change}
+use Rattle.status_index.specs.NodeStat.{stat_of}
+use Rattle.status_index.specs.Stat.{stat_agrees, is_racy}
+use Rattle.status_base.specs.LinkCheck.{LinkCheck, accepted, empty_path, not_normal, through_link, faulty, link_check}
+use Rattle.status_compare.specs.declared.error.Error.{Error}
+use Rattle.status_compare.specs.declared.error.Error.TheVariants as errors
+use Rattle.status_compare.specs.Errors.{error_of}
+use Rattle.status_compare.specs.Reading.{Reading, Meaning, node_reading, blob_reading}
+use Rattle.status_call.specs.declared.index_as_worktree.types.Change.{Change}
+use Rattle.status_call.specs.declared.index_as_worktree.types.Change.TheVariants as changes
+use Rattle.status_call.specs.declared.index_as_worktree.types.EntryStatus.{EntryStatus}
+use Rattle.status_call.specs.declared.index_as_worktree.types.EntryStatus.TheVariants as statuses
+use Rattle.status_call.specs.Considered.{has_flag}
+use Rattle.status_call.specs.Query.{Query}
+
+-- what is found at an entry's path: nothing (a directory on the way or the path itself is missing, or a link is on the
+-- way), a fault, a directory, or a file, link or other node
+pub data Found : Type 0 where
+  nothing : Found
+  refused : Fault → Found
+  directory : Found
+  present : Metadata → Found
+
+-- a fault that says that nothing is there, or another
+abbrev pub found_fault : Fault → Found
+found_fault faults.NotFound = nothing
+found_fault faults.NotADirectory = nothing
+found_fault f = refused f
+
+abbrev pub found_kind : Metadata → NodeKind → Found
+found_kind n kinds.Directory = directory
+found_kind n kinds.File = present n
+found_kind n kinds.Link = present n
+found_kind n kinds.Other = present n
+
+abbrev pub found_node : Result Metadata Fault → Found
+found_node (Ok n) = found_kind n n.kind
+found_node (Err f) = found_fault f
+
+-- by the check of the path, and the node that is told of it
+abbrev pub found_by : LinkCheck → Result Metadata Fault → Found
+found_by accepted node = found_node node
+found_by (through_link _) node = nothing
+found_by (faulty f) node = found_fault f
+found_by (not_normal _) node = refused faults.NotNormal
+found_by empty_path node = refused faults.NotNormal
+
+-- what the listings know, else what the worktree tells
+abbrev pub cached_or : Option Metadata → Result Metadata Fault → Result Metadata Fault
+cached_or (Some n) reported = Ok n
+cached_or None reported = reported
+
+abbrev pub same_bool : Bool → Bool → Bool
+same_bool true b = b
+same_bool false b = not b
+
+-- the cases of the status table
+pub data Case (T U : Type 0) : Type 0 where
+  -- nothing is there
+  gone : Case T U
+  fails : Fault → Case T U
+  -- a directory at a submodule's entry, with what the submodule says
+  in_submodule : Result (Option U) (List ℕ) → Case T U
+  added : Case T U
+  unstamped : Case T U
+  retyped : Mode → Case T U
+  -- trusted and not racy, without an executable change
+  unchanged : Case T U
+  -- whether the executable bit changed, the entry is trusted, its stat is racy; the node's stat; the comparer's answer
+  compared : Bool → Bool → Bool → Stat → Result (Option T) Error → Case T U
+
+module _ {T U : Type 0} where
+  abbrev pub changed : Change T U → Result (Option (EntryStatus T U)) Error
+  changed c = Ok (Some (statuses.Change c))
+
+  -- what each case answers, at a path
+  abbrev pub answer : List ℕ → Case T U → Result (Option (EntryStatus T U)) Error
+  answer path gone = changed changes.Removed
+  answer path (fails f) = Err (error_of f)
+  answer path (in_submodule (Ok None)) = Ok None
+  answer path (in_submodule (Ok (Some u))) = changed (changes.SubmoduleModification u)
+  answer path (in_submodule (Err text)) = Err (errors.SubmoduleStatus path text)
+  answer path added = Ok (Some statuses.IntentToAdd)
+  answer path unstamped = Err errors.Time
+  answer path (retyped mode) = changed (changes.TypeChange mode)
+  answer path unchanged = Ok None
+  answer path (compared x trusted racy s (Err e)) = Err e
+  answer path (compared x trusted racy s (Ok (Some c))) = changed (changes.Modification x (Some c) (trusted && racy))
+  answer path (compared true trusted racy s (Ok None)) = changed (changes.Modification true None false)
+  answer path (compared false trusted racy s (Ok None)) = Ok (Some (statuses.NeedsUpdate s))
+
+-- whether links count at a node: it is a link, or the file system has links
+abbrev pub links_count : Bool → NodeKind → Bool
+links_count symlink kinds.Link = true
+links_count symlink kinds.File = symlink
+links_count symlink kinds.Directory = symlink
+links_count symlink kinds.Other = symlink
+
+-- whether an entry is read as a link's target
+abbrev pub reads_link : Bool → Mode → NodeKind → Bool
+reads_link symlink modes.Symlink kind = links_count symlink kind
+reads_link symlink modes.Dir kind = false
+reads_link symlink modes.File kind = false
+reads_link symlink modes.FileExecutable kind = false
+reads_link symlink modes.Commit kind = false
+
+module _ {T U : Type 0} (q : Query T U) where
+  -- what is found at an entry's path
+  abbrev pub found : IndexEntry → Found
+  found e = found_by (link_check q.lstat e.path) (cached_or (q.cached e.path) (q.lstat e.path))
+
+  -- the entry's stat agrees with the node's, and its id is the empty blob's exactly where its size is 0
+  abbrev pub is_trusted : IndexEntry → Stat → Bool
+  is_trusted e s = stat_agrees q.stat_options s e.entry.stat && same_bool (is_empty_blob e.entry.id) (e.entry.stat.size == 0)
+
+  -- what there is to be read of an entry and its node
+  abbrev pub reading : IndexEntry → Metadata → Reading
+  reading e n =
+      node_reading (reads_link q.symlink e.entry.mode n.kind) (λ content. q.conversion content e.path) n.len (q.opened e.path) (q.linked e.path)
+
+  abbrev pub meaning : IndexEntry → Metadata → Meaning
+  meaning e n = record { file = reading e n; blob = blob_reading (q.blob e.entry.id) }
+
+  -- by whether the executable bit changed, the entry is trusted, and its stat is racy
+  abbrev pub case_of_content : IndexEntry → Metadata → Stat → Bool → Bool → Bool → Case T U
+  case_of_content e n s false true false = unchanged
+  case_of_content e n s x trusted racy = compared x trusted racy s (q.compared e.entry n.len (meaning e n))
+
+  abbrev pub case_of_change : IndexEntry → Metadata → Stat → Option ModeChange → Case T U
+  case_of_change e n s (Some (TypeChange mode)) = retyped mode
+  case_of_change e n s (Some ExecutableBit) = case_of_content e n s true (is_trusted e s) (is_racy q.stat_options q.timestamp s)
+  case_of_change e n s None = case_of_content e n s false (is_trusted e s) (is_racy q.stat_options q.timestamp s)
+
+  abbrev pub case_of_stat : IndexEntry → Metadata → Option Stat → Case T U
+  case_of_stat e n None = unstamped
+  case_of_stat e n (Some s) = case_of_change e n s (mode_change q.symlink q.executable_bit e.entry.mode n)
+
+  abbrev pub case_of_found : IndexEntry → Found → Case T U
+  case_of_found e nothing = gone
+  case_of_found e (refused f) = fails f
+  case_of_found e directory = if is_submodule e.entry.mode then in_submodule (q.submodule e.entry e.path) else gone
+  case_of_found e (present n) = if has_flag e INTENT_TO_ADD then added else case_of_stat e n (stat_of n)
+
+  -- the case of an entry
+  abbrev pub case_of : IndexEntry → Case T U
+  case_of e = case_of_found e (found e)
+
+  -- the status of an entry
+  abbrev pub status_of : IndexEntry → Result (Option (EntryStatus T U)) Error
+  status_of e = answer e.path (case_of e)

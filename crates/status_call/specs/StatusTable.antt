@@ -1,0 +1,177 @@
+-- The status table: which row an unskipped entry of stage 0 falls in, and what the row answers.
+use Rattle.std.specs.Prelude.{◌≡◌, ◌⊎◌, ℕ, Bool, true, false, ◌&&◌, List, Option, Some, None, is_some, Result, Ok, Err, IsTrue, IsFalse}
+use Rattle.status_index.specs.declared.fault.Fault.{Fault}
+use Rattle.status_index.specs.declared.fault.Fault.TheVariants as faults
+use Rattle.status_index.specs.declared.metadata.Metadata.{Metadata}
+use Rattle.status_index.specs.declared.metadata.NodeKind.TheVariants as kinds
+use Rattle.status_index.specs.declared.mode.Mode.{Mode}
+use Rattle.status_index.specs.declared.mode.Change.TheVariants.{TypeChange, ExecutableBit}
+use Rattle.status_index.specs.declared.stat.Stat.{Stat}
+use Rattle.status_index.specs.declared.flags.TheConstants.Flags.{INTENT_TO_ADD}
+use Rattle.status_index.specs.Entries.{IndexEntry}
+use Rattle.status_index.specs.Mode.{is_submodule, mode_change}
+use Rattle.status_index.specs.NodeStat.{stat_of}
+use Rattle.status_index.specs.Stat.{is_racy}
+use Rattle.status_base.specs.LinkCheck.{LinkCheck, accepted, empty_path, not_normal, through_link, faulty, link_check}
+use Rattle.status_compare.specs.declared.error.Error.{Error}
+use Rattle.status_compare.specs.declared.error.Error.TheVariants as errors
+use Rattle.status_compare.specs.Errors.{error_of}
+use Rattle.status_call.specs.declared.index_as_worktree.types.Change.TheVariants as changes
+use Rattle.status_call.specs.declared.index_as_worktree.types.EntryStatus.TheVariants as statuses
+use Rattle.status_call.specs.Considered.{has_flag}
+use Rattle.status_call.specs.Query.{Query}
+use Rattle.status_call.specs.Status.{cached_or, changed, is_trusted, meaning, status_of}
+
+-- a fault that says that nothing is there
+abbrev pub IsAbsence : Fault → Type 0
+IsAbsence f = (f ≡ faults.NotFound) ⊎ (f ≡ faults.NotADirectory)
+
+-- the rows of the table
+pub data Row : Type 0 where
+  -- nothing is there, or a directory in place of a file
+  gone : Row
+  -- a fault keeps the path from being looked at
+  refused : Row
+  -- a directory at a submodule's entry
+  in_submodule : Row
+  -- a node at an entry that is to be added; a node of which a stamp isn't known; a node of another type
+  added : Row
+  unstamped : Row
+  retyped : Row
+  -- a stat that settles it
+  unchanged : Row
+  -- one that doesn't: the comparer fails; there is a change of executability or of content; there is none
+  failed : Row
+  modified : Row
+  to_update : Row
+
+module _ {T U : Type 0} (q : Query T U) (e : IndexEntry) where
+  -- what a fresh check of the entry's path answers
+  abbrev pub check_of : LinkCheck
+  check_of = link_check q.lstat e.path
+
+  -- what the listings know of the path, else what the worktree tells
+  abbrev pub node_of : Result Metadata Fault
+  node_of = cached_or (q.cached e.path) (q.lstat e.path)
+
+  -- the path leads through a link; a fault of absence is on the way or at the path; or there is a directory, and the
+  -- entry is no submodule's
+  pub data IsGone : Type 0 where
+    by_link : (p : List ℕ) → check_of ≡ through_link p → IsGone
+    on_the_way : (f : Fault) → check_of ≡ faulty f → IsAbsence f → IsGone
+    at_the_path : (f : Fault) → check_of ≡ accepted → node_of ≡ Err f → IsAbsence f → IsGone
+    by_directory : (n : Metadata) → check_of ≡ accepted → node_of ≡ Ok n → n.kind ≡ kinds.Directory → IsFalse (is_submodule e.entry.mode) → IsGone
+
+  -- a path that isn't normal, or another fault on the way or at the path
+  pub data IsRefused (f : Fault) : Type 0 where
+    unnamed : check_of ≡ empty_path → f ≡ faults.NotNormal → IsRefused f
+    oddly_named : (component : List ℕ) → check_of ≡ not_normal component → f ≡ faults.NotNormal → IsRefused f
+    barred : check_of ≡ faulty f → ¬ IsAbsence f → IsRefused f
+    unreadable : check_of ≡ accepted → node_of ≡ Err f → ¬ IsAbsence f → IsRefused f
+
+  -- a directory at a submodule's entry
+  pub record IsInSubmodule : Type 0 where
+    pub node : Metadata
+    pub clear : check_of ≡ accepted
+    pub reported : node_of ≡ Ok node
+    pub directory : node.kind ≡ kinds.Directory
+    pub submodule : IsTrue (is_submodule e.entry.mode)
+
+  -- a file, a link or another node that is no directory
+  pub record IsPresent (n : Metadata) : Type 0 where
+    pub clear : check_of ≡ accepted
+    pub reported : node_of ≡ Ok n
+    pub no_directory : (n.kind ≡ kinds.File) ⊎ ((n.kind ≡ kinds.Link) ⊎ (n.kind ≡ kinds.Other))
+
+  -- a node at an entry that is to be added
+  pub record IsAdded : Type 0 where
+    pub node : Metadata
+    pub present : IsPresent node
+    pub intended : IsTrue (has_flag e INTENT_TO_ADD)
+
+  -- a node of which a stamp isn't known
+  pub record IsUnstamped : Type 0 where
+    pub node : Metadata
+    pub present : IsPresent node
+    pub not_intended : IsFalse (has_flag e INTENT_TO_ADD)
+    pub unknown : stat_of node ≡ None
+
+  -- a node whose stat is known
+  pub record IsStamped (n : Metadata) (s : Stat) : Type 0 where
+    pub present : IsPresent n
+    pub not_intended : IsFalse (has_flag e INTENT_TO_ADD)
+    pub known : stat_of n ≡ Some s
+
+  -- a node of another type
+  pub record IsRetyped (mode : Mode) : Type 0 where
+    pub node : Metadata
+    pub stat : Stat
+    pub stamped : IsStamped node stat
+    pub other_type : mode_change q.symlink q.executable_bit e.entry.mode node ≡ Some (TypeChange mode)
+
+  -- a node of the same type, by whether its executability changed
+  abbrev pub SameType : Metadata → Bool → Type 0
+  SameType n true = mode_change q.symlink q.executable_bit e.entry.mode n ≡ Some ExecutableBit
+  SameType n false = mode_change q.symlink q.executable_bit e.entry.mode n ≡ None
+
+  abbrev pub trusted : Stat → Bool
+  trusted s = is_trusted q e s
+
+  abbrev pub racy : Stat → Bool
+  racy s = is_racy q.stat_options q.timestamp s
+
+  -- a stat that settles it
+  pub record IsUnchanged : Type 0 where
+    pub node : Metadata
+    pub stat : Stat
+    pub stamped : IsStamped node stat
+    pub same : SameType node false
+    pub trusted_stat : IsTrue (trusted stat)
+    pub not_racy : IsFalse (racy stat)
+
+  -- a stat that doesn't: the executability changed, the entry isn't trusted, or the stat is racy
+  pub record IsCompared (n : Metadata) (s : Stat) (executable_changed : Bool) : Type 0 where
+    pub stamped : IsStamped n s
+    pub same_type : SameType n executable_changed
+    pub unsettled : IsTrue executable_changed ⊎ (IsFalse (trusted s) ⊎ IsTrue (racy s))
+
+  -- the comparer's answer
+  abbrev pub comparison : Metadata → Result (Option T) Error
+  comparison n = q.compared e.entry n.len (meaning q e n)
+
+  -- a change of executability or of content
+  abbrev pub HasChange : Bool → Option T → Type 0
+  HasChange executable_changed content_change = IsTrue executable_changed ⊎ IsTrue (is_some content_change)
+
+  -- what a directory at a submodule's entry gives, by what the submodule tells
+  pub record SubmoduleRow : Type 0 where
+    pub same : q.submodule e.entry e.path ≡ Ok None → status_of q e ≡ Ok None
+    pub other : (u : U) → q.submodule e.entry e.path ≡ Ok (Some u) → status_of q e ≡ changed (changes.SubmoduleModification u)
+    pub fault : (text : List ℕ) → q.submodule e.entry e.path ≡ Err text → status_of q e ≡ Err (errors.SubmoduleStatus e.path text)
+
+  -- what each row answers
+  pub record StatusTable : Type 0 where
+    pub gone_row : IsGone → status_of q e ≡ changed changes.Removed
+    pub refused_row : (f : Fault) → IsRefused f → status_of q e ≡ Err (error_of f)
+    pub submodule_row : IsInSubmodule → SubmoduleRow
+    pub added_row : IsAdded → status_of q e ≡ Ok (Some statuses.IntentToAdd)
+    pub unstamped_row : IsUnstamped → status_of q e ≡ Err errors.Time
+    pub retyped_row : (mode : Mode) → IsRetyped mode → status_of q e ≡ changed (changes.TypeChange mode)
+    pub unchanged_row : IsUnchanged → status_of q e ≡ Ok None
+    pub failed_row : (n : Metadata) (s : Stat) (x : Bool) (err : Error) → IsCompared n s x → comparison n ≡ Err err → status_of q e ≡ Err err
+    pub modified_row : (n : Metadata) (s : Stat) (x : Bool) (c : Option T) → IsCompared n s x → comparison n ≡ Ok c → HasChange x c
+        → status_of q e ≡ changed (changes.Modification x c (is_some c && trusted s && racy s))
+    pub update_row : (n : Metadata) (s : Stat) → IsCompared n s false → comparison n ≡ Ok None → status_of q e ≡ Ok (Some (statuses.NeedsUpdate s))
+
+  -- the entry falls in a row
+  abbrev pub IsInRow : Row → Type 0
+  IsInRow gone = IsGone
+  IsInRow refused = (f : Fault) × IsRefused f
+  IsInRow in_submodule = IsInSubmodule
+  IsInRow added = IsAdded
+  IsInRow unstamped = IsUnstamped
+  IsInRow retyped = (mode : Mode) × IsRetyped mode
+  IsInRow unchanged = IsUnchanged
+  IsInRow failed = (n : Metadata) × ((s : Stat) × ((x : Bool) × ((err : Error) × (IsCompared n s x × (comparison n ≡ Err err)))))
+  IsInRow modified = (n : Metadata) × ((s : Stat) × ((x : Bool) × ((c : Option T) × (IsCompared n s x × (comparison n ≡ Ok c) × HasChange x c))))
+  IsInRow to_update = (n : Metadata) × ((s : Stat) × (IsCompared n s false × (comparison n ≡ Ok None)))

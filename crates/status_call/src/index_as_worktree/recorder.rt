@@ -1,0 +1,109 @@
+//! Who is told the records of a status.
+
+ghost use Rattle.std.specs.Prelude.{◌≡◌, ◌++◌, ◌∷◌, [], List, Some, OnOk, OnErr, slice_get};
+ghost use Rattle.bstr.specs.BStr.{bstr_bytes};
+ghost use Rattle.status_call.specs.Visits.{Visit};
+
+use crate::index_as_worktree::types::{Change, EntryStatus};
+use bstr::BStr;
+use status_base::index::Entry;
+use std::alloc::{AllocError, Global};
+use std::marker::PhantomData;
+
+/// Who is told the records of a status, in ascending order of their entries. Its meaning is the list of what it was told.
+pub trait VisitEntry<'index> {
+    /// What a comparer tells of a change.
+    type ContentChange;
+    /// What a submodule tells of a change.
+    type SubmoduleStatus;
+
+    /// What it was told so far.
+    ghost visits: { Self → List (Visit Self.ContentChange Self.SubmoduleStatus) };
+
+    /// Tells the status of `entry`, which stands at `entry_index` in `entries`, the whole index, and has the path
+    /// `rela_path`.
+    ///
+    /// # Errors
+    /// Want of memory; then it wasn't told.
+    fn visit_entry(
+        &mut self,
+        entries: &'index [Entry],
+        entry: &'index Entry,
+        entry_index: usize,
+        rela_path: BStr<'index>,
+        status: EntryStatus<Self::ContentChange, Self::SubmoduleStatus>,
+    ) -> Result<(), AllocError>
+        requires { slice_get entries.now entry_index ≡ Some entry.now }
+        ensures ok { OnOk result (visits self.new ≡ visits self.old ++ record { entry = entry.now; entry_index = entry_index; path = bstr_bytes rela_path.entry; status = status } ∷ []) }
+        ensures err { OnErr result (visits self.new ≡ visits self.old) };
+}
+
+/// One record of a status.
+#[derive(Clone, Debug, Drop)]
+pub struct Record<'index, T, U> {
+    /// The entry.
+    pub entry: &'index Entry,
+    /// The entry's place in the whole index.
+    pub entry_index: usize,
+    /// The entry's path.
+    pub relative_path: BStr<'index>,
+    /// What is told of it.
+    pub status: EntryStatus<T, U>,
+    /// Names the types that a status is made of: the proof of a drop finds them only where they are named.
+    parts: PhantomData<(Change<T, U>, Option<T>)>,
+}
+
+/// Keeps the records of a status in a list. One that is refused memory stays as it was.
+#[derive(Debug, Drop)]
+pub struct Recorder<'index, T, U> {
+    /// The records, in ascending order of their entries.
+    pub records: Vec<Record<'index, T, U>>,
+}
+
+impl<'index, T, U> Recorder<'index, T, U> {
+    ghost use Rattle.std.specs.Prelude.{◌≡◌, []};
+    ghost use Rattle.status_call.specs.Recorded.{visits_of};
+
+    /// A recorder with no record.
+    pub fn new(alloc: Global) -> Recorder<'index, T, U>
+        ensures { visits_of result ≡ [] }
+    {
+        Recorder {
+            records: Vec::new(alloc),
+        }
+    }
+}
+
+impl<'index, T: Drop, U: Drop> VisitEntry<'index> for Recorder<'index, T, U> {
+    ghost use Rattle.std.specs.Prelude.{◌≡◌, ◌++◌, ◌∷◌, [], Some, OnOk, OnErr, slice_get};
+    ghost use Rattle.bstr.specs.BStr.{bstr_bytes};
+    ghost use Rattle.status_call.specs.Recorded.{visits_of};
+
+    type ContentChange = T;
+
+    type SubmoduleStatus = U;
+
+    ghost visits = { visits_of };
+
+    fn visit_entry(
+        &mut self,
+        _entries: &'index [Entry],
+        entry: &'index Entry,
+        entry_index: usize,
+        rela_path: BStr<'index>,
+        status: EntryStatus<T, U>,
+    ) -> Result<(), AllocError>
+        requires { slice_get _entries.now entry_index ≡ Some entry.now }
+        ensures ok { OnOk result (visits_of self.new ≡ visits_of self.old ++ record { entry = entry.now; entry_index = entry_index; path = bstr_bytes rela_path.entry; status = status } ∷ []) }
+        ensures err { OnErr result (visits_of self.new ≡ visits_of self.old) }
+    {
+        self.records.push(Record {
+            entry,
+            entry_index,
+            relative_path: rela_path,
+            status,
+            parts: PhantomData,
+        })?;
+        Ok(())
+    }
+}

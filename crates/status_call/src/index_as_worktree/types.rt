@@ -1,0 +1,242 @@
+//! What a status is asked, and what it answers.
+
+ghost use Rattle.std.specs.Prelude.{◌≡◌, ◌+◌, ◌<◌, ◌^◌};
+
+pub use crate::index_as_worktree::recorder::VisitEntry;
+use status_base::index::{Entry, Flags, Mode, ObjectId, Stat, stat};
+pub use status_compare::Error;
+use std::sync::atomic::AtomicBool;
+
+/// How an entry has to change to be what the worktree has.
+#[derive(Clone, Debug, Drop, PartialEq, Eq, PartialOrd, Ord)]
+pub enum Change<T, U> {
+    /// There is no file: nothing is there, a directory is, or the path leads through a symbolic link.
+    Removed,
+    /// The node is of another type, as a link in place of a file.
+    TypeChange {
+        /// The mode of the node.
+        worktree_mode: Mode,
+    },
+    /// The file was modified: in its executability, its content, or both.
+    Modification {
+        /// Whether the executability changed.
+        executable_bit_changed: bool,
+        /// What the comparer told of the content. None where only the executability changed.
+        content_change: Option<T>,
+        /// Whether the caller has to set the size of the entry's stat to 0: once the index has a later timestamp, the
+        /// change would hide behind the entry's stat.
+        set_entry_stat_size_zero: bool,
+    },
+    /// A submodule changed, as it told.
+    SubmoduleModification(U),
+}
+
+/// What a conflict keeps of an entry.
+#[derive(Clone, Copy, Debug, PartialEq, Eq, PartialOrd, Ord)]
+pub struct ConflictIndexEntry {
+    /// The id of the content.
+    pub id: ObjectId,
+    /// The flags, the stage among them.
+    pub flags: Flags,
+    /// What kind of thing the entry is.
+    pub mode: Mode,
+}
+
+/// What is told of an entry.
+#[derive(Clone, Debug, Drop, PartialEq, Eq, PartialOrd, Ord)]
+pub enum EntryStatus<T, U> {
+    /// The entry's path has a conflict, told once for all its stages.
+    Conflict {
+        /// Which stages there are.
+        summary: Conflict,
+        /// The entries of stage 1 (base), 2 (ours) and 3 (theirs).
+        entries: [Option<ConflictIndexEntry>; 3],
+    },
+    /// The entry differs from the worktree.
+    Change(Change<T, U>),
+    /// The entry doesn't differ, but that took a comparison: with this stat in the index the next status is spared it.
+    NeedsUpdate(Stat),
+    /// The entry is a promise of a file to be added (git's `add --intent-to-add`), and the file is there.
+    IntentToAdd,
+}
+
+/// What is told of the entry at a place of the whole index.
+#[derive(Debug, Drop)]
+pub struct Finding<T, U> {
+    /// The entry's place in the whole index.
+    pub entry_index: usize,
+    /// What is told of it.
+    pub status: EntryStatus<T, U>,
+}
+
+/// Which sides of a merge have a path: the stages that the index has for it.
+#[derive(Clone, Copy, Debug, PartialEq, Eq, PartialOrd, Ord)]
+pub enum Conflict {
+    /// Stage 1 alone: both sides deleted it.
+    BothDeleted,
+    /// Stage 2 alone: we added it.
+    AddedByUs,
+    /// Stages 1 and 2: they deleted it.
+    DeletedByThem,
+    /// Stage 3 alone: they added it.
+    AddedByThem,
+    /// Stages 1 and 3: we deleted it.
+    DeletedByUs,
+    /// Stages 2 and 3: both added it.
+    BothAdded,
+    /// All stages: both modified it.
+    BothModified,
+}
+
+/// What a file system can keep.
+#[derive(Clone, Copy, Debug, PartialEq, Eq, Hash)]
+pub struct Capabilities {
+    /// Symbolic links (git's `core.symlinks`).
+    pub symlink: bool,
+    /// Whether a file is executable (git's `core.fileMode`).
+    pub executable_bit: bool,
+}
+
+impl Default for Capabilities {
+    ghost use Rattle.std.specs.Prelude.{◌≡◌};
+    ghost use Rattle.status_call.specs.DefaultCapabilities.{default_capabilities};
+
+    ghost is_default = { λ c. c ≡ default_capabilities };
+
+    fn default() -> Capabilities {
+        Capabilities {
+            symlink: true,
+            executable_bit: true,
+        }
+    }
+}
+
+/// How a status is computed. By default links and executability count, stats are compared as `stat::Options` has it, the
+/// number of workers is the usual one, no listing is used, and pieces are of the usual size.
+#[derive(Clone, Debug, Default, Drop, PartialEq, Eq, Hash)]
+pub struct Options {
+    /// What the file system can keep.
+    pub fs: Capabilities,
+    /// The greatest number of workers. None or 0 mean 4; there are never more than 64. One of them is the caller; each other
+    /// one takes a thread.
+    pub thread_limit: Option<usize>,
+    /// Which parts of stats have to be equal.
+    pub stat: stat::Options,
+    /// Whether listings of directories stand in place of `lstat` where they know a path. Not looked at yet.
+    pub fscache: bool,
+    /// How many entries a piece of work has. 0 means 500.
+    pub chunk_size: usize,
+}
+
+/// What a status is computed with.
+#[derive(Clone, Drop)]
+pub struct Context<'a, P, T, L> {
+    /// Which paths are looked at.
+    pub pathspec: P,
+    /// How files are converted to what git stores.
+    pub filter: T,
+    /// Listings of directories. Not asked yet.
+    pub lister: L,
+    /// Once it is seen set the status ends early. None is never set.
+    pub should_interrupt: Option<&'a AtomicBool>,
+}
+
+/// What a status took.
+#[derive(Clone, Debug, Default, Drop, PartialEq, Eq, PartialOrd, Ord)]
+pub struct Outcome {
+    /// The entries that were considered: those whose path begins with the pathspec's common prefix.
+    pub entries_to_process: usize,
+    /// The considered entries that were gone through, also those that were skipped. A conflict's later stages aren't.
+    pub entries_processed: usize,
+    /// The entries whose path doesn't begin with the common prefix.
+    pub entries_skipped_by_common_prefix: usize,
+    /// The considered entries that the pathspec excludes and no flag does. A conflict's later stages aren't counted.
+    pub entries_skipped_by_pathspec: usize,
+    /// The considered entries that a flag excludes. A conflict's later stages aren't counted.
+    pub entries_skipped_by_entry_flags: usize,
+    /// The calls of `lstat` on entries' own paths.
+    pub symlink_metadata_calls: usize,
+    /// The entries that need another stat.
+    pub entries_to_update: usize,
+    /// The entries, without an executable change, whose stat is trusted but may hide a write.
+    pub racy_clean: usize,
+    /// The bytes read from the worktree.
+    pub worktree_bytes: u64,
+    /// The files read from the worktree.
+    pub worktree_files_read: usize,
+    /// The bytes read from the object database.
+    pub odb_bytes: u64,
+    /// The objects read from the object database.
+    pub odb_objects_read: usize,
+    /// Whether the status ended early.
+    pub interrupted: bool,
+}
+
+impl Outcome {
+    ghost use Rattle.status_call.specs.Counts.{counts_of_outcome, reads_of_outcome};
+    ghost use Rattle.status_call.specs.Outcomes.{skipped_of};
+    ghost use Rattle.status_call.specs.Sums.{SumFits, plus_counts, plus_reads};
+    ghost use Rattle.std.specs.Prelude.{◌≡◌, ◌+◌, ◌<◌, ◌^◌, ◌||◌};
+
+    /// The entries that were skipped: by common prefix, by pathspec and by flags.
+    pub fn skipped(&self) -> usize
+        requires { skipped_of self.now < 2 ^ 64 }
+        ensures { result ≡ skipped_of self.now }
+    {
+        self.entries_skipped_by_common_prefix
+            + self.entries_skipped_by_pathspec
+            + self.entries_skipped_by_entry_flags
+    }
+
+    /// Adds what `other` counts. What was read stops at the greatest number. One that was interrupted makes both so.
+    pub(crate) fn absorb(&mut self, other: &Outcome)
+        requires { SumFits self.old other.now }
+        ensures counts { counts_of_outcome self.new ≡ plus_counts (counts_of_outcome self.old) (counts_of_outcome other.now) }
+        ensures reads { reads_of_outcome self.new ≡ plus_reads (reads_of_outcome self.old) (reads_of_outcome other.now) }
+        ensures to_process { self.new.entries_to_process ≡ self.old.entries_to_process + other.now.entries_to_process }
+        ensures skipped_by_prefix { self.new.entries_skipped_by_common_prefix ≡ self.old.entries_skipped_by_common_prefix + other.now.entries_skipped_by_common_prefix }
+        ensures interrupted { self.new.interrupted ≡ (self.old.interrupted || other.now.interrupted) }
+    {
+        self.entries_to_process += other.entries_to_process;
+        self.entries_processed += other.entries_processed;
+        self.entries_skipped_by_common_prefix += other.entries_skipped_by_common_prefix;
+        self.entries_skipped_by_pathspec += other.entries_skipped_by_pathspec;
+        self.entries_skipped_by_entry_flags += other.entries_skipped_by_entry_flags;
+        self.symlink_metadata_calls += other.symlink_metadata_calls;
+        self.entries_to_update += other.entries_to_update;
+        self.racy_clean += other.racy_clean;
+        self.worktree_bytes = self.worktree_bytes.saturating_add(other.worktree_bytes);
+        self.worktree_files_read = self
+            .worktree_files_read
+            .saturating_add(other.worktree_files_read);
+        self.odb_bytes = self.odb_bytes.saturating_add(other.odb_bytes);
+        self.odb_objects_read = self.odb_objects_read.saturating_add(other.odb_objects_read);
+        self.interrupted |= other.interrupted;
+    }
+}
+
+impl From<&Entry> for ConflictIndexEntry {
+    ghost use Rattle.std.specs.Prelude.{◌≡◌};
+    ghost use Rattle.status_call.specs.Conflicts.{kept_of};
+
+    ghost from_gives = { λ e k. k ≡ kept_of e.now };
+
+    fn from(entry: &Entry) -> ConflictIndexEntry {
+        ConflictIndexEntry {
+            id: entry.id,
+            flags: entry.flags,
+            mode: entry.mode,
+        }
+    }
+}
+
+impl<T: Drop, U: Drop> From<Change<T, U>> for EntryStatus<T, U> {
+    ghost use Rattle.std.specs.Prelude.{◌≡◌};
+    ghost use Rattle.status_call.specs.declared.index_as_worktree.types.EntryStatus.TheVariants as statuses;
+
+    ghost from_gives = { λ c s. s ≡ statuses.Change c };
+
+    fn from(change: Change<T, U>) -> EntryStatus<T, U> {
+        EntryStatus::Change(change)
+    }
+}

@@ -1,0 +1,25 @@
+-- How much was read: sums that stop at the greatest number of 64 bits.
+use Rattle.std.specs.Prelude.{ℕ, ◌+◌}
+use Rattle.status_index.specs.Content.{saturate}
+use Rattle.status_compare.specs.declared.reads.Reads.{Reads}
+
+abbrev pub no_reads : Reads
+no_reads = record { bytes = 0; files = 0; object_bytes = 0; objects = 0 }
+
+abbrev pub plus_reads : Reads → Reads → Reads
+plus_reads a b = record {
+  bytes = saturate (a.bytes + b.bytes);
+  files = saturate (a.files + b.files);
+  object_bytes = saturate (a.object_bytes + b.object_bytes);
+  objects = saturate (a.objects + b.objects);
+}
+
+-- with more bytes of a file or link, with one more file or link, with one more blob
+abbrev pub with_bytes : Reads → ℕ → Reads
+with_bytes k n = record k { bytes = saturate (k.bytes + n) }
+
+abbrev pub with_file : Reads → Reads
+with_file k = record k { files = saturate (k.files + 1) }
+
+abbrev pub with_object : Reads → ℕ → Reads
+with_object k n = record k { object_bytes = saturate (k.object_bytes + n); objects = saturate (k.objects + 1) }
