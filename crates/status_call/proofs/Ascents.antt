@@ -1,5 +1,5 @@
 -- Entries of an index, by their order.
-use Rattle.std.proofs.Common.{◌≡◌, refl, sym, ap, ◌∙◌, ℕ, zero, suc, ◌+◌, ◌-◌, ◌<◌, ◌≤◌, ◌⊎◌, inl, inr, true, false, List, length, map, drop, slice_index_or, All, arith}
+use Rattle.std.proofs.Common.{◌≡◌, refl, sym, ap, ◌∙◌, ℕ, zero, suc, ◌+◌, ◌-◌, ◌<◌, ◌≤◌, ◌⊎◌, inl, inr, true, false, List, length, drop, slice_index_or, All, arith}
 use Rattle.std.specs.Cmp.Lexicographic.{slice_cmp}
 use Rattle.std.specs.Ordering.{nat_cmp, ordering_then, ordering_reverse, is_eq}
 use Rattle.std.specs.Str.{bytes_eq}
@@ -14,11 +14,11 @@ use Rattle.std.proofs.lemmas.Slice.Eq.{bytes_eq-Decides}
 use Rattle.status_index.specs.BlobId.{id_kind}
 use Rattle.status_index.specs.declared.entry.Entry.{Entry}
 use Rattle.status_index.specs.declared.entry.PathStorage.{PathStorage}
-use Rattle.status_index.specs.Entries.{IndexEntry, Listed, IsIndex, entry_cmp, index_entry, index_entries, listed, stage_of}
+use Rattle.status_index.specs.Entries.{IndexEntry, IsIndex, entry_cmp, index_entry, index_entries, stage_of}
 use Rattle.status_index.specs.Stretch.{part_of}
 use Rattle.status_call.specs.Considered.{same_path}
 use Rattle.status_call.specs.Pieces.{IsCut}
-use Rattle.status_call.proofs.Parts.{All-take_from, All-drop_from, All-take_at, All-drop_at, map-part, All-part_from, AllPairs-part}
+use Rattle.status_call.proofs.Parts.{All-take_from, All-drop_from, All-take_at, All-drop_at, All-part_from, AllPairs-part}
 
 pub path_same : (a b : IndexEntry) → same_path a b ≡ true → a.path ≡ b.path
 path_same a b h = (bytes_eq-Decides a.path b.path).0 h
@@ -40,33 +40,32 @@ less_or_equal Less p h = inl refl
 less_or_equal Equal p h = inr refl
 less_or_equal Greater p h = cc
 
-pub stage_rises : (a b : IndexEntry) → entry_cmp (listed a) (listed b) ≡ Less → a.path ≡ b.path → stage_of a.entry < stage_of b.entry
+pub stage_rises : (a b : IndexEntry) → entry_cmp (a) (b) ≡ Less → a.path ≡ b.path → stage_of a < stage_of b
 stage_rises a b less e =
     let tie : slice_cmp nat_cmp a.path b.path ≡ Equal = rw e (tied_itself nat_list_cmp_total b.path) in
-    nat_less (stage_of a.entry) (stage_of b.entry) (rw tie at less)
+    nat_less (stage_of a) (stage_of b) (rw tie at less)
 
-pub path_between : (a b c : IndexEntry) → entry_cmp (listed a) (listed b) ≡ Less → entry_cmp (listed b) (listed c) ≡ Less → c.path ≡ a.path → b.path ≡ a.path
+pub path_between : (a b c : IndexEntry) → entry_cmp (a) (b) ≡ Less → entry_cmp (b) (c) ≡ Less → c.path ≡ a.path → b.path ≡ a.path
 path_between a b c low high e =
-    elim (less_or_equal (slice_cmp nat_cmp a.path b.path) (nat_cmp (stage_of a.entry) (stage_of b.entry)) low) [
+    elim (less_or_equal (slice_cmp nat_cmp a.path b.path) (nat_cmp (stage_of a) (stage_of b)) low) [
       | inl less ↦
           let over : slice_cmp nat_cmp b.path c.path ≡ Greater = ap (slice_cmp nat_cmp b.path) e ∙ nat_list_cmp_total.antisymm b.path a.path ∙ ap ordering_reverse less in
-          let no : ordering_then Greater (nat_cmp (stage_of b.entry) (stage_of c.entry)) ≡ Less = rw over at high in
+          let no : ordering_then Greater (nat_cmp (stage_of b) (stage_of c)) ≡ Less = rw over at high in
           cc
       | inr tie ↦
           let same : bytes_eq a.path b.path ≡ true = sym (is_eq-slice_cmp a.path b.path) ∙ ap is_eq tie in
           sym (path_same a b same)
     ]
 
-pub stage_small : (e : IndexEntry) → stage_of e.entry < 4
+pub stage_small : (e : IndexEntry) → stage_of e < 4
 stage_small e = omega arith
 
-module _ (es : List IndexEntry) (index : IsIndex (map listed es)) (d : IndexEntry) where
+module _ (es : List IndexEntry) (index : IsIndex es) (d : IndexEntry) where
   abbrev at : ℕ → IndexEntry
   at k = slice_index_or es k d
 
-  pub less_at : (i j : ℕ) → i < j → j < length es → entry_cmp (listed (at i)) (listed (at j)) ≡ Less
-  less_at i j l m =
-      rw (get_or-map listed es i d (listed d) (omega arith), get_or-map listed es j d (listed d) m) at (index.ascending i j (listed d) l (omega (arith, length-map es listed)))
+  pub less_at : (i j : ℕ) → i < j → j < length es → entry_cmp (at i) (at j) ≡ Less
+  less_at i j l m = index.ascending i j d l m
 
   -- what stands between two entries of a path has that path
   pub same_between : (i j k : ℕ) → i ≤ j → j ≤ k → k < length es → same_path (at k) (at i) ≡ true → same_path (at j) (at i) ≡ true
@@ -89,7 +88,7 @@ module _ (es : List IndexEntry) (index : IsIndex (map listed es)) (d : IndexEntr
       let c = same_from_path (at k) (at (k - 1)) (a ∙ sym b) in cc)
 
   -- the stages of a path rise from one entry to the next
-  pub stage_climbs : (i n : ℕ) → i + n < length es → same_path (at (i + n)) (at i) ≡ true → stage_of (at i).entry + n ≤ stage_of (at (i + n)).entry
+  pub stage_climbs : (i n : ℕ) → i + n < length es → same_path (at (i + n)) (at i) ≡ true → stage_of (at i) + n ≤ stage_of (at (i + n))
   stage_climbs i zero l h =
       let same : i + 0 ≡ i = omega arith in
       rw same (omega arith)
@@ -99,27 +98,24 @@ module _ (es : List IndexEntry) (index : IsIndex (map listed es)) (d : IndexEntr
       let step = stage_rises (at (i + n)) (at (i + suc n)) (less_at (i + n) (i + suc n) (omega arith) l) (path_same (at (i + n)) (at i) before ∙ sym (path_same (at (i + suc n)) (at i) h)) in
       omega arith
 
-pub cut_between : (es : List IndexEntry) (k : ℕ) → IsIndex (map listed es) → 0 < k → k < length es → ((d : IndexEntry) → same_path (slice_index_or es k d) (slice_index_or es (k - 1) d) ≡ false) → IsCut es k
+pub cut_between : (es : List IndexEntry) (k : ℕ) → IsIndex es → 0 < k → k < length es → ((d : IndexEntry) → same_path (slice_index_or es k d) (slice_index_or es (k - 1) d) ≡ false) → IsCut es k
 cut_between es k index some l h =
     All-take_from (λ d. All (λ r. same_path d r ≡ false) (drop k es)) es k (λ i d m n.
     All-drop_from (λ r. same_path (slice_index_or es i d) r ≡ false) es k (λ j f o p.
     rw (get_or_default es j f d p) (cut_at es index d k some l (h d) i j m o p)))
 
 -- the same, of entries whose paths stand in a storage
-pub cut_entries : (b : PathStorage) (entries : List Entry) (k : ℕ) (d e : Entry) → IsIndex (map listed (index_entries b entries)) → 0 < k → k < length entries → same_path (index_entry b (slice_index_or entries k d)) (index_entry b (slice_index_or entries (k - 1) e)) ≡ false → IsCut (index_entries b entries) k
+pub cut_entries : (b : PathStorage) (entries : List Entry) (k : ℕ) (d e : Entry) → IsIndex (index_entries b entries) → 0 < k → k < length entries → same_path (index_entry b (slice_index_or entries k d)) (index_entry b (slice_index_or entries (k - 1) e)) ≡ false → IsCut (index_entries b entries) k
 cut_entries b entries k d e index some l h =
     cut_between (index_entries b entries) k index some (omega (arith, length-map entries (index_entry b))) (λ f.
     rw (get_or-map (index_entry b) entries k d f l, get_or-map (index_entry b) entries (k - 1) e f (omega arith)) h)
 
-pub IsIndex-part : (es : List IndexEntry) (a b : ℕ) → IsIndex (map listed es) → IsIndex (map listed (part_of es a b))
-IsIndex-part es a b h = rw (map-part listed es a b) (part_index (map listed es) h)
-  where
-    part_index : (ls : List Listed) → IsIndex ls → IsIndex (part_of ls a b)
-    part_index ls h = record {
-      named = All-part_from ls a b (λ e. 0 < length e.path) (λ k d l m n. h.named k d n);
-      ascending = AllPairs-part ls a b (λ a b. entry_cmp a b ≡ Less) h.ascending;
-      one_kind = AllPairs-part ls a b (λ a b. id_kind a.id ≡ id_kind b.id) h.one_kind;
-    }
+pub IsIndex-part : (es : List IndexEntry) (a b : ℕ) → IsIndex es → IsIndex (part_of es a b)
+IsIndex-part es a b h = record {
+  named = All-part_from es a b (λ e. 0 < length e.path) (λ k d l m n. h.named k d n);
+  ascending = AllPairs-part es a b (λ a b. entry_cmp a b ≡ Less) h.ascending;
+  one_kind = AllPairs-part es a b (λ a b. id_kind a.id ≡ id_kind b.id) h.one_kind;
+}
 
 -- a path with entries on both sides of a place
 pub not_cut : (b : PathStorage) (entries : List Entry) (k : ℕ) (d e : Entry) → 0 < k → k < length entries → same_path (index_entry b (slice_index_or entries k d)) (index_entry b (slice_index_or entries (k - 1) e)) ≡ true → IsCut (index_entries b entries) k → ⊥

@@ -12,7 +12,7 @@ use Rattle.status_call.specs.declared.index_as_worktree.piece.End.{End}
 use Rattle.status_call.specs.declared.index_as_worktree.piece.Piece.{Piece}
 use Rattle.status_call.specs.Pieces.{IsCut, IsThrough}
 use Rattle.status_call.specs.Query.{Query}
-use Rattle.status_call.specs.Rounds.{AreBounds, AreInRow, IsGiven, bound, end_of, is_short}
+use Rattle.status_call.specs.Rounds.{AreBounds, AreInRow, IsGiven, bound, last_bound, is_short}
 use Rattle.status_call.proofs.Parts.{AllPairs-append}
 
 -- bounds from a place up to another
@@ -92,12 +92,12 @@ module _ {T U : Type 0} where
       let k : length (p ∷ r ∷ rs) - 1 ≡ suc (length (r ∷ rs) - 1) = omega arith in
       (e.0, sym (ap (slice_get (p ∷ r ∷ rs)) k) ∙ e.1, e.2)
 
-module _ {T U : Type 0} (q : Query T U) (modelled interruptible : Bool) (start : ℕ) (es : List IndexEntry) (bounds : List ℕ) (are : AreBounds es bounds) where
+module _ {T U : Type 0} (q : Query T U) (interruptible : Bool) (start : ℕ) (es : List IndexEntry) (bounds : List ℕ) (are : AreBounds es bounds) where
   abbrev Gives : ℕ → Piece T U → Type 0
-  Gives n p = IsGiven q modelled interruptible start es (bound bounds n) (bound bounds (n + 1)) p
+  Gives n p = IsGiven q interruptible start es (bound bounds n) (bound bounds (n + 1)) p
 
   abbrev Row : ℕ → List (Piece T U) → Type 0
-  Row at ps = AreInRow q modelled interruptible start es (end_of bounds) at ps
+  Row at ps = AreInRow q interruptible start es (last_bound bounds) at ps
 
   -- the pieces from a number on
   row_from : (n : ℕ) (ps : List (Piece T U)) → n + length ps ≤ length bounds - 1
@@ -113,7 +113,7 @@ module _ {T U : Type 0} (q : Query T U) (modelled interruptible : Bool) (start :
       let given : Gives n p = subst (λ (m : ℕ). Gives m p) (omega arith) (each 0 p refl) in (
         record { to = bound bounds (n + 1); inside = are.inside (n + 1) 0 (omega (arith, few)); given = given },
         λ whole.
-            let reached : p.reached ≡ bound bounds (n + 1) = subst (λ (e : End). IsThrough q modelled es (bound bounds (n + 1)) p.reached e) whole given.piece.through in
+            let reached : p.reached ≡ bound bounds (n + 1) = subst (λ (e : End). IsThrough q es (bound bounds (n + 1)) p.reached e) whole given.piece.through in
             subst (λ (at : ℕ). Row at ps) (sym reached)
             (row_from (n + 1) ps (omega (arith, few))
             (λ i r h. subst (λ (m : ℕ). Gives m r) (omega arith) (each (suc i) r h))

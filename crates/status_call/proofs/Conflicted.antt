@@ -1,7 +1,7 @@
 -- The conflict of a run, from the last of its entries of each stage.
-use Rattle.std.proofs.Common.{◌≡◌, refl, sym, ap, ◌∙◌, ℕ, ◌+◌, ◌-◌, ◌<◌, ◌≤◌, Bool, true, false, not, cond, ◌==◌, inl, inr, List, [], ◌∷◌, length, map, find, reverse, take, slice_index_or, All, Option, Some, None, is_some, arith}
+use Rattle.std.proofs.Common.{◌≡◌, refl, sym, ap, ◌∙◌, ℕ, ◌+◌, ◌-◌, ◌<◌, ◌≤◌, Bool, true, false, not, cond, ◌==◌, inl, inr, List, [], ◌∷◌, length, find, reverse, take, slice_index_or, All, Option, Some, None, is_some, arith}
 use Rattle.std.specs.List.{prefix_len, take_while}
-use Rattle.std.specs.Option.{option_copied, option_or}
+use Rattle.std.specs.Option.{option_copied, option_map, option_or}
 use Rattle.std.proofs.lemmas.Bool.{cases_eq, both_ways, cond-true, eq-eqb, eqb-false, not-true, and_parts}
 use Rattle.std.proofs.lemmas.Grind.{reverse_onto}
 use Rattle.std.proofs.lemmas.List.{length-map, length-take}
@@ -12,58 +12,79 @@ use Rattle.std.specs.Borrow.{Bor}
 use Rattle.std.specs.Str.{bytes_eq}
 use Rattle.status_index.specs.declared.entry.Entry.{Entry}
 use Rattle.status_index.specs.declared.entry.PathStorage.{PathStorage}
-use Rattle.status_index.specs.Entries.{IndexEntry, index_entries, stage_of}
+use Rattle.status_index.specs.Entries.{IndexEntry, index_entry, index_entries, stage_of}
+use Rattle.status_index.specs.FlagBits.{stage_of_bits}
 use Rattle.status_call.specs.declared.index_as_worktree.types.Conflict.{Conflict}
-use Rattle.status_call.specs.Conflicts.{IsConflict, conflict_named, conflict_of, entry_of_stage, has_stage, is_in_run}
+use Rattle.status_call.specs.Conflicts.{IsConflict, conflict_named, conflict_of, entry_of_stage, has_stage, is_in_run, stored_of_stage}
 use Rattle.status_call.proofs.Parts.{All-take_from}
 
-pub entries_back : (b : PathStorage) (es : List Entry) → map (λ (e : IndexEntry). e.entry) (index_entries b es) ≡ es
-entries_back b [] = refl
-entries_back b (e ∷ es) = ap (λ (xs : List Entry). e ∷ xs) (entries_back b es)
+option_map_or : {X Y : Type 0} (f : X → Y) (o p : Option X) → option_map f (option_or o p) ≡ option_or (option_map f o) (option_map f p)
+option_map_or f None p = refl
+option_map_or f (Some x) p = refl
 
-copied_some : (o : Option (Bor Entry)) → is_some (option_copied o) ≡ is_some o
-copied_some None = refl
-copied_some (Some x) = refl
+map_cond : {X Y : Type 0} (f : X → Y) (b : Bool) (x : X) → option_map f (cond b (Some x) None) ≡ cond b (Some (f x)) None
+map_cond f true x = refl
+map_cond f false x = refl
 
--- whether a run has an entry of a stage, by what was found of it
-some_stage : (run : List Entry) (stage : ℕ) (o : Option (Bor Entry)) (b : Bool) → option_copied o ≡ entry_of_stage run stage → b ≡ is_some o → is_some (entry_of_stage run stage) ≡ b
-some_stage run stage o b e f = ap is_some (sym e) ∙ copied_some o ∙ sym f
+-- the last stored entry of a stage is the last of those that the index shows
+pub stored_is : (b : PathStorage) (run : List Entry) (stage : ℕ) → option_map (index_entry b) (stored_of_stage run stage) ≡ entry_of_stage (index_entries b run) stage
+stored_is b [] stage = refl
+stored_is b (x ∷ run) stage =
+    let says = index_entry b in
+    let stored : Entry → Bool = λ e. stage_of_bits e.flags.0 == stage in
+    let shown : IndexEntry → Bool = λ e. stage_of e == stage in
+    ap (λ (ys : List Entry). option_map says (find stored ys)) (reverse_onto run x [])
+    ∙ ap (option_map says) (find-append stored (reverse run) (x ∷ []))
+    ∙ option_map_or says (find stored (reverse run)) (find stored (x ∷ []))
+    ∙ ap (λ (o : Option IndexEntry). option_or o (option_map says (find stored (x ∷ [])))) (stored_is b run stage)
+    ∙ ap (λ (o : Option IndexEntry). option_or (find shown (reverse (index_entries b run))) o) (map_cond says (stored x) x)
+    ∙ sym (find-append shown (reverse (index_entries b run)) (says x ∷ []))
+    ∙ sym (ap (λ (ys : List IndexEntry). find shown ys) (reverse_onto (index_entries b run) (says x) []))
+
+shown_some : (b : PathStorage) (o : Option (Bor Entry)) → is_some (option_map (index_entry b) (option_copied o)) ≡ is_some o
+shown_some b None = refl
+shown_some b (Some x) = refl
 
 -- what was found of a stage
-pub record IsFound (run : List Entry) (stage : ℕ) (o : Option (Bor Entry)) (b : Bool) : Type 0 where
-  pub last : option_copied o ≡ entry_of_stage run stage
-  pub some : b ≡ is_some o
+pub record IsFound (run : List Entry) (stage : ℕ) (o : Option (Bor Entry)) (found : Bool) : Type 0 where
+  pub last : option_copied o ≡ stored_of_stage run stage
+  pub some : found ≡ is_some o
 
-module _ (base ours theirs : Option (Bor Entry)) (x y z : Bool) where
-  conflict_is : (run : List Entry) → IsFound run 1 base x → IsFound run 2 ours y → IsFound run 3 theirs z → conflict_of run ≡ conflict_named x y z
-  conflict_is run f g h = rw (some_stage run 1 base x f.last f.some, some_stage run 2 ours y g.last g.some, some_stage run 3 theirs z h.last h.some)
+module _ (b : PathStorage) (base ours theirs : Option (Bor Entry)) (x y z : Bool) where
+  shown : (run : List Entry) (stage : ℕ) (o : Option (Bor Entry)) (found : Bool) → IsFound run stage o found → option_map (index_entry b) (option_copied o) ≡ entry_of_stage (index_entries b run) stage
+  shown run stage o found f = ap (option_map (index_entry b)) f.last ∙ stored_is b run stage
+
+  -- whether a run has an entry of a stage
+  some_stage : (run : List Entry) (stage : ℕ) (o : Option (Bor Entry)) (found : Bool) → IsFound run stage o found → has_stage (index_entries b run) stage ≡ found
+  some_stage run stage o found f = ap is_some (sym (shown run stage o found f)) ∙ shown_some b o ∙ sym f.some
 
   -- a run that names a conflict has an entry
-  last_after : (run : List Entry) (c : Conflict) → conflict_of run ≡ Some c → length run - 1 + 1 ≡ length run
+  last_after : (run : List IndexEntry) (c : Conflict) → conflict_of run ≡ Some c → length run - 1 + 1 ≡ length run
   last_after [] c h = cc
   last_after (e ∷ run) c h = omega arith
 
-  module _ (b : PathStorage) (run : List Entry) (es : List IndexEntry) (same : index_entries b run ≡ es) (f : IsFound run 1 base x) (g : IsFound run 2 ours y) (h : IsFound run 3 theirs z) where
-    back : map (λ (e : IndexEntry). e.entry) es ≡ run
-    back = ap (map (λ (e : IndexEntry). e.entry)) (sym same) ∙ entries_back b run
+  module _ (run : List Entry) (f : IsFound run 1 base x) (g : IsFound run 2 ours y) (h : IsFound run 3 theirs z) where
+    conflict_is : conflict_of (index_entries b run) ≡ conflict_named x y z
+    conflict_is = rw (some_stage run 1 base x f, some_stage run 2 ours y g, some_stage run 3 theirs z h)
 
-    pub IsConflict-none : (o : Option Conflict) → o ≡ conflict_named x y z → o ≡ None → conflict_of (map (λ (e : IndexEntry). e.entry) es) ≡ None
-    IsConflict-none o e n = ap conflict_of back ∙ conflict_is run f g h ∙ sym e ∙ n
+    pub IsConflict-none : (es : List IndexEntry) → index_entries b run ≡ es → (o : Option Conflict) → o ≡ conflict_named x y z → o ≡ None → conflict_of es ≡ None
+    IsConflict-none es same o e n = ap conflict_of (sym same) ∙ conflict_is ∙ sym e ∙ n
 
-    pub IsConflict-some : (c : Conflict) (o : Option Conflict) → o ≡ conflict_named x y z → o ≡ Some c → IsConflict (map (λ (e : IndexEntry). e.entry) es) (Some (c, length run - 1, base ∷ ours ∷ theirs ∷ []))
-    IsConflict-some c o e n =
-        let named : conflict_of run ≡ Some c = conflict_is run f g h ∙ sym e ∙ n in
-        rw back (named, last_after run c named, rw (f.last, g.last, h.last) refl)
+    pub IsConflict-some : (es : List IndexEntry) → index_entries b run ≡ es → (c : Conflict) (o : Option Conflict) → o ≡ conflict_named x y z → o ≡ Some c → IsConflict (index_entry b) es (Some (c, length run - 1, base ∷ ours ∷ theirs ∷ []))
+    IsConflict-some es same c o e n =
+        let named : conflict_of (index_entries b run) ≡ Some c = conflict_is ∙ sym e ∙ n in
+        let long : length run ≡ length (index_entries b run) = sym (length-map run (index_entry b)) in
+        rw (← same, long) (named, last_after (index_entries b run) c named, rw (shown run 1 base x f, shown run 2 ours y g, shown run 3 theirs z h) refl)
 
-module _ (x : Entry) (xs : List Entry) where
+module _ (x : IndexEntry) (xs : List IndexEntry) where
   -- a run has the stage of its first entry
   stage_found : (s : ℕ) → stage_of x ≡ s → has_stage (x ∷ xs) s ≡ true
   stage_found s e =
-      ap (λ (ys : List Entry). is_some (find (λ (d : Entry). stage_of d == s) ys)) (reverse_onto xs x [])
-      ∙ ap is_some (find-append (λ (d : Entry). stage_of d == s) (reverse xs) (x ∷ []))
-      ∙ last_found (find (λ (d : Entry). stage_of d == s) (reverse xs)) (cond (stage_of x == s) (Some x) None) (ap is_some (cond-true (stage_of x == s) (Some x) None (eq-eqb (stage_of x) s e)))
+      ap (λ (ys : List IndexEntry). is_some (find (λ (d : IndexEntry). stage_of d == s) ys)) (reverse_onto xs x [])
+      ∙ ap is_some (find-append (λ (d : IndexEntry). stage_of d == s) (reverse xs) (x ∷ []))
+      ∙ last_found (find (λ (d : IndexEntry). stage_of d == s) (reverse xs)) (cond (stage_of x == s) (Some x) None) (ap is_some (cond-true (stage_of x == s) (Some x) None (eq-eqb (stage_of x) s e)))
     where
-      last_found : (o p : Option Entry) → is_some p ≡ true → is_some (option_or o p) ≡ true
+      last_found : (o p : Option IndexEntry) → is_some p ≡ true → is_some (option_or o p) ≡ true
       last_found None p h = h
       last_found (Some y) p h = refl
 
@@ -78,7 +99,7 @@ none_named true true true h = cc
 none_named false false false h = (refl, refl, refl)
 
 -- entries of a stage name a conflict
-run_named : (x : Entry) (xs : List Entry) → 0 < stage_of x → stage_of x < 4 → conflict_of (x ∷ xs) ≡ None → ⊥
+run_named : (x : IndexEntry) (xs : List IndexEntry) → 0 < stage_of x → stage_of x < 4 → conflict_of (x ∷ xs) ≡ None → ⊥
 run_named x xs low high h =
     let none = none_named (has_stage (x ∷ xs) 1) (has_stage (x ∷ xs) 2) (has_stage (x ∷ xs) 3) h in
     elim (cases_eq (stage_of x) 1) [
@@ -89,19 +110,19 @@ run_named x xs low high h =
       ]
     ]
 
-pub always_named : (run : List IndexEntry) → 0 < length run → All (λ e. 0 < stage_of e.entry) run → conflict_of (map (λ (e : IndexEntry). e.entry) run) ≡ None → ⊥
+pub always_named : (run : List IndexEntry) → 0 < length run → All (λ e. 0 < stage_of e) run → conflict_of run ≡ None → ⊥
 always_named [] some staged = absurd (omega arith)
 always_named (e ∷ run) some staged =
-    run_named e.entry (map (λ (d : IndexEntry). d.entry) run) (All-head (λ (d : IndexEntry). 0 < stage_of d.entry) e run staged) (omega arith)
+    run_named e run (All-head (λ (d : IndexEntry). 0 < stage_of d) e run staged) (omega arith)
 
-pub run_staged : (path : List ℕ) (xs : List IndexEntry) → All (λ e. 0 < stage_of e.entry) (take_while (is_in_run path) xs)
+pub run_staged : (path : List ℕ) (xs : List IndexEntry) → All (λ e. 0 < stage_of e) (take_while (is_in_run path) xs)
 run_staged path xs =
-    All-take_from (λ e. 0 < stage_of e.entry) xs (prefix_len (is_in_run path) xs) (λ k d m n.
+    All-take_from (λ e. 0 < stage_of e) xs (prefix_len (is_in_run path) xs) (λ k d m n.
     let e = slice_index_or xs k d in
-    let passes = and_parts (bytes_eq e.path path) (not (stage_of e.entry == 0)) (prefix_len_passes (is_in_run path) xs k d m) in
-    let some : stage_of e.entry ≡ 0 → ⊥ = eqb-false (stage_of e.entry) 0 (not-true (stage_of e.entry == 0) passes.1) in
+    let passes = and_parts (bytes_eq e.path path) (not (stage_of e == 0)) (prefix_len_passes (is_in_run path) xs k d m) in
+    let some : stage_of e ≡ 0 → ⊥ = eqb-false (stage_of e) 0 (not-true (stage_of e == 0) passes.1) in
     omega (arith, some))
 
-pub run_short : (p : IndexEntry → Bool) (n : ℕ) (xs : List IndexEntry) → length (map (λ (e : IndexEntry). e.entry) (take_while p (take n xs))) ≤ n
+pub run_short : (p : IndexEntry → Bool) (n : ℕ) (xs : List IndexEntry) → length (take_while p (take n xs)) ≤ n
 run_short p n xs =
-    omega (arith, length-map (take_while p (take n xs)) (λ (e : IndexEntry). e.entry), length-take (prefix_len p (take n xs)) (take n xs), length-take n xs)
+    omega (arith, length-take (prefix_len p (take n xs)) (take n xs), length-take n xs)

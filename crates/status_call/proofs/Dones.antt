@@ -6,18 +6,21 @@ use Rattle.std.proofs.lemmas.List.Elements.{All-nil, All-cons, All-append, All-w
 use Rattle.std.proofs.lemmas.List.Folds.{list_any_none}
 use Rattle.status_index.specs.Entries.{IndexEntry}
 use Rattle.status_index.specs.Stretch.{part_of}
-use Rattle.status_compare.specs.Reading.{ReadCounts, no_reads}
-use Rattle.status_call.specs.declared.index_as_worktree.piece.Step.{Step}
+use Rattle.status_compare.specs.declared.reads.Reads.{Reads}
+use Rattle.status_call.specs.declared.index_as_worktree.step.Step.{Step}
 use Rattle.status_call.specs.declared.index_as_worktree.types.EntryStatus.{EntryStatus}
 use Rattle.status_call.specs.declared.index_as_worktree.types.Finding.{Finding}
-use Rattle.status_call.specs.declared.index_as_worktree.types.Outcome.{Outcome}
+use Rattle.status_call.specs.declared.index_as_worktree.counts.Totals.{Totals}
 use Rattle.status_call.specs.Considered.{same_path, takes_over}
-use Rattle.status_call.specs.Counts.{Counts, counts_in, counts_of_outcome, reads_in, reads_of_outcome}
-use Rattle.status_call.specs.Pieces.{IsCut, IsWithin, IsAsMeant, IsDone}
+use Rattle.status_call.specs.Counts.{counts_in, reads_in}
+use Rattle.status_call.specs.declared.index_as_worktree.counts.Counts.{Counts}
+use Rattle.status_call.specs.Pieces.{IsCut, IsAsMeant, IsDone}
+use Rattle.status_call.specs.Counts.{IsWithin}
 use Rattle.status_call.specs.Query.{Query}
 use Rattle.status_call.specs.Records.{record_by, records_in, faults_in}
 use Rattle.status_call.specs.Steps.{IsFresh, IsNext}
-use Rattle.status_call.specs.Sums.{IsOfEntries, SumFits, no_counts, plus_counts, plus_reads}
+use Rattle.status_call.specs.Counts.{no_counts, no_totals, plus_counts, plus_totals}
+use Rattle.status_compare.specs.Reads.{plus_reads}
 use Rattle.status_call.proofs.Groups.{records-append, faults-append, counts-append, reads-append}
 use Rattle.status_call.proofs.Parts.{All-take_at, All-drop_at, All-take_from, All-drop_from, All-part_at, AllPairs-append, length-part, part_none, part_split}
 
@@ -81,31 +84,31 @@ module _ {T U : Type 0} where
   one_record i None = omega arith
   one_record i (Some s) = omega arith
 
-module _ {T U : Type 0} (q : Query T U) (modelled : Bool) (start : ℕ) (es : List IndexEntry) where
+module _ {T U : Type 0} (q : Query T U) (start : ℕ) (es : List IndexEntry) where
   -- nothing is done yet
-  pub done_none : (from : ℕ) (o : Outcome) → from ≤ length es → counts_of_outcome o ≡ no_counts → reads_of_outcome o ≡ no_reads → IsDone q modelled start es from from [] o
-  done_none from o l counted read =
+  pub done_none : (from : ℕ) → from ≤ length es → IsDone q start es from from [] no_totals
+  done_none from l =
       let none = part_none es from in
       record {
         low = omega arith;
         high = l;
-        few = IsWithin-same (from - from) (counts_of_outcome o) no_counts counted (IsWithin-none (from - from));
+        few = IsWithin-none (from - from);
         placed = λ k d m. absurd (omega arith);
         ascending = λ i j d m n. absurd (omega arith);
         meant = λ _. record {
           records = sym (ap (records_in q es (start + from)) none);
-          counts = counted ∙ sym (ap (counts_in q es) none);
-          reads = λ _. read ∙ sym (ap (reads_in q) none);
+          counts = sym (ap (counts_in q es) none);
+          reads = λ _. sym (ap (reads_in q) none);
           clear = ap (faults_in q es) none;
         };
       }
 
   -- one step
-  pub done_next : (at : ℕ) (s : Step T U) → IsNext q modelled es at s → IsDone q modelled start es at (at + s.len) (record_by (start + at) (Ok s.status)) s.outcome
+  pub done_next : (at : ℕ) (s : Step T U) → IsNext q es at s → IsDone q start es at (at + s.len) (record_by (start + at) (Ok s.status)) s.totals
   done_next at s h = record {
     low = omega arith;
     high = h.inside;
-    few = IsWithin-more s.len (at + s.len - at) (counts_of_outcome s.outcome) (omega arith) h.few;
+    few = IsWithin-more s.len (at + s.len - at) s.totals.counts (omega arith) h.few;
     placed = one_placed (start + at) (start + at) (start + (at + s.len)) s.status (omega arith) (omega (arith, h.more));
     ascending = λ i j d m n. absurd (omega (arith, one_record (start + at) s.status));
     meant = λ t.
@@ -119,22 +122,21 @@ module _ {T U : Type 0} (q : Query T U) (modelled : Bool) (start : ℕ) (es : Li
   }
 
   -- what is done goes on with what is done from there
-  module _ (from at to : ℕ) (rs more : List (Finding T U)) (a b : Outcome) (h : IsDone q modelled start es from at rs a) (k : IsDone q modelled start es at to more b) where
-    pub done_more : (c : Outcome) → counts_of_outcome c ≡ plus_counts (counts_of_outcome a) (counts_of_outcome b) → reads_of_outcome c ≡ plus_reads (reads_of_outcome a) (reads_of_outcome b) → IsDone q modelled start es from to (rs ++ more) c
-    done_more c counted read = record {
+  module _ (from at to : ℕ) (rs more : List (Finding T U)) (a b : Totals) (h : IsDone q start es from at rs a) (k : IsDone q start es at to more b) where
+    pub done_more : IsDone q start es from to (rs ++ more) (plus_totals a b)
+    done_more = record {
       low = omega (arith, h.low, k.low);
       high = k.high;
-      few = IsWithin-same (to - from) (counts_of_outcome c) (plus_counts (counts_of_outcome a) (counts_of_outcome b)) counted
-          (IsWithin-sum (at - from) (to - at) (to - from) (counts_of_outcome a) (counts_of_outcome b) (omega (arith, h.low, k.low)) h.few k.few);
+      few = IsWithin-sum (at - from) (to - at) (to - from) a.counts b.counts (omega (arith, h.low, k.low)) h.few k.few;
       placed = All-append (IsPlaced (start + from) (start + to)) rs more
           (All-weaker (IsPlaced (start + from) (start + at)) (IsPlaced (start + from) (start + to)) (λ f p. (p.0, omega (arith, p.1, k.low))) rs h.placed)
           (All-weaker (IsPlaced (start + at) (start + to)) (IsPlaced (start + from) (start + to)) (λ f p. (omega (arith, p.0, h.low), p.1)) more k.placed);
       ascending = AllPairs-append (λ x y. x.entry_index < y.entry_index) rs more h.ascending k.ascending (λ i j d l m. omega (arith, (h.placed i d l).1, (k.placed j d m).0));
-      meant = λ t. meant_more c counted read (h.meant t) (k.meant t);
+      meant = λ t. meant_more (h.meant t) (k.meant t);
     }
       where
-        meant_more : (c : Outcome) → counts_of_outcome c ≡ plus_counts (counts_of_outcome a) (counts_of_outcome b) → reads_of_outcome c ≡ plus_reads (reads_of_outcome a) (reads_of_outcome b) → IsAsMeant q start es from at rs a → IsAsMeant q start es at to more b → IsAsMeant q start es from to (rs ++ more) c
-        meant_more c counted read m n =
+        meant_more : IsAsMeant q start es from at rs a → IsAsMeant q start es at to more b → IsAsMeant q start es from to (rs ++ more) (plus_totals a b)
+        meant_more m n =
             let xs = part_of es from at in
             let ys = part_of es at to in
             let split : part_of es from to ≡ xs ++ ys = part_split es from at to h.low k.low in
@@ -142,28 +144,19 @@ module _ {T U : Type 0} (q : Query T U) (modelled : Bool) (start : ℕ) (es : Li
             record {
               records = ap (λ (zs : List (Finding T U)). zs ++ more) m.records ∙ ap (λ (zs : List (Finding T U)). records_in q es (start + from) xs ++ zs) n.records
                   ∙ sym (ap (records_in q es (start + from)) split ∙ records-append q es (start + from) xs ys ∙ ap (λ (i : ℕ). records_in q es (start + from) xs ++ records_in q es i ys) next);
-              counts = counted ∙ ap (λ (z : Counts). plus_counts z (counts_of_outcome b)) m.counts ∙ ap (plus_counts (counts_in q es xs)) n.counts
+              counts = ap (λ (z : Counts). plus_counts z b.counts) m.counts ∙ ap (plus_counts (counts_in q es xs)) n.counts
                   ∙ sym (ap (counts_in q es) split ∙ counts-append q es xs ys);
-              reads = λ r. read ∙ ap (λ (z : ReadCounts). plus_reads z (reads_of_outcome b)) (m.reads r) ∙ ap (plus_reads (reads_in q xs)) (n.reads r)
+              reads = λ r. ap (λ (z : Reads). plus_reads z b.reads) (m.reads r) ∙ ap (plus_reads (reads_in q xs)) (n.reads r)
                   ∙ sym (ap (reads_in q) split ∙ reads-append q xs ys);
               clear = ap (faults_in q es) split ∙ faults-append q es xs ys ∙ ap (λ zs. zs ++ faults_in q es ys) m.clear ∙ n.clear;
             }
 
     -- and what they count fits together
-    pub sums_fit : length es < 2 ^ 64 → IsOfEntries a → IsOfEntries b → SumFits a b
-    sums_fit l e f = record {
-      to_process = omega (arith, e.to_process, f.to_process);
-      processed = omega (arith, h.few.processed, k.few.processed, h.low, k.low, k.high);
-      skipped_by_prefix = omega (arith, e.skipped_by_prefix, f.skipped_by_prefix);
-      skipped_by_pathspec = omega (arith, h.few.skipped_by_pathspec, k.few.skipped_by_pathspec, h.low, k.low, k.high);
-      skipped_by_flags = omega (arith, h.few.skipped_by_flags, k.few.skipped_by_flags, h.low, k.low, k.high);
-      lstat_calls = omega (arith, h.few.lstat_calls, k.few.lstat_calls, h.low, k.low, k.high);
-      to_update = omega (arith, h.few.to_update, k.few.to_update, h.low, k.low, k.high);
-      racy_clean = omega (arith, h.few.racy_clean, k.few.racy_clean, h.low, k.low, k.high);
-    }
+    pub sums_fit : length es < 2 ^ 64 → IsWithin (2 ^ 64 - 1) (plus_counts a.counts b.counts)
+    sums_fit l = IsWithin-more (to - from) (2 ^ 64 - 1) (plus_counts a.counts b.counts) (omega (arith, k.high)) done_more.few
 
   -- a step doesn't go past a cut
-  pub not_past : (to at : ℕ) (s : Step T U) → IsCut es to → at < to → to ≤ length es → IsNext q modelled es at s → at + s.len ≤ to
+  pub not_past : (to at : ℕ) (s : Step T U) → IsCut es to → at < to → to ≤ length es → IsNext q es at s → at + s.len ≤ to
   not_past to at s cut l m h =
       elim (cases_lt to (at + s.len)) [
         | inr low ↦ low
@@ -187,8 +180,7 @@ fresh_cut q es k cut =
     and_left _ _ (and_left _ _ (and_right _ _ other)))))
 
 -- the state of the work on a piece
-pub record IsWorking {T U : Type 0} (q : Query T U) (modelled : Bool) (start : ℕ) (es : List IndexEntry) (from to at : ℕ) (findings : List (Finding T U)) (o : Outcome) : Type 0 where
-  pub done : IsDone q modelled start es from at findings o
+pub record IsWorking {T U : Type 0} (q : Query T U) (start : ℕ) (es : List IndexEntry) (from to at : ℕ) (findings : List (Finding T U)) (totals : Totals) : Type 0 where
+  pub done : IsDone q start es from at findings totals
   pub fresh : IsFresh q (take at es) (drop at es)
   pub upto : at ≤ to
-  pub alone : IsOfEntries o

@@ -14,15 +14,41 @@ use Rattle.status_base.specs.LinkCheck.{LinkCheck, empty_path, not_normal}
 use Rattle.status_base.specs.Verified.{IsRefused}
 use Rattle.status_compare.specs.declared.error.Error.{Error}
 use Rattle.status_compare.specs.declared.error.Error.TheVariants as errors
-use Rattle.status_compare.specs.Reading.{ReadCounts, no_reads}
-use Rattle.status_call.specs.declared.index_as_worktree.entry_status.Site.{Site}
-use Rattle.status_call.specs.declared.index_as_worktree.entry_status.Site.TheVariants as sites
+use Rattle.status_compare.specs.EntryMeaning.{if_modelled}
+use Rattle.status_compare.specs.Reading.{Meaning}
+use Rattle.status_compare.specs.declared.reads.Reads.{Reads}
+use Rattle.status_compare.specs.Reads.{no_reads}
+use Rattle.status_call.specs.declared.index_as_worktree.site.Site.{Site}
+use Rattle.status_call.specs.declared.index_as_worktree.site.Site.TheVariants as sites
 use Rattle.status_call.specs.declared.index_as_worktree.decide.Decided.{Decided}
 use Rattle.status_call.specs.Counts.{is_accepted, is_racy_case, is_compared_case, calls_lstat, reads_of_found, ModelsReads}
-use Rattle.status_call.specs.Decisions.{IsDecided, reads_of_decided}
+use Rattle.status_call.specs.Decisions.{IsDecided}
 use Rattle.status_call.specs.EntryParts.{IsSite, IsOfCase, IsCaseDecided}
+use Rattle.status_call.specs.Modelled.{all_modelled, both_modelled}
 use Rattle.status_call.specs.Query.{Query}
 use Rattle.status_call.specs.Status.{Found, found_by, refused, present, Case, compared, answer, found, meaning, is_trusted, case_of_found, case_of_content}
+
+-- what is to be read, where worktree and blobs are modelled
+pub modelled_meaning : (a b : Bool) (m : Meaning) (o : Option Meaning) → o ≡ if_modelled a b m → IsTrue (both_modelled a b) → o ≡ Some m
+modelled_meaning true true m o e t = e
+modelled_meaning true false m o e t = absurd (cc)
+modelled_meaning false b m o e t = absurd (cc)
+
+-- where all is modelled, each is
+pub all_worktree : (a b c : Bool) → IsTrue (all_modelled a b c) → IsTrue a
+all_worktree true b c t = refl
+all_worktree false b c t = absurd (cc)
+
+pub all_both : (a b c : Bool) → IsTrue (all_modelled a b c) → IsTrue (both_modelled a b)
+all_both true true c t = refl
+all_both true false c t = absurd (cc)
+all_both false b c t = absurd (cc)
+
+pub all_submodule : (a b c : Bool) → IsTrue (all_modelled a b c) → IsTrue c
+all_submodule true true true t = refl
+all_submodule true true false t = absurd (cc)
+all_submodule true false c t = absurd (cc)
+all_submodule false b c t = absurd (cc)
 
 -- a site that was found by an equal check
 pub site_at : (meant check : LinkCheck) (node : Result Metadata Fault) (r : Result Site Error) → check ≡ meant → IsSite (found_by meant node) (is_accepted meant) r → IsSite (found_by check node) (is_accepted check) r
@@ -52,7 +78,7 @@ site_odd stacks.Memory check node (inl e) same = absurd (cc)
 site_odd stacks.Memory check node (inr e) same = let f = e.1 in absurd (cc)
 
 -- what the comparer says it reads, where it says that
-pub reported_counts : (counted : Option ReadCounts) → IsTrue (is_some counted) → counted ≡ Some (unwrap_or counted no_reads)
+pub reported_counts : (counted : Option Reads) → IsTrue (is_some counted) → counted ≡ Some (unwrap_or counted no_reads)
 reported_counts (Some k) reported = refl
 reported_counts None reported = absurd (cc)
 
@@ -64,16 +90,16 @@ and_true false = refl
 module _ {T U : Type 0} (q : Query T U) (e : IndexEntry) where
   -- the comparer is asked, but for entries that are trusted and not racy
   pub calls_comparer : (n : Metadata) (s : Stat) (x trusted racy : Bool) → (x || not trusted || racy) ≡ true
-      → case_of_content q e n s x trusted racy ≡ compared x trusted racy s (q.compared e.entry n.len (meaning q e n))
+      → case_of_content q e n s x trusted racy ≡ compared x trusted racy s (q.compared e n.len (meaning q e n))
   calls_comparer n s true trusted racy h = refl
   calls_comparer n s false false racy h = refl
   calls_comparer n s false true true h = refl
   calls_comparer n s false true false h = absurd (cc)
 
   -- the comparer's change decides
-  pub compared_of_case : (n : Metadata) (s : Stat) (x trusted racy compares : Bool) (change : Option T) (counted : Option ReadCounts) (d : Decided T U)
+  pub compared_of_case : (n : Metadata) (s : Stat) (x trusted racy compares : Bool) (change : Option T) (counted : Option Reads) (d : Decided T U)
       → trusted ≡ is_trusted q e s → racy ≡ is_racy q.stat_options q.timestamp s → compares ≡ (x || not trusted || racy) → compares ≡ true
-      → q.compared e.entry n.len (meaning q e n) ≡ Ok change → IsOfCase e.path (compared x trusted racy s (Ok change)) true counted d
+      → q.compared e n.len (meaning q e n) ≡ Ok change → IsOfCase e.path (compared x trusted racy s (Ok change)) true counted d
       → IsOfCase e.path (case_of_content q e n s x (is_trusted q e s) (is_racy q.stat_options q.timestamp s)) true counted d
   compared_of_case n s x trusted racy compares change counted d same_trusted same_racy by_test needed answers h =
       let P : Case T U → Type 0 = λ k. IsOfCase e.path k true counted d in
@@ -82,11 +108,11 @@ module _ {T U : Type 0} (q : Query T U) (e : IndexEntry) where
       let R : Bool → Type 0 = λ r. P (case_of_content q e n s x trusted r) in
       subst Q same_trusted (subst R same_racy (subst P (sym lstat_called) h))
 
-  abbrev reads_at : Found → ReadCounts
+  abbrev reads_at : Found → Reads
   reads_at f = if is_compared_case (case_of_found q e f) then reads_of_found q e f else no_reads
 
   -- the decision of what is found is the entry's
-  pub is_decided : (f : Found) (reported : Bool) (counted : Option ReadCounts) (r : Result (Decided T U) Error)
+  pub is_decided : (f : Found) (reported : Bool) (counted : Option Reads) (r : Result (Decided T U) Error)
       → found q e ≡ f → calls_lstat q e ≡ reported → (ModelsReads q → counted ≡ Some (reads_of_found q e f))
       → IsCaseDecided e.path (case_of_found q e f) reported counted r → IsDecided q e r
   is_decided f reported counted (Ok d) same lstat modelled h = record {
@@ -94,8 +120,8 @@ module _ {T U : Type 0} (q : Query T U) (e : IndexEntry) where
     lstat_called = h.lstat_called ∙ sym lstat;
     racy = h.racy ∙ sym (ap (λ (x : Found). is_racy_case (case_of_found q e x)) same);
     reads = λ reported_all.
-        let P : Option ReadCounts → Type 0 = λ c. IfSome c (λ k. reads_of_decided d ≡ (if is_compared_case (case_of_found q e f) then k else no_reads)) in
-        let here : reads_of_decided d ≡ reads_at f = subst P (modelled reported_all) h.reads in
+        let P : Option Reads → Type 0 = λ c. IfSome c (λ k. d.reads ≡ (if is_compared_case (case_of_found q e f) then k else no_reads)) in
+        let here : d.reads ≡ reads_at f = subst P (modelled reported_all) h.reads in
         here ∙ sym (ap reads_at same);
   }
   is_decided f reported counted (Err x) same lstat modelled (inl h) = inl (ap (λ (y : Found). answer e.path (case_of_found q e y)) same ∙ h)

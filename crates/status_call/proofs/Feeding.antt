@@ -1,25 +1,23 @@
--- What a collector was told, put together.
+-- What was reported to a collector, put together.
 use Rattle.std.proofs.Common.{◌≡◌, refl, sym, ap, ◌∙◌, subst, length-append, ℕ, ◌≤◌, List, [], ◌∷◌, ◌++◌, length, map, take, All, arith, append_assoc}
 use Rattle.std.proofs.lemmas.List.{map-append, append-nil}
 use Rattle.std.proofs.lemmas.List.Elements.{All-append, All-nil, All-head, All-tail}
 use Rattle.std.proofs.Math.Seq.{take-append_seam}
-use Rattle.status_index.specs.declared.entry.Entry.{Entry}
-use Rattle.status_index.specs.declared.entry.PathStorage.{PathStorage}
 use Rattle.status_call.specs.declared.index_as_worktree.types.Finding.{Finding}
 use Rattle.status_call.specs.Fed.{Reports}
-use Rattle.status_call.specs.Visits.{Visit, finding_of, IsFaithful}
+use Rattle.status_call.specs.Visits.{Visit, finding_of}
 
-module _ {T U : Type 0} (entries : List Entry) (backing : PathStorage) where
-  -- nothing was told
-  pub reports_none : (old : List (Visit T U)) → Reports entries backing [] old old
-  reports_none old = record { more = []; grew = sym (append-nil old); faithful = All-nil (IsFaithful entries backing); reported = refl }
+module _ {T U : Type 0} (faithful : Visit T U → Type 0) where
+  -- nothing was reported
+  pub reports_none : (old : List (Visit T U)) → Reports faithful [] old old
+  reports_none old = record { more = []; grew = sym (append-nil old); faithful_all = All-nil faithful; reported = refl }
 
-  -- these findings were told, and then those
-  pub reports_more : (xs ys : List (Finding T U)) (a b c : List (Visit T U)) → Reports entries backing xs a b → Reports entries backing ys b c → Reports entries backing (xs ++ ys) a c
+  -- these findings were reported, and then those
+  pub reports_more : (xs ys : List (Finding T U)) (a b c : List (Visit T U)) → Reports faithful xs a b → Reports faithful ys b c → Reports faithful (xs ++ ys) a c
   reports_more xs ys a b c f g = record {
     more = f.more ++ g.more;
     grew = g.grew ∙ ap (λ (v : List (Visit T U)). v ++ g.more) f.grew ∙ append_assoc a f.more g.more;
-    faithful = All-append (IsFaithful entries backing) f.more g.more f.faithful g.faithful;
+    faithful_all = All-append faithful f.more g.more f.faithful_all g.faithful_all;
     reported = map-append finding_of f.more g.more ∙ ap (λ (l : List (Finding T U)). l ++ map finding_of g.more) f.reported ∙ ap (λ (l : List (Finding T U)). xs ++ l) g.reported;
   }
 
@@ -31,10 +29,10 @@ middle_of P (y ∷ xs) x ys h = middle_of P xs x ys (All-tail P y (xs ++ x ∷ y
 pub all_middle : {X : Type 0} (P : X → Type 0) (xs : List X) (x : X) (rest ys all : List X) → rest ≡ x ∷ ys → xs ++ rest ≡ all → All P all → P x
 all_middle {X} P xs x rest ys all e f h = middle_of P xs x ys (rw (← e, f) h)
 
--- the first of all were told
-pub fed_front : {T U : Type 0} (entries : List Entry) (backing : PathStorage) (xs rest all : List (Finding T U)) (old new : List (Visit T U))
-    → xs ++ rest ≡ all → Reports entries backing xs old new → (n : ℕ) × (n ≤ length all) × Reports entries backing (take n all) old new
-fed_front entries backing xs rest all old new e h =
+-- the first of all were reported
+pub fed_front : {T U : Type 0} (faithful : Visit T U → Type 0) (xs rest all : List (Finding T U)) (old new : List (Visit T U))
+    → xs ++ rest ≡ all → Reports faithful xs old new → (n : ℕ) × (n ≤ length all) × Reports faithful (take n all) old new
+fed_front faithful xs rest all old new e h =
     let fits : length xs ≤ length all = omega (arith, length-append xs rest, ap length e) in
     (length xs, fits, rw (← e, take-append_seam) h)
 
@@ -42,13 +40,13 @@ pub nil_of : {X : Type 0} (xs : List X) → length xs ≡ 0 → xs ≡ []
 nil_of [] h = refl
 nil_of (x ∷ xs) h = absurd (omega arith)
 
--- all were told
-pub fed_all : {T U : Type 0} (entries : List Entry) (backing : PathStorage) (xs rest all : List (Finding T U)) (old new : List (Visit T U))
-    → xs ++ rest ≡ all → length rest ≡ 0 → Reports entries backing xs old new → Reports entries backing all old new
-fed_all {T} {U} entries backing xs rest all old new e n h =
-    subst (λ l. Reports entries backing l old new) (sym (append-nil xs) ∙ ap (λ (l : List (Finding T U)). xs ++ l) (sym (nil_of rest n)) ∙ e) h
+-- all were reported
+pub fed_all : {T U : Type 0} (faithful : Visit T U → Type 0) (xs rest all : List (Finding T U)) (old new : List (Visit T U))
+    → xs ++ rest ≡ all → length rest ≡ 0 → Reports faithful xs old new → Reports faithful all old new
+fed_all {T} {U} faithful xs rest all old new e n h =
+    subst (λ l. Reports faithful l old new) (sym (append-nil xs) ∙ ap (λ (l : List (Finding T U)). xs ++ l) (sym (nil_of rest n)) ∙ e) h
 
--- the first of all were told, and nothing after them
-pub fed_until : {T U : Type 0} (entries : List Entry) (backing : PathStorage) (xs rest all : List (Finding T U)) (old new after : List (Visit T U))
-    → xs ++ rest ≡ all → Reports entries backing xs old new → after ≡ new → (n : ℕ) × (n ≤ length all) × Reports entries backing (take n all) old after
-fed_until entries backing xs rest all old new after e h same = fed_front entries backing xs rest all old after e (rw same h)
+-- the first of all were reported, and nothing after them
+pub fed_until : {T U : Type 0} (faithful : Visit T U → Type 0) (xs rest all : List (Finding T U)) (old new after : List (Visit T U))
+    → xs ++ rest ≡ all → Reports faithful xs old new → after ≡ new → (n : ℕ) × (n ≤ length all) × Reports faithful (take n all) old after
+fed_until faithful xs rest all old new after e h same = fed_front faithful xs rest all old after e (rw same h)

@@ -9,22 +9,25 @@ use Rattle.std.proofs.lemmas.List.Sums.{sum_by-append, sum_by-cons}
 use Rattle.status_index.specs.Content.{saturate}
 use Rattle.status_index.specs.Entries.{IndexEntry, stage_of}
 use Rattle.status_compare.specs.declared.error.Error.{Error}
-use Rattle.status_compare.specs.Reading.{ReadCounts, no_reads}
+use Rattle.status_compare.specs.declared.reads.Reads.{Reads}
+use Rattle.status_compare.specs.Reads.{no_reads}
 use Rattle.status_call.specs.declared.index_as_worktree.decide.Decided.{Decided}
-use Rattle.status_call.specs.declared.index_as_worktree.piece.Step.{Step}
+use Rattle.status_call.specs.declared.index_as_worktree.step.Step.{Step}
 use Rattle.status_call.specs.declared.index_as_worktree.types.Conflict.{Conflict}
 use Rattle.status_call.specs.declared.index_as_worktree.types.ConflictIndexEntry.{ConflictIndexEntry}
 use Rattle.status_call.specs.declared.index_as_worktree.types.EntryStatus.TheVariants as statuses
 use Rattle.status_call.specs.declared.index_as_worktree.types.Finding.{Finding}
 use Rattle.status_call.specs.Conflicts.{conflict_of, kept_of, places_of}
 use Rattle.status_call.specs.Considered.{is_flagged, is_excluded, is_skipped, is_over, stages_from}
-use Rattle.status_call.specs.Counts.{Counts, counts_in, counts_of_outcome, reads_in, reads_of, reads_of_outcome, is_looked_at, calls_lstat, is_racy_case, is_update, ModelsReads}
-use Rattle.status_call.specs.Decisions.{IsDecision, reads_of_decided}
+use Rattle.status_call.specs.Counts.{counts_in, reads_in, reads_of, is_looked_at, calls_lstat, is_racy_case, is_update, ModelsReads}
+use Rattle.status_call.specs.declared.index_as_worktree.counts.Counts.{Counts}
+use Rattle.status_call.specs.Decisions.{IsDecision}
 use Rattle.status_call.specs.Query.{Query}
 use Rattle.status_call.specs.Records.{verdict, records_in, record_by, faults_in, fault_by, conflict_status}
 use Rattle.status_call.specs.Status.{case_of, status_of}
 use Rattle.status_call.specs.Steps.{IsStepOf, processed_counts, decided_counts}
-use Rattle.status_call.specs.Sums.{plus_counts, plus_reads}
+use Rattle.status_call.specs.Counts.{plus_counts}
+use Rattle.status_compare.specs.Reads.{plus_reads}
 use Rattle.status_call.proofs.Parts.{weight, count_first, sum_by_none, enumerate-append}
 
 pub same_counts : (a b : Counts) → a.processed ≡ b.processed → a.skipped_by_flags ≡ b.skipped_by_flags → a.skipped_by_pathspec ≡ b.skipped_by_pathspec → a.lstat_calls ≡ b.lstat_calls → a.racy_clean ≡ b.racy_clean → a.to_update ≡ b.to_update → a ≡ b
@@ -37,7 +40,7 @@ same_counts a b p f s l r u i = record {
   to_update = u i;
 }
 
-pub same_reads : (a b : ReadCounts) → a.bytes ≡ b.bytes → a.files ≡ b.files → a.object_bytes ≡ b.object_bytes → a.objects ≡ b.objects → a ≡ b
+pub same_reads : (a b : Reads) → a.bytes ≡ b.bytes → a.files ≡ b.files → a.object_bytes ≡ b.object_bytes → a.objects ≡ b.objects → a ≡ b
 same_reads a b p f o k i = record { bytes = p i; files = f i; object_bytes = o i; objects = k i }
 
 min_sum : (m a b : ℕ) → min m (a + b) ≡ min m (min m a + min m b)
@@ -85,8 +88,8 @@ module _ {T U : Type 0} (q : Query T U) (es : List IndexEntry) where
   abbrev is_left_by_pathspec : IndexEntry → Bool
   is_left_by_pathspec e = not (is_flagged e) && is_excluded q e && not (is_over q es e)
 
-  abbrev calls_comparer : IndexEntry → Bool
-  calls_comparer e = is_looked_at q e && calls_lstat q e
+  abbrev is_statted : IndexEntry → Bool
+  is_statted e = is_looked_at q e && calls_lstat q e
 
   abbrev is_racy : IndexEntry → Bool
   is_racy e = is_looked_at q e && is_racy_case (case_of q e)
@@ -101,7 +104,7 @@ module _ {T U : Type 0} (q : Query T U) (es : List IndexEntry) where
   counts-append xs ys =
       same_counts (counts_in q es (xs ++ ys)) (plus_counts (counts_in q es xs) (counts_in q es ys))
       (count_append is_processed xs ys) (count_append is_left_by_flags xs ys) (count_append is_left_by_pathspec xs ys)
-      (count_append calls_comparer xs ys) (count_append is_racy xs ys) (count_append is_updated xs ys)
+      (count_append is_statted xs ys) (count_append is_racy xs ys) (count_append is_updated xs ys)
 
   records_none : (xs : List IndexEntry) → All (λ e. verdict q es e ≡ Ok None) xs → (i : ℕ) → records_in q es i xs ≡ []
   records_none [] h i = refl
@@ -119,7 +122,7 @@ module _ {T U : Type 0} (q : Query T U) (es : List IndexEntry) where
   -- a later stage of a conflict that is told already
   pub record IsLater (e : IndexEntry) : Type 0 where
     pub over : is_over q es e ≡ true
-    pub staged : (stage_of e.entry == 0) ≡ false
+    pub staged : (stage_of e == 0) ≡ false
 
   later_verdict : (e : IndexEntry) → IsLater e → verdict q es e ≡ Ok None
   later_verdict e h = cond-true (is_skipped q e || is_over q es e) _ _ (or_right _ _ h.over)
@@ -133,7 +136,7 @@ module _ {T U : Type 0} (q : Query T U) (es : List IndexEntry) where
     processed = weight (is_processed x);
     skipped_by_flags = weight (is_left_by_flags x);
     skipped_by_pathspec = weight (is_left_by_pathspec x);
-    lstat_calls = weight (calls_comparer x);
+    lstat_calls = weight (is_statted x);
     racy_clean = weight (is_racy x);
     to_update = weight (is_updated x);
   }
@@ -149,11 +152,11 @@ module _ {T U : Type 0} (q : Query T U) (es : List IndexEntry) where
         (count_head is_processed (λ e h. not_from_true _ h.over))
         (count_head is_left_by_flags (λ e h. and_right _ _ (not_from_true _ h.over)))
         (count_head is_left_by_pathspec (λ e h. and_right _ _ (not_from_true _ h.over)))
-        (count_head calls_comparer (λ e h. and_left _ _ (and_right _ _ h.staged)))
+        (count_head is_statted (λ e h. and_left _ _ (and_right _ _ h.staged)))
         (count_head is_racy (λ e h. and_left _ _ (and_right _ _ h.staged)))
         (count_head is_updated (λ e h. ap is_update (later_verdict e h)))
 
-    read_head : (f : ReadCounts → ℕ) → f no_reads ≡ 0 → saturate (sum_by (λ e. f (reads_of q e)) (x ∷ xs)) ≡ saturate (0 + f (reads_of q x))
+    read_head : (f : Reads → ℕ) → f no_reads ≡ 0 → saturate (sum_by (λ e. f (reads_of q e)) (x ∷ xs)) ≡ saturate (0 + f (reads_of q x))
     read_head f none =
         let rest = sum_by_none (λ e. f (reads_of q e)) xs (All-weaker IsLater (λ e. f (reads_of q e) ≡ 0) (λ e h. ap f (later_reads e h) ∙ none) xs later) in
         let all : sum_by (λ e. f (reads_of q e)) (x ∷ xs) ≡ 0 + f (reads_of q x) = omega (arith, sum_by-cons (λ (e : IndexEntry). f (reads_of q e)) x xs, rest) in
@@ -164,7 +167,7 @@ module _ {T U : Type 0} (q : Query T U) (es : List IndexEntry) where
         same_reads (reads_in q (x ∷ xs)) (plus_reads no_reads (reads_of q x))
         (read_head (λ r. r.bytes) refl) (read_head (λ r. r.files) refl) (read_head (λ r. r.object_bytes) refl) (read_head (λ r. r.objects) refl)
 
-    pub step_of : (part : List IndexEntry) (s : Step T U) → part ≡ x ∷ xs → verdict q es x ≡ Ok s.status → counts_of_outcome s.outcome ≡ one_counts x → (ModelsReads q → reads_of_outcome s.outcome ≡ plus_reads no_reads (reads_of q x)) → IsStepOf q es part s
+    pub step_of : (part : List IndexEntry) (s : Step T U) → part ≡ x ∷ xs → verdict q es x ≡ Ok s.status → s.totals.counts ≡ one_counts x → (ModelsReads q → s.totals.reads ≡ plus_reads no_reads (reads_of q x)) → IsStepOf q es part s
     step_of part s same reported counted read =
         let quiet = All-weaker IsLater (λ e. verdict q es e ≡ Ok None) later_verdict xs later in
         record {
@@ -209,19 +212,19 @@ module _ {T U : Type 0} (q : Query T U) (es : List IndexEntry) where
         (ap weight (ap is_update (skipped_verdict (or_right _ _ h))))
 
     module _ (kept : is_skipped q x ≡ false) where
-      pub conflict_verdict : (stage_of x.entry == 0) ≡ false → verdict q es x ≡ Ok (conflict_status (map (λ e. e.entry) (stages_from es x)))
+      pub conflict_verdict : (stage_of x == 0) ≡ false → verdict q es x ≡ Ok (conflict_status (stages_from es x))
       conflict_verdict staged =
-          cond-false (is_skipped q x || is_over q es x) _ _ (or_from _ _ kept first) ∙ cond-false (stage_of x.entry == 0) _ _ staged
+          cond-false (is_skipped q x || is_over q es x) _ _ (or_from _ _ kept first) ∙ cond-false (stage_of x == 0) _ _ staged
 
-      pub status_verdict : (stage_of x.entry == 0) ≡ true → verdict q es x ≡ status_of q x
+      pub status_verdict : (stage_of x == 0) ≡ true → verdict q es x ≡ status_of q x
       status_verdict plain =
-          cond-false (is_skipped q x || is_over q es x) _ _ (or_from _ _ kept first) ∙ cond-true (stage_of x.entry == 0) _ _ plain
+          cond-false (is_skipped q x || is_over q es x) _ _ (or_from _ _ kept first) ∙ cond-true (stage_of x == 0) _ _ plain
 
-      pub conflict_counts : (stage_of x.entry == 0) ≡ false → one_counts x ≡ processed_counts 0 0
+      pub conflict_counts : (stage_of x == 0) ≡ false → one_counts x ≡ processed_counts 0 0
       conflict_counts staged =
           let out : is_looked_at q x ≡ false = and_right _ _ staged in
           let parts = or_parts (is_flagged x) (is_excluded q x) kept in
-          let run = map (λ (e : IndexEntry). e.entry) (stages_from es x) in
+          let run = stages_from es x in
           same_counts (one_counts x) (processed_counts 0 0)
           (ap weight (not_from_false _ first))
           (ap weight (and_left _ _ parts.0))
@@ -230,10 +233,10 @@ module _ {T U : Type 0} (q : Query T U) (es : List IndexEntry) where
           (ap weight (and_left _ _ out))
           (ap weight (ap is_update (conflict_verdict staged) ∙ no_update q (map (option_map kept_of) (places_of run)) (conflict_of run)))
 
-      pub conflict_reads : (stage_of x.entry == 0) ≡ false → reads_of q x ≡ no_reads
+      pub conflict_reads : (stage_of x == 0) ≡ false → reads_of q x ≡ no_reads
       conflict_reads staged = cond-false (is_looked_at q x) _ _ (and_right _ _ staged)
 
-      module _ (plain : (stage_of x.entry == 0) ≡ true) (d : Decided T U) (h : IsDecision q x d) where
+      module _ (plain : (stage_of x == 0) ≡ true) (d : Decided T U) (h : IsDecision q x d) where
         looked_at : is_looked_at q x ≡ true
         looked_at = and_from _ _ (not_from_false _ kept) plain
 
@@ -248,5 +251,5 @@ module _ {T U : Type 0} (q : Query T U) (es : List IndexEntry) where
             (ap weight (ap (λ (b : Bool). b && is_racy_case (case_of q x)) looked_at ∙ sym h.racy))
             (ap weight (ap is_update (status_verdict plain ∙ h.status)))
 
-        pub decision_reads : ModelsReads q → reads_of q x ≡ reads_of_decided d
+        pub decision_reads : ModelsReads q → reads_of q x ≡ d.reads
         decision_reads t = cond-true (is_looked_at q x) _ _ looked_at ∙ sym (h.reads t)

@@ -1,81 +1,78 @@
 -- The next step at an entry whose path stands in a storage, by what was asked of the entry.
-use Rattle.std.proofs.Common.{◌≡◌, sym, ◌∙◌, subst, ℕ, ◌<◌, Bool, true, false, not, List, length, map, take, drop, slice_index_or, None, Result, Ok, Err, IsTrue, arith}
+use Rattle.std.proofs.Common.{◌≡◌, sym, ◌∙◌, subst, ℕ, ◌<◌, Bool, true, false, not, List, length, take, drop, slice_index_or, None, Result, Ok, Err, IsTrue, arith}
 use Rattle.std.specs.Result.{OnOk, OnErr, is_err}
 use Rattle.std.proofs.lemmas.Bool.{or_from, not-true, not-false}
 use Rattle.std.proofs.lemmas.List.{length-map}
 use Rattle.status_index.specs.declared.entry.Entry.{Entry}
 use Rattle.status_index.specs.declared.entry.PathStorage.{PathStorage}
-use Rattle.status_index.specs.Entries.{IndexEntry, IsIndex, index_entry, index_entries, listed, path_in, stage_of}
+use Rattle.status_index.specs.Entries.{IndexEntry, IsIndex, entry_at, index_entry, index_entries, path_in, stage_of}
 use Rattle.status_compare.specs.declared.error.Error.{Error}
-use Rattle.status_compare.specs.Reading.{no_reads}
+use Rattle.status_compare.specs.Reads.{no_reads}
 use Rattle.status_call.specs.declared.index_as_worktree.decide.Decided.{Decided}
-use Rattle.status_call.specs.declared.index_as_worktree.piece.Step.{Step}
+use Rattle.status_call.specs.declared.index_as_worktree.step.Step.{Step}
 use Rattle.status_call.specs.Conflicts.{run_at}
 use Rattle.status_call.specs.Considered.{is_flagged, is_excluded, is_skipped}
-use Rattle.status_call.specs.Counts.{reads_of_outcome}
-use Rattle.status_call.specs.Decisions.{IsDecided, reads_of_decided}
+use Rattle.status_call.specs.Decisions.{IsDecided}
 use Rattle.status_call.specs.Pieces.{IsFaultAt}
 use Rattle.status_call.specs.Query.{Query}
 use Rattle.status_call.specs.Records.{conflict_status}
 use Rattle.status_call.specs.Steps.{IsFresh, IsNext, processed_counts, decided_counts}
-use Rattle.status_call.specs.Sums.{plus_reads}
-use Rattle.status_call.proofs.Nexts.{IsSelf, entry_at, next_flagged, next_excluded, next_conflict, next_decided, next_fault, run_some}
+use Rattle.status_compare.specs.Reads.{plus_reads}
+use Rattle.status_call.proofs.Nexts.{IsSelf, entry_read, next_flagged, next_excluded, next_conflict, next_decided, next_fault, run_some}
 
-module _ (b : PathStorage) (entries : List Entry) (i : ℕ) (e : Entry) (path : List ℕ) (stored : path ≡ path_in b (slice_index_or entries i e)) (l : i < length entries) (index : IsIndex (map listed (index_entries b entries))) where
+module _ (b : PathStorage) (entries : List Entry) (i : ℕ) (e : Entry) (path : List ℕ) (stored : path ≡ path_in b (slice_index_or entries i e)) (l : i < length entries) (index : IsIndex (index_entries b entries)) where
   abbrev es : List IndexEntry
   es = index_entries b entries
 
   abbrev head : IndexEntry
-  head = record { path = path; entry = slice_index_or entries i e }
+  head = entry_at path (slice_index_or entries i e)
 
   here : (d : IndexEntry) → slice_index_or es i d ≡ head
-  here = entry_at b entries i e path l stored
+  here = entry_read b entries i e path l stored
 
   within : i < length es
   within = omega (arith, length-map entries (index_entry b))
 
-  module _ {T U : Type 0} (q : Query T U) (modelled : Bool) (fresh : IsFresh q (take i es) (drop i es)) (flagged : Bool) (flags : (p : List ℕ) → flagged ≡ is_flagged (record { path = p; entry = slice_index_or entries i e })) where
-    pub head_flagged : flagged ≡ true → (s : Step T U) → IsSelf s 1 (processed_counts 1 0) → s.status ≡ None → reads_of_outcome s.outcome ≡ no_reads → IsNext q modelled es i s
-    head_flagged h s self none read = next_flagged es index i head within here q modelled fresh s self none read (sym (flags path) ∙ h)
+  module _ {T U : Type 0} (q : Query T U) (fresh : IsFresh q (take i es) (drop i es)) (flagged : Bool) (flags : (p : List ℕ) → flagged ≡ is_flagged (entry_at p (slice_index_or entries i e))) where
+    pub head_flagged : flagged ≡ true → (s : Step T U) → IsSelf s 1 (processed_counts 1 0) → s.status ≡ None → s.totals.reads ≡ no_reads → IsNext q es i s
+    head_flagged h s self none read = next_flagged es index i head within here q fresh s self none read (sym (flags path) ∙ h)
 
     module _ (unflagged : flagged ≡ false) (included : Bool) (includes : included ≡ not (is_excluded q head)) where
-      pub head_excluded : included ≡ false → (s : Step T U) → IsSelf s 1 (processed_counts 0 1) → s.status ≡ None → reads_of_outcome s.outcome ≡ no_reads → IsNext q modelled es i s
+      pub head_excluded : included ≡ false → (s : Step T U) → IsSelf s 1 (processed_counts 0 1) → s.status ≡ None → s.totals.reads ≡ no_reads → IsNext q es i s
       head_excluded h s self none read =
-          next_excluded es index i head within here q modelled fresh s self none read (sym (flags path) ∙ unflagged) (not-false (is_excluded q head) (sym includes ∙ h))
+          next_excluded es index i head within here q fresh s self none read (sym (flags path) ∙ unflagged) (not-false (is_excluded q head) (sym includes ∙ h))
 
-      module _ (yes : included ≡ true) (stage : ℕ) (staged : stage ≡ stage_of (slice_index_or entries i e)) where
+      module _ (yes : included ≡ true) (stage : ℕ) (staged : stage ≡ stage_of head) where
         kept : is_skipped q head ≡ false
         kept =
             or_from (is_flagged head) (is_excluded q head) (sym (flags path) ∙ unflagged) (not-true (is_excluded q head) (sym includes ∙ yes))
 
         pub head_some : (stage ≡ 0 → ⊥) → 0 < length (run_at es i path)
-        head_some h = run_some es index i head within here q modelled fresh kept (omega (arith, h))
+        head_some h = run_some es index i head within here q fresh kept (omega (arith, h))
 
-        pub head_conflict : (stage ≡ 0 → ⊥) → (s : Step T U) → IsSelf s (length (run_at es i path)) (processed_counts 0 0) → s.status ≡ conflict_status (map (λ e. e.entry) (run_at es i path)) → reads_of_outcome s.outcome ≡ no_reads → IsNext q modelled es i s
+        pub head_conflict : (stage ≡ 0 → ⊥) → (s : Step T U) → IsSelf s (length (run_at es i path)) (processed_counts 0 0) → s.status ≡ conflict_status (run_at es i path) → s.totals.reads ≡ no_reads → IsNext q es i s
         head_conflict h s self reported read =
-            next_conflict es index i head within here q modelled fresh kept (omega (arith, h)) s self reported read
+            next_conflict es index i head within here q fresh kept (omega (arith, h)) s self reported read
 
-        pub head_decided : stage ≡ 0 → (d : Decided T U) → (IsTrue modelled → IsDecided q head (Ok d)) → (s : Step T U) → IsSelf s 1 (decided_counts d) → s.status ≡ d.status → reads_of_outcome s.outcome ≡ plus_reads no_reads (reads_of_decided d) → IsNext q modelled es i s
+        pub head_decided : stage ≡ 0 → (d : Decided T U) → (IsTrue q.modelled → IsDecided q head (Ok d)) → (s : Step T U) → IsSelf s 1 (decided_counts d) → s.status ≡ d.status → s.totals.reads ≡ plus_reads no_reads d.reads → IsNext q es i s
         head_decided h d decided s self same read =
-            next_decided es index i head within here q modelled fresh kept s d self same read (sym staged ∙ h) decided
+            next_decided es index i head within here q fresh kept s d self same read (sym staged ∙ h) decided
 
-        pub head_fault : stage ≡ 0 → (error : Error) → (IsTrue modelled → IsDecided q head (Err error)) → IsTrue modelled → IsFaultAt q es i error
+        pub head_fault : stage ≡ 0 → (error : Error) → (IsTrue q.modelled → IsDecided q head (Err error)) → IsTrue q.modelled → IsFaultAt q es i error
         head_fault h error decided t =
-            next_fault es index i head within here q modelled fresh kept error (sym staged ∙ h) (decided t)
+            next_fault es index i head within here q fresh kept error (sym staged ∙ h) (decided t)
 
 -- the same by a query that stayed
-module _ {T U : Type 0} (q r : Query T U) (t u : Bool) (same : q ≡ r) (modelled : t ≡ u) (es : List IndexEntry) (i : ℕ) where
-  pub IsNext-kept : (s : Step T U) → IsNext q t es i s → IsNext r u es i s
+module _ {T U : Type 0} (q r : Query T U) (same : q ≡ r) (es : List IndexEntry) (i : ℕ) where
+  pub IsNext-kept : (s : Step T U) → IsNext q es i s → IsNext r es i s
   IsNext-kept s h =
-      let P : Query T U → Type 0 = λ z. IsNext z t es i s in
-      let Q : Bool → Type 0 = λ z. IsNext r z es i s in
-      subst Q modelled (subst P same h)
+      let P : Query T U → Type 0 = λ z. IsNext z es i s in
+      subst P same h
 
-  pub IsFault-kept : (x : Error) → (IsTrue t → IsFaultAt q es i x) → IsTrue u → IsFaultAt r es i x
+  pub IsFault-kept : (x : Error) → (IsTrue q.modelled → IsFaultAt q es i x) → IsTrue r.modelled → IsFaultAt r es i x
   IsFault-kept x h =
-      let P : Query T U → Type 0 = λ z. IsTrue t → IsFaultAt z es i x in
-      let Q : Bool → Type 0 = λ z. IsTrue z → IsFaultAt r es i x in
-      subst Q modelled (subst P same h)
+      let P : Query T U → Type 0 = λ z. IsTrue z.modelled → IsFaultAt z es i x in
+      subst P same h
 
 module _ {A E : Type 0} (P : Type 0) where
   pub when_ok : (r : Result A E) (b : Bool) → b ≡ is_err r → b ≡ false → OnOk r P → P

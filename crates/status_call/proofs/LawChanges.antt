@@ -11,7 +11,8 @@ use Rattle.status_index.specs.declared.stat.Stat.{Stat}
 use Rattle.status_index.specs.Entries.{IndexEntry}
 use Rattle.status_index.specs.Mode.{mode_change_at, new_mode, other_type, other_executable}
 use Rattle.status_compare.specs.declared.error.Error.{Error}
-use Rattle.status_compare.specs.Reading.{ReadCounts, no_reads}
+use Rattle.status_compare.specs.declared.reads.Reads.{Reads}
+use Rattle.status_compare.specs.Reads.{no_reads}
 use Rattle.status_call.specs.declared.index_as_worktree.types.Change.TheVariants as changes
 use Rattle.status_call.specs.declared.index_as_worktree.types.EntryStatus.{EntryStatus}
 use Rattle.status_call.specs.Counts.{is_compared_case, is_looked_at, reads_of, reads_of_case, reads_of_found}
@@ -69,7 +70,7 @@ module _ {T U : Type 0} (q : Query T U) (e : IndexEntry) where
   modified_in : (r : Row) → IsInRow q e r → (x : Bool) (c : Option T) (zero : Bool) → status_of q e ≡ changed (changes.Modification x c zero) → Modified x c zero
   modified_in gone i x c zero h = let k : changed {T = T} {U = U} changes.Removed ≡ changed (changes.Modification x c zero) = sym ((status_table q e).gone_row i) ∙ h in cc
   modified_in refused i x c zero h = absurd (not_error {T = T} {U = U} _ x c zero (sym ((status_table q e).refused_row i.0 i.1) ∙ h))
-  modified_in in_submodule i x c zero h = absurd (not_submodule {T = T} {U = U} e.path (q.submodule e.entry e.path) x c zero (sym (ap (answer e.path) (case_in_submodule q e i)) ∙ h))
+  modified_in in_submodule i x c zero h = absurd (not_submodule {T = T} {U = U} e.path (q.submodule e) x c zero (sym (ap (answer e.path) (case_in_submodule q e i)) ∙ h))
   modified_in added i x c zero h = let k = sym ((status_table q e).added_row i) ∙ h in cc
   modified_in unstamped i x c zero h = absurd (not_error {T = T} {U = U} _ x c zero (sym ((status_table q e).unstamped_row i) ∙ h))
   modified_in retyped i x c zero h = let k = sym ((status_table q e).retyped_row i.0 i.1) ∙ h in cc
@@ -123,7 +124,7 @@ executable_at s b n _ _ h = cc
 pub executable_law : {T U : Type 0} (q : Query T U) → ExecutableLaw q
 executable_law q e c zero h =
     let m = modified_of q e true c zero h in
-    let w = executable_at q.symlink q.executable_bit m.node e.entry.mode m.node.kind m.is_compared.same_type in
+    let w = executable_at q.symlink q.executable_bit m.node e.mode m.node.kind m.is_compared.same_type in
     (w.0, record { node = m.node; present = m.is_compared.stamped.present; file = w.1; other = w.2 })
 
 other_at : (s b : Bool) (n : Metadata) (mode : Mode) (k : NodeKind) → IsDirectoryMode mode → (k ≡ kinds.File) ⊎ ((k ≡ kinds.Link) ⊎ (k ≡ kinds.Other)) → mode_change_at s b n mode k ≡ other_type s b n
@@ -139,11 +140,11 @@ module _ {T U : Type 0} (q : Query T U) (e : IndexEntry) where
   no_type_change n true mode same h = cc
   no_type_change n false mode same h = cc
 
-  directory_not_compared : (n : Metadata) (s : Stat) (x : Bool) → IsDirectoryMode e.entry.mode → IsCompared q e n s x → ⊥
+  directory_not_compared : (n : Metadata) (s : Stat) (x : Bool) → IsDirectoryMode e.mode → IsCompared q e n s x → ⊥
   directory_not_compared n s x mode p =
-      no_type_change n x (new_mode q.executable_bit n.kind n.executable) p.same_type (other_at q.symlink q.executable_bit n e.entry.mode n.kind mode p.stamped.present.no_directory)
+      no_type_change n x (new_mode q.executable_bit n.kind n.executable) p.same_type (other_at q.symlink q.executable_bit n e.mode n.kind mode p.stamped.present.no_directory)
 
-  unlooked_in : IsDirectoryMode e.entry.mode → (r : Row) → IsInRow q e r → is_compared_case (case_of q e) ≡ false
+  unlooked_in : IsDirectoryMode e.mode → (r : Row) → IsInRow q e r → is_compared_case (case_of q e) ≡ false
   unlooked_in mode gone h = ap is_compared_case (case_gone q e h)
   unlooked_in mode refused h = ap is_compared_case (case_refused q e h.0 h.1)
   unlooked_in mode in_submodule h = ap is_compared_case (case_in_submodule q e h)
@@ -155,14 +156,14 @@ module _ {T U : Type 0} (q : Query T U) (e : IndexEntry) where
   unlooked_in mode modified (n, (s, (x, (c, (p, h, change))))) = absurd (directory_not_compared n s x mode p)
   unlooked_in mode to_update (n, (s, (p, h))) = absurd (directory_not_compared n s false mode p)
 
-  unlooked : IsDirectoryMode e.entry.mode → is_compared_case (case_of q e) ≡ false
+  unlooked : IsDirectoryMode e.mode → is_compared_case (case_of q e) ≡ false
   unlooked mode = unlooked_in mode (row_of q e).0 (row_of q e).1
 
-  unread_where : (b : Bool) (k : ReadCounts) → k ≡ no_reads → (if b then k else no_reads) ≡ no_reads
+  unread_where : (b : Bool) (k : Reads) → k ≡ no_reads → (if b then k else no_reads) ≡ no_reads
   unread_where true k h = h
   unread_where false k h = refl
 
-  unread : IsDirectoryMode e.entry.mode → reads_of q e ≡ no_reads
+  unread : IsDirectoryMode e.mode → reads_of q e ≡ no_reads
   unread mode =
       unread_where (is_looked_at q e) (reads_of_case q e) (ap (λ (b : Bool). if b then reads_of_found q e (found q e) else no_reads) (unlooked mode))
 

@@ -6,13 +6,11 @@ use Rattle.std.specs.Cmp.Lexicographic.{slice_cmp}
 use Rattle.std.specs.declared.cmp.Ordering.TheVariants.{Less, Equal, Greater}
 use Rattle.std.proofs.lemmas.Bool.{and_from, cases_eq, or_right, lt-ltb, le-leb, ne_eqb}
 use Rattle.std.proofs.lemmas.Bool.Decides.{nat_tests}
-use Rattle.std.proofs.lemmas.List.{get_or-map, length-map}
 use Rattle.std.proofs.lemmas.List.Folds.{list_any_at}
 use Rattle.std.proofs.lemmas.List.Sorted.{IsPermutation-reverse, list_any-IsPermutation}
 use Rattle.std.proofs.lemmas.Map.Text.{is_eq-slice_cmp}
 use Rattle.std.proofs.lemmas.Slice.Eq.{bytes_eq-Decides}
-use Rattle.status_index.specs.declared.entry.Entry.{Entry}
-use Rattle.status_index.specs.Entries.{IndexEntry, IsIndex, Listed, entry_cmp, listed, stage_of}
+use Rattle.status_index.specs.Entries.{IndexEntry, IsIndex, IndexEntry, entry_cmp, stage_of}
 use Rattle.status_compare.specs.declared.error.Error.{Error}
 use Rattle.status_call.specs.declared.index_as_worktree.types.Conflict.{Conflict}
 use Rattle.status_call.specs.declared.index_as_worktree.types.Conflict.TheVariants.{BothDeleted, AddedByUs, DeletedByThem, AddedByThem, DeletedByUs, BothAdded, BothModified}
@@ -34,20 +32,14 @@ less_from_cmp : (a b : ℕ) → nat_cmp a b ≡ Less → a < b
 less_from_cmp a b h = grind (arith, nat_tests)
 
 -- of two entries of one path in order the first has the smaller stage
-stages_ascend : (a b : IndexEntry) → same_path a b ≡ true → entry_cmp (listed a) (listed b) ≡ Less → stage_of a.entry < stage_of b.entry
+stages_ascend : (a b : IndexEntry) → same_path a b ≡ true → entry_cmp (a) (b) ≡ Less → stage_of a < stage_of b
 stages_ascend a b same h =
     let paths : slice_cmp nat_cmp a.path b.path ≡ Equal = is_equal (slice_cmp nat_cmp a.path b.path) (is_eq-slice_cmp a.path b.path ∙ same) in
-    less_from_cmp (stage_of a.entry) (stage_of b.entry) (sym (ap (λ (o : Ordering). ordering_then o (nat_cmp (stage_of a.entry) (stage_of b.entry))) paths) ∙ h)
+    less_from_cmp (stage_of a) (stage_of b) (sym (ap (λ (o : Ordering). ordering_then o (nat_cmp (stage_of a) (stage_of b))) paths) ∙ h)
 
-in_order : (es : List IndexEntry) → IsIndex (map listed es) → (i j : ℕ) (d : IndexEntry) → i < j → j < length es
-    → entry_cmp (listed (get_or es i d)) (listed (get_or es j d)) ≡ Less
-in_order es index i j d h k =
-    let within : i < length es = omega arith in
-    let first : get_or (map listed es) i (listed d) ≡ listed (get_or es i d) = get_or-map listed es i d (listed d) within in
-    let second : get_or (map listed es) j (listed d) ≡ listed (get_or es j d) = get_or-map listed es j d (listed d) k in
-    let high : j < length (map listed es) = omega (arith, length-map es listed) in
-    sym (ap (λ (a : Listed). entry_cmp a (get_or (map listed es) j (listed d))) first ∙ ap (entry_cmp (listed (get_or es i d))) second)
-    ∙ index.ascending i j (listed d) h high
+in_order : (es : List IndexEntry) → IsIndex es → (i j : ℕ) (d : IndexEntry) → i < j → j < length es
+    → entry_cmp (get_or es i d) (get_or es j d) ≡ Less
+in_order es index i j d h k = index.ascending i j d h k
 
 four : (a b c d : Bool) → a ≡ true → b ≡ true → c ≡ true → d ≡ true → (a && b && c && d) ≡ true
 four a b c d h k l m = and_from (a && b && c) d (and_from (a && b) c (and_from a b h k) l) m
@@ -58,16 +50,16 @@ not_false b h = ap not h
 module _ {T U : Type 0} (q : Query T U) (es : List IndexEntry) where
   over_gives_nothing : (e : IndexEntry) → is_over q es e ≡ true → verdict q es e ≡ Ok None
   over_gives_nothing e h =
-      ap (λ (b : Bool). if b then Ok None else (if stage_of e.entry == 0 then status_of q e else Ok (conflict_status (map (λ d. d.entry) (stages_from es e)))))
+      ap (λ (b : Bool). if b then Ok None else (if stage_of e == 0 then status_of q e else Ok (conflict_status (stages_from es e))))
       (or_right (is_skipped q e) (is_over q es e) h)
 
-  taken_over : (a b : IndexEntry) → same_path a b ≡ true → is_skipped q a ≡ false → 0 < stage_of a.entry → stage_of a.entry < stage_of b.entry → takes_over q a b ≡ true
+  taken_over : (a b : IndexEntry) → same_path a b ≡ true → is_skipped q a ≡ false → 0 < stage_of a → stage_of a < stage_of b → takes_over q a b ≡ true
   taken_over a b same skipped staged less =
-      four (not (is_skipped q a)) (same_path a b) (nat_lt 0 (stage_of a.entry)) (nat_lt (stage_of a.entry) (stage_of b.entry))
-      (not_false (is_skipped q a) skipped) same (lt-ltb 0 (stage_of a.entry) staged) (lt-ltb (stage_of a.entry) (stage_of b.entry) less)
+      four (not (is_skipped q a)) (same_path a b) (nat_lt 0 (stage_of a)) (nat_lt (stage_of a) (stage_of b))
+      (not_false (is_skipped q a) skipped) same (lt-ltb 0 (stage_of a) staged) (lt-ltb (stage_of a) (stage_of b) less)
 
-  later_nothing : IsIndex (map listed es) → (i j : ℕ) (d : IndexEntry) → i < j → j < length es → same_path (get_or es i d) (get_or es j d) ≡ true
-      → is_skipped q (get_or es i d) ≡ false → 0 < stage_of (get_or es i d).entry → verdict q es (get_or es j d) ≡ Ok None
+  later_nothing : IsIndex es → (i j : ℕ) (d : IndexEntry) → i < j → j < length es → same_path (get_or es i d) (get_or es j d) ≡ true
+      → is_skipped q (get_or es i d) ≡ false → 0 < stage_of (get_or es i d) → verdict q es (get_or es j d) ≡ Ok None
   later_nothing index i j d h k same skipped staged =
       let within : i < length es = omega arith in
       over_gives_nothing (get_or es j d)
@@ -99,7 +91,7 @@ any_filter p t [] = refl
 any_filter p t (x ∷ xs) = any_kept p x (t x) (filter t xs) (list_any (λ y. t y && p y) xs) (any_filter p t xs)
 
 -- some entry of the run has the stage
-has_stage_is : (run : List Entry) (stage : ℕ) → has_stage run stage ≡ list_any (λ e. stage_of e == stage) run
+has_stage_is : (run : List IndexEntry) (stage : ℕ) → has_stage run stage ≡ list_any (λ e. stage_of e == stage) run
 has_stage_is run stage =
     is_some_find (λ e. stage_of e == stage) (reverse run)
     ∙ sym (list_any-IsPermutation (λ e. stage_of e == stage) run (reverse run) (IsPermutation-reverse run))
@@ -107,15 +99,14 @@ has_stage_is run stage =
 three : (a b c : Bool) → a ≡ true → b ≡ true → c ≡ true → (a && b && c) ≡ true
 three a b c h k l = and_from (a && b) c (and_from a b h k) l
 
-has_own_stage : (es : List IndexEntry) (i : ℕ) (d : IndexEntry) → i < length es → has_stage (conflict_run es (get_or es i d)) (stage_of (get_or es i d).entry) ≡ true
+has_own_stage : (es : List IndexEntry) (i : ℕ) (d : IndexEntry) → i < length es → has_stage (conflict_run es (get_or es i d)) (stage_of (get_or es i d)) ≡ true
 has_own_stage es i d h =
     let e : IndexEntry = get_or es i d in
-    let own : ℕ = stage_of e.entry in
+    let own : ℕ = stage_of e in
     has_stage_is (conflict_run es e) own
-    ∙ (any_map (λ c. c.entry) (λ c. stage_of c == own) (stages_from es e)
-    ∙ (any_filter (λ (c : IndexEntry). stage_of c.entry == own) (λ c. same_path c e && nat_le own (stage_of c.entry)) es
-    ∙ list_any_at (λ c. same_path c e && nat_le own (stage_of c.entry) && (stage_of c.entry == own)) es i d h
-    (three (same_path e e) (nat_le own own) (own == own) ((bytes_eq-Decides e.path e.path).1 refl) (le-leb own own (omega arith)) (eq-eqb own own refl))))
+    ∙ (any_filter (λ (c : IndexEntry). stage_of c == own) (λ c. same_path c e && nat_le own (stage_of c)) es
+    ∙ list_any_at (λ c. same_path c e && nat_le own (stage_of c) && (stage_of c == own)) es i d h
+    (three (same_path e e) (nat_le own own) (own == own) ((bytes_eq-Decides e.path e.path).1 refl) (le-leb own own (omega arith)) (eq-eqb own own refl)))
 
 abbrev SomeConflict : Bool → Bool → Bool → Type 0
 SomeConflict a b c = (s : Conflict) × (conflict_named a b c ≡ Some s)
@@ -139,19 +130,19 @@ stage_cases s h k = stage_cases_at (cases_eq s 1) (cases_eq s 2) where
   stage_cases_at (inr e) (inl f) = inr (inl f)
   stage_cases_at (inr e) (inr f) = inr (inr (omega arith))
 
-stage_is : (run : List Entry) (s : ℕ) → has_stage run s ≡ true → (s ≡ 1) ⊎ ((s ≡ 2) ⊎ (s ≡ 3)) → (has_stage run 1 ≡ true) ⊎ ((has_stage run 2 ≡ true) ⊎ (has_stage run 3 ≡ true))
+stage_is : (run : List IndexEntry) (s : ℕ) → has_stage run s ≡ true → (s ≡ 1) ⊎ ((s ≡ 2) ⊎ (s ≡ 3)) → (has_stage run 1 ≡ true) ⊎ ((has_stage run 2 ≡ true) ⊎ (has_stage run 3 ≡ true))
 stage_is run s h (inl e) = inl (sym (ap (has_stage run) e) ∙ h)
 stage_is run s h (inr (inl e)) = inr (inl (sym (ap (has_stage run) e) ∙ h))
 stage_is run s h (inr (inr e)) = inr (inr (sym (ap (has_stage run) e) ∙ h))
 
-low_stage : (e : Entry) → stage_of e < 4
+low_stage : (e : IndexEntry) → stage_of e < 4
 low_stage e = omega arith
 
-abbrev SomeConflictOf : List Entry → Type 0
+abbrev SomeConflictOf : List IndexEntry → Type 0
 SomeConflictOf run = (c : Conflict) × (conflict_of run ≡ Some c)
 
 -- a run that has a stage names a conflict
-conflict_at : (run : List Entry) (s : ℕ) → 0 < s → s < 4 → has_stage run s ≡ true → SomeConflictOf run
+conflict_at : (run : List IndexEntry) (s : ℕ) → 0 < s → s < 4 → has_stage run s ≡ true → SomeConflictOf run
 conflict_at run s h k own = named (has_stage run 1) (has_stage run 2) (has_stage run 3) (stage_is run s own (stage_cases s h k))
 
 module _ {T U : Type 0} (q : Query T U) (es : List IndexEntry) (e : IndexEntry) where
@@ -163,17 +154,17 @@ module _ {T U : Type 0} (q : Query T U) (es : List IndexEntry) (e : IndexEntry) 
   staged_reported b = if b then status_of q e else reported (conflict_of (conflict_run es e))
 
   abbrev left_reported : Bool → Result (Option (EntryStatus T U)) Error
-  left_reported b = if b then Ok None else staged_reported (stage_of e.entry == 0)
+  left_reported b = if b then Ok None else staged_reported (stage_of e == 0)
 
-  head_reported : 0 < stage_of e.entry → is_skipped q e ≡ false → is_over q es e ≡ false → verdict q es e ≡ reported (conflict_of (conflict_run es e))
+  head_reported : 0 < stage_of e → is_skipped q e ≡ false → is_over q es e ≡ false → verdict q es e ≡ reported (conflict_of (conflict_run es e))
   head_reported staged skipped over =
       ap (λ (b : Bool). left_reported (b || is_over q es e)) skipped
-      ∙ (ap left_reported over ∙ ap staged_reported (ne_eqb (stage_of e.entry) 0 (λ z. omega arith)))
+      ∙ (ap left_reported over ∙ ap staged_reported (ne_eqb (stage_of e) 0 (λ z. omega arith)))
 
-  reports_conflict : 0 < stage_of e.entry → is_skipped q e ≡ false → is_over q es e ≡ false → SomeConflictOf (conflict_run es e) → (c : Conflict) × ReportsConflict q es e c
+  reports_conflict : 0 < stage_of e → is_skipped q e ≡ false → is_over q es e ≡ false → SomeConflictOf (conflict_run es e) → (c : Conflict) × ReportsConflict q es e c
   reports_conflict staged skipped over (c, is) = (c, (is, head_reported staged skipped over ∙ ap reported is))
 
 pub head_law : {T U : Type 0} (q : Query T U) → HeadLaw q
 head_law q es i d h staged skipped over =
     reports_conflict q es (get_or es i d) staged skipped over
-    (conflict_at (conflict_run es (get_or es i d)) (stage_of (get_or es i d).entry) staged (low_stage (get_or es i d).entry) (has_own_stage es i d h))
+    (conflict_at (conflict_run es (get_or es i d)) (stage_of (get_or es i d)) staged (low_stage (get_or es i d)) (has_own_stage es i d h))

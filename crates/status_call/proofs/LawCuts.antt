@@ -1,5 +1,5 @@
 -- Over a cut the entries of one side don't change what an entry of the other gives.
-use Rattle.std.proofs.Common.{◌≡◌, ◌∙◌, refl, sym, ap, ℕ, ◌<◌, Bool, true, false, not, ◌&&◌, ◌||◌, cond, List, [], ◌∷◌, ◌++◌, length, take, drop, get_or, Option, None, Result, Ok, if◌then◌else◌, nat_lt, nat_le, ◌==◌, map}
+use Rattle.std.proofs.Common.{◌≡◌, ◌∙◌, refl, sym, ap, ℕ, ◌<◌, Bool, true, false, not, ◌&&◌, ◌||◌, cond, List, [], ◌∷◌, ◌++◌, length, take, drop, get_or, Option, None, Result, Ok, if◌then◌else◌, nat_lt, nat_le, ◌==◌}
 use Rattle.std.specs.List.{All, filter}
 use Rattle.std.proofs.lemmas.Bool.{both_ways, false_from_ne_true}
 use Rattle.std.proofs.lemmas.List.{append-nil, take-append-drop}
@@ -39,19 +39,19 @@ AreOthers e xs = All (λ r. same_path r e ≡ false) xs
 
 stages_none : (e : IndexEntry) (xs : List IndexEntry) → AreOthers e xs → stages_from xs e ≡ []
 stages_none e xs h =
-    filter_none (λ d. same_path d e && nat_le (stage_of e.entry) (stage_of d.entry)) xs
-    (All-weaker (λ r. same_path r e ≡ false) (λ d. (same_path d e && nat_le (stage_of e.entry) (stage_of d.entry)) ≡ false)
-    (λ d k. ap (λ (b : Bool). b && nat_le (stage_of e.entry) (stage_of d.entry)) k) xs h)
+    filter_none (λ d. same_path d e && nat_le (stage_of e) (stage_of d)) xs
+    (All-weaker (λ r. same_path r e ≡ false) (λ d. (same_path d e && nat_le (stage_of e) (stage_of d)) ≡ false)
+    (λ d k. ap (λ (b : Bool). b && nat_le (stage_of e) (stage_of d)) k) xs h)
 
 stages_append : (e : IndexEntry) (xs ys : List IndexEntry) → stages_from (xs ++ ys) e ≡ stages_from xs e ++ stages_from ys e
-stages_append e xs ys = filter-append (λ d. same_path d e && nat_le (stage_of e.entry) (stage_of d.entry)) xs ys
+stages_append e xs ys = filter-append (λ d. same_path d e && nat_le (stage_of e) (stage_of d)) xs ys
 
 module _ {T U : Type 0} (q : Query T U) where
   over_none : (e : IndexEntry) (xs : List IndexEntry) → AreOthers e xs → is_over q xs e ≡ false
   over_none e xs h =
       list_any_none (λ d. takes_over q d e) xs
       (All-weaker (λ r. same_path r e ≡ false) (λ d. takes_over q d e ≡ false)
-      (λ d k. and_second (not (is_skipped q d)) (same_path d e) (nat_lt 0 (stage_of d.entry)) (nat_lt (stage_of d.entry) (stage_of e.entry)) k) xs h)
+      (λ d k. and_second (not (is_skipped q d)) (same_path d e) (nat_lt 0 (stage_of d)) (nat_lt (stage_of d) (stage_of e)) k) xs h)
 
   over_append : (e : IndexEntry) (xs ys : List IndexEntry) → is_over q (xs ++ ys) e ≡ (is_over q xs e || is_over q ys e)
   over_append e xs ys = list_any-append (λ d. takes_over q d e) xs ys
@@ -60,7 +60,7 @@ module _ {T U : Type 0} (q : Query T U) where
   abbrev verdict_by : IndexEntry → Bool → List IndexEntry → Result (Option (EntryStatus T U)) Error
   verdict_by e over stages =
       if is_skipped q e || over then Ok None
-      else (if stage_of e.entry == 0 then status_of q e else Ok (conflict_status (map (λ d. d.entry) stages)))
+      else (if stage_of e == 0 then status_of q e else Ok (conflict_status (stages)))
 
   verdict_same : (xs ys : List IndexEntry) (e : IndexEntry) → is_over q xs e ≡ is_over q ys e → stages_from xs e ≡ stages_from ys e → verdict q xs e ≡ verdict q ys e
   verdict_same xs ys e over stages = ap (λ (b : Bool). verdict_by e b (stages_from xs e)) over ∙ ap (λ (l : List IndexEntry). verdict_by e (is_over q ys e) l) stages

@@ -87,15 +87,15 @@ module _ {T U : Type 0} (q : Query T U) (e : IndexEntry) where
   cover_present n p true flag = (added, record { node = n; present = p; intended = flag })
   cover_present n p false flag = cover_stat n p flag (stat_of n) refl
 
-  cover_directory : (n : Metadata) → check_of q e ≡ accepted → node_of q e ≡ Ok n → n.kind ≡ kinds.Directory → (b : Bool) → is_submodule e.entry.mode ≡ b → Covered
-  cover_directory n clear reported kind true mode = (in_submodule, record { node = n; clear = clear; reported = reported; directory = kind; submodule = mode })
+  cover_directory : (n : Metadata) → check_of q e ≡ accepted → node_of q e ≡ Ok n → n.kind ≡ kinds.Directory → (b : Bool) → is_submodule e.mode ≡ b → Covered
+  cover_directory n clear reported kind true mode = (in_submodule, record { node = n; clear = clear; answered = reported; directory = kind; submodule = mode })
   cover_directory n clear reported kind false mode = (gone, by_directory n clear reported kind mode)
 
   cover_kind : (n : Metadata) → check_of q e ≡ accepted → node_of q e ≡ Ok n → (k : NodeKind) → n.kind ≡ k → Covered
-  cover_kind n clear reported kinds.Directory h = cover_directory n clear reported h (is_submodule e.entry.mode) refl
-  cover_kind n clear reported kinds.File h = cover_present n (record { clear = clear; reported = reported; no_directory = inl h }) (has_flag e INTENT_TO_ADD) refl
-  cover_kind n clear reported kinds.Link h = cover_present n (record { clear = clear; reported = reported; no_directory = inr (inl h) }) (has_flag e INTENT_TO_ADD) refl
-  cover_kind n clear reported kinds.Other h = cover_present n (record { clear = clear; reported = reported; no_directory = inr (inr h) }) (has_flag e INTENT_TO_ADD) refl
+  cover_kind n clear reported kinds.Directory h = cover_directory n clear reported h (is_submodule e.mode) refl
+  cover_kind n clear reported kinds.File h = cover_present n (record { clear = clear; answered = reported; no_directory = inl h }) (has_flag e INTENT_TO_ADD) refl
+  cover_kind n clear reported kinds.Link h = cover_present n (record { clear = clear; answered = reported; no_directory = inr (inl h) }) (has_flag e INTENT_TO_ADD) refl
+  cover_kind n clear reported kinds.Other h = cover_present n (record { clear = clear; answered = reported; no_directory = inr (inr h) }) (has_flag e INTENT_TO_ADD) refl
 
   cover_fault : (f : Fault) → check_of q e ≡ accepted → node_of q e ≡ Err f → IsAbsence f ⊎ (¬ IsAbsence f) → Covered
   cover_fault f clear reported (inl h) = (gone, at_the_path f clear reported h)

@@ -51,7 +51,7 @@ module _ {T U : Type 0} (q : Query T U) (e : IndexEntry) where
   at_node v = case_of_found q e (found_node v)
 
   abbrev at_directory : Bool → Case T U
-  at_directory b = if b then status.in_submodule (q.submodule e.entry e.path) else status.gone
+  at_directory b = if b then status.in_submodule (q.submodule e) else status.gone
 
   abbrev at_intent : Metadata → Bool → Case T U
   at_intent n b = if b then status.added else case_of_stat q e n (stat_of n)
@@ -62,7 +62,7 @@ module _ {T U : Type 0} (q : Query T U) (e : IndexEntry) where
   case_at : (v : Result Metadata Fault) → check_of q e ≡ accepted → node_of q e ≡ v → case_of q e ≡ at_node v
   case_at v h reported = case_accepted h ∙ ap at_node reported
 
-  case_directory : (n : Metadata) → check_of q e ≡ accepted → node_of q e ≡ Ok n → n.kind ≡ kinds.Directory → (b : Bool) → is_submodule e.entry.mode ≡ b → case_of q e ≡ at_directory b
+  case_directory : (n : Metadata) → check_of q e ≡ accepted → node_of q e ≡ Ok n → n.kind ≡ kinds.Directory → (b : Bool) → is_submodule e.mode ≡ b → case_of q e ≡ at_directory b
   case_directory n h reported kind b mode = case_at (Ok n) h reported ∙ (ap (λ (k : NodeKind). case_of_found q e (found_kind n k)) kind ∙ ap at_directory mode)
 
   pub case_gone : IsGone q e → case_of q e ≡ status.gone
@@ -77,11 +77,11 @@ module _ {T U : Type 0} (q : Query T U) (e : IndexEntry) where
   case_refused f (barred h other) = ap at_check h ∙ ap (case_of_found q e) (found_other f other)
   case_refused f (unreadable h reported other) = case_at (Err f) h reported ∙ ap (case_of_found q e) (found_other f other)
 
-  pub case_in_submodule : IsInSubmodule q e → case_of q e ≡ status.in_submodule (q.submodule e.entry e.path)
-  case_in_submodule r = case_directory r.node r.clear r.reported r.directory true r.submodule
+  pub case_in_submodule : IsInSubmodule q e → case_of q e ≡ status.in_submodule (q.submodule e)
+  case_in_submodule r = case_directory r.node r.clear r.answered r.directory true r.submodule
 
   case_present : (n : Metadata) → IsPresent q e n → (b : Bool) → has_flag e INTENT_TO_ADD ≡ b → case_of q e ≡ at_intent n b
-  case_present n p b flag = case_at (Ok n) p.clear p.reported ∙ (ap (case_of_found q e) (found_no_directory n p.no_directory) ∙ ap (at_intent n) flag)
+  case_present n p b flag = case_at (Ok n) p.clear p.answered ∙ (ap (case_of_found q e) (found_no_directory n p.no_directory) ∙ ap (at_intent n) flag)
 
   pub case_added : IsAdded q e → case_of q e ≡ status.added
   case_added r = case_present r.node r.present true r.intended
@@ -90,7 +90,7 @@ module _ {T U : Type 0} (q : Query T U) (e : IndexEntry) where
   case_unstamped r = case_present r.node r.present false r.not_intended ∙ ap (case_of_stat q e r.node) r.unknown
 
   abbrev pub change_of : Metadata → Option ModeChange
-  change_of n = mode_change q.symlink q.executable_bit e.entry.mode n
+  change_of n = mode_change q.symlink q.executable_bit e.mode n
 
   case_stamped : (n : Metadata) (s : Stat) → IsStamped q e n s → case_of q e ≡ case_of_change q e n s (change_of n)
   case_stamped n s p = case_present n p.present false p.not_intended ∙ ap (case_of_stat q e n) p.known

@@ -16,7 +16,7 @@ pub mod LawTable
 pub mod Nexts
 pub mod NoThread
 pub mod Parts
-pub mod Queries
+pub mod RunLemmas
 pub mod RunLists
 pub mod Runs
 pub mod StatusProof

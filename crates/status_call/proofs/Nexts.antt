@@ -1,26 +1,28 @@
 -- What the next step is: one entry that is left out or decided, or a conflict.
-use Rattle.std.proofs.Common.{◌≡◌, refl, sym, ap, ◌∙◌, ℕ, ◌+◌, ◌<◌, ◌≤◌, inl, inr, Bool, true, false, ◌==◌, List, [], ◌∷◌, ◌++◌, length, map, take, drop, slice_index_or, All, None, Ok, Err, IsTrue, arith}
+use Rattle.std.proofs.Common.{◌≡◌, refl, sym, ap, ◌∙◌, ℕ, ◌+◌, ◌<◌, ◌≤◌, inl, inr, true, false, ◌==◌, List, [], ◌∷◌, ◌++◌, length, take, drop, slice_index_or, All, None, Ok, Err, IsTrue, arith}
 use Rattle.std.proofs.lemmas.Bool.{and_left, and_right, not_from_true, or_left, or_right, ne_eqb, eq-eqb, le-ltb}
 use Rattle.std.proofs.lemmas.List.{get_or-map}
 use Rattle.std.proofs.lemmas.List.Elements.{All-nil}
 use Rattle.std.proofs.lemmas.List.Folds.{length-prefix_len}
 use Rattle.status_index.specs.declared.entry.Entry.{Entry}
 use Rattle.status_index.specs.declared.entry.PathStorage.{PathStorage}
-use Rattle.status_index.specs.Entries.{IndexEntry, IsIndex, index_entry, index_entries, listed, path_in, stage_of}
+use Rattle.status_index.specs.Entries.{IndexEntry, IsIndex, entry_at, index_entry, index_entries, path_in, stage_of}
 use Rattle.status_index.specs.Stretch.{part_of}
 use Rattle.status_compare.specs.declared.error.Error.{Error}
-use Rattle.status_compare.specs.Reading.{no_reads}
+use Rattle.status_compare.specs.Reads.{no_reads}
 use Rattle.status_call.specs.declared.index_as_worktree.decide.Decided.{Decided}
-use Rattle.status_call.specs.declared.index_as_worktree.piece.Step.{Step}
+use Rattle.status_call.specs.declared.index_as_worktree.step.Step.{Step}
 use Rattle.status_call.specs.Conflicts.{is_in_run, run_at}
 use Rattle.status_call.specs.Considered.{is_flagged, is_excluded, is_skipped, is_over, same_path, takes_over}
-use Rattle.status_call.specs.Counts.{Counts, counts_of_outcome, reads_of, reads_of_outcome, ModelsReads}
-use Rattle.status_call.specs.Decisions.{IsDecided, reads_of_decided}
-use Rattle.status_call.specs.Pieces.{IsWithin, IsFaultAt}
+use Rattle.status_call.specs.Counts.{no_totals, reads_of, ModelsReads}
+use Rattle.status_call.specs.declared.index_as_worktree.counts.Counts.{Counts}
+use Rattle.status_call.specs.Decisions.{IsDecided}
+use Rattle.status_call.specs.Pieces.{IsFaultAt}
+use Rattle.status_call.specs.Counts.{IsWithin}
 use Rattle.status_call.specs.Query.{Query}
 use Rattle.status_call.specs.Records.{verdict, conflict_status}
 use Rattle.status_call.specs.Steps.{IsFresh, IsStepOf, IsNext, processed_counts, decided_counts}
-use Rattle.status_call.specs.Sums.{IsOfEntries, plus_reads}
+use Rattle.status_compare.specs.Reads.{plus_reads}
 use Rattle.status_call.proofs.Ascents.{same_back, same_from_path}
 use Rattle.status_call.proofs.Dones.{IsWithin-same, IsWithin-more}
 use Rattle.status_call.proofs.Groups.{IsLater, one_counts, step_of, weight_le, skipped_verdict, skipped_reads, flagged_counts, excluded_counts, conflict_verdict, conflict_counts, conflict_reads, status_verdict, decision_counts, decision_reads}
@@ -28,16 +30,21 @@ use Rattle.status_call.proofs.Parts.{All-part_from, part_one, part_split}
 use Rattle.status_call.proofs.Runs.{not_over, fresh_more, climb, count, inside, some, run_same, part_is_run, stages_are, later_over, run_apart}
 
 -- the entry that is read at a place, with its path
-pub entry_at : (b : PathStorage) (entries : List Entry) (i : ℕ) (e : Entry) (path : List ℕ) → i < length entries → path ≡ path_in b (slice_index_or entries i e) → (d : IndexEntry) → slice_index_or (index_entries b entries) i d ≡ record { path = path; entry = slice_index_or entries i e }
-entry_at b entries i e path l same d =
+pub entry_read : (b : PathStorage) (entries : List Entry) (i : ℕ) (e : Entry) (path : List ℕ) → i < length entries → path ≡ path_in b (slice_index_or entries i e) → (d : IndexEntry) → slice_index_or (index_entries b entries) i d ≡ entry_at path (slice_index_or entries i e)
+entry_read b entries i e path l same d =
     let it : Entry = slice_index_or entries i e in
-    get_or-map (index_entry b) entries i e d l ∙ ap (λ (p : List ℕ). record { path = p; entry = it }) (sym same)
+    get_or-map (index_entry b) entries i e d l ∙ ap (λ (p : List ℕ). entry_at p it) (sym same)
 
 -- what a step says of itself
 pub record IsSelf {T U : Type 0} (s : Step T U) (len : ℕ) (counts : Counts) : Type 0 where
   pub long : s.len ≡ len
-  pub counted : counts_of_outcome s.outcome ≡ counts
-  pub alone : IsOfEntries s.outcome
+  pub counted : s.totals.counts ≡ counts
+
+pub skipped_self : {T U : Type 0} (s : Step T U) (flags pathspec : ℕ) → s ≡ record { status = None; len = 1; totals = record no_totals { counts = processed_counts flags pathspec } } → IsSelf s 1 (processed_counts flags pathspec)
+skipped_self {T} {U} s flags pathspec h = record {
+  long = ap (λ (x : Step T U). x.len) h;
+  counted = ap (λ (x : Step T U). x.totals.counts) h;
+}
 
 processed_within : (n flags pathspec : ℕ) → 1 ≤ n → flags + pathspec ≤ 1 → IsWithin n (processed_counts flags pathspec)
 processed_within n flags pathspec l few = record {
@@ -61,25 +68,24 @@ decided_within d = record {
   to_update = weight_le _;
 }
 
-module _ (es : List IndexEntry) (index : IsIndex (map listed es)) (i : ℕ) (x : IndexEntry) (l : i < length es) (here : (d : IndexEntry) → slice_index_or es i d ≡ x) where
+module _ (es : List IndexEntry) (index : IsIndex es) (i : ℕ) (x : IndexEntry) (l : i < length es) (here : (d : IndexEntry) → slice_index_or es i d ≡ x) where
   only_here : (k : ℕ) (d : IndexEntry) → i ≤ k → k < i + 1 → slice_index_or es k d ≡ x
   only_here k d m n =
       let e : k ≡ i = omega arith in
       rw e (here d)
 
-  module _ {T U : Type 0} (q : Query T U) (modelled : Bool) (fresh : IsFresh q (take i es) (drop i es)) where
+  module _ {T U : Type 0} (q : Query T U) (fresh : IsFresh q (take i es) (drop i es)) where
     first : is_over q es x ≡ false
     first = not_over es index i x l here q fresh
 
-    one_next : (s : Step T U) (k : Counts) → IsSelf s 1 k → IsWithin 1 k → ((r : IndexEntry) → takes_over q x r ≡ false) → (IsTrue modelled → IsStepOf q es (x ∷ []) s) → IsNext q modelled es i s
+    one_next : (s : Step T U) (k : Counts) → IsSelf s 1 k → IsWithin 1 k → ((r : IndexEntry) → takes_over q x r ≡ false) → (IsTrue q.modelled → IsStepOf q es (x ∷ []) s) → IsNext q es i s
     one_next s k self within apart reported =
         let long = self.long in
         let part : part_of es i (i + s.len) ≡ x ∷ [] = ap (λ (n : ℕ). part_of es i (i + n)) long ∙ part_one es i x l here in
         record {
           more = omega arith;
           inside = omega arith;
-          few = IsWithin-more 1 s.len (counts_of_outcome s.outcome) (omega arith) (IsWithin-same 1 (counts_of_outcome s.outcome) k self.counted within);
-          alone = self.alone;
+          few = IsWithin-more 1 s.len s.totals.counts (omega arith) (IsWithin-same 1 s.totals.counts k self.counted within);
           fresh = fresh_more es index i x l here q fresh (i + s.len) (omega arith) (λ j k d e m n o p u. rw (only_here j d m (omega arith)) (apart (slice_index_or es k e)));
           one_path = λ d. All-part_from es i (i + s.len) (λ r. same_path (slice_index_or es i d) r ≡ true) (λ j e m n o.
               same_from_path (slice_index_or es i d) (slice_index_or es j e) (ap (λ (y : IndexEntry). y.path) (here d ∙ sym (only_here j e m (omega arith)))));
@@ -89,38 +95,38 @@ module _ (es : List IndexEntry) (index : IsIndex (map listed es)) (i : ℕ) (x :
     skipped_apart : is_skipped q x ≡ true → (r : IndexEntry) → takes_over q x r ≡ false
     skipped_apart h r = and_left _ _ (and_left _ _ (and_left _ _ (not_from_true _ h)))
 
-    plain_apart : (stage_of x.entry ≡ 0) → (r : IndexEntry) → takes_over q x r ≡ false
-    plain_apart h r = and_left _ _ (and_right _ _ (le-ltb 0 (stage_of x.entry) (omega arith)))
+    plain_apart : (stage_of x ≡ 0) → (r : IndexEntry) → takes_over q x r ≡ false
+    plain_apart h r = and_left _ _ (and_right _ _ (le-ltb 0 (stage_of x) (omega arith)))
 
     -- the step of one entry, by what it gives
-    step_of_one : (s : Step T U) → verdict q es x ≡ Ok s.status → counts_of_outcome s.outcome ≡ one_counts q es x → (ModelsReads q → reads_of_outcome s.outcome ≡ plus_reads no_reads (reads_of q x)) → IsStepOf q es (x ∷ []) s
+    step_of_one : (s : Step T U) → verdict q es x ≡ Ok s.status → s.totals.counts ≡ one_counts q es x → (ModelsReads q → s.totals.reads ≡ plus_reads no_reads (reads_of q x)) → IsStepOf q es (x ∷ []) s
     step_of_one s reported counted read = step_of q es x [] (All-nil (IsLater q es)) (x ∷ []) s refl reported counted read
 
-    skipped_step : (s : Step T U) → is_skipped q x ≡ true → s.status ≡ None → counts_of_outcome s.outcome ≡ one_counts q es x → reads_of_outcome s.outcome ≡ no_reads → IsStepOf q es (x ∷ []) s
+    skipped_step : (s : Step T U) → is_skipped q x ≡ true → s.status ≡ None → s.totals.counts ≡ one_counts q es x → s.totals.reads ≡ no_reads → IsStepOf q es (x ∷ []) s
     skipped_step s h none counted read =
         step_of_one s (skipped_verdict q es x first h ∙ ap Ok (sym none)) counted (λ _. read ∙ ap (plus_reads no_reads) (sym (skipped_reads q es x first h)))
 
-    pub next_flagged : (s : Step T U) → IsSelf s 1 (processed_counts 1 0) → s.status ≡ None → reads_of_outcome s.outcome ≡ no_reads → is_flagged x ≡ true → IsNext q modelled es i s
+    pub next_flagged : (s : Step T U) → IsSelf s 1 (processed_counts 1 0) → s.status ≡ None → s.totals.reads ≡ no_reads → is_flagged x ≡ true → IsNext q es i s
     next_flagged s self none read h =
         let skipped : is_skipped q x ≡ true = or_left _ _ h in
         one_next s (processed_counts 1 0) self (processed_within 1 1 0 (omega arith) (omega arith)) (skipped_apart skipped)
         (λ _. skipped_step s skipped none (self.counted ∙ sym (flagged_counts q es x first h)) read)
 
-    pub next_excluded : (s : Step T U) → IsSelf s 1 (processed_counts 0 1) → s.status ≡ None → reads_of_outcome s.outcome ≡ no_reads → is_flagged x ≡ false → is_excluded q x ≡ true → IsNext q modelled es i s
+    pub next_excluded : (s : Step T U) → IsSelf s 1 (processed_counts 0 1) → s.status ≡ None → s.totals.reads ≡ no_reads → is_flagged x ≡ false → is_excluded q x ≡ true → IsNext q es i s
     next_excluded s self none read f h =
         let skipped : is_skipped q x ≡ true = or_right _ _ h in
         one_next s (processed_counts 0 1) self (processed_within 1 0 1 (omega arith) (omega arith)) (skipped_apart skipped)
         (λ _. skipped_step s skipped none (self.counted ∙ sym (excluded_counts q es x first f h)) read)
 
     module _ (kept : is_skipped q x ≡ false) where
-      pub next_fault : (error : Error) → stage_of x.entry ≡ 0 → IsDecided q x (Err error) → IsFaultAt q es i error
+      pub next_fault : (error : Error) → stage_of x ≡ 0 → IsDecided q x (Err error) → IsFaultAt q es i error
       next_fault error plain (inl e) =
-          inl (λ d. ap (verdict q es) (here d) ∙ status_verdict q es x first kept (eq-eqb (stage_of x.entry) 0 plain) ∙ e)
+          inl (λ d. ap (verdict q es) (here d) ∙ status_verdict q es x first kept (eq-eqb (stage_of x) 0 plain) ∙ e)
       next_fault error plain (inr e) = inr e
 
-      pub next_decided : (s : Step T U) (d : Decided T U) → IsSelf s 1 (decided_counts d) → s.status ≡ d.status → reads_of_outcome s.outcome ≡ plus_reads no_reads (reads_of_decided d) → stage_of x.entry ≡ 0 → (IsTrue modelled → IsDecided q x (Ok d)) → IsNext q modelled es i s
+      pub next_decided : (s : Step T U) (d : Decided T U) → IsSelf s 1 (decided_counts d) → s.status ≡ d.status → s.totals.reads ≡ plus_reads no_reads d.reads → stage_of x ≡ 0 → (IsTrue q.modelled → IsDecided q x (Ok d)) → IsNext q es i s
       next_decided s d self same read plain decided =
-          let zero = eq-eqb (stage_of x.entry) 0 plain in
+          let zero = eq-eqb (stage_of x) 0 plain in
           one_next s (decided_counts d) self (decided_within d) (plain_apart plain)
           (λ t.
           let h = decided t in
@@ -129,16 +135,16 @@ module _ (es : List IndexEntry) (index : IsIndex (map listed es)) (i : ℕ) (x :
           (λ r. read ∙ ap (plus_reads no_reads) (sym (decision_reads q es x first kept zero d h r))))
 
       -- x is the head of a conflict
-      module _ (staged : 0 < stage_of x.entry) where
+      module _ (staged : 0 < stage_of x) where
         abbrev three : 3 ≤ 3
         three = omega arith
 
         abbrev n : ℕ
         n = count es index i x l here 3 three staged
 
-        staged_later : (k : ℕ) (d : IndexEntry) → i ≤ k → k < i + n → (stage_of (slice_index_or es k d).entry == 0) ≡ false
+        staged_later : (k : ℕ) (d : IndexEntry) → i ≤ k → k < i + n → (stage_of (slice_index_or es k d) == 0) ≡ false
         staged_later k d m o =
-            ne_eqb (stage_of (slice_index_or es k d).entry) 0 (λ e. omega (arith, climb es index i x l here k d m (omega (arith, inside es index i x l here 3 three staged)) (run_same es index i x l here 3 three staged k d m o)))
+            ne_eqb (stage_of (slice_index_or es k d)) 0 (λ e. omega (arith, climb es index i x l here k d m (omega (arith, inside es index i x l here 3 three staged)) (run_same es index i x l here 3 three staged k d m o)))
 
         later : All (IsLater q es) (part_of es (i + 1) (i + n))
         later =
@@ -151,25 +157,24 @@ module _ (es : List IndexEntry) (index : IsIndex (map listed es)) (i : ℕ) (x :
         run_some =
             omega (arith, some es index i x l here 3 three staged, length-prefix_len (is_in_run x.path) (take 3 (drop i es)))
 
-        pub next_conflict : (s : Step T U) → IsSelf s (length (run_at es i x.path)) (processed_counts 0 0) → s.status ≡ conflict_status (map (λ e. e.entry) (run_at es i x.path)) → reads_of_outcome s.outcome ≡ no_reads → IsNext q modelled es i s
+        pub next_conflict : (s : Step T U) → IsSelf s (length (run_at es i x.path)) (processed_counts 0 0) → s.status ≡ conflict_status (run_at es i x.path) → s.totals.reads ≡ no_reads → IsNext q es i s
         next_conflict s self reported read =
             let long : s.len ≡ n = self.long ∙ length-prefix_len (is_in_run x.path) (take 3 (drop i es)) in
             let more = some es index i x l here 3 three staged in
             let within = inside es index i x l here 3 three staged in
-            let zero = ne_eqb (stage_of x.entry) 0 (λ e. omega arith) in
+            let zero = ne_eqb (stage_of x) 0 (λ e. omega arith) in
             let stages = stages_are es index i x l here 3 three staged ∙ part_is_run es index i x l here 3 three staged in
             let part : part_of es i (i + n) ≡ x ∷ part_of es (i + 1) (i + n) = part_split es i (i + 1) (i + n) (omega arith) (omega arith) ∙ ap (λ (ys : List IndexEntry). ys ++ part_of es (i + 1) (i + n)) (part_one es i x l here) in
             let same : part_of es i (i + s.len) ≡ x ∷ part_of es (i + 1) (i + n) = ap (λ (k : ℕ). part_of es i (i + k)) long ∙ part in
             record {
               more = omega arith;
               inside = omega arith;
-              few = IsWithin-same s.len (counts_of_outcome s.outcome) (processed_counts 0 0) self.counted (processed_within s.len 0 0 (omega arith) (omega arith));
-              alone = self.alone;
+              few = IsWithin-same s.len s.totals.counts (processed_counts 0 0) self.counted (processed_within s.len 0 0 (omega arith) (omega arith));
               fresh = fresh_more es index i x l here q fresh (i + s.len) (omega arith) (λ j k d e m o p u v. run_apart es index i x l here 3 three staged q j k d e m (omega arith) (omega arith) v);
               one_path = λ d. All-part_from es i (i + s.len) (λ r. same_path (slice_index_or es i d) r ≡ true) (λ j e m o p.
                   rw (here d) (same_back (slice_index_or es j e) x (run_same es index i x l here 3 three staged j e m (omega arith))));
               meant = λ _. step_of q es x (part_of es (i + 1) (i + n)) later (part_of es i (i + s.len)) s same
-                  (conflict_verdict q es x first kept zero ∙ ap (λ (ys : List IndexEntry). Ok (conflict_status (map (λ (e : IndexEntry). e.entry) ys))) stages ∙ ap Ok (sym reported))
+                  (conflict_verdict q es x first kept zero ∙ ap (λ (ys : List IndexEntry). Ok (conflict_status ys)) stages ∙ ap Ok (sym reported))
                   (self.counted ∙ sym (conflict_counts q es x first kept zero))
                   (λ _. read ∙ ap (plus_reads no_reads) (sym (conflict_reads q es x first kept zero)));
             }

@@ -1,5 +1,5 @@
 -- A refused thread is answered only by a comparer.
-use Rattle.std.proofs.Common.{◌≡◌, sym, ap, ◌∙◌, ℕ, ◌==◌, ◌||◌, Bool, true, false, cond, map, List, Option, Some, None, Result, Ok, Err}
+use Rattle.std.proofs.Common.{◌≡◌, sym, ap, ◌∙◌, ℕ, ◌==◌, ◌||◌, Bool, true, false, cond, List, Option, Some, None, Result, Ok, Err}
 use Rattle.status_index.specs.declared.fault.Fault.{Fault}
 use Rattle.status_index.specs.declared.fault.Fault.TheVariants as faults
 use Rattle.status_index.specs.BlobId.{id_kind}
@@ -65,7 +65,7 @@ module _ {T U : Type 0} (q : Query T U) (never : NeverSpawns q) where
   by_row : (e : IndexEntry) (r : Row) → IsInRow q e r → status_of q e ≡ Err SpawnThread → ⊥
   by_row e gone i h = let k = sym ((status_table q e).gone_row i) ∙ h in cc
   by_row e refused i h = other_error i.0 (same_error {T = T} {U = U} _ _ (sym ((status_table q e).refused_row i.0 i.1) ∙ h))
-  by_row e in_submodule i h = no_submodule {T = T} {U = U} e.path (q.submodule e.entry e.path) (sym (ap (answer e.path) (case_in_submodule q e i)) ∙ h)
+  by_row e in_submodule i h = no_submodule {T = T} {U = U} e.path (q.submodule e) (sym (ap (answer e.path) (case_in_submodule q e i)) ∙ h)
   by_row e added i h = let k = sym ((status_table q e).added_row i) ∙ h in cc
   by_row e unstamped i h = let k = sym ((status_table q e).unstamped_row i) ∙ h in cc
   by_row e retyped i h = let k = sym ((status_table q e).retyped_row i.0 i.1) ∙ h in cc
@@ -78,7 +78,7 @@ module _ {T U : Type 0} (q : Query T U) (never : NeverSpawns q) where
   -- no entry gives it
   pub never_spawned : (es : List IndexEntry) (e : IndexEntry) → verdict q es e ≡ Err SpawnThread → ⊥
   never_spawned es e h =
-      by_tests {T = T} {U = U} (is_skipped q e || is_over q es e) (stage_of e.entry == 0) (status_of q e) (conflict_status (map (λ (d : IndexEntry). d.entry) (stages_from es e))) (by_row e (row_of q e).0 (row_of q e).1) h
+      by_tests {T = T} {U = U} (is_skipped q e || is_over q es e) (stage_of e == 0) (status_of q e) (conflict_status ((stages_from es e))) (by_row e (row_of q e).0 (row_of q e).1) h
 
 -- the comparers by ids and by sizes never answer it
 no_result : {A : Type 0} (r : Result A Fault) → worktree_result r ≡ Err SpawnThread → ⊥
@@ -108,15 +108,15 @@ no_size false (Err e) f h = f (ap (λ (x : Error). Err x) (same_fault {A = Optio
 
 module _ {T U : Type 0} (q : Query T U) (e : IndexEntry) (n : Metadata) where
   -- by what an entry's file and its node give
-  no_hash : hash_answer e.entry (meaning q e n).file ≡ Err SpawnThread → ⊥
+  no_hash : hash_answer e (meaning q e n).file ≡ Err SpawnThread → ⊥
   no_hash =
-      no_change e.entry.id (reading_id (id_kind e.entry.id) (meaning q e n).file)
-      (no_reading (id_kind e.entry.id) (reads_link q.symlink e.entry.mode n.kind) (λ c. q.conversion c e.path) n.len (q.opened e.path) (q.linked e.path))
+      no_change e.id (reading_id (id_kind e.id) (meaning q e n).file)
+      (no_reading (id_kind e.id) (reads_link q.symlink e.mode n.kind) (λ c. q.conversion c e.path) n.len (q.opened e.path) (q.linked e.path))
 
 pub ids_law : {U : Type 0} (q : Query ObjectId U) → IdsLaw q
-ids_law q is e n h = no_hash q e n (sym (ap (λ f. f e.entry n.len (meaning q e n)) is) ∙ h)
+ids_law q is e n h = no_hash q e n (sym (ap (λ f. f e n.len (meaning q e n)) is) ∙ h)
 
 pub sizes_law : {U : Type 0} (q : Query (Unit {0}) U) → SizesLaw q
 sizes_law q is e n h =
-    no_size (size_decides e.entry n.len) (hash_answer e.entry (meaning q e n).file) (no_hash q e n)
-    (sym (ap (λ f. f e.entry n.len (meaning q e n)) is) ∙ h)
+    no_size (size_decides e n.len) (hash_answer e (meaning q e n).file) (no_hash q e n)
+    (sym (ap (λ f. f e n.len (meaning q e n)) is) ∙ h)

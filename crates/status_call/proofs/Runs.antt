@@ -1,12 +1,12 @@
 -- The run of a conflict's entries in an index: all later entries of the path.
-use Rattle.std.proofs.Common.{◌≡◌, refl, sym, ap, ◌∙◌, ℕ, ◌+◌, ◌-◌, ◌<◌, ◌≤◌, min, inl, inr, Bool, true, false, ◌&&◌, nat_le, List, [], ◌++◌, length, map, filter, take, drop, slice_index_or, All, arith}
+use Rattle.std.proofs.Common.{◌≡◌, refl, sym, ap, ◌∙◌, ℕ, ◌+◌, ◌-◌, ◌<◌, ◌≤◌, min, inl, inr, Bool, true, false, ◌&&◌, nat_le, List, [], ◌++◌, length, filter, take, drop, slice_index_or, All, arith}
 use Rattle.std.specs.List.{list_any, prefix_len}
 use Rattle.std.proofs.lemmas.Bool.{cases_lt, cases_Bool, false_from_ne_true, and_parts, and_from, and_left, and_right, or_from, not_from_false, ne_eqb, le-leb, lt-leb, lt-ltb, le-ltb}
 use Rattle.std.proofs.lemmas.List.{append-nil, length-take, length-drop, get_or-take, get_or-drop, take-take, take-append-drop}
 use Rattle.std.proofs.lemmas.List.Elements.{filter-append}
 use Rattle.std.proofs.lemmas.List.Folds.{list_any-append, list_any_none, list_any_at}
 use Rattle.std.proofs.lemmas.List.Sums.{prefix_len-le-length, prefix_len_passes, prefix_len_stops}
-use Rattle.status_index.specs.Entries.{IndexEntry, IsIndex, listed, stage_of}
+use Rattle.status_index.specs.Entries.{IndexEntry, IsIndex, stage_of}
 use Rattle.status_index.specs.Stretch.{part_of}
 use Rattle.status_call.specs.Conflicts.{is_in_run}
 use Rattle.status_call.specs.Considered.{same_path, is_skipped, is_over, stages_from, takes_over}
@@ -15,9 +15,9 @@ use Rattle.status_call.specs.Steps.{IsFresh}
 use Rattle.status_call.proofs.Ascents.{same_from_path, same_back, path_same, stage_rises, stage_small, less_at, same_between, stage_climbs}
 use Rattle.status_call.proofs.Parts.{All-drop_at, All-take_from, All-drop_from, All-part_from, list_split, take_part, filter_none, filter_all}
 
-module _ (es : List IndexEntry) (index : IsIndex (map listed es)) (i : ℕ) (x : IndexEntry) (l : i < length es) (here : (d : IndexEntry) → slice_index_or es i d ≡ x) where
+module _ (es : List IndexEntry) (index : IsIndex es) (i : ℕ) (x : IndexEntry) (l : i < length es) (here : (d : IndexEntry) → slice_index_or es i d ≡ x) where
   -- the stages of x's path rise from x on
-  pub climb : (k : ℕ) (d : IndexEntry) → i ≤ k → k < length es → same_path (slice_index_or es k d) x ≡ true → stage_of x.entry + (k - i) ≤ stage_of (slice_index_or es k d).entry
+  pub climb : (k : ℕ) (d : IndexEntry) → i ≤ k → k < length es → same_path (slice_index_or es k d) x ≡ true → stage_of x + (k - i) ≤ stage_of (slice_index_or es k d)
   climb k d m n same =
       let e : i + (k - i) ≡ k = omega arith in
       let h : same_path (slice_index_or es (i + (k - i)) d) (slice_index_or es i d) ≡ true = rw (e, here d) same in
@@ -29,7 +29,7 @@ module _ (es : List IndexEntry) (index : IsIndex (map listed es)) (i : ℕ) (x :
       rw (here d) at (same_between es index d i j k m n o h)
 
   -- an entry before x has another path, or a smaller stage
-  before : (k : ℕ) (d : IndexEntry) → k < i → same_path (slice_index_or es k d) x ≡ true → stage_of (slice_index_or es k d).entry < stage_of x.entry
+  before : (k : ℕ) (d : IndexEntry) → k < i → same_path (slice_index_or es k d) x ≡ true → stage_of (slice_index_or es k d) < stage_of x
   before k d m same =
       let less = less_at es index d k i m l in
       stage_rises (slice_index_or es k d) x (rw (here d) at less) (path_same (slice_index_or es k d) x same)
@@ -43,7 +43,7 @@ module _ (es : List IndexEntry) (index : IsIndex (map listed es)) (i : ℕ) (x :
     none_behind =
         All-drop_from (λ d. takes_over q d x ≡ false) es i (λ k d m n.
         elim (cases_Bool (same_path (slice_index_or es k d) x)) [
-          | inl same ↦ and_right _ _ (le-ltb (stage_of (slice_index_or es k d).entry) (stage_of x.entry) (omega (arith, climb k d m n same)))
+          | inl same ↦ and_right _ _ (le-ltb (stage_of (slice_index_or es k d)) (stage_of x) (omega (arith, climb k d m n same)))
           | inr other ↦ and_left _ _ (and_left _ _ (and_right _ _ other))
         ])
 
@@ -66,7 +66,7 @@ module _ (es : List IndexEntry) (index : IsIndex (map listed es)) (i : ℕ) (x :
         ∙ or_from _ _ first second)
 
   -- x is the first of at least three entries that are looked at
-  module _ (m : ℕ) (three : 3 ≤ m) (staged : 0 < stage_of x.entry) where
+  module _ (m : ℕ) (three : 3 ≤ m) (staged : 0 < stage_of x) where
     abbrev front : List IndexEntry
     front = take m (drop i es)
 
@@ -96,7 +96,7 @@ module _ (es : List IndexEntry) (index : IsIndex (map listed es)) (i : ℕ) (x :
 
     stays_in_run : (k : ℕ) (d : IndexEntry) → i ≤ k → k < length es → same_path (slice_index_or es k d) x ≡ true → is_in_run x.path (slice_index_or es k d) ≡ true
     stays_in_run k d h n same =
-        and_from _ _ same (not_from_false _ (ne_eqb (stage_of (slice_index_or es k d).entry) 0 (λ e. omega (arith, climb k d h n same))))
+        and_from _ _ same (not_from_false _ (ne_eqb (stage_of (slice_index_or es k d)) 0 (λ e. omega (arith, climb k d h n same))))
 
     -- behind the run no entry has the path
     pub run_stops : (k : ℕ) (d : IndexEntry) → i + count ≤ k → k < length es → same_path (slice_index_or es k d) x ≡ false
@@ -125,7 +125,7 @@ module _ (es : List IndexEntry) (index : IsIndex (map listed es)) (i : ℕ) (x :
         ap (λ (n : ℕ). take n (drop i es)) e ∙ sym (take-take count m (drop i es) (omega (arith, count_le, long_front)))
 
     abbrev wanted : IndexEntry → Bool
-    wanted d = same_path d x && nat_le (stage_of x.entry) (stage_of d.entry)
+    wanted d = same_path d x && nat_le (stage_of x) (stage_of d)
 
     pub stages_are : stages_from es x ≡ part_of es i (i + count)
     stages_are =
@@ -133,12 +133,12 @@ module _ (es : List IndexEntry) (index : IsIndex (map listed es)) (i : ℕ) (x :
         let rest = drop (i + count) es in
         let first : filter wanted (take i es) ≡ [] = filter_none wanted (take i es) (All-take_from (λ d. wanted d ≡ false) es i (λ k d m n.
         elim (cases_Bool (same_path (slice_index_or es k d) x)) [
-          | inl same ↦ and_right _ _ (lt-leb (stage_of x.entry) (stage_of (slice_index_or es k d).entry) (before k d m same))
+          | inl same ↦ and_right _ _ (lt-leb (stage_of x) (stage_of (slice_index_or es k d)) (before k d m same))
           | inr other ↦ and_left _ _ other
         ])) in
         let middle : filter wanted part ≡ part = filter_all wanted part (All-part_from es i (i + count) (λ d. wanted d ≡ true) (λ k d m n o.
         let same = run_same k d m n in
-        and_from _ _ same (le-leb (stage_of x.entry) (stage_of (slice_index_or es k d).entry) (omega (arith, climb k d m o same))))) in
+        and_from _ _ same (le-leb (stage_of x) (stage_of (slice_index_or es k d)) (omega (arith, climb k d m o same))))) in
         let last : filter wanted rest ≡ [] = filter_none wanted rest (All-drop_from (λ d. wanted d ≡ false) es (i + count) (λ k d m n. and_left _ _ (run_stops k d m n))) in
         ap (filter wanted) (list_split es i (i + count) (omega arith))
         ∙ filter-append wanted (take i es ++ part) rest
@@ -152,7 +152,7 @@ module _ (es : List IndexEntry) (index : IsIndex (map listed es)) (i : ℕ) (x :
       later_over kept k d m n =
           let r = slice_index_or es k d in
           let same = run_same k d (omega arith) n in
-          let takes : takes_over q x r ≡ true = and_from _ _ (and_from _ _ (and_from _ _ (not_from_false _ kept) (same_back r x same)) (lt-ltb 0 (stage_of x.entry) staged)) (lt-ltb (stage_of x.entry) (stage_of r.entry) (omega (arith, climb k d (omega arith) (omega (arith, inside)) same))) in
+          let takes : takes_over q x r ≡ true = and_from _ _ (and_from _ _ (and_from _ _ (not_from_false _ kept) (same_back r x same)) (lt-ltb 0 (stage_of x) staged)) (lt-ltb (stage_of x) (stage_of r) (omega (arith, climb k d (omega arith) (omega (arith, inside)) same))) in
           list_any_at (λ e. takes_over q e r) es i x l (rw (here x) takes)
 
       -- and none behind it

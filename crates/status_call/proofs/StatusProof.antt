@@ -1,25 +1,30 @@
 -- The status theorem, from work in order and its end.
-use Rattle.std.proofs.Common.{◌≡◌, ◌≢◌, refl, sym, ap, ◌∙◌, subst, ℕ, ◌+◌, ◌-◌, ◌<◌, ◌≤◌, ◌^◌, ◌⊎◌, inl, inr, Bool, true, false, IsTrue, List, [], ◌∷◌, ◌++◌, length, length-append, take, drop, map, arith, append_assoc, Option, Some, None, Result, Ok, Err}
+use Rattle.std.proofs.Common.{◌≡◌, ◌≢◌, refl, sym, ap, ◌∙◌, subst, ℕ, ◌+◌, ◌-◌, ◌<◌, ◌≤◌, ◌^◌, ◌⊎◌, inl, inr, Bool, true, false, IsTrue, List, [], ◌∷◌, ◌++◌, length, length-append, take, drop, map, arith, append_assoc, Option, None, Result, Ok, Err}
 use Rattle.std.specs.Prelude.{AllPairs, slice_get}
 use Rattle.std.specs.List.{slice_index_or}
 use Rattle.std.proofs.lemmas.List.{take-append-drop, append-nil, length-map, length-take, length-drop, get_or-map}
 use Rattle.std.proofs.Math.ListN.{get_or-append}
-use Rattle.status_index.specs.declared.entry.Entry.{Entry}
-use Rattle.status_index.specs.declared.entry.PathStorage.{PathStorage}
+use Rattle.std.specs.declared.ops.Range.{Range}
+use Rattle.status_index.specs.declared.state.State.{State}
 use Rattle.status_index.specs.Entries.{IndexEntry}
+use Rattle.status_index.specs.States.{entries_of, backing_of, index_of}
 use Rattle.status_index.specs.Stretch.{part_of}
 use Rattle.status_compare.specs.declared.error.Error.{Error}
 use Rattle.status_compare.specs.declared.error.Error.TheVariants.{Memory, SpawnThread}
 use Rattle.status_call.specs.declared.index_as_worktree.types.Finding.{Finding}
 use Rattle.status_call.specs.declared.index_as_worktree.types.Outcome.{Outcome}
-use Rattle.status_call.specs.Counts.{IsOutcome, counts_in, counts_of_outcome, reads_in, reads_of_outcome}
-use Rattle.status_call.specs.Pieces.{IsWithin, IsAsMeant, IsFaultAt}
-use Rattle.status_call.specs.Outcomes.{skipped_of}
+use Rattle.status_call.specs.declared.index_as_worktree.counts.Counts.{Counts}
+use Rattle.status_call.specs.declared.index_as_worktree.counts.Progress.{Progress}
+use Rattle.status_compare.specs.declared.reads.Reads.{Reads}
+use Rattle.status_call.specs.Counts.{IsOutcome, counts_in, reads_in, ModelsReads}
+use Rattle.status_call.specs.Pieces.{IsAsMeant, IsFaultAt}
+use Rattle.status_call.specs.Outcomes.{outcome_of, skipped_of}
 use Rattle.status_call.specs.Query.{Query}
 use Rattle.status_call.specs.Records.{records_in, records_of, faults_in, first_fault, verdict}
-use Rattle.status_call.specs.StatusTheorem.{IsBeginning, IsComplete, IsStatus, IsStatusOf, IsFirstFault, NeverSpawns, all_entries, considered_entries, start_of}
-use Rattle.status_call.specs.Visits.{Visit, finding_of}
-use Rattle.status_call.specs.Worked.{IsRefusal, IsStopped, IsReportedWork}
+use Rattle.status_call.specs.StatusTheorem.{IsBeginning, IsComplete, IsStatus, IsStatusOf, IsAlone, IsFirstFault, NeverSpawns, considered_entries, start_of}
+use Rattle.status_call.specs.Visits.{Visit, finding_of, IsFaithful}
+use Rattle.status_call.specs.Worked.{IsShortage, IsStopped, IsReportedWork}
+use Rattle.status_call.specs.Workers.{most_workers}
 use Rattle.status_call.proofs.Groups.{records-append}
 use Rattle.status_call.proofs.LawRecords.{fault_law}
 use Rattle.status_call.proofs.NoThread.{never_spawned}
@@ -58,9 +63,6 @@ result_of o = Ok o
 abbrev error_of : Error → Result Outcome Error
 error_of e = Err e
 
-ok_not_err : (o : Outcome) (e : Error) → result_of o ≡ error_of e → ⊥
-ok_not_err o e h = cc
-
 err_same : (a b : Error) → error_of a ≡ error_of b → a ≡ b
 err_same a b h = cc
 
@@ -97,91 +99,105 @@ module _ {T U : Type 0} (q : Query T U) (start : ℕ) (es : List IndexEntry) whe
 begins_more : {A : Type 0} (xs ys zs : List A) → IsBeginning xs ys → IsBeginning ys zs → IsBeginning xs zs
 begins_more xs ys zs a b = (a.0 ++ b.0, sym (append_assoc xs a.0 b.0) ∙ ap (λ (l : List _). l ++ b.0) a.1 ∙ b.1)
 
-module _ {T U : Type 0} (q : Query T U) (entries : List Entry) (backing : PathStorage) (modelled has_flag : Bool) (limit : Option ℕ) (old new : List (Visit T U)) where
-  abbrev all : List IndexEntry
-  all = all_entries q entries backing
-
+module _ {T U : Type 0} (q : Query T U) (index : State) (has_flag : Bool) (old new : List (Visit T U)) where
   abbrev es : List IndexEntry
-  es = considered_entries q entries backing
+  es = considered_entries q index
 
   abbrev start : ℕ
-  start = start_of q entries backing
+  start = start_of q index
 
-  -- what an outcome counts of the first considered entries
-  front_outcome : (n : ℕ) (reported : List (Finding T U)) (o p : Outcome) → IsAsMeant q start es 0 n reported o → counts_of_outcome p ≡ counts_of_outcome o → reads_of_outcome p ≡ reads_of_outcome o
-      → p.entries_to_process ≡ length es → p.entries_skipped_by_common_prefix ≡ length all - length es → IsOutcome q all es (take n es) p
-  front_outcome n reported o p m counts reads process prefix = record {
-    to_process = process;
-    skipped_by_prefix = prefix;
-    counts = counts ∙ m.counts ∙ ap (counts_in q es) (part_front es n);
-    reads = λ r. reads ∙ m.reads r ∙ ap (reads_in q) (part_front es n);
-  }
+  abbrev Work : ℕ → Result Progress Error → Type 0
+  Work workers result =
+      IsReportedWork q start es 0 (IsFaithful (entries_of index) (backing_of index)) has_flag workers (length es) old result new
 
-  module _ (workers : ℕ) (o p : Outcome) (work : IsReportedWork q modelled start es 0 has_flag workers (length es) entries backing old (Ok o) new)
-      (counts : counts_of_outcome p ≡ counts_of_outcome o) (reads : reads_of_outcome p ≡ reads_of_outcome o)
-      (process : p.entries_to_process ≡ length es) (prefix : p.entries_skipped_by_common_prefix ≡ length all - length es) (interrupt : p.interrupted ≡ o.interrupted)
-      (room : p.entries_skipped_by_common_prefix + length es < 2 ^ 64) where
+  module _ (workers : ℕ) (p : Progress) (range : Range ℕ) (all : ℕ) (work : Work workers (Ok p))
+      (process : range.end - range.start ≡ length es) (rest : all - (range.end - range.start) ≡ length (index_of index) - length es)
+      (room : all - (range.end - range.start) + length es < 2 ^ 64) where
+    abbrev outcome : Outcome
+    outcome = outcome_of p all range
+
     -- no entry is skipped twice
-    skipped_fits : skipped_of p < 2 ^ 64
+    skipped_fits : skipped_of outcome < 2 ^ 64
     skipped_fits =
-        let few = subst (λ k. IsWithin (work.worked.place - 0) k) (sym counts) work.worked.done.few in
-        omega (arith, few.skipped, work.worked.done.high, room)
+        let few = work.ended.done.few in
+        omega (arith, few.skipped, work.ended.done.high, room)
 
-    -- the first of the considered entries were worked through
-    first_status : IsTrue modelled → IsStatusOf q entries backing work.worked.place (map finding_of work.fed.more) p
-    first_status t =
-        let m = work.worked.done.meant t in
+    -- what the outcome counts of the first considered entries
+    front_outcome : (n : ℕ) (reported : List (Finding T U)) → IsAsMeant q start es 0 n reported p.totals → IsOutcome q (index_of index) es (take n es) outcome
+    front_outcome n reported m =
+        let counts : p.totals.counts ≡ counts_in q es (take n es) = m.counts ∙ ap (counts_in q es) (part_front es n) in
+        let reads : ModelsReads q → p.totals.reads ≡ reads_in q (take n es) = λ r. m.reads r ∙ ap (reads_in q) (part_front es n) in
         record {
-          clear = sym (ap (faults_in q es) (part_front es work.worked.place)) ∙ m.clear;
-          records = work.fed.reported ∙ m.records ∙ front_records q start es work.worked.place;
-          outcome = front_outcome work.worked.place work.reported o p m counts reads process prefix;
+          to_process = process;
+          skipped_by_prefix = rest;
+          processed = ap (λ (k : Counts). k.processed) counts;
+          skipped_by_flags = ap (λ (k : Counts). k.skipped_by_flags) counts;
+          skipped_by_pathspec = ap (λ (k : Counts). k.skipped_by_pathspec) counts;
+          lstat_calls = ap (λ (k : Counts). k.lstat_calls) counts;
+          racy_clean = ap (λ (k : Counts). k.racy_clean) counts;
+          to_update = ap (λ (k : Counts). k.to_update) counts;
+          bytes = λ r. ap (λ (k : Reads). k.bytes) (reads r);
+          files = λ r. ap (λ (k : Reads). k.files) (reads r);
+          object_bytes = λ r. ap (λ (k : Reads). k.object_bytes) (reads r);
+          objects = λ r. ap (λ (k : Reads). k.objects) (reads r);
         }
 
-    whole_status : (n : ℕ) → n ≡ length es → IsStatusOf q entries backing n (map finding_of work.fed.more) p → IsComplete q entries backing (map finding_of work.fed.more) p
+    -- the first of the considered entries were worked through
+    first_status : IsTrue q.modelled → IsStatusOf q index work.ended.place (map finding_of work.fed.more) outcome
+    first_status t =
+        let m = work.ended.done.meant t in
+        record {
+          clear = sym (ap (faults_in q es) (part_front es work.ended.place)) ∙ m.clear;
+          records = work.fed.reported ∙ m.records ∙ front_records q start es work.ended.place;
+          outcome = front_outcome work.ended.place work.reported m;
+        }
+
+    whole_status : (n : ℕ) → n ≡ length es → IsStatusOf q index n (map finding_of work.fed.more) outcome → IsComplete q index (map finding_of work.fed.more) outcome
     whole_status n e h =
         let all_of : take n es ≡ es = ap (λ (k : ℕ). take k es) e ∙ take_all es in
         record {
           no_fault = none_first q start es (sym (ap (faults_in q es) all_of) ∙ h.clear);
           records = h.records ∙ ap (records_in q es start) all_of;
-          outcome = subst (λ (part : List IndexEntry). IsOutcome q all es part p) all_of h.outcome;
+          outcome = subst (λ (part : List IndexEntry). IsOutcome q (index_of index) es part outcome) all_of h.outcome;
         }
 
     -- all considered entries were worked through, or an interrupt flag was seen
-    pub status_ok : IsStatus q entries backing modelled has_flag limit old (Ok p) new
+    pub status_ok : IsStatus q index old (Ok outcome) new
     status_ok = record {
       more = work.fed.more;
       grew = work.fed.grew;
-      faithful = work.fed.faithful;
-      ascends = map_ascends work.fed.more work.reported work.fed.reported work.worked.done.ascending;
-      complete = λ t still. whole_status work.worked.place (work.worked.reached (sym interrupt ∙ still)) (first_status t);
-      interrupted = λ t seen. (work.worked.place, work.worked.done.high, first_status t);
+      faithful = work.fed.faithful_all;
+      ascends = map_ascends work.fed.more work.reported work.fed.reported work.ended.done.ascending;
+      complete = λ t still. whole_status work.ended.place (work.ended.reached still) (first_status t);
+      interrupted = λ t seen. (work.ended.place, work.ended.done.high, first_status t);
       fault = λ t. tt;
-      beginning = λ t. subst (λ l. IsBeginning l (records_of q start es)) (sym (first_status t).records) (records_begin q start es work.worked.place);
+      beginning = λ t. subst (λ l. IsBeginning l (records_of q start es)) (sym (first_status t).records) (records_begin q start es work.ended.place);
       fits = skipped_fits;
-      uninterrupted = λ still. interrupt ∙ work.worked.uninterrupted still;
-      alone = λ t one spawns h. ok_not_err p SpawnThread h;
     }
 
-  module _ (workers : ℕ) (e : Error) (single : limit ≡ Some 1 → workers ≡ 1) (work : IsReportedWork q modelled start es 0 has_flag workers (length es) entries backing old (Err e) new) where
-    abbrev stop : IsStopped q modelled start es 0 workers work.reported e
-    stop = work.worked
+  module _ (workers : ℕ) (e : Error) (work : Work workers (Err e)) where
+    abbrev stop : IsStopped q start es 0 workers work.reported e
+    stop = work.ended
+
+    abbrev By : Type 0
+    By = ((work.reported ≡ stop.found) × (stop.place < length es) × (IsTrue q.modelled → IsFaultAt q es stop.place e)) ⊎ (IsShortage workers e × IsBeginning work.reported stop.found)
 
     -- what was found up to the stop is a beginning of the records
-    found_begins : IsTrue modelled → IsBeginning stop.found (records_of q start es)
+    found_begins : IsTrue q.modelled → IsBeginning stop.found (records_of q start es)
     found_begins t =
         let m = stop.done.meant t in
         subst (λ l. IsBeginning l (records_of q start es)) (sym (m.records ∙ front_records q start es stop.place)) (records_begin q start es stop.place)
 
-    no_refusal : e ≢ Memory → e ≢ SpawnThread → IsRefusal workers e → ⊥
-    no_refusal other others (inl h) = other h
-    no_refusal other others (inr h) = others h.0
+    no_shortage : e ≢ Memory → e ≢ SpawnThread → IsShortage workers e → ⊥
+    no_shortage other others (inl h) = other h
+    no_shortage other others (inr h) = others h.0
 
-    reported_in : ((work.reported ≡ stop.found) × (stop.place < length es) × (IsTrue modelled → IsFaultAt q es stop.place e)) ⊎ (IsRefusal workers e × IsBeginning work.reported stop.found) → IsBeginning work.reported stop.found
+    reported_in : By → IsBeginning work.reported stop.found
     reported_in (inl h) = ([], append-nil work.reported ∙ h.0)
     reported_in (inr h) = h.1
 
-    first_fault_at : IsTrue modelled → e ≢ Memory → e ≢ SpawnThread → ((work.reported ≡ stop.found) × (stop.place < length es) × (IsTrue modelled → IsFaultAt q es stop.place e)) ⊎ (IsRefusal workers e × IsBeginning work.reported stop.found) → IsFirstFault q entries backing (map finding_of work.fed.more) e
-    first_fault_at t other others (inr h) = absurd (no_refusal other others h.0)
+    first_fault_at : IsTrue q.modelled → e ≢ Memory → e ≢ SpawnThread → By → IsFirstFault q index (map finding_of work.fed.more) e
+    first_fault_at t other others (inr h) = absurd (no_shortage other others h.0)
     first_fault_at t other others (inl h) =
         let m = stop.done.meant t in
         let clear : faults_in q es (take stop.place es) ≡ [] = sym (ap (faults_in q es) (part_front es stop.place)) ∙ m.clear in
@@ -195,38 +211,40 @@ module _ {T U : Type 0} (q : Query T U) (entries : List Entry) (backing : PathSt
           records = work.fed.reported ∙ h.0 ∙ m.records ∙ front_records q start es stop.place;
         }
 
-    lone_refusal : workers ≡ 1 → IsRefusal workers e → e ≡ SpawnThread → ⊥
-    lone_refusal one (inl h) spawned = cc
-    lone_refusal one (inr h) spawned = absurd (omega (arith, one, h.1))
+    lone_shortage : workers ≡ 1 → IsShortage workers e → e ≡ SpawnThread → ⊥
+    lone_shortage one (inl h) spawned = cc
+    lone_shortage one (inr h) spawned = absurd (omega (arith, one, h.1))
 
-    no_thread : IsTrue modelled → workers ≡ 1 → NeverSpawns q → ((work.reported ≡ stop.found) × (stop.place < length es) × (IsTrue modelled → IsFaultAt q es stop.place e)) ⊎ (IsRefusal workers e × IsBeginning work.reported stop.found) → e ≡ SpawnThread → ⊥
+    no_thread : IsTrue q.modelled → workers ≡ 1 → NeverSpawns q → By → e ≡ SpawnThread → ⊥
     no_thread t one never (inl h) spawned = fault_not_thread q never es stop.place e h.1 spawned (h.2 t)
-    no_thread t one never (inr h) spawned = lone_refusal one h.0 spawned
+    no_thread t one never (inr h) spawned = lone_shortage one h.0 spawned
 
     -- the work ended
-    pub status_err : IsStatus q entries backing modelled has_flag limit old (Err e) new
+    pub status_err : IsStatus q index old (Err e) new
     status_err = record {
       more = work.fed.more;
       grew = work.fed.grew;
-      faithful = work.fed.faithful;
+      faithful = work.fed.faithful_all;
       ascends = map_ascends work.fed.more work.reported work.fed.reported (front_ascends (λ a b. a.entry_index < b.entry_index) work.reported (reported_in stop.by).0 stop.found (reported_in stop.by).1 stop.done.ascending);
       complete = λ t. tt;
       interrupted = λ t. tt;
       fault = λ t other others. first_fault_at t other others stop.by;
       beginning = λ t. subst (λ l. IsBeginning l (records_of q start es)) (sym work.fed.reported) (begins_more work.reported stop.found (records_of q start es) (reported_in stop.by) (found_begins t));
       fits = tt;
-      uninterrupted = λ _. tt;
-      alone = λ t one never h. no_thread t (single one) never stop.by (err_same e SpawnThread h);
     }
 
+    -- with one worker no thread is refused
+    pub status_alone : (limit : Option ℕ) → workers ≡ most_workers limit → IsAlone q limit (Err e)
+    status_alone limit same t one never h =
+        no_thread t (same ∙ ap most_workers one) never stop.by (err_same e SpawnThread h)
+
 -- the same work, by an equal query and of an equal part
-pub work_kept : {T U : Type 0} (q r : Query T U) (modelled also interruptible : Bool) (workers start place : ℕ) (whole part : List IndexEntry) (entries : List Entry) (backing : PathStorage) (old new : List (Visit T U)) (result : Result Outcome Error)
-    → r ≡ q → also ≡ modelled → place ≡ start → part ≡ whole → IsReportedWork r also place part 0 interruptible workers (length part) entries backing old result new → IsReportedWork q modelled start whole 0 interruptible workers (length whole) entries backing old result new
-work_kept q r modelled also interruptible workers start place whole part entries backing old new result same so at of work =
-    subst (λ l. IsReportedWork q modelled start l 0 interruptible workers (length l) entries backing old result new) of
-    (subst (λ n. IsReportedWork q modelled n part 0 interruptible workers (length part) entries backing old result new) at
-    (subst (λ b. IsReportedWork q b place part 0 interruptible workers (length part) entries backing old result new) so
-    (subst (λ x. IsReportedWork x also place part 0 interruptible workers (length part) entries backing old result new) same work)))
+pub work_kept : {T U : Type 0} (q r : Query T U) (faithful : Visit T U → Type 0) (interruptible : Bool) (workers start place : ℕ) (whole part : List IndexEntry) (old new : List (Visit T U)) (result : Result Progress Error)
+    → r ≡ q → place ≡ start → part ≡ whole → IsReportedWork r place part 0 faithful interruptible workers (length part) old result new → IsReportedWork q start whole 0 faithful interruptible workers (length whole) old result new
+work_kept q r faithful interruptible workers start place whole part old new result same at of work =
+    subst (λ l. IsReportedWork q start l 0 faithful interruptible workers (length l) old result new) of
+    (subst (λ n. IsReportedWork q n part 0 faithful interruptible workers (length part) old result new) at
+    (subst (λ x. IsReportedWork x place part 0 faithful interruptible workers (length part) old result new) same work))
 
 -- how many entries are considered, and how many aren't
 module _ {X Y : Type 0} (all whole : List X) (entries : List Y) (s e : ℕ) (part : part_of all s e ≡ whole) (order : s ≤ e) (inside : e ≤ length entries) (same : length all ≡ length entries) where

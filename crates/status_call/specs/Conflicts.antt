@@ -1,10 +1,11 @@
 -- The conflict that the stages of a path name.
-use Rattle.std.specs.Prelude.{◌≡◌, ℕ, ◌+◌, ◌==◌, Bool, true, false, not, ◌&&◌, List, [], ◌∷◌, length, take, drop, map, find, reverse, take_while, Option, Some, None, is_some}
+use Rattle.std.specs.Prelude.{◌≡◌, ℕ, ◌+◌, ◌==◌, Bool, true, false, not, ◌&&◌, List, [], ◌∷◌, length, take, drop, map, option_map, find, reverse, take_while, Option, Some, None, is_some}
 use Rattle.std.specs.Option.{option_copied}
 use Rattle.std.specs.Str.{bytes_eq}
 use Rattle.std.specs.Borrow.{Bor}
 use Rattle.status_index.specs.declared.entry.Entry.{Entry}
 use Rattle.status_index.specs.Entries.{IndexEntry, stage_of}
+use Rattle.status_index.specs.FlagBits.{stage_of_bits}
 use Rattle.status_call.specs.declared.index_as_worktree.types.Conflict.{Conflict}
 use Rattle.status_call.specs.declared.index_as_worktree.types.Conflict.TheVariants.{BothDeleted, AddedByUs, DeletedByThem, AddedByThem, DeletedByUs, BothAdded, BothModified}
 use Rattle.status_call.specs.declared.index_as_worktree.types.ConflictIndexEntry.{ConflictIndexEntry}
@@ -21,34 +22,39 @@ conflict_named true true true = Some BothModified
 conflict_named false false false = None
 
 -- the last of these entries that has the stage
-abbrev pub entry_of_stage : List Entry → ℕ → Option Entry
+abbrev pub entry_of_stage : List IndexEntry → ℕ → Option IndexEntry
 entry_of_stage run stage = find (λ e. stage_of e == stage) (reverse run)
 
-abbrev pub has_stage : List Entry → ℕ → Bool
+-- the same of stored entries
+abbrev pub stored_of_stage : List Entry → ℕ → Option Entry
+stored_of_stage run stage = find (λ e. stage_of_bits e.flags.0 == stage) (reverse run)
+
+abbrev pub has_stage : List IndexEntry → ℕ → Bool
 has_stage run stage = is_some (entry_of_stage run stage)
 
 -- the conflict that the stages of these entries name
-abbrev pub conflict_of : List Entry → Option Conflict
+abbrev pub conflict_of : List IndexEntry → Option Conflict
 conflict_of run = conflict_named (has_stage run 1) (has_stage run 2) (has_stage run 3)
 
 -- the entries of stage 1, 2 and 3
-abbrev pub places_of : List Entry → List (Option Entry)
+abbrev pub places_of : List IndexEntry → List (Option IndexEntry)
 places_of run = map (entry_of_stage run) (1 ∷ 2 ∷ 3 ∷ [])
 
 -- what a conflict keeps of an entry
-abbrev pub kept_of : Entry → ConflictIndexEntry
+abbrev pub kept_of : IndexEntry → ConflictIndexEntry
 kept_of e = record { id = e.id; flags = e.flags; mode = e.mode }
 
 -- whether an entry has this path and a stage
 abbrev pub is_in_run : List ℕ → IndexEntry → Bool
-is_in_run path e = bytes_eq e.path path && not (stage_of e.entry == 0)
+is_in_run path e = bytes_eq e.path path && not (stage_of e == 0)
 
 -- the longest run of at most three entries from a place that have this path and a stage
 abbrev pub run_at : List IndexEntry → ℕ → List ℕ → List IndexEntry
 run_at es start path = take_while (is_in_run path) (take 3 (drop start es))
 
--- the conflict of a run, the number of its entries that follow the first, and its entries by stage; None where it names
--- no conflict
-abbrev pub IsConflict : List Entry → Option (Conflict × ℕ × List (Option (Bor Entry))) → Type 0
-IsConflict run None = conflict_of run ≡ None
-IsConflict run (Some c) = (conflict_of run ≡ Some c.0) × (c.1 + 1 ≡ length run) × (map option_copied c.2 ≡ places_of run)
+-- the conflict of a run, the number of its entries that follow the first, and its entries by stage, by what the index says
+-- of a stored one; None where it names no conflict
+abbrev pub IsConflict : (Entry → IndexEntry) → List IndexEntry → Option (Conflict × ℕ × List (Option (Bor Entry))) → Type 0
+IsConflict says run None = conflict_of run ≡ None
+IsConflict says run (Some c) =
+    (conflict_of run ≡ Some c.0) × (c.1 + 1 ≡ length run) × (map (λ o. option_map says (option_copied o)) c.2 ≡ places_of run)

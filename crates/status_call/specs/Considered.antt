@@ -3,7 +3,7 @@ use Rattle.std.specs.Prelude.{ℕ, nat_lt, nat_le, Bool, not, ◌&&◌, ◌||◌
 use Rattle.std.specs.List.{list_any, position_or_len}
 use Rattle.std.specs.Str.{bytes_eq}
 use Rattle.status_index.specs.declared.flags.Flags.{Flags}
-use Rattle.status_index.specs.declared.flags.TheConstants.Flags.{UPTODATE, SKIP_WORKTREE, ASSUME_VALID, FSMONITOR_VALID}
+use Rattle.status_call.specs.declared.index_as_worktree.step.TheConstants.{SKIP_FLAGS}
 use Rattle.status_index.specs.FlagBits.{has_bits}
 use Rattle.status_index.specs.Entries.{IndexEntry, stage_of}
 use Rattle.status_index.specs.Mode.{is_submodule}
@@ -20,11 +20,11 @@ considered_start prefix es = if list_any (is_under prefix) es then position_or_l
 
 -- whether an entry has a flag
 abbrev pub has_flag : IndexEntry → Flags → Bool
-has_flag e flag = has_bits e.entry.flags.0 flag.0
+has_flag e flag = has_bits e.flags.0 flag.0
 
--- whether a flag leaves an entry out
+-- whether one of the flags UPTODATE, SKIP_WORKTREE, ASSUME_VALID and FSMONITOR_VALID leaves an entry out
 abbrev pub is_flagged : IndexEntry → Bool
-is_flagged e = has_flag e UPTODATE || has_flag e SKIP_WORKTREE || has_flag e ASSUME_VALID || has_flag e FSMONITOR_VALID
+is_flagged e = list_any (has_flag e) SKIP_FLAGS
 
 abbrev pub same_path : IndexEntry → IndexEntry → Bool
 same_path a b = bytes_eq a.path b.path
@@ -32,19 +32,19 @@ same_path a b = bytes_eq a.path b.path
 module _ {T U : Type 0} (q : Query T U) where
   -- whether the pathspec leaves an entry out
   abbrev pub is_excluded : IndexEntry → Bool
-  is_excluded e = not (q.included e.path (is_submodule e.entry.mode))
+  is_excluded e = not (q.included e.path (is_submodule e.mode))
 
   abbrev pub is_skipped : IndexEntry → Bool
   is_skipped e = is_flagged e || is_excluded e
 
   -- d isn't skipped, has e's path, and has a smaller stage that isn't 0
   abbrev pub takes_over : IndexEntry → IndexEntry → Bool
-  takes_over d e = not (is_skipped d) && same_path d e && nat_lt 0 (stage_of d.entry) && nat_lt (stage_of d.entry) (stage_of e.entry)
+  takes_over d e = not (is_skipped d) && same_path d e && nat_lt 0 (stage_of d) && nat_lt (stage_of d) (stage_of e)
 
-  -- some considered entry tells e's conflict already
+  -- some considered entry reports e's conflict already
   abbrev pub is_over : List IndexEntry → IndexEntry → Bool
   is_over es e = list_any (λ d. takes_over d e) es
 
 -- the considered entries of e's path from e's stage upward
 abbrev pub stages_from : List IndexEntry → IndexEntry → List IndexEntry
-stages_from es e = filter (λ d. same_path d e && nat_le (stage_of e.entry) (stage_of d.entry)) es
+stages_from es e = filter (λ d. same_path d e && nat_le (stage_of e) (stage_of d)) es

@@ -1,28 +1,54 @@
 -- What a status counts.
-use Rattle.std.specs.Prelude.{◌≡◌, ℕ, ◌-◌, ◌==◌, Bool, true, false, not, ◌&&◌, List, length, count_by, sum_by, Option, Some, is_some, unwrap_or, Result, Ok, IsTrue, if◌then◌else◌}
+use Rattle.std.specs.Prelude.{◌≡◌, ℕ, ◌+◌, ◌-◌, ◌≤◌, ◌==◌, Bool, true, false, not, ◌&&◌, List, length, count_by, sum_by, Option, Some, is_some, unwrap_or, Result, Ok, IsTrue, if◌then◌else◌}
 use Rattle.status_index.specs.Content.{saturate}
 use Rattle.status_index.specs.declared.metadata.Metadata.{Metadata}
 use Rattle.status_index.specs.Entries.{IndexEntry, stage_of}
 use Rattle.status_base.specs.LinkCheck.{LinkCheck, accepted, empty_path, not_normal, through_link, faulty, link_check}
 use Rattle.status_compare.specs.declared.error.Error.{Error}
-use Rattle.status_compare.specs.Reading.{ReadCounts, no_reads}
+use Rattle.status_compare.specs.Reads.{no_reads, plus_reads}
+use Rattle.status_compare.specs.declared.reads.Reads.{Reads}
 use Rattle.status_call.specs.declared.index_as_worktree.types.EntryStatus.{EntryStatus}
 use Rattle.status_call.specs.declared.index_as_worktree.types.EntryStatus.TheVariants as statuses
+use Rattle.status_call.specs.declared.index_as_worktree.counts.Counts.{Counts}
+use Rattle.status_call.specs.declared.index_as_worktree.counts.Totals.{Totals}
 use Rattle.status_call.specs.declared.index_as_worktree.types.Outcome.{Outcome}
 use Rattle.status_call.specs.Considered.{is_flagged, is_excluded, is_skipped, is_over}
 use Rattle.status_call.specs.Query.{Query}
 use Rattle.status_call.specs.Records.{verdict}
 use Rattle.status_call.specs.Status.{Case, compared, case_of, Found, present, found, meaning}
 
--- numbers of considered entries
-pub record Counts : Type 0 where
-  pub processed : ℕ
-  pub skipped_by_flags : ℕ
-  pub skipped_by_pathspec : ℕ
-  pub lstat_calls : ℕ
-  pub racy_clean : ℕ
-  pub to_update : ℕ
+-- numbers of entries
+abbrev pub no_counts : Counts
+no_counts = record { processed = 0; skipped_by_flags = 0; skipped_by_pathspec = 0; lstat_calls = 0; racy_clean = 0; to_update = 0 }
 
+abbrev pub plus_counts : Counts → Counts → Counts
+plus_counts a b = record {
+  processed = a.processed + b.processed;
+  skipped_by_flags = a.skipped_by_flags + b.skipped_by_flags;
+  skipped_by_pathspec = a.skipped_by_pathspec + b.skipped_by_pathspec;
+  lstat_calls = a.lstat_calls + b.lstat_calls;
+  racy_clean = a.racy_clean + b.racy_clean;
+  to_update = a.to_update + b.to_update;
+}
+
+-- what was counted of entries, and of what was read for them
+abbrev pub no_totals : Totals
+no_totals = record { counts = no_counts; reads = no_reads }
+
+abbrev pub plus_totals : Totals → Totals → Totals
+plus_totals a b = record { counts = plus_counts a.counts b.counts; reads = plus_reads a.reads b.reads }
+
+-- each number is at most n, and so are those that were skipped together
+pub record IsWithin (n : ℕ) (k : Counts) : Type 0 where
+  pub processed : k.processed ≤ n
+  pub skipped_by_flags : k.skipped_by_flags ≤ n
+  pub skipped_by_pathspec : k.skipped_by_pathspec ≤ n
+  pub skipped : k.skipped_by_flags + k.skipped_by_pathspec ≤ n
+  pub lstat_calls : k.lstat_calls ≤ n
+  pub racy_clean : k.racy_clean ≤ n
+  pub to_update : k.to_update ≤ n
+
+-- the path may be looked at
 abbrev pub is_accepted : LinkCheck → Bool
 is_accepted accepted = true
 is_accepted empty_path = false
@@ -35,7 +61,7 @@ abbrev pub is_racy_case : {T U : Type 0} → Case T U → Bool
 is_racy_case (compared x trusted racy s c) = not x && trusted && racy
 is_racy_case _ = false
 
--- whether the comparer is asked
+-- whether the comparer is called
 abbrev pub is_compared_case : {T U : Type 0} → Case T U → Bool
 is_compared_case (compared x trusted racy s c) = true
 is_compared_case _ = false
@@ -47,27 +73,27 @@ is_update _ = false
 module _ {T U : Type 0} (q : Query T U) where
   -- compared with the worktree: of stage 0, and not skipped
   abbrev pub is_looked_at : IndexEntry → Bool
-  is_looked_at e = not (is_skipped q e) && stage_of e.entry == 0
+  is_looked_at e = not (is_skipped q e) && stage_of e == 0
 
-  -- the path is accepted, and the listings don't know it
+  -- lstat is called: the path is accepted, and the listings don't know it
   abbrev pub calls_lstat : IndexEntry → Bool
   calls_lstat e = is_accepted (link_check q.lstat e.path) && not (is_some (q.cached e.path))
 
-  abbrev pub reads_of_found : IndexEntry → Found → ReadCounts
-  reads_of_found e (present n) = unwrap_or (q.counted e.entry n.len (meaning q e n) no_reads) no_reads
+  abbrev pub reads_of_found : IndexEntry → Found → Reads
+  reads_of_found e (present n) = unwrap_or (q.counted e n.len (meaning q e n) no_reads) no_reads
   reads_of_found e _ = no_reads
 
-  -- what the comparer reads of an entry, where it is asked and tells that
-  abbrev pub reads_of_case : IndexEntry → ReadCounts
+  -- what the comparer reads of an entry, where it is called and that is modelled
+  abbrev pub reads_of_case : IndexEntry → Reads
   reads_of_case e = if is_compared_case (case_of q e) then reads_of_found e (found q e) else no_reads
 
   -- what is read of an entry
-  abbrev pub reads_of : IndexEntry → ReadCounts
+  abbrev pub reads_of : IndexEntry → Reads
   reads_of e = if is_looked_at e then reads_of_case e else no_reads
 
-  -- the comparer tells what it reads
+  -- what the comparer reads is modelled
   abbrev pub ModelsReads : Type 0
-  ModelsReads = (e : IndexEntry) (n : Metadata) → IsTrue (is_some (q.counted e.entry n.len (meaning q e n) no_reads))
+  ModelsReads = (e : IndexEntry) (n : Metadata) → IsTrue (is_some (q.counted e n.len (meaning q e n) no_reads))
 
 -- the counts of a part of the considered entries, es being all of them
 abbrev pub counts_in : {T U : Type 0} → Query T U → List IndexEntry → List IndexEntry → Counts
@@ -81,7 +107,7 @@ counts_in q es part = record {
 }
 
 -- what is read for a part of the considered entries: sums that stop at the greatest u64
-abbrev pub reads_in : {T U : Type 0} → Query T U → List IndexEntry → ReadCounts
+abbrev pub reads_in : {T U : Type 0} → Query T U → List IndexEntry → Reads
 reads_in q part = record {
   bytes = saturate (sum_by (λ e. (reads_of q e).bytes) part);
   files = saturate (sum_by (λ e. (reads_of q e).files) part);
@@ -89,27 +115,17 @@ reads_in q part = record {
   objects = saturate (sum_by (λ e. (reads_of q e).objects) part);
 }
 
-abbrev pub counts_of_outcome : Outcome → Counts
-counts_of_outcome o = record {
-  processed = o.entries_processed;
-  skipped_by_flags = o.entries_skipped_by_entry_flags;
-  skipped_by_pathspec = o.entries_skipped_by_pathspec;
-  lstat_calls = o.symlink_metadata_calls;
-  racy_clean = o.racy_clean;
-  to_update = o.entries_to_update;
-}
-
-abbrev pub reads_of_outcome : Outcome → ReadCounts
-reads_of_outcome o = record {
-  bytes = o.worktree_bytes;
-  files = o.worktree_files_read;
-  object_bytes = o.odb_bytes;
-  objects = o.odb_objects_read;
-}
-
--- what an outcome says of the first n of the considered entries, of all entries
+-- what an outcome says of a part of the considered entries, of all entries
 pub record IsOutcome {T U : Type 0} (q : Query T U) (all es : List IndexEntry) (part : List IndexEntry) (o : Outcome) : Type 0 where
   pub to_process : o.entries_to_process ≡ length es
   pub skipped_by_prefix : o.entries_skipped_by_common_prefix ≡ length all - length es
-  pub counts : counts_of_outcome o ≡ counts_in q es part
-  pub reads : ModelsReads q → reads_of_outcome o ≡ reads_in q part
+  pub processed : o.entries_processed ≡ (counts_in q es part).processed
+  pub skipped_by_flags : o.entries_skipped_by_entry_flags ≡ (counts_in q es part).skipped_by_flags
+  pub skipped_by_pathspec : o.entries_skipped_by_pathspec ≡ (counts_in q es part).skipped_by_pathspec
+  pub lstat_calls : o.symlink_metadata_calls ≡ (counts_in q es part).lstat_calls
+  pub racy_clean : o.racy_clean ≡ (counts_in q es part).racy_clean
+  pub to_update : o.entries_to_update ≡ (counts_in q es part).to_update
+  pub bytes : ModelsReads q → o.worktree_bytes ≡ (reads_in q part).bytes
+  pub files : ModelsReads q → o.worktree_files_read ≡ (reads_in q part).files
+  pub object_bytes : ModelsReads q → o.odb_bytes ≡ (reads_in q part).object_bytes
+  pub objects : ModelsReads q → o.odb_objects_read ≡ (reads_in q part).objects

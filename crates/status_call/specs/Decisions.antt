@@ -3,14 +3,10 @@ use Rattle.std.specs.Prelude.{◌≡◌, ◌⊎◌, Result, Ok, Err}
 use Rattle.status_index.specs.Entries.{IndexEntry}
 use Rattle.status_compare.specs.declared.error.Error.{Error}
 use Rattle.status_compare.specs.declared.error.Error.TheVariants.{Memory}
-use Rattle.status_compare.specs.Reading.{ReadCounts}
 use Rattle.status_call.specs.declared.index_as_worktree.decide.Decided.{Decided}
 use Rattle.status_call.specs.Counts.{calls_lstat, is_racy_case, reads_of_case, ModelsReads}
 use Rattle.status_call.specs.Query.{Query}
 use Rattle.status_call.specs.Status.{case_of, status_of}
-
-abbrev pub reads_of_decided : {T U : Type 0} → Decided T U → ReadCounts
-reads_of_decided d = record { bytes = d.bytes; files = d.files; object_bytes = d.object_bytes; objects = d.objects }
 
 module _ {T U : Type 0} (q : Query T U) where
   -- the entry's status, and what that took
@@ -18,7 +14,7 @@ module _ {T U : Type 0} (q : Query T U) where
     pub status : status_of q e ≡ Ok d.status
     pub lstat_called : d.lstat_called ≡ calls_lstat q e
     pub racy : d.racy ≡ is_racy_case (case_of q e)
-    pub reads : ModelsReads q → reads_of_decided d ≡ reads_of_case q e
+    pub reads : ModelsReads q → d.reads ≡ reads_of_case q e
 
   -- the decision that is meant, the error that is meant, or want of memory
   abbrev pub IsDecided : IndexEntry → Result (Decided T U) Error → Type 0

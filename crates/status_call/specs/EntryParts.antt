@@ -1,39 +1,63 @@
 -- The parts of an entry's decision.
-use Rattle.std.specs.Prelude.{◌≡◌, ◌⊎◌, ℕ, Bool, true, List, Option, Result, Ok, Err, IfSome, if◌then◌else◌}
+use Rattle.std.specs.Prelude.{◌≡◌, ◌⊎◌, ℕ, Bool, true, List, Option, IfSome, Result, Ok, Err, IsTrue, if◌then◌else◌}
+use Rattle.status_index.specs.Entries.{IndexEntry}
+use Rattle.status_index.specs.Stat.{is_racy}
 use Rattle.status_index.specs.declared.fault.Fault.{Fault}
+use Rattle.status_index.specs.declared.metadata.Metadata.{Metadata}
+use Rattle.status_index.specs.declared.stat.Stat.{Stat}
 use Rattle.status_compare.specs.declared.error.Error.{Error}
 use Rattle.status_compare.specs.declared.error.Error.TheVariants.{Memory}
-use Rattle.status_compare.specs.EntryMeaning.{counts_of}
+use Rattle.status_compare.specs.declared.reads.Reads.{Reads}
 use Rattle.status_compare.specs.Errors.{error_of}
-use Rattle.status_compare.specs.Reading.{ReadCounts, no_reads}
+use Rattle.status_compare.specs.Reads.{no_reads}
 use Rattle.status_call.specs.declared.index_as_worktree.decide.Decided.{Decided}
-use Rattle.status_call.specs.declared.index_as_worktree.entry_status.Site.{Site}
-use Rattle.status_call.specs.declared.index_as_worktree.entry_status.Site.TheVariants as sites
-use Rattle.status_call.specs.declared.index_as_worktree.entry_status.Comparison.{Comparison}
+use Rattle.status_call.specs.declared.index_as_worktree.site.Site.{Site}
+use Rattle.status_call.specs.declared.index_as_worktree.site.Site.TheVariants as sites
+use Rattle.status_call.specs.declared.index_as_worktree.content.Comparison.{Comparison}
 use Rattle.status_call.specs.Counts.{is_racy_case, is_compared_case}
-use Rattle.status_call.specs.Decisions.{reads_of_decided}
-use Rattle.status_call.specs.Status.{Found, nothing, refused, directory, present, Case, answer}
+use Rattle.status_call.specs.Query.{Query}
+use Rattle.status_call.specs.Status.{Found, nothing, refused, directory, present, Case, answer, case_of_found, case_of_content, is_trusted, meaning}
 
 -- what is found, and whether `lstat` was called; the fault that is found, or want of memory
 abbrev pub IsSite : Found → Bool → Result Site Error → Type 0
-IsSite found lstat_called (Ok (sites.Nothing a)) = (found ≡ nothing) × (a ≡ lstat_called)
-IsSite found lstat_called (Ok sites.Directory) = (found ≡ directory) × (lstat_called ≡ true)
-IsSite found lstat_called (Ok (sites.Node n)) = (found ≡ present n) × (lstat_called ≡ true)
-IsSite found lstat_called (Err e) = ((f : Fault) × (found ≡ refused f) × (e ≡ error_of f)) ⊎ (e ≡ Memory)
+IsSite found called (Ok (sites.Nothing a)) = (found ≡ nothing) × (a ≡ called)
+IsSite found called (Ok sites.Directory) = (found ≡ directory) × (called ≡ true)
+IsSite found called (Ok (sites.Node n)) = (found ≡ present n) × (called ≡ true)
+IsSite found called (Err e) = ((f : Fault) × (found ≡ refused f) × (e ≡ error_of f)) ⊎ (e ≡ Memory)
 
--- the answer of a case, and what that took: whether `lstat` was called, and what the comparer reads where it is asked
-pub record IsOfCase {T U : Type 0} (path : List ℕ) (case : Case T U) (reported : Bool) (counted : Option ReadCounts) (d : Decided T U) : Type 0 where
+-- the answer of a case, and what that took: whether `lstat` was called, and what the comparer reads where it is called
+pub record IsOfCase {T U : Type 0} (path : List ℕ) (case : Case T U) (called : Bool) (counted : Option Reads) (d : Decided T U) : Type 0 where
   pub status : answer path case ≡ Ok d.status
-  pub lstat_called : d.lstat_called ≡ reported
+  pub lstat_called : d.lstat_called ≡ called
   pub racy : d.racy ≡ is_racy_case case
-  pub reads : IfSome counted (λ k. reads_of_decided d ≡ (if is_compared_case case then k else no_reads))
+  pub reads : IfSome counted (λ k. d.reads ≡ (if is_compared_case case then k else no_reads))
 
 -- the decision of a case, its error, or want of memory
-abbrev pub IsCaseDecided : {T U : Type 0} → List ℕ → Case T U → Bool → Option ReadCounts → Result (Decided T U) Error → Type 0
-IsCaseDecided path case reported counted (Ok d) = IsOfCase path case reported counted d
-IsCaseDecided path case reported counted (Err x) = (answer path case ≡ Err x) ⊎ (x ≡ Memory)
+abbrev pub IsCaseDecided : {T U : Type 0} → List ℕ → Case T U → Bool → Option Reads → Result (Decided T U) Error → Type 0
+IsCaseDecided path case called counted (Ok d) = IsOfCase path case called counted d
+IsCaseDecided path case called counted (Err x) = (answer path case ≡ Err x) ⊎ (x ≡ Memory)
 
--- the comparer's answer, and what it read where it tells that; its error, or want of memory
-abbrev pub IsComparison : {T : Type 0} → Result (Option T) Error → Option ReadCounts → Result (Comparison T) Error → Type 0
-IsComparison meant counted (Ok c) = (meant ≡ Ok c.change) × IfSome counted (λ k. counts_of c.reads ≡ k)
+-- the comparer's answer, and what it read where that is modelled; its error, or want of memory
+abbrev pub IsComparison : {T : Type 0} → Result (Option T) Error → Option Reads → Result (Comparison T) Error → Type 0
+IsComparison meant counted (Ok c) = (meant ≡ Ok c.change) × IfSome counted (λ k. c.reads ≡ k)
 IsComparison meant counted (Err x) = (meant ≡ Err x) ⊎ (x ≡ Memory)
+
+module _ {T U : Type 0} (q : Query T U) (e : IndexEntry) (n : Metadata) where
+  -- what the comparer reads of an entry and its node
+  abbrev pub counted_of : Option Reads
+  counted_of = q.counted e n.len (meaning q e n) no_reads
+
+  -- the decision of an entry at whose path a node was found
+  abbrev pub IsNodeDecided : Result (Decided T U) Error → Type 0
+  IsNodeDecided result = IsTrue q.modelled → IsCaseDecided e.path (case_of_found q e (present n)) true counted_of result
+
+  -- the same of one whose node has the entry's type, and this stat
+  abbrev pub IsContentDecided : Stat → Bool → Result (Decided T U) Error → Type 0
+  IsContentDecided s executable_changed result =
+      IsTrue q.modelled → IsCaseDecided e.path
+      (case_of_content q e n s executable_changed (is_trusted q e s) (is_racy q.stat_options q.timestamp s))
+      true counted_of result
+
+  -- the comparison of an entry's content with its node's
+  abbrev pub IsContentCompared : Result (Comparison T) Error → Type 0
+  IsContentCompared result = IsTrue q.modelled → IsComparison (q.compared e n.len (meaning q e n)) counted_of result

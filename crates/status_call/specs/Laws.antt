@@ -6,12 +6,11 @@ use Rattle.status_index.specs.declared.metadata.NodeKind.TheVariants as kinds
 use Rattle.status_index.specs.declared.mode.Mode.{Mode}
 use Rattle.status_index.specs.declared.mode.Mode.TheVariants as modes
 use Rattle.status_index.specs.declared.stat.Stat.{Stat}
-use Rattle.status_index.specs.declared.entry.Entry.{Entry}
-use Rattle.status_index.specs.Entries.{IndexEntry, IsIndex, listed, stage_of}
+use Rattle.status_index.specs.Entries.{IndexEntry, IsIndex, stage_of}
 use Rattle.status_compare.specs.declared.error.Error.{Error}
 use Rattle.status_index.specs.declared.id.ObjectId.{ObjectId}
 use Rattle.status_compare.specs.Comparers.{hash_answer, fast_answer}
-use Rattle.status_compare.specs.Reading.{no_reads}
+use Rattle.status_compare.specs.Reads.{no_reads}
 use Rattle.status_call.specs.declared.index_as_worktree.types.Change.TheVariants.{Modification}
 use Rattle.status_call.specs.declared.index_as_worktree.types.Conflict.{Conflict}
 use Rattle.status_call.specs.declared.index_as_worktree.types.EntryStatus.TheVariants as statuses
@@ -30,8 +29,8 @@ abbrev pub IsDirectoryMode : Mode → Type 0
 IsDirectoryMode mode = (mode ≡ modes.Commit) ⊎ (mode ≡ modes.Dir)
 
 -- the entries of a conflict
-abbrev pub conflict_run : List IndexEntry → IndexEntry → List Entry
-conflict_run es e = map (λ d. d.entry) (stages_from es e)
+abbrev pub conflict_run : List IndexEntry → IndexEntry → List IndexEntry
+conflict_run es e = stages_from es e
 
 -- comparison by ids never answers that a thread was refused
 abbrev pub IdsLaw : {U : Type 0} → Query ObjectId U → Type 0
@@ -65,7 +64,7 @@ module _ {T U : Type 0} (q : Query T U) where
     pub node : Metadata
     pub present : IsPresent q e node
     pub file : node.kind ≡ kinds.File
-    pub other : ((e.entry.mode ≡ modes.File) × IsTrue node.executable) ⊎ ((e.entry.mode ≡ modes.FileExecutable) × IsFalse node.executable)
+    pub other : ((e.mode ≡ modes.File) × IsTrue node.executable) ⊎ ((e.mode ≡ modes.FileExecutable) × IsFalse node.executable)
 
   -- only where executability counts
   abbrev pub ExecutableLaw : Type 0
@@ -73,7 +72,7 @@ module _ {T U : Type 0} (q : Query T U) where
 
   -- of a directory's entry the comparer isn't asked, and nothing is read
   abbrev pub UnreadLaw : Type 0
-  UnreadLaw = (e : IndexEntry) → IsDirectoryMode e.entry.mode → IsFalse (is_compared_case (case_of q e)) × (reads_of q e ≡ no_reads)
+  UnreadLaw = (e : IndexEntry) → IsDirectoryMode e.mode → IsFalse (is_compared_case (case_of q e)) × (reads_of q e ≡ no_reads)
 
   -- the records ascend strictly
   abbrev pub AscendLaw : Type 0
@@ -91,8 +90,8 @@ module _ {T U : Type 0} (q : Query T U) where
 
   -- after an entry with a stage that isn't skipped no entry of its path gives anything
   abbrev pub OneConflictLaw : Type 0
-  OneConflictLaw = (es : List IndexEntry) → IsIndex (map listed es)
-      → AllPairs (λ a b. IsTrue (same_path a b) → IsFalse (is_skipped q a) → 0 < stage_of a.entry → verdict q es b ≡ Ok None) es
+  OneConflictLaw = (es : List IndexEntry) → IsIndex es
+      → AllPairs (λ a b. IsTrue (same_path a b) → IsFalse (is_skipped q a) → 0 < stage_of a → verdict q es b ≡ Ok None) es
 
   -- the record of a conflict, by the entries of its path from a stage upward
   abbrev pub ReportsConflict : List IndexEntry → IndexEntry → Conflict → Type 0
@@ -103,4 +102,4 @@ module _ {T U : Type 0} (q : Query T U) where
   -- an entry with a stage that is neither skipped nor over tells a conflict
   abbrev pub HeadLaw : Type 0
   HeadLaw = (es : List IndexEntry)
-      → All (λ e. 0 < stage_of e.entry → IsFalse (is_skipped q e) → IsFalse (is_over q es e) → (c : Conflict) × ReportsConflict es e c) es
+      → All (λ e. 0 < stage_of e → IsFalse (is_skipped q e) → IsFalse (is_over q es e) → (c : Conflict) × ReportsConflict es e c) es

@@ -1,4 +1,3 @@
-pub mod Asked
 pub mod Conflicts
 pub mod Considered
 pub mod Counts
@@ -6,7 +5,9 @@ pub mod Decisions
 pub mod DefaultCapabilities
 pub mod EntryParts
 pub mod Fed
+pub mod HandedIn
 pub mod Laws
+pub mod Modelled
 pub mod Outcomes
 pub mod PieceFed
 pub mod Pieces
@@ -14,10 +15,11 @@ pub mod Query
 pub mod Recorded
 pub mod Records
 pub mod Rounds
+pub mod Runs
 pub mod Status
 pub mod StatusTable
 pub mod StatusTheorem
 pub mod Steps
-pub mod Sums
 pub mod Visits
 pub mod Worked
+pub mod Workers

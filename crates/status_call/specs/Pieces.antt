@@ -1,5 +1,5 @@
 -- Parts of the considered entries, and what they give.
-use Rattle.std.specs.Prelude.{◌≡◌, ◌⊎◌, ℕ, ◌+◌, ◌-◌, ◌<◌, ◌≤◌, Bool, false, IsTrue, List, [], length, take, drop, All, AllPairs, Err, ⊤}
+use Rattle.std.specs.Prelude.{◌≡◌, ◌⊎◌, ℕ, ◌+◌, ◌-◌, ◌<◌, ◌≤◌, false, IsTrue, List, [], length, take, drop, All, AllPairs, Err, ⊤}
 use Rattle.std.specs.List.{slice_index_or}
 use Rattle.status_index.specs.Entries.{IndexEntry}
 use Rattle.status_index.specs.Stretch.{part_of}
@@ -9,9 +9,9 @@ use Rattle.status_call.specs.declared.index_as_worktree.piece.End.{End}
 use Rattle.status_call.specs.declared.index_as_worktree.piece.End.TheVariants.{Whole, Cut, Faulty}
 use Rattle.status_call.specs.declared.index_as_worktree.piece.Piece.{Piece}
 use Rattle.status_call.specs.declared.index_as_worktree.types.Finding.{Finding}
-use Rattle.status_call.specs.declared.index_as_worktree.types.Outcome.{Outcome}
+use Rattle.status_call.specs.declared.index_as_worktree.counts.Totals.{Totals}
 use Rattle.status_call.specs.Considered.{same_path}
-use Rattle.status_call.specs.Counts.{Counts, counts_in, counts_of_outcome, reads_in, reads_of_outcome, ModelsReads}
+use Rattle.status_call.specs.Counts.{IsWithin, counts_in, reads_in, ModelsReads}
 use Rattle.status_call.specs.Query.{Query}
 use Rattle.status_call.specs.Records.{verdict, records_in, faults_in}
 
@@ -25,45 +25,35 @@ IsUncut Whole = ⊤
 IsUncut (Faulty x) = ⊤
 IsUncut Cut = ⊥
 
--- each number is at most n, and so are those that were skipped together
-pub record IsWithin (n : ℕ) (k : Counts) : Type 0 where
-  pub processed : k.processed ≤ n
-  pub skipped_by_flags : k.skipped_by_flags ≤ n
-  pub skipped_by_pathspec : k.skipped_by_pathspec ≤ n
-  pub skipped : k.skipped_by_flags + k.skipped_by_pathspec ≤ n
-  pub lstat_calls : k.lstat_calls ≤ n
-  pub racy_clean : k.racy_clean ≤ n
-  pub to_update : k.to_update ≤ n
-
 module _ {T U : Type 0} (q : Query T U) where
   -- the records and counts of the considered entries from place `from` up to place `at`, none of which gives a fault;
   -- the first considered entry is at place `start` of the whole index
-  pub record IsAsMeant (start : ℕ) (es : List IndexEntry) (from at : ℕ) (findings : List (Finding T U)) (o : Outcome) : Type 0 where
+  pub record IsAsMeant (start : ℕ) (es : List IndexEntry) (from at : ℕ) (findings : List (Finding T U)) (t : Totals) : Type 0 where
     pub records : findings ≡ records_in q es (start + from) (part_of es from at)
-    pub counts : counts_of_outcome o ≡ counts_in q es (part_of es from at)
-    pub reads : ModelsReads q → reads_of_outcome o ≡ reads_in q (part_of es from at)
+    pub counts : t.counts ≡ counts_in q es (part_of es from at)
+    pub reads : ModelsReads q → t.reads ≡ reads_in q (part_of es from at)
     pub clear : faults_in q es (part_of es from at) ≡ []
 
-  -- the same where the worktree tells its nodes; over any worktree the findings ascend and are of these entries
-  pub record IsDone (modelled : Bool) (start : ℕ) (es : List IndexEntry) (from at : ℕ) (findings : List (Finding T U)) (o : Outcome) : Type 0 where
+  -- the same where all is modelled; over any worktree the findings ascend and are of these entries
+  pub record IsDone (start : ℕ) (es : List IndexEntry) (from at : ℕ) (findings : List (Finding T U)) (t : Totals) : Type 0 where
     pub low : from ≤ at
     pub high : at ≤ length es
-    pub few : IsWithin (at - from) (counts_of_outcome o)
+    pub few : IsWithin (at - from) t.counts
     pub placed : All (λ f. (start + from ≤ f.entry_index) × (f.entry_index < start + at)) findings
     pub ascending : AllPairs (λ a b. a.entry_index < b.entry_index) findings
-    pub meant : IsTrue modelled → IsAsMeant start es from at findings o
+    pub meant : IsTrue q.modelled → IsAsMeant start es from at findings t
 
   -- the error is what the entry at a place gives, or want of memory
   abbrev pub IsFaultAt : List IndexEntry → ℕ → Error → Type 0
   IsFaultAt es at x = ((d : IndexEntry) → verdict q es (slice_index_or es at d) ≡ Err x) ⊎ (x ≡ Memory)
 
   -- a piece ends at its last entry, before an entry, or at an entry that gives a fault or was refused memory
-  abbrev pub IsThrough : Bool → List IndexEntry → ℕ → ℕ → End → Type 0
-  IsThrough modelled es to reached Whole = reached ≡ to
-  IsThrough modelled es to reached Cut = reached < to
-  IsThrough modelled es to reached (Faulty x) = (reached < to) × (IsTrue modelled → IsFaultAt es reached x)
+  abbrev pub IsThrough : List IndexEntry → ℕ → ℕ → End → Type 0
+  IsThrough es to reached Whole = reached ≡ to
+  IsThrough es to reached Cut = reached < to
+  IsThrough es to reached (Faulty x) = (reached < to) × (IsTrue q.modelled → IsFaultAt es reached x)
 
   -- the findings and counts of the entries from `from` on, up to where the piece ended
-  pub record IsPiece (modelled : Bool) (start : ℕ) (es : List IndexEntry) (from to : ℕ) (p : Piece T U) : Type 0 where
-    pub done : IsDone modelled start es from p.reached p.findings.items p.outcome
-    pub through : IsThrough modelled es to p.reached p.end
+  pub record IsPiece (start : ℕ) (es : List IndexEntry) (from to : ℕ) (p : Piece T U) : Type 0 where
+    pub done : IsDone start es from p.reached p.findings.items p.totals
+    pub through : IsThrough es to p.reached p.end

@@ -1,7 +1,6 @@
 -- The records of an index, and its first fault.
 use Rattle.std.specs.Prelude.{ℕ, ◌==◌, ◌||◌, List, [], ◌∷◌, map, Option, Some, None, option_map, Result, Ok, Err, slice_get, if◌then◌else◌}
 use Rattle.std.specs.List.{flat_map, filter_map, enumerate_from}
-use Rattle.status_index.specs.declared.entry.Entry.{Entry}
 use Rattle.status_index.specs.Entries.{IndexEntry, stage_of}
 use Rattle.status_compare.specs.declared.error.Error.{Error}
 use Rattle.status_call.specs.declared.index_as_worktree.types.EntryStatus.{EntryStatus}
@@ -13,7 +12,7 @@ use Rattle.status_call.specs.Query.{Query}
 use Rattle.status_call.specs.Status.{status_of}
 
 -- the status that the entries of a conflict give
-abbrev pub conflict_status : {T U : Type 0} → List Entry → Option (EntryStatus T U)
+abbrev pub conflict_status : {T U : Type 0} → List IndexEntry → Option (EntryStatus T U)
 conflict_status run = option_map (λ c. statuses.Conflict c (map (option_map kept_of) (places_of run))) (conflict_of run)
 
 module _ {T U : Type 0} where
@@ -33,7 +32,7 @@ module _ {T U : Type 0} (q : Query T U) (es : List IndexEntry) where
   abbrev pub verdict : IndexEntry → Result (Option (EntryStatus T U)) Error
   verdict e =
       if is_skipped q e || is_over q es e then Ok None
-      else (if stage_of e.entry == 0 then status_of q e else Ok (conflict_status (map (λ d. d.entry) (stages_from es e))))
+      else (if stage_of e == 0 then status_of q e else Ok (conflict_status (stages_from es e)))
 
   -- the records of a part of the considered entries, the first of which is at place i of the whole index
   abbrev pub records_in : ℕ → List IndexEntry → List (Finding T U)

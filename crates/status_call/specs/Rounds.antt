@@ -7,7 +7,6 @@ use Rattle.status_call.specs.declared.index_as_worktree.piece.End.TheVariants.{W
 use Rattle.status_call.specs.declared.index_as_worktree.piece.Piece.{Piece}
 use Rattle.status_call.specs.Pieces.{IsCut, IsPiece, IsUncut}
 use Rattle.status_call.specs.Query.{Query}
-use Rattle.status_call.specs.Sums.{IsOfEntries}
 
 -- where the first piece begins, and where each ends: no path has entries in two of them
 pub record AreBounds (es : List IndexEntry) (bounds : List ℕ) : Type 0 where
@@ -21,8 +20,8 @@ abbrev pub bound : List ℕ → ℕ → ℕ
 bound bounds n = slice_index_or bounds n 0
 
 -- where the last ends
-abbrev pub end_of : List ℕ → ℕ
-end_of bounds = bound bounds (length bounds - 1)
+abbrev pub last_bound : List ℕ → ℕ
+last_bound bounds = bound bounds (length bounds - 1)
 
 -- a piece that didn't come to its end
 abbrev pub is_short : End → Bool
@@ -30,11 +29,10 @@ is_short Whole = false
 is_short Cut = true
 is_short (Faulty x) = true
 
-module _ {T U : Type 0} (q : Query T U) (modelled interruptible : Bool) (start : ℕ) (es : List IndexEntry) where
+module _ {T U : Type 0} (q : Query T U) (interruptible : Bool) (start : ℕ) (es : List IndexEntry) where
   -- what the piece from place `at` to place `to` may give
   pub record IsGiven (at to : ℕ) (p : Piece T U) : Type 0 where
-    pub piece : IsPiece q modelled start es at to p
-    pub alone : IsOfEntries p.outcome
+    pub piece : IsPiece q start es at to p
     pub uncut : interruptible ≡ false → IsUncut p.end
 
   -- a piece from place `at` on

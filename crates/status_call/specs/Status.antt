@@ -60,10 +60,14 @@ found_by (faulty f) node = found_fault f
 found_by (not_normal _) node = refused faults.NotNormal
 found_by empty_path node = refused faults.NotNormal
 
--- what the listings know, else what the worktree tells
+-- what is found at a path without listings, by lstat's answers
+abbrev pub found_at : (List ℕ → Result Metadata Fault) → List ℕ → Found
+found_at lstat path = found_by (link_check lstat path) (lstat path)
+
+-- what the listings know, else what lstat answers
 abbrev pub cached_or : Option Metadata → Result Metadata Fault → Result Metadata Fault
-cached_or (Some n) reported = Ok n
-cached_or None reported = reported
+cached_or (Some n) answered = Ok n
+cached_or None answered = answered
 
 abbrev pub same_bool : Bool → Bool → Bool
 same_bool true b = b
@@ -126,20 +130,20 @@ module _ {T U : Type 0} (q : Query T U) where
 
   -- the entry's stat agrees with the node's, and its id is the empty blob's exactly where its size is 0
   abbrev pub is_trusted : IndexEntry → Stat → Bool
-  is_trusted e s = stat_agrees q.stat_options s e.entry.stat && same_bool (is_empty_blob e.entry.id) (e.entry.stat.size == 0)
+  is_trusted e s = stat_agrees q.stat_options s e.stat && same_bool (is_empty_blob e.id) (e.stat.size == 0)
 
   -- what there is to be read of an entry and its node
   abbrev pub reading : IndexEntry → Metadata → Reading
   reading e n =
-      node_reading (reads_link q.symlink e.entry.mode n.kind) (λ content. q.conversion content e.path) n.len (q.opened e.path) (q.linked e.path)
+      node_reading (reads_link q.symlink e.mode n.kind) (λ content. q.conversion content e.path) n.len (q.opened e.path) (q.linked e.path)
 
   abbrev pub meaning : IndexEntry → Metadata → Meaning
-  meaning e n = record { file = reading e n; blob = blob_reading (q.blob e.entry.id) }
+  meaning e n = record { file = reading e n; blob = blob_reading (q.blob e.id) }
 
   -- by whether the executable bit changed, the entry is trusted, and its stat is racy
   abbrev pub case_of_content : IndexEntry → Metadata → Stat → Bool → Bool → Bool → Case T U
   case_of_content e n s false true false = unchanged
-  case_of_content e n s x trusted racy = compared x trusted racy s (q.compared e.entry n.len (meaning e n))
+  case_of_content e n s x trusted racy = compared x trusted racy s (q.compared e n.len (meaning e n))
 
   abbrev pub case_of_change : IndexEntry → Metadata → Stat → Option ModeChange → Case T U
   case_of_change e n s (Some (TypeChange mode)) = retyped mode
@@ -148,12 +152,12 @@ module _ {T U : Type 0} (q : Query T U) where
 
   abbrev pub case_of_stat : IndexEntry → Metadata → Option Stat → Case T U
   case_of_stat e n None = unstamped
-  case_of_stat e n (Some s) = case_of_change e n s (mode_change q.symlink q.executable_bit e.entry.mode n)
+  case_of_stat e n (Some s) = case_of_change e n s (mode_change q.symlink q.executable_bit e.mode n)
 
   abbrev pub case_of_found : IndexEntry → Found → Case T U
   case_of_found e nothing = gone
   case_of_found e (refused f) = fails f
-  case_of_found e directory = if is_submodule e.entry.mode then in_submodule (q.submodule e.entry e.path) else gone
+  case_of_found e directory = if is_submodule e.mode then in_submodule (q.submodule e) else gone
   case_of_found e (present n) = if has_flag e INTENT_TO_ADD then added else case_of_stat e n (stat_of n)
 
   -- the case of an entry

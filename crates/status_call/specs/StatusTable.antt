@@ -50,7 +50,7 @@ module _ {T U : Type 0} (q : Query T U) (e : IndexEntry) where
   abbrev pub check_of : LinkCheck
   check_of = link_check q.lstat e.path
 
-  -- what the listings know of the path, else what the worktree tells
+  -- what the listings know of the path, else what lstat answers
   abbrev pub node_of : Result Metadata Fault
   node_of = cached_or (q.cached e.path) (q.lstat e.path)
 
@@ -60,7 +60,7 @@ module _ {T U : Type 0} (q : Query T U) (e : IndexEntry) where
     by_link : (p : List ℕ) → check_of ≡ through_link p → IsGone
     on_the_way : (f : Fault) → check_of ≡ faulty f → IsAbsence f → IsGone
     at_the_path : (f : Fault) → check_of ≡ accepted → node_of ≡ Err f → IsAbsence f → IsGone
-    by_directory : (n : Metadata) → check_of ≡ accepted → node_of ≡ Ok n → n.kind ≡ kinds.Directory → IsFalse (is_submodule e.entry.mode) → IsGone
+    by_directory : (n : Metadata) → check_of ≡ accepted → node_of ≡ Ok n → n.kind ≡ kinds.Directory → IsFalse (is_submodule e.mode) → IsGone
 
   -- a path that isn't normal, or another fault on the way or at the path
   pub data IsRefused (f : Fault) : Type 0 where
@@ -73,14 +73,14 @@ module _ {T U : Type 0} (q : Query T U) (e : IndexEntry) where
   pub record IsInSubmodule : Type 0 where
     pub node : Metadata
     pub clear : check_of ≡ accepted
-    pub reported : node_of ≡ Ok node
+    pub answered : node_of ≡ Ok node
     pub directory : node.kind ≡ kinds.Directory
-    pub submodule : IsTrue (is_submodule e.entry.mode)
+    pub submodule : IsTrue (is_submodule e.mode)
 
   -- a file, a link or another node that is no directory
   pub record IsPresent (n : Metadata) : Type 0 where
     pub clear : check_of ≡ accepted
-    pub reported : node_of ≡ Ok n
+    pub answered : node_of ≡ Ok n
     pub no_directory : (n.kind ≡ kinds.File) ⊎ ((n.kind ≡ kinds.Link) ⊎ (n.kind ≡ kinds.Other))
 
   -- a node at an entry that is to be added
@@ -107,12 +107,12 @@ module _ {T U : Type 0} (q : Query T U) (e : IndexEntry) where
     pub node : Metadata
     pub stat : Stat
     pub stamped : IsStamped node stat
-    pub other_type : mode_change q.symlink q.executable_bit e.entry.mode node ≡ Some (TypeChange mode)
+    pub other_type : mode_change q.symlink q.executable_bit e.mode node ≡ Some (TypeChange mode)
 
   -- a node of the same type, by whether its executability changed
   abbrev pub SameType : Metadata → Bool → Type 0
-  SameType n true = mode_change q.symlink q.executable_bit e.entry.mode n ≡ Some ExecutableBit
-  SameType n false = mode_change q.symlink q.executable_bit e.entry.mode n ≡ None
+  SameType n true = mode_change q.symlink q.executable_bit e.mode n ≡ Some ExecutableBit
+  SameType n false = mode_change q.symlink q.executable_bit e.mode n ≡ None
 
   abbrev pub trusted : Stat → Bool
   trusted s = is_trusted q e s
@@ -137,7 +137,7 @@ module _ {T U : Type 0} (q : Query T U) (e : IndexEntry) where
 
   -- the comparer's answer
   abbrev pub comparison : Metadata → Result (Option T) Error
-  comparison n = q.compared e.entry n.len (meaning q e n)
+  comparison n = q.compared e n.len (meaning q e n)
 
   -- a change of executability or of content
   abbrev pub HasChange : Bool → Option T → Type 0
@@ -145,9 +145,9 @@ module _ {T U : Type 0} (q : Query T U) (e : IndexEntry) where
 
   -- what a directory at a submodule's entry gives, by what the submodule tells
   pub record SubmoduleRow : Type 0 where
-    pub same : q.submodule e.entry e.path ≡ Ok None → status_of q e ≡ Ok None
-    pub other : (u : U) → q.submodule e.entry e.path ≡ Ok (Some u) → status_of q e ≡ changed (changes.SubmoduleModification u)
-    pub fault : (text : List ℕ) → q.submodule e.entry e.path ≡ Err text → status_of q e ≡ Err (errors.SubmoduleStatus e.path text)
+    pub same : q.submodule e ≡ Ok None → status_of q e ≡ Ok None
+    pub other : (u : U) → q.submodule e ≡ Ok (Some u) → status_of q e ≡ changed (changes.SubmoduleModification u)
+    pub fault : (text : List ℕ) → q.submodule e ≡ Err text → status_of q e ≡ Err (errors.SubmoduleStatus e.path text)
 
   -- what each row answers
   pub record StatusTable : Type 0 where

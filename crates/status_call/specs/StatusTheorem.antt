@@ -1,10 +1,10 @@
--- The status theorem: what a status tells its collector, and what it answers.
-use Rattle.std.specs.Prelude.{◌≡◌, ◌≢◌, ℕ, ◌<◌, ◌≤◌, ◌^◌, Bool, false, true, IsTrue, List, ◌++◌, [], length, take, map, All, AllPairs, Option, Some, None, Result, Err, IfOk, IfErr}
+-- The status theorem: what a status reports to its collector, and what it answers.
+use Rattle.std.specs.Prelude.{◌≡◌, ◌≢◌, ℕ, ◌<◌, ◌≤◌, ◌^◌, false, true, IsTrue, List, ◌++◌, [], length, take, map, All, AllPairs, Option, Some, None, Result, Err, IfOk, IfErr}
 use Rattle.std.specs.List.{slice_index_or}
-use Rattle.status_index.specs.declared.entry.Entry.{Entry}
-use Rattle.status_index.specs.declared.entry.PathStorage.{PathStorage}
 use Rattle.status_index.specs.declared.metadata.Metadata.{Metadata}
-use Rattle.status_index.specs.Entries.{IndexEntry, index_entries}
+use Rattle.status_index.specs.declared.state.State.{State}
+use Rattle.status_index.specs.Entries.{IndexEntry}
+use Rattle.status_index.specs.States.{entries_of, backing_of, index_of}
 use Rattle.status_compare.specs.declared.error.Error.{Error}
 use Rattle.status_compare.specs.declared.error.Error.TheVariants.{Memory, SpawnThread}
 use Rattle.status_call.specs.declared.index_as_worktree.types.Outcome.{Outcome}
@@ -23,30 +23,31 @@ IsBeginning {A} front all = (rest : List A) × (front ++ rest ≡ all)
 
 -- the comparer never answers that a thread was refused
 abbrev pub NeverSpawns : {T U : Type 0} → Query T U → Type 0
-NeverSpawns q = (e : IndexEntry) (n : Metadata) → q.compared e.entry n.len (meaning q e n) ≢ Err SpawnThread
+NeverSpawns q = (e : IndexEntry) (n : Metadata) → q.compared e n.len (meaning q e n) ≢ Err SpawnThread
 
-module _ {T U : Type 0} (q : Query T U) (entries : List Entry) (backing : PathStorage) where
-  -- all entries with their paths, those of them that are considered, and the place of the first of these
-  abbrev pub all_entries : List IndexEntry
-  all_entries = index_entries backing entries
-
+module _ {T U : Type 0} (q : Query T U) (index : State) where
+  -- the entries that are considered, and the place of the first of them
   abbrev pub considered_entries : List IndexEntry
-  considered_entries = considered q.prefix all_entries
+  considered_entries = considered q.prefix (index_of index)
 
   abbrev pub start_of : ℕ
-  start_of = considered_start q.prefix all_entries
+  start_of = considered_start q.prefix (index_of index)
 
   -- the first n of the considered entries have no fault, these are their records, and the outcome counts them
   pub record IsStatusOf (n : ℕ) (reported : List (Finding T U)) (o : Outcome) : Type 0 where
     pub clear : faults_in q considered_entries (take n considered_entries) ≡ []
     pub records : reported ≡ records_in q considered_entries start_of (take n considered_entries)
-    pub outcome : IsOutcome q all_entries considered_entries (take n considered_entries) o
+    pub outcome : IsOutcome q (index_of index) considered_entries (take n considered_entries) o
+
+  -- the same of some first ones
+  abbrev pub IsStatusOfSome : List (Finding T U) → Outcome → Type 0
+  IsStatusOfSome reported o = (n : ℕ) × (n ≤ length considered_entries) × IsStatusOf n reported o
 
   -- no entry has a fault, these are all records, and the outcome counts all entries
   pub record IsComplete (reported : List (Finding T U)) (o : Outcome) : Type 0 where
     pub no_fault : first_fault q considered_entries ≡ None
     pub records : reported ≡ records_of q start_of considered_entries
-    pub outcome : IsOutcome q all_entries considered_entries considered_entries o
+    pub outcome : IsOutcome q (index_of index) considered_entries considered_entries o
 
   -- the error is the first fault, and the records are just those before it
   pub record IsFirstFault (reported : List (Finding T U)) (e : Error) : Type 0 where
@@ -57,24 +58,24 @@ module _ {T U : Type 0} (q : Query T U) (entries : List Entry) (backing : PathSt
     pub here : (d : IndexEntry) → verdict q considered_entries (slice_index_or considered_entries place d) ≡ Err e
     pub records : reported ≡ records_in q considered_entries start_of (take place considered_entries)
 
-  -- what was told, by whether the worktree tells its nodes, whether there is an interrupt flag, and the thread limit
-  pub record IsStatus (modelled has_flag : Bool) (limit : Option ℕ) (old : List (Visit T U)) (result : Result Outcome Error) (new : List (Visit T U)) : Type 0 where
+  -- what was reported over any worktree, and where all that was handed in is modelled
+  pub record IsStatus (old : List (Visit T U)) (result : Result Outcome Error) (new : List (Visit T U)) : Type 0 where
     pub more : List (Visit T U)
     pub grew : new ≡ old ++ more
-    -- each entry that was told is the index's at its place, with its own path, and the places ascend
-    pub faithful : All (IsFaithful entries backing) more
+    -- each entry that was reported is the index's at its place, with its own path and the whole index, and the places ascend
+    pub faithful : All (IsFaithful (entries_of index) (backing_of index)) more
     pub ascends : AllPairs (λ a b. a.entry_index < b.entry_index) more
     -- Ok, not interrupted: no fault, all records, all counts
-    pub complete : IsTrue modelled → IfOk result (λ o. o.interrupted ≡ false → IsComplete (map finding_of more) o)
+    pub complete : IsTrue q.modelled → IfOk result (λ o. o.interrupted ≡ false → IsComplete (map finding_of more) o)
     -- Ok, interrupted: the same of the first n considered entries
-    pub interrupted : IsTrue modelled → IfOk result (λ o. o.interrupted ≡ true → (n : ℕ) × (n ≤ length considered_entries) × IsStatusOf n (map finding_of more) o)
+    pub interrupted : IsTrue q.modelled → IfOk result (λ o. o.interrupted ≡ true → IsStatusOfSome (map finding_of more) o)
     -- an error other than want of memory or of a thread: the first fault, with just the records before it
-    pub fault : IsTrue modelled → IfErr result (λ e. e ≢ Memory → e ≢ SpawnThread → IsFirstFault (map finding_of more) e)
+    pub fault : IsTrue q.modelled → IfErr result (λ e. e ≢ Memory → e ≢ SpawnThread → IsFirstFault (map finding_of more) e)
     -- on every exit: a beginning of the records
-    pub beginning : IsTrue modelled → IsBeginning (map finding_of more) (records_of q start_of considered_entries)
+    pub beginning : IsTrue q.modelled → IsBeginning (map finding_of more) (records_of q start_of considered_entries)
     -- over any worktree: the counts of those that were skipped add up to a number that fits
     pub fits : IfOk result (λ o. skipped_of o < 2 ^ 64)
-    -- without a flag it isn't interrupted
-    pub uninterrupted : has_flag ≡ false → IfOk result (λ o. o.interrupted ≡ false)
-    -- with limit 1 no thread is refused, where the comparer doesn't answer so
-    pub alone : IsTrue modelled → limit ≡ Some 1 → NeverSpawns q → result ≢ Err SpawnThread
+
+-- with limit 1 no thread is refused, where the comparer doesn't answer so
+abbrev pub IsAlone : {T U : Type 0} → Query T U → Option ℕ → Result Outcome Error → Type 0
+IsAlone q limit result = IsTrue q.modelled → limit ≡ Some 1 → NeverSpawns q → result ≢ Err SpawnThread

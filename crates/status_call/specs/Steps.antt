@@ -1,17 +1,17 @@
 -- What the next of the considered entries give: one entry, or the later stages of a conflict with it.
-use Rattle.std.specs.Prelude.{◌≡◌, ℕ, ◌+◌, ◌<◌, ◌≤◌, Bool, true, false, IsTrue, List, [], length, take, drop, All, Result, Ok, Err, if◌then◌else◌}
+use Rattle.std.specs.Prelude.{◌≡◌, ℕ, ◌+◌, ◌<◌, ◌≤◌, true, false, IsTrue, List, [], length, take, drop, All, Result, Ok, Err, if◌then◌else◌}
 use Rattle.std.specs.List.{slice_index_or, list_any}
 use Rattle.status_index.specs.Entries.{IndexEntry}
 use Rattle.status_index.specs.Stretch.{part_of}
 use Rattle.status_compare.specs.declared.error.Error.{Error}
+use Rattle.status_call.specs.declared.index_as_worktree.counts.Counts.{Counts}
 use Rattle.status_call.specs.declared.index_as_worktree.decide.Decided.{Decided}
-use Rattle.status_call.specs.declared.index_as_worktree.piece.Step.{Step}
+use Rattle.status_call.specs.declared.index_as_worktree.step.Step.{Step}
 use Rattle.status_call.specs.Considered.{same_path, takes_over}
-use Rattle.status_call.specs.Counts.{Counts, counts_in, counts_of_outcome, is_update, reads_in, reads_of_outcome, ModelsReads}
-use Rattle.status_call.specs.Pieces.{IsWithin, IsFaultAt}
+use Rattle.status_call.specs.Counts.{counts_in, is_update, reads_in, IsWithin, ModelsReads}
+use Rattle.status_call.specs.Pieces.{IsFaultAt}
 use Rattle.status_call.specs.Query.{Query}
 use Rattle.status_call.specs.Records.{records_in, record_by, faults_in}
-use Rattle.status_call.specs.Sums.{IsOfEntries}
 
 -- what an entry counts that isn't compared with the worktree
 abbrev pub processed_counts : ℕ → ℕ → Counts
@@ -43,20 +43,19 @@ module _ {T U : Type 0} (q : Query T U) where
   -- the entries of a part give this step's record and counts, and no fault
   pub record IsStepOf (es part : List IndexEntry) (s : Step T U) : Type 0 where
     pub records : (j : ℕ) → records_in q es j part ≡ record_by j (Ok s.status)
-    pub counts : counts_of_outcome s.outcome ≡ counts_in q es part
-    pub reads : ModelsReads q → reads_of_outcome s.outcome ≡ reads_in q part
+    pub counts : s.totals.counts ≡ counts_in q es part
+    pub reads : ModelsReads q → s.totals.reads ≡ reads_in q part
     pub clear : faults_in q es part ≡ []
 
   -- the entries from place i on that a step took have one path, and take over none behind them
-  pub record IsNext (modelled : Bool) (es : List IndexEntry) (i : ℕ) (s : Step T U) : Type 0 where
+  pub record IsNext (es : List IndexEntry) (i : ℕ) (s : Step T U) : Type 0 where
     pub more : 0 < s.len
     pub inside : i + s.len ≤ length es
-    pub few : IsWithin s.len (counts_of_outcome s.outcome)
-    pub alone : IsOfEntries s.outcome
+    pub few : IsWithin s.len s.totals.counts
     pub fresh : IsFresh (take (i + s.len) es) (drop (i + s.len) es)
     pub one_path : (d : IndexEntry) → All (λ r. same_path (slice_index_or es i d) r ≡ true) (part_of es i (i + s.len))
-    pub meant : IsTrue modelled → IsStepOf es (part_of es i (i + s.len)) s
+    pub meant : IsTrue q.modelled → IsStepOf es (part_of es i (i + s.len)) s
 
-  abbrev pub IsStep : Bool → List IndexEntry → ℕ → Result (Step T U) Error → Type 0
-  IsStep modelled es i (Ok s) = IsNext modelled es i s
-  IsStep modelled es i (Err x) = IsTrue modelled → IsFaultAt q es i x
+  abbrev pub IsStep : List IndexEntry → ℕ → Result (Step T U) Error → Type 0
+  IsStep es i (Ok s) = IsNext es i s
+  IsStep es i (Err x) = IsTrue q.modelled → IsFaultAt q es i x

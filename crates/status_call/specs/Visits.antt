@@ -1,4 +1,4 @@
--- What a collector is told.
+-- What a collector is given.
 use Rattle.std.specs.Prelude.{◌≡◌, ℕ, List, slice_get, Some}
 use Rattle.status_index.specs.declared.entry.Entry.{Entry}
 use Rattle.status_index.specs.declared.entry.PathStorage.{PathStorage}
@@ -6,18 +6,24 @@ use Rattle.status_index.specs.Entries.{path_in}
 use Rattle.status_call.specs.declared.index_as_worktree.types.EntryStatus.{EntryStatus}
 use Rattle.status_call.specs.declared.index_as_worktree.types.Finding.{Finding}
 
--- an entry with its place in the whole index, its path, and its status
+-- the list of entries that is handed along, an entry with its place in it, its path, and its status
 pub record Visit (T U : Type 0) : Type 0 where
+  pub entries : List Entry
   pub entry : Entry
   pub entry_index : ℕ
   pub path : List ℕ
   pub status : EntryStatus T U
 
--- what is told of the entry at a place
+abbrev pub visit : {T U : Type 0} → List Entry → Entry → ℕ → List ℕ → EntryStatus T U → Visit T U
+visit entries entry entry_index path status =
+    record { entries = entries; entry = entry; entry_index = entry_index; path = path; status = status }
+
+-- what is reported of the entry at a place
 abbrev pub finding_of : {T U : Type 0} → Visit T U → Finding T U
 finding_of v = record { entry_index = v.entry_index; status = v.status }
 
--- the entry is the index's at that place, and the path is its own
+-- the list is the whole index, the entry is the index's at that place, and the path is its own
 pub record IsFaithful {T U : Type 0} (entries : List Entry) (backing : PathStorage) (v : Visit T U) : Type 0 where
+  pub whole : v.entries ≡ entries
   pub entry : slice_get entries v.entry_index ≡ Some v.entry
   pub path : v.path ≡ path_in backing v.entry

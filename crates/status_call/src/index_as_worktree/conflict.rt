@@ -1,10 +1,10 @@
 //! Which conflict the stages of a path name.
 
-ghost use Rattle.std.specs.Prelude.{◌≡◌, ◌<◌, ℕ, map};
+ghost use Rattle.std.specs.Prelude.{◌≡◌};
 ghost use Rattle.std.specs.Option.{option_copied};
 ghost use Rattle.bstr.specs.BStr.{bstr_bytes};
 ghost use Rattle.status_index.specs.Entries.{index_entry, index_entries};
-ghost use Rattle.status_call.specs.Conflicts.{IsConflict, conflict_named, entry_of_stage, is_in_run, run_at};
+ghost use Rattle.status_call.specs.Conflicts.{IsConflict, conflict_named, is_in_run, run_at, stored_of_stage};
 
 use crate::index_as_worktree::types::Conflict;
 use bstr::BStr;
@@ -26,7 +26,7 @@ impl Conflict {
         start_index: usize,
         entry_path: BStr<'_>,
     ) -> Option<(Conflict, usize, [Option<&'e Entry>; 3])>
-        ensures { IsConflict (map (λ e. e.entry) (run_at (index_entries path_backing.now entries.now) start_index (bstr_bytes entry_path.entry))) result }
+        ensures { IsConflict (index_entry path_backing.now) (run_at (index_entries path_backing.now entries.now) start_index (bstr_bytes entry_path.entry)) result }
     {
         let run = conflict_run(entries, path_backing, start_index, entry_path);
         let base = last_of_stage(run, 1);
@@ -85,7 +85,7 @@ fn is_in_run(entry: &Entry, backing: &PathStorage, path: BStr<'_>) -> bool
 
 /// The last of the entries that has this stage.
 fn last_of_stage(run: &[Entry], stage: u32) -> Option<&Entry>
-    ensures { option_copied result ≡ entry_of_stage run.now stage }
+    ensures { option_copied result ≡ stored_of_stage run.now stage }
 {
     run.iter().rev().find(|entry| entry.stage_raw() == stage)
 }

@@ -3,21 +3,23 @@
 ghost use Rattle.std.specs.Prelude.{◌≡◌, ◌++◌, ◌<◌, length, All};
 ghost use Rattle.status_call.specs.Fed.{IsFed, IsFedOne, IsPlacedIn};
 ghost use Rattle.status_call.specs.PieceFed.{IsPieceFed};
+ghost use Rattle.status_call.specs.Visits.{IsFaithful};
 
+use crate::index_as_worktree::counts::Progress;
 use crate::index_as_worktree::piece::{End, Piece};
-use crate::index_as_worktree::types::{Error, Finding, Outcome, VisitEntry};
+use crate::index_as_worktree::types::{Error, Finding, VisitEntry};
 use status_base::index::{Entry, PathStorage};
 use std::alloc::AllocError;
 
-/// Tells a collector one finding.
+/// Reports one finding to a collector.
 fn feed_finding<'index, V: VisitEntry<'index>>(
     entries: &'index [Entry],
     backing: &'index PathStorage,
     finding: Finding<V::ContentChange, V::SubmoduleStatus>,
     collector: &mut V,
 ) -> Result<(), AllocError>
-    requires { IsPlacedIn entries.now finding }
-    ensures { IsFedOne entries.now backing.now finding (V.visits collector.old) result (V.visits collector.new) }
+    requires { IsPlacedIn (length entries.now) finding }
+    ensures { IsFedOne (IsFaithful entries.now backing.now) finding (V.visits collector.old) result (V.visits collector.new) }
 {
     let Finding {
         entry_index,
@@ -27,10 +29,10 @@ fn feed_finding<'index, V: VisitEntry<'index>>(
     collector.visit_entry(entries, entry, entry_index, entry.path_in(backing), status)
 }
 
-/// Tells a collector findings in order.
+/// Reports findings to a collector in order.
 ///
 /// # Errors
-/// Want of memory; then the collector was told a beginning of them.
+/// Want of memory; then a beginning of them was reported.
 fn feed<'index, V: VisitEntry<'index>>(
     entries: &'index [Entry],
     backing: &'index PathStorage,
@@ -40,8 +42,8 @@ fn feed<'index, V: VisitEntry<'index>>(
 where
     V::ContentChange: Drop,
     V::SubmoduleStatus: Drop,
-    requires { All (IsPlacedIn entries.now) findings.items }
-    ensures { IsFed entries.now backing.now findings.items (V.visits collector.old) result (V.visits collector.new) }
+    requires { All (IsPlacedIn (length entries.now)) findings.items }
+    ensures { IsFed (IsFaithful entries.now backing.now) findings.items (V.visits collector.old) result (V.visits collector.new) }
 {
     for finding in findings {
         if let Err(refused) = feed_finding(entries, backing, finding, collector) {
@@ -51,35 +53,38 @@ where
     Ok(())
 }
 
-/// Tells a collector what a piece found, and answers what the piece counts, and whether it was interrupted.
+/// Reports to a collector what a piece found, and answers what the piece counts, and whether it was interrupted.
 ///
 /// # Errors
-/// The fault at which the piece ended, once its findings were told. Want of memory; then a beginning of them was told.
+/// The fault at which the piece ended, once its findings were reported. Want of memory; then a beginning of them was.
 pub(crate) fn feed_piece<'index, V: VisitEntry<'index>>(
     entries: &'index [Entry],
     backing: &'index PathStorage,
     piece: Piece<V::ContentChange, V::SubmoduleStatus>,
     collector: &mut V,
-) -> Result<Outcome, Error>
+) -> Result<Progress, Error>
 where
     V::ContentChange: Drop,
     V::SubmoduleStatus: Drop,
-    requires { All (IsPlacedIn entries.now) piece.findings.items }
-    ensures { IsPieceFed entries.now backing.now piece (V.visits collector.old) result (V.visits collector.new) }
+    requires { All (IsPlacedIn (length entries.now)) piece.findings.items }
+    ensures { IsPieceFed (IsFaithful entries.now backing.now) piece (V.visits collector.old) result (V.visits collector.new) }
 {
     let Piece {
         findings,
-        outcome,
+        totals,
         reached: _,
         end,
     } = piece;
     match feed(entries, backing, findings, collector) {
         Ok(()) => match end {
             End::Faulty(error) => Err(error),
-            End::Whole => Ok(outcome),
-            End::Cut => Ok(Outcome {
+            End::Whole => Ok(Progress {
+                totals,
+                interrupted: false,
+            }),
+            End::Cut => Ok(Progress {
+                totals,
                 interrupted: true,
-                ..outcome
             }),
         },
         Err(_refused) => Err(Error::Memory),

@@ -1,16 +1,20 @@
 //! The status of an index against a worktree.
 
-ghost use Rattle.std.specs.Prelude.{◌≡◌, ◌-◌, ◌≤◌, IsTrue, is_some, length, Some};
-ghost use Rattle.status_index.specs.States.{entries_of, backing_of, timestamp_of, index_of};
+ghost use Rattle.std.specs.Prelude.{◌≡◌, ◌≤◌, None, IfOk, false, length};
+ghost use Rattle.status_index.specs.States.{entries_of, index_of};
 ghost use Rattle.bstr.specs.BStr.{bstr_bytes};
 ghost use Rattle.status_index.specs.Stretch.{part_of};
-ghost use Rattle.status_call.specs.Asked.{query_of};
 ghost use Rattle.status_call.specs.Considered.{considered, considered_start};
-ghost use Rattle.status_call.specs.StatusTheorem.{IsStatus};
+ghost use Rattle.status_call.specs.HandedIn.{handed, settings};
+ghost use Rattle.status_call.specs.StatusTheorem.{IsAlone, IsStatus};
+ghost use Rattle.status_call.specs.Workers.{chunk_size_of};
 
-use crate::index_as_worktree::entry_status::Decider;
+use crate::index_as_worktree::considered::Considered;
+use crate::index_as_worktree::decider::Decider;
+use crate::index_as_worktree::interfaces::{Handed, Interfaces, Settings};
 use crate::index_as_worktree::types::{Context, Error, Options, Outcome, VisitEntry};
-use crate::index_as_worktree::work::{Considered, work_through};
+use crate::index_as_worktree::work::run_rounds;
+use crate::index_as_worktree::workers::Workers;
 use bstr::BStr;
 use status_base::index::State;
 use status_base::worktree::{Find, Lister, Pathspec, SubmoduleStatus, ToGit, Worktree};
@@ -36,30 +40,33 @@ fn considered_range(index: &State, prefix: BStr<'_>) -> Range<usize>
     }
 }
 
-/// The number of entries of a piece.
-fn chunk_size_of(options: &Options) -> usize {
-    match options.chunk_size {
+/// The number of entries of a piece, by what the options say.
+fn chunk_size_of(chunk_size: usize) -> usize
+    ensures { result ≡ chunk_size_of chunk_size }
+{
+    match chunk_size {
         0 => CHUNK_SIZE,
         chunk_size => chunk_size,
     }
 }
 
-/// Tells `collector` how the worktree differs from `index`, entry by entry in the order of the index, and answers what
-/// that took.
+/// Reports to `collector` how the worktree differs from `index`, entry by entry in the order of the index, and answers
+/// what that took.
 ///
-/// `compare` sees the files whose stat doesn't settle that they are unchanged; `submodule` is asked of submodules, and
-/// `objects` has the blobs that the index names. Nothing is written: where a record asks for it, the caller puts a new
+/// `compare` sees the files whose stat doesn't settle that they are unchanged; `submodule` has the status of submodules,
+/// and `objects` the blobs that the index names. Nothing is written: where a record asks for it, the caller puts a new
 /// stat into the index or sets a size to zero, and then gives the index a later timestamp.
 ///
 /// The work is shared by as many workers as the options' thread limit has it: one in the caller's thread, each other one in
 /// a thread that has ended when the call returns. Where the context's interrupt flag is seen set, the call ends early, and
-/// the outcome says so: it then counts the first of the considered entries, whose records were told.
+/// the outcome says so: it then counts the first of the considered entries, whose records were reported.
 ///
 /// # Errors
-/// The fault of the first entry that has one, once the collector was told the records before it. A refused thread, or want
-/// of memory; then the collector was told a beginning of the records.
+/// The fault of the first entry that has one, once the records before it were reported. A refused thread, or want of
+/// memory; then a beginning of the records was reported.
 pub fn index_as_worktree<
     'index,
+    'w,
     R: Threads + Wait,
     W: Worktree + Sync,
     V: VisitEntry<'index, ContentChange = C::Output, SubmoduleStatus = S::Output>,
@@ -73,7 +80,7 @@ pub fn index_as_worktree<
     rt: &R,
     alloc: Global,
     index: &'index State,
-    worktree: &W,
+    worktree: &'w W,
     collector: &mut V,
     compare: C,
     submodule: S,
@@ -85,13 +92,11 @@ where
     W::File: Send,
     C::Output: Send,
     S::Output: Send,
-    ensures { IsStatus
-        (query_of options.stat options.fs.symlink options.fs.executable_bit (timestamp_of index.now)
-        (record { lstat = W.lstat_of worktree.now; opened = W.open_of worktree.now; linked = W.target_of worktree.now })
-        (record { prefix = P.prefix context.entry.pathspec; included = P.included context.entry.pathspec; conversion = λ content path. T.conversion context.entry.filter content path; found = O.found objects; submodule = S.meaning submodule })
-        (record { answer = C.answer compare; counts_after = C.counts_after compare }))
-        (entries_of index.now) (backing_of index.now) (W.modelled worktree.now) (is_some context.entry.should_interrupt) options.thread_limit
-        (V.visits collector.old) result (V.visits collector.new) }
+    ensures status { let q = ⟦<Interfaces<'w, W, C, S, O, P, T> as Handed>⟧.query (handed worktree.entry compare submodule objects context.entry) in
+        IsStatus (q (settings options index.now)) index.now (V.visits collector.old) result (V.visits collector.new) }
+    ensures uninterrupted { context.entry.should_interrupt ≡ None → IfOk result (λ o. o.interrupted ≡ false) }
+    ensures alone { let q = ⟦<Interfaces<'w, W, C, S, O, P, T> as Handed>⟧.query (handed worktree.entry compare submodule objects context.entry) in
+        IsAlone (q (settings options index.now)) options.thread_limit result }
 {
     let Context {
         pathspec,
@@ -103,43 +108,38 @@ where
     let entries = index.entries();
     let backing = index.path_backing();
     let range = considered_range(index, pathspec.common_prefix());
-    let chunk_size = chunk_size_of(&options);
-    let considered = range.end - range.start;
-    let decider = Decider::new(
-        alloc,
+    let settings = Settings {
+        timestamp: index.timestamp(),
+        stat: options.stat,
+        fs: options.fs,
+    };
+    let interfaces = Interfaces {
         worktree,
         compare,
         submodule,
         objects,
         pathspec,
         filter,
-        index.timestamp(),
-        options.stat,
-        options.fs.symlink,
-        options.fs.executable_bit,
-    );
-    let part = Considered {
+    };
+    let decider = Decider::new(alloc, interfaces, settings);
+    let workers = Workers::by_limit(options.thread_limit, should_interrupt);
+    let chunk_size = chunk_size_of(options.chunk_size);
+    let considered = Considered {
         entries,
         backing,
         start: range.start,
         end: range.end,
     };
-    match work_through(
+    match run_rounds(
         rt,
         alloc,
-        part,
+        &considered,
         chunk_size,
-        options.thread_limit,
-        None,
-        should_interrupt,
-        decider,
+        &workers,
+        &decider,
         collector,
     ) {
-        Ok(mut outcome) => {
-            outcome.entries_to_process = considered;
-            outcome.entries_skipped_by_common_prefix = entries.len() - considered;
-            Ok(outcome)
-        }
+        Ok(progress) => Ok(Outcome::of(progress, entries.len(), range)),
         Err(error) => Err(error),
     }
 }

@@ -3,11 +3,12 @@
 ghost use Rattle.std.specs.Prelude.{◌≡◌};
 ghost use Rattle.status_index.specs.Entries.{IndexEntry};
 ghost use Rattle.status_index.specs.declared.id.ObjectId.{ObjectId as BlobId};
+ghost use Rattle.status_compare.specs.FastAgrees.{FastAgrees};
 ghost use Rattle.status_call.specs.Laws.{ModificationLaw, UnreadLaw, ExecutableLaw, AscendLaw, CutLaw, FaultLaw, OneConflictLaw, HeadLaw, IdsLaw, SizesLaw};
 ghost use Rattle.status_call.specs.Query.{Query};
 ghost use Rattle.status_call.specs.StatusTable.{Row, IsInRow, StatusTable};
 
-/// What is told of an entry is what its row of the status table says.
+/// What is reported of an entry is what its row of the status table says.
 pub fn status_meets_table<T: Drop, U: Drop>()
     ensures { (q : Query T U) (e : IndexEntry) → StatusTable q e }
 {}
@@ -28,7 +29,7 @@ pub fn modification_has_a_change<T: Drop, U: Drop>()
     ensures { (q : Query T U) → ModificationLaw q }
 {}
 
-/// Of a submodule's or a directory's entry the comparer isn't asked, and no content is read.
+/// Of a submodule's or a directory's entry the comparer isn't called, and no content is read.
 pub fn directories_are_not_read<T: Drop, U: Drop>()
     ensures { (q : Query T U) → UnreadLaw q }
 {}
@@ -60,7 +61,7 @@ pub fn one_conflict_a_path<T: Drop, U: Drop>()
     ensures { (q : Query T U) → OneConflictLaw q }
 {}
 
-/// An entry with a stage that is neither skipped nor over tells a conflict.
+/// An entry with a stage that is neither skipped nor over reports a conflict.
 pub fn head_reports_a_conflict<T: Drop, U: Drop>()
     ensures { (q : Query T U) → HeadLaw q }
 {}
@@ -73,4 +74,11 @@ pub fn ids_refuse_no_thread<U: Drop>()
 /// Nor does comparison by sizes.
 pub fn sizes_refuse_no_thread<U: Drop>()
     ensures { (q : Query (Unit {0}) U) → SizesLaw q }
+{}
+
+/// Comparison by sizes reports a change of a file or link exactly where comparison by ids does. It holds where a file
+/// delivers as many bytes as its length, nothing converts it, the contents at hand have ids of their own, and the entry
+/// keeps its content's size or 0.
+pub fn sizes_agree_with_ids()
+    ensures { (e : IndexEntry) → FastAgrees e }
 {}

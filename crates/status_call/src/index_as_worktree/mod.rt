@@ -1,14 +1,20 @@
 //! The status of an index against a worktree.
 
 mod conflict;
+mod considered;
+mod content;
+mod counts;
 mod decide;
-mod entry_status;
+mod decider;
 mod feed;
 mod function;
+mod interfaces;
 pub mod laws;
 mod piece;
 mod recorder;
 mod round;
+mod site;
+mod step;
 pub mod traits;
 mod types;
 mod work;

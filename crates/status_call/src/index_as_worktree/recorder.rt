@@ -1,30 +1,31 @@
-//! Who is told the records of a status.
+//! Who is given the records of a status.
 
 ghost use Rattle.std.specs.Prelude.{◌≡◌, ◌++◌, ◌∷◌, [], List, Some, OnOk, OnErr, slice_get};
 ghost use Rattle.bstr.specs.BStr.{bstr_bytes};
-ghost use Rattle.status_call.specs.Visits.{Visit};
+ghost use Rattle.status_call.specs.Visits.{Visit, visit};
 
 use crate::index_as_worktree::types::{Change, EntryStatus};
 use bstr::BStr;
 use status_base::index::Entry;
 use std::alloc::{AllocError, Global};
+use std::fmt;
 use std::marker::PhantomData;
 
-/// Who is told the records of a status, in ascending order of their entries. Its meaning is the list of what it was told.
+/// Who is given the records of a status, in ascending order of their entries. Its meaning is the list of what it was given.
 pub trait VisitEntry<'index> {
-    /// What a comparer tells of a change.
+    /// What a comparer reports of a change.
     type ContentChange;
-    /// What a submodule tells of a change.
+    /// What a submodule reports of a change.
     type SubmoduleStatus;
 
-    /// What it was told so far.
+    /// What it was given so far.
     ghost visits: { Self → List (Visit Self.ContentChange Self.SubmoduleStatus) };
 
-    /// Tells the status of `entry`, which stands at `entry_index` in `entries`, the whole index, and has the path
+    /// Takes the status of `entry`, which stands at `entry_index` in `entries`, the whole index, and has the path
     /// `rela_path`.
     ///
     /// # Errors
-    /// Want of memory; then it wasn't told.
+    /// Want of memory; then it wasn't taken.
     fn visit_entry(
         &mut self,
         entries: &'index [Entry],
@@ -34,8 +35,18 @@ pub trait VisitEntry<'index> {
         status: EntryStatus<Self::ContentChange, Self::SubmoduleStatus>,
     ) -> Result<(), AllocError>
         requires { slice_get entries.now entry_index ≡ Some entry.now }
-        ensures ok { OnOk result (visits self.new ≡ visits self.old ++ record { entry = entry.now; entry_index = entry_index; path = bstr_bytes rela_path.entry; status = status } ∷ []) }
+        ensures ok { OnOk result (visits self.new ≡ visits self.old ++ visit entries.now entry.now entry_index (bstr_bytes rela_path.entry) status ∷ []) }
         ensures err { OnErr result (visits self.new ≡ visits self.old) };
+}
+
+/// A list of entries, of which a debug text shows nothing.
+#[derive(Clone, Copy)]
+struct Whole<'index>(&'index [Entry]);
+
+impl<'index> fmt::Debug for Whole<'index> {
+    fn fmt<X: fmt::Write>(&self, formatter: &mut fmt::Formatter<X>) -> fmt::Result {
+        formatter.write_str("[..]")
+    }
 }
 
 /// One record of a status.
@@ -47,8 +58,10 @@ pub struct Record<'index, T, U> {
     pub entry_index: usize,
     /// The entry's path.
     pub relative_path: BStr<'index>,
-    /// What is told of it.
+    /// What is reported of it.
     pub status: EntryStatus<T, U>,
+    /// The list of entries that was handed along.
+    whole: Whole<'index>,
     /// Names the types that a status is made of: the proof of a drop finds them only where they are named.
     parts: PhantomData<(Change<T, U>, Option<T>)>,
 }
@@ -78,6 +91,7 @@ impl<'index, T: Drop, U: Drop> VisitEntry<'index> for Recorder<'index, T, U> {
     ghost use Rattle.std.specs.Prelude.{◌≡◌, ◌++◌, ◌∷◌, [], Some, OnOk, OnErr, slice_get};
     ghost use Rattle.bstr.specs.BStr.{bstr_bytes};
     ghost use Rattle.status_call.specs.Recorded.{visits_of};
+    ghost use Rattle.status_call.specs.Visits.{visit};
 
     type ContentChange = T;
 
@@ -87,14 +101,14 @@ impl<'index, T: Drop, U: Drop> VisitEntry<'index> for Recorder<'index, T, U> {
 
     fn visit_entry(
         &mut self,
-        _entries: &'index [Entry],
+        entries: &'index [Entry],
         entry: &'index Entry,
         entry_index: usize,
         rela_path: BStr<'index>,
         status: EntryStatus<T, U>,
     ) -> Result<(), AllocError>
-        requires { slice_get _entries.now entry_index ≡ Some entry.now }
-        ensures ok { OnOk result (visits_of self.new ≡ visits_of self.old ++ record { entry = entry.now; entry_index = entry_index; path = bstr_bytes rela_path.entry; status = status } ∷ []) }
+        requires { slice_get entries.now entry_index ≡ Some entry.now }
+        ensures ok { OnOk result (visits_of self.new ≡ visits_of self.old ++ visit entries.now entry.now entry_index (bstr_bytes rela_path.entry) status ∷ []) }
         ensures err { OnErr result (visits_of self.new ≡ visits_of self.old) }
     {
         self.records.push(Record {
@@ -102,6 +116,7 @@ impl<'index, T: Drop, U: Drop> VisitEntry<'index> for Recorder<'index, T, U> {
             entry_index,
             relative_path: rela_path,
             status,
+            whole: Whole(entries),
             parts: PhantomData,
         })?;
         Ok(())

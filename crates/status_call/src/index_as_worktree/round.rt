@@ -1,14 +1,14 @@
 //! The pieces of one round, shared by workers.
 
-ghost use Rattle.std.specs.Prelude.{◌≡◌, ◌≢◌, ◌+◌, ◌-◌, ◌*◌, ◌^◌, ◌<◌, ◌≤◌, None, length, map, vec_len, All, IfOk, IfErr, is_some};
-ghost use Rattle.status_index.specs.Entries.{IsIndex, listed, index_entries};
+ghost use Rattle.std.specs.Prelude.{◌≡◌, ◌≢◌, ◌+◌, ◌-◌, ◌*◌, ◌^◌, ◌<◌, ◌≤◌, None, length, vec_len, All, IfOk, IfErr, is_some};
+ghost use Rattle.status_index.specs.Entries.{IsIndex, index_entries};
 ghost use Rattle.status_compare.specs.declared.error.Error.TheVariants.{Memory, SpawnThread as NoThread};
 ghost use Rattle.status_call.specs.Pieces.{IsCut};
-ghost use Rattle.status_call.specs.Rounds.{AreBounds, AreInRow, IsGiven, bound, end_of, is_short};
-ghost use Rattle.status_call.specs.Worked.{IsRefusal};
+ghost use Rattle.status_call.specs.Rounds.{AreBounds, AreInRow, IsGiven, bound, last_bound, is_short};
+ghost use Rattle.status_call.specs.Worked.{IsShortage, shortage_of};
 
 use crate::index_as_worktree::decide::Decide;
-use crate::index_as_worktree::piece::{End, Piece, piece_end, work_piece};
+use crate::index_as_worktree::piece::{End, Piece, piece_end, walk_piece};
 use crate::index_as_worktree::types::Error;
 use crate::index_as_worktree::workers::Workers;
 use status_base::index::{Entry, PathStorage};
@@ -29,7 +29,7 @@ pub(crate) fn round_bounds(
     chunk: usize,
     most: usize,
 ) -> Result<Vec<usize>, AllocError>
-    requires index { IsIndex (map listed (index_entries backing.now entries.now)) }
+    requires index { IsIndex (index_entries backing.now entries.now) }
     requires inside { from < length entries.now }
     requires cut { IsCut (index_entries backing.now entries.now) from }
     requires most { 0 < most }
@@ -57,7 +57,7 @@ struct Round<'a, D: Decide> {
     bounds: &'a [usize],
     interrupt: Option<&'a AtomicBool>,
     decide: Snapshot<D>,
-    ghost index: { IsIndex (map listed (index_entries backing.now entries.now)) },
+    ghost index: { IsIndex (index_entries backing.now entries.now) },
     ghost room: { start + length entries.now < 2 ^ 64 },
     ghost are_bounds: { AreBounds (index_entries backing.now entries.now) bounds.now },
 }
@@ -69,14 +69,15 @@ impl<'a, D: Decide> Work for Round<'a, D> {
 
     ghost count = { λ r. length r.bounds.now - 1 };
 
-    ghost fits = { λ r d. (D.query d ≡ D.query r.decide.value) × (D.modelled d ≡ D.modelled r.decide.value) };
+    ghost fits = { λ r d. D.query d ≡ D.query r.decide.value };
 
-    ghost gives = { λ r n p. IsGiven (D.query r.decide.value) (D.modelled r.decide.value) (is_some r.interrupt) r.start (index_entries r.backing.now r.entries.now) (bound r.bounds.now n) (bound r.bounds.now (n + 1)) p };
+    ghost gives = { λ r n p. IsGiven (D.query r.decide.value) (is_some r.interrupt) r.start (index_entries r.backing.now r.entries.now)
+        (bound r.bounds.now n) (bound r.bounds.now (n + 1)) p };
 
     ghost short = { λ p. is_short p.end };
 
     fn piece(&self, state: &mut D, number: usize) -> Piece<D::Content, D::Submodule> {
-        work_piece(
+        walk_piece(
             self.alloc,
             self.entries,
             self.backing,
@@ -102,7 +103,7 @@ fn crew_of<D: Decide + Drop>(
     workers: usize,
 ) -> Result<Vec<D>, AllocError>
     ensures count { IfOk result (λ v. vec_len v ≡ workers) }
-    ensures same { IfOk result (λ v. All (λ d. (D.query d ≡ D.query decide.now) × (D.modelled d ≡ D.modelled decide.now)) v.items) }
+    ensures same { IfOk result (λ v. All (λ d. D.query d ≡ D.query decide.now) v.items) }
 {
     let mut crew = Vec::new(alloc);
     for _ in 0..workers {
@@ -116,7 +117,7 @@ fn crew_of<D: Decide + Drop>(
 ///
 /// # Errors
 /// A refused thread, or else want of memory.
-pub(crate) fn work_pieces<R: Threads + Wait, D: Decide + Send + Drop>(
+pub(crate) fn run_pieces<R: Threads + Wait, D: Decide + Send + Drop>(
     rt: &R,
     alloc: Global,
     entries: &[Entry],
@@ -129,12 +130,13 @@ pub(crate) fn work_pieces<R: Threads + Wait, D: Decide + Send + Drop>(
 where
     D::Content: Send,
     D::Submodule: Send,
-    requires index { IsIndex (map listed (index_entries backing.now entries.now)) }
+    requires index { IsIndex (index_entries backing.now entries.now) }
     requires room { start + length entries.now < 2 ^ 64 }
     requires bounds { AreBounds (index_entries backing.now entries.now) bounds.now }
     requires few { length bounds.now ≤ 2 ^ 20 }
-    ensures pieces { IfOk result (λ v. AreInRow (D.query decide.now) (D.modelled decide.now) (is_some workers.now.interrupt) start (index_entries backing.now entries.now) (end_of bounds.now) (bound bounds.now 0) v.items) }
-    ensures refused { IfErr result (λ e. IsRefusal workers.entry.now.most e) }
+    ensures pieces { IfOk result (λ v. AreInRow (D.query decide.now) (is_some workers.now.interrupt) start
+        (index_entries backing.now entries.now) (last_bound bounds.now) (bound bounds.now 0) v.items) }
+    ensures refused { IfErr result (λ e. IsShortage workers.entry.now.most e) }
 {
     let Ok(crew) = crew_of(alloc, decide, workers.most) else {
         return Err(Error::Memory);
@@ -151,7 +153,16 @@ where
     let pieces = bounds.len() - 1;
     match work_round(rt, alloc, workers.stack_size, &round, pieces, crew) {
         Ok(pieces) => Ok(pieces),
-        Err(Refused::Thread) => Err(Error::SpawnThread),
-        Err(Refused::Memory) => Err(Error::Memory),
+        Err(refused) => Err(shortage(refused)),
+    }
+}
+
+/// The error of a round that could not be worked through.
+fn shortage(refused: Refused) -> Error
+    ensures { result ≡ shortage_of refused }
+{
+    match refused {
+        Refused::Thread => Error::SpawnThread,
+        Refused::Memory => Error::Memory,
     }
 }

@@ -1,10 +1,12 @@
-//! What a status is asked, and what it answers.
+//! What a status takes, and what it answers.
 
 ghost use Rattle.std.specs.Prelude.{◌≡◌, ◌+◌, ◌<◌, ◌^◌};
 
+use crate::index_as_worktree::counts::{Progress, Totals};
 pub use crate::index_as_worktree::recorder::VisitEntry;
 use status_base::index::{Entry, Flags, Mode, ObjectId, Stat, stat};
 pub use status_compare::Error;
+use std::ops::Range;
 use std::sync::atomic::AtomicBool;
 
 /// How an entry has to change to be what the worktree has.
@@ -173,10 +175,8 @@ pub struct Outcome {
 }
 
 impl Outcome {
-    ghost use Rattle.status_call.specs.Counts.{counts_of_outcome, reads_of_outcome};
-    ghost use Rattle.status_call.specs.Outcomes.{skipped_of};
-    ghost use Rattle.status_call.specs.Sums.{SumFits, plus_counts, plus_reads};
-    ghost use Rattle.std.specs.Prelude.{◌≡◌, ◌+◌, ◌<◌, ◌^◌, ◌||◌};
+    ghost use Rattle.status_call.specs.Outcomes.{outcome_of, skipped_of};
+    ghost use Rattle.std.specs.Prelude.{◌≡◌, ◌≤◌, ◌<◌, ◌^◌};
 
     /// The entries that were skipped: by common prefix, by pathspec and by flags.
     pub fn skipped(&self) -> usize
@@ -188,38 +188,38 @@ impl Outcome {
             + self.entries_skipped_by_entry_flags
     }
 
-    /// Adds what `other` counts. What was read stops at the greatest number. One that was interrupted makes both so.
-    pub(crate) fn absorb(&mut self, other: &Outcome)
-        requires { SumFits self.old other.now }
-        ensures counts { counts_of_outcome self.new ≡ plus_counts (counts_of_outcome self.old) (counts_of_outcome other.now) }
-        ensures reads { reads_of_outcome self.new ≡ plus_reads (reads_of_outcome self.old) (reads_of_outcome other.now) }
-        ensures to_process { self.new.entries_to_process ≡ self.old.entries_to_process + other.now.entries_to_process }
-        ensures skipped_by_prefix { self.new.entries_skipped_by_common_prefix ≡ self.old.entries_skipped_by_common_prefix + other.now.entries_skipped_by_common_prefix }
-        ensures interrupted { self.new.interrupted ≡ (self.old.interrupted || other.now.interrupted) }
+    /// The outcome of work on a range of so many entries.
+    pub(crate) fn of(progress: Progress, entries: usize, considered: Range<usize>) -> Outcome
+        requires order { considered.start ≤ considered.end }
+        requires inside { considered.end ≤ entries }
+        ensures { result ≡ outcome_of progress entries considered }
     {
-        self.entries_to_process += other.entries_to_process;
-        self.entries_processed += other.entries_processed;
-        self.entries_skipped_by_common_prefix += other.entries_skipped_by_common_prefix;
-        self.entries_skipped_by_pathspec += other.entries_skipped_by_pathspec;
-        self.entries_skipped_by_entry_flags += other.entries_skipped_by_entry_flags;
-        self.symlink_metadata_calls += other.symlink_metadata_calls;
-        self.entries_to_update += other.entries_to_update;
-        self.racy_clean += other.racy_clean;
-        self.worktree_bytes = self.worktree_bytes.saturating_add(other.worktree_bytes);
-        self.worktree_files_read = self
-            .worktree_files_read
-            .saturating_add(other.worktree_files_read);
-        self.odb_bytes = self.odb_bytes.saturating_add(other.odb_bytes);
-        self.odb_objects_read = self.odb_objects_read.saturating_add(other.odb_objects_read);
-        self.interrupted |= other.interrupted;
+        let Totals { counts, reads } = progress.totals;
+        let entries_to_process = considered.end - considered.start;
+        Outcome {
+            entries_to_process,
+            entries_processed: counts.processed,
+            entries_skipped_by_common_prefix: entries - entries_to_process,
+            entries_skipped_by_pathspec: counts.skipped_by_pathspec,
+            entries_skipped_by_entry_flags: counts.skipped_by_flags,
+            symlink_metadata_calls: counts.lstat_calls,
+            entries_to_update: counts.to_update,
+            racy_clean: counts.racy_clean,
+            worktree_bytes: reads.bytes,
+            worktree_files_read: reads.files,
+            odb_bytes: reads.object_bytes,
+            odb_objects_read: reads.objects,
+            interrupted: progress.interrupted,
+        }
     }
 }
 
 impl From<&Entry> for ConflictIndexEntry {
-    ghost use Rattle.std.specs.Prelude.{◌≡◌};
+    ghost use Rattle.std.specs.Prelude.{◌≡◌, []};
+    ghost use Rattle.status_index.specs.Entries.{entry_at};
     ghost use Rattle.status_call.specs.Conflicts.{kept_of};
 
-    ghost from_gives = { λ e k. k ≡ kept_of e.now };
+    ghost from_gives = { λ e k. k ≡ kept_of (entry_at [] e.now) };
 
     fn from(entry: &Entry) -> ConflictIndexEntry {
         ConflictIndexEntry {

@@ -1,21 +1,19 @@
-//! The considered entries, worked through in rounds and fed in order.
+//! The considered entries, worked through in rounds and reported in order.
 
-ghost use Rattle.std.specs.Prelude.{◌^◌, ◌≤◌, length, map, is_some};
-ghost use Rattle.status_index.specs.Entries.{IsIndex, listed, index_entries};
-ghost use Rattle.status_index.specs.Stretch.{part_of};
-ghost use Rattle.status_call.specs.Rounds.{AreBounds, bound, end_of};
-ghost use Rattle.status_call.specs.Worked.{IsLimitedWork, IsReportedWork};
+ghost use Rattle.std.specs.Prelude.{◌^◌, ◌≤◌, length};
+ghost use Rattle.status_call.specs.Rounds.{AreBounds, bound, last_bound};
+ghost use Rattle.status_call.specs.Runs.{IsRun, part_entries};
 
+use crate::index_as_worktree::considered::Considered;
+use crate::index_as_worktree::counts::{Progress, Totals};
 use crate::index_as_worktree::decide::Decide;
 use crate::index_as_worktree::feed::feed_piece;
 use crate::index_as_worktree::piece::is_set;
-use crate::index_as_worktree::round::{round_bounds, work_pieces};
-use crate::index_as_worktree::types::{Error, Outcome, VisitEntry};
-use crate::index_as_worktree::workers::{Workers, most_workers};
-use status_base::index::{Entry, PathStorage};
+use crate::index_as_worktree::round::{round_bounds, run_pieces};
+use crate::index_as_worktree::types::{Error, VisitEntry};
+use crate::index_as_worktree::workers::Workers;
 use std::alloc::Global;
 use std::sync::Wait;
-use std::sync::atomic::AtomicBool;
 use std::thread::Threads;
 
 #[cfg(test)]
@@ -24,60 +22,13 @@ mod tests;
 /// How many pieces a worker has in a round, at most.
 const PIECES_OF_A_WORKER: usize = 8;
 
-/// The considered entries: those from place `start` up to `end` of the whole index.
-#[derive(Drop)]
-pub(crate) struct Considered<'index> {
-    pub(crate) entries: &'index [Entry],
-    pub(crate) backing: &'index PathStorage,
-    pub(crate) start: usize,
-    pub(crate) end: usize,
-    ghost index: { IsIndex (map listed (index_entries backing.now entries.now)) },
-    ghost order: { start ≤ end },
-    ghost inside: { end ≤ length entries.now },
-}
-
-/// Works through the considered entries on workers as the thread limit has it, whose threads have stacks of `stack_size`
-/// bytes or of the usual size.
+/// Works through the considered entries in rounds of pieces, and reports to the collector in the order of the index what
+/// the pieces find. Ends early where the interrupt flag is set.
 ///
 /// # Errors
-/// As those of `work_in_rounds`.
-pub(crate) fn work_through<
-    'index,
-    R: Threads + Wait,
-    D: Decide + Send + Drop,
-    V: VisitEntry<'index, ContentChange = D::Content, SubmoduleStatus = D::Submodule>,
->(
-    rt: &R,
-    alloc: Global,
-    considered: Considered<'index>,
-    chunk: usize,
-    limit: Option<usize>,
-    stack_size: Option<usize>,
-    interrupt: Option<&AtomicBool>,
-    decide: D,
-    collector: &mut V,
-) -> Result<Outcome, Error>
-where
-    D::Content: Send,
-    D::Submodule: Send,
-    ensures { IsLimitedWork (D.query decide) (D.modelled decide) considered.entry.start (part_of (index_entries considered.entry.backing.now considered.entry.entries.now) considered.entry.start considered.entry.end)
-        (is_some interrupt.entry) limit considered.entry.entries.now considered.entry.backing.now (V.visits collector.old) result (V.visits collector.new) }
-{
-    let workers = Workers {
-        most: most_workers(limit),
-        stack_size,
-        interrupt,
-    };
-    work_in_rounds(rt, alloc, &considered, chunk, &workers, &decide, collector)
-}
-
-/// Works through the considered entries in rounds of pieces, and tells the collector in the order of the index what the
-/// pieces find. Ends early where the interrupt flag is set.
-///
-/// # Errors
-/// The first fault, once the collector was told what stands before it. A refused thread; then nothing of its round was
-/// told. Want of memory.
-pub(crate) fn work_in_rounds<
+/// The first fault, once what stands before it was reported. A refused thread; then nothing of its round was reported.
+/// Want of memory.
+pub(crate) fn run_rounds<
     'index,
     R: Threads + Wait,
     D: Decide + Send + Drop,
@@ -90,22 +41,21 @@ pub(crate) fn work_in_rounds<
     workers: &Workers<'_>,
     decide: &D,
     collector: &mut V,
-) -> Result<Outcome, Error>
+) -> Result<Progress, Error>
 where
     D::Content: Send,
     D::Submodule: Send,
-    ensures { let es = part_of (index_entries considered.entry.now.backing.now considered.entry.now.entries.now) considered.entry.now.start considered.entry.now.end in
-        IsReportedWork (D.query decide.now) (D.modelled decide.now) considered.entry.now.start es 0
-        (is_some workers.entry.now.interrupt) workers.entry.now.most (length es) considered.entry.now.entries.now considered.entry.now.backing.now (V.visits collector.old) result (V.visits collector.new) }
+    ensures { let c = considered.entry.now in
+        IsRun (D.query decide.now) c workers.entry.now 0 (length (part_entries c)) (V.visits collector.old) result (V.visits collector.new) }
 {
     let part = &considered.entries[considered.start..considered.end];
-    let mut total = Outcome::default();
+    let mut totals = Totals::none();
     let mut at = 0;
     while at < part.len() {
         if is_set(workers.interrupt) {
-            return Ok(Outcome {
+            return Ok(Progress {
+                totals,
                 interrupted: true,
-                ..total
             });
         }
         let most_pieces = workers.most * PIECES_OF_A_WORKER;
@@ -113,36 +63,32 @@ where
         else {
             return Err(Error::Memory);
         };
-        let crew = Workers {
-            most: workers.most.min(bounds.len() - 1),
-            stack_size: workers.stack_size,
-            interrupt: workers.interrupt,
-        };
-        match report_round(
-            rt,
-            alloc,
-            considered,
-            bounds.as_slice(),
-            &crew,
-            decide,
-            collector,
-        ) {
-            Ok(outcome) => total.absorb(&outcome),
+        let crew = workers.for_pieces(bounds.len() - 1);
+        let bounds = bounds.as_slice();
+        let round = match run_round(rt, alloc, considered, bounds, &crew, decide, collector) {
+            Ok(round) => round,
             Err(error) => return Err(error),
-        }
-        if total.interrupted {
-            return Ok(total);
+        };
+        totals.add(&round.totals);
+        if round.interrupted {
+            return Ok(Progress {
+                totals,
+                interrupted: true,
+            });
         }
         at = bounds[bounds.len() - 1];
     }
-    Ok(total)
+    Ok(Progress {
+        totals,
+        interrupted: false,
+    })
 }
 
-/// Works through the entries between the bounds, and tells the collector what the pieces find.
+/// Works through the entries between the bounds, and reports to the collector what the pieces find.
 ///
 /// # Errors
-/// As those of `work_in_rounds`.
-fn report_round<
+/// As those of `run_rounds`.
+fn run_round<
     'index,
     R: Threads + Wait,
     D: Decide + Send + Drop,
@@ -155,31 +101,37 @@ fn report_round<
     workers: &Workers<'_>,
     decide: &D,
     collector: &mut V,
-) -> Result<Outcome, Error>
+) -> Result<Progress, Error>
 where
     D::Content: Send,
     D::Submodule: Send,
-    requires bounds { AreBounds (index_entries considered.now.backing.now (part_of considered.now.entries.now considered.now.start considered.now.end)) bounds.now }
+    requires bounds { AreBounds (part_entries considered.now) bounds.now }
     requires few { length bounds.now ≤ 2 ^ 20 }
-    ensures { let es = index_entries considered.entry.now.backing.now (part_of considered.entry.now.entries.now considered.entry.now.start considered.entry.now.end) in
-        IsReportedWork (D.query decide.now) (D.modelled decide.now) considered.entry.now.start es (bound bounds.now 0)
-        (is_some workers.entry.now.interrupt) workers.entry.now.most (end_of bounds.now) considered.entry.now.entries.now considered.entry.now.backing.now (V.visits collector.old) result (V.visits collector.new) }
+    ensures { IsRun (D.query decide.now) considered.entry.now workers.entry.now (bound bounds.now 0) (last_bound bounds.now)
+        (V.visits collector.old) result (V.visits collector.new) }
 {
     let (start, backing) = (considered.start, considered.backing);
     let part = &considered.entries[start..considered.end];
-    let pieces = match work_pieces(rt, alloc, part, backing, start, bounds, workers, decide) {
+    let pieces = match run_pieces(rt, alloc, part, backing, start, bounds, workers, decide) {
         Ok(pieces) => pieces,
         Err(error) => return Err(error),
     };
-    let mut total = Outcome::default();
+    let mut totals = Totals::none();
     for piece in pieces {
-        match feed_piece(considered.entries, backing, piece, collector) {
-            Ok(outcome) => total.absorb(&outcome),
+        let fed = match feed_piece(considered.entries, backing, piece, collector) {
+            Ok(fed) => fed,
             Err(error) => return Err(error),
-        }
-        if total.interrupted {
-            return Ok(total);
+        };
+        totals.add(&fed.totals);
+        if fed.interrupted {
+            return Ok(Progress {
+                totals,
+                interrupted: true,
+            });
         }
     }
-    Ok(total)
+    Ok(Progress {
+        totals,
+        interrupted: false,
+    })
 }

@@ -1,6 +1,7 @@
 //! How many workers there are, and how they run.
 
-ghost use Rattle.std.specs.Prelude.{◌≡◌, ◌≤◌, Some};
+ghost use Rattle.std.specs.Prelude.{◌≡◌, ◌≤◌, min};
+ghost use Rattle.status_call.specs.Workers.{most_workers};
 
 use std::sync::atomic::AtomicBool;
 
@@ -23,11 +24,36 @@ pub(crate) struct Workers<'a> {
     ghost few: { most ≤ 64 },
 }
 
+impl<'a> Workers<'a> {
+    /// The workers that a thread limit allows, with the usual stacks.
+    pub(crate) fn by_limit(limit: Option<usize>, interrupt: Option<&'a AtomicBool>) -> Workers<'a>
+        ensures most { result.most ≡ most_workers limit }
+        ensures interrupt { result.interrupt ≡ interrupt.entry }
+    {
+        Workers {
+            most: most_workers(limit),
+            stack_size: None,
+            interrupt,
+        }
+    }
+
+    /// As many of them as there are pieces, at most.
+    pub(crate) fn for_pieces(&self, pieces: usize) -> Workers<'a>
+        requires { 1 ≤ pieces }
+        ensures most { result.most ≡ min self.entry.now.most pieces }
+        ensures interrupt { result.interrupt ≡ self.entry.now.interrupt }
+    {
+        Workers {
+            most: self.most.min(pieces),
+            stack_size: self.stack_size,
+            interrupt: self.interrupt,
+        }
+    }
+}
+
 /// How many workers there are at most by a thread limit. 0 is no limit.
-pub(crate) fn most_workers(limit: Option<usize>) -> usize
-    ensures some { 1 ≤ result }
-    ensures few { result ≤ 64 }
-    ensures one { limit ≡ Some 1 → result ≡ 1 }
+fn most_workers(limit: Option<usize>) -> usize
+    ensures { result ≡ most_workers limit }
 {
     match limit {
         None | Some(0) => WORKERS,

@@ -1,11 +1,17 @@
 //! Threads that are refused.
 
-use crate::index_as_worktree::entry_status::Decider;
+ghost use Rattle.std.specs.Prelude.{◌≤◌};
+
+use crate::index_as_worktree::considered::Considered;
+use crate::index_as_worktree::counts::Progress;
+use crate::index_as_worktree::decider::Decider;
+use crate::index_as_worktree::interfaces::{Interfaces, Settings};
 use crate::index_as_worktree::piece::tests::index_of;
 use crate::index_as_worktree::recorder::Recorder;
 use crate::index_as_worktree::traits::HashEq;
-use crate::index_as_worktree::types::{Change, EntryStatus, Error, Outcome};
-use crate::index_as_worktree::work::{Considered, work_through};
+use crate::index_as_worktree::types::{Capabilities, Change, EntryStatus, Error};
+use crate::index_as_worktree::work::run_rounds;
+use crate::index_as_worktree::workers::Workers;
 use status_base::index::{ObjectId, State, stat};
 use status_base::worktree::{AllPaths, MemoryObjects, MemoryWorktree, NoFilter, NoSubmodules};
 use std::alloc::Global;
@@ -13,29 +19,34 @@ use std::sync::Wait;
 use std::test::Fail;
 use std::thread::Threads;
 
-// The status against an empty worktree, by pieces of one entry, with as many workers and stacks of that many bytes.
+// The status against an empty worktree, by pieces of one entry, with as many workers (from 1 to 64) and stacks of that many
+// bytes.
 fn status_by<'index, R: Threads + Wait>(
     rt: &R,
     alloc: Global,
     index: &'index State,
-    workers: usize,
+    most: usize,
     stack_size: Option<usize>,
     recorder: &mut Recorder<'index, ObjectId, ()>,
-) -> Result<Outcome, Error> {
+) -> Result<Progress, Error>
+    requires some { 1 ≤ most }
+    requires few { most ≤ 64 }
+{
     let worktree = MemoryWorktree::new(alloc);
-    let decider = Decider::new(
-        alloc,
-        &worktree,
-        HashEq,
-        NoSubmodules,
-        MemoryObjects::new(alloc),
-        AllPaths,
-        NoFilter,
-        index.timestamp(),
-        stat::Options::default(),
-        true,
-        true,
-    );
+    let interfaces = Interfaces {
+        worktree: &worktree,
+        compare: HashEq,
+        submodule: NoSubmodules,
+        objects: MemoryObjects::new(alloc),
+        pathspec: AllPaths,
+        filter: NoFilter,
+    };
+    let settings = Settings {
+        timestamp: index.timestamp(),
+        stat: stat::Options::default(),
+        fs: Capabilities::default(),
+    };
+    let decider = Decider::new(alloc, interfaces, settings);
     let entries = index.entries();
     let considered = Considered {
         entries,
@@ -43,10 +54,12 @@ fn status_by<'index, R: Threads + Wait>(
         start: 0,
         end: entries.len(),
     };
-    let limit = Some(workers);
-    work_through(
-        rt, alloc, considered, 1, limit, stack_size, None, decider, recorder,
-    )
+    let workers = Workers {
+        most,
+        stack_size,
+        interrupt: None,
+    };
+    run_rounds(rt, alloc, &considered, 1, &workers, &decider, recorder)
 }
 
 #[test]
@@ -61,6 +74,12 @@ fn a_refused_thread_ends_the_status_and_nothing_is_reported(rt: HostRuntime) -> 
     let alone = status_by(&rt, rt.alloc(), &index, 1, too_large, &mut recorder);
     assert!(rt; alone.is_ok());
     assert_eq!(rt; recorder.records.len(), 3);
+    // One entry has one piece, so one worker, which is the caller.
+    let one = index_of(rt.alloc(), &[("a", 0)])?;
+    let mut recorder = Recorder::new(rt.alloc());
+    let lone = status_by(&rt, rt.alloc(), &one, 2, too_large, &mut recorder);
+    assert!(rt; lone.is_ok());
+    assert_eq!(rt; recorder.records.len(), 1);
     let mut recorder = Recorder::new(rt.alloc());
     let shared = status_by(&rt, rt.alloc(), &index, 2, None, &mut recorder);
     assert!(rt; shared.is_ok());

@@ -1,28 +1,49 @@
-use Rattle.std.proofs.Common.{rules, refl, ap, ◌<◌, ◌^◌, length}
+use Rattle.std.proofs.Common.{rules, ap, ◌∙◌, ◌<◌, ◌^◌, length}
 use Rattle.std.proofs.lemmas.List.{length-map}
 use Rattle.status_index.specs.Entries.{index_entry}
 use Rattle.status_index.specs.States.{entries_of, backing_of, index_of}
-use Rattle.status_call.proofs.StatusProof.{status_ok, status_err, work_kept, part_len, rest_len, skip_room}
+use Rattle.status_call.proofs.Parts.{map-part}
+use Rattle.status_call.proofs.StatusProof.{status_alone, status_ok, status_err, work_kept, part_len, rest_len, skip_room}
 use Rattle.status_call.proofs.index_as_worktree.function.index_as_worktree.Goals as goal
 
-pub returns-in-Ok : goal.returns-in-Ok
-returns-in-Ok g c =
-    let query = rw c.timestamp.ensures at c.new-decider.ensures.query in
+pub returns-in-Ok-clause-status : goal.returns-in-Ok-clause-status
+returns-in-Ok-clause-status g c =
+    let index = c.args.index.now in
+    let range = c.considered_range-range.result in
+    let query = rw c.timestamp.ensures at c.new-decider.ensures in
     let part = rw c.common_prefix.ensures at c.considered_range-range.ensures.part in
     let start = rw c.common_prefix.ensures at c.considered_range-range.ensures.start in
-    let work = rw (c.entries-entries.ensures.value, c.path_backing-backing.ensures) at c.in-Ok.ensures.work in
-    let len = length-map (entries_of c.args.index.now) (index_entry (backing_of c.args.index.now)) in
+    let whole = map-part (index_entry (backing_of index)) (entries_of index) range.start range.end ∙ part in
+    let work = rw (c.entries-entries.ensures.value, c.path_backing-backing.ensures, c.by_limit-workers.ensures.interrupt) at c.in-Ok.ensures in
+    let kept = work_kept _ _ _ _ _ _ _ _ _ _ _ _ query start whole work in
+    let len = length-map (entries_of index) (index_entry (backing_of index)) in
+    let order = c.considered_range-range.ensures.order in
+    let inside = c.considered_range-range.ensures.inside in
+    let same = ap length c.entries-entries.ensures.value in
     let fits : length c.entries-entries.result.now < 2 ^ 64 = search rules in
-    status_ok _ _ _ _ _ _ _ _ c.in-Ok.ensures.workers c.in-Ok.outcome _ (work_kept _ _ _ _ _ _ _ _ _ _ _ _ _ _ _ query c.new-decider.ensures.modelled start part work) refl refl
-    (part_len (index_of c.args.index.now) _ (entries_of c.args.index.now) c.considered_range-range.result.start c.considered_range-range.result.end part c.considered_range-range.ensures.order c.considered_range-range.ensures.inside len)
-    (rest_len (index_of c.args.index.now) _ (entries_of c.args.index.now) c.considered_range-range.result.start c.considered_range-range.result.end part c.considered_range-range.ensures.order c.considered_range-range.ensures.inside len _ (ap length c.entries-entries.ensures.value))
-    refl
-    (skip_room (index_of c.args.index.now) _ (entries_of c.args.index.now) c.considered_range-range.result.start c.considered_range-range.result.end part c.considered_range-range.ensures.order c.considered_range-range.ensures.inside len _ (ap length c.entries-entries.ensures.value) fits)
+    rw c.of.ensures (status_ok _ _ _ _ _ _ c.in-Ok.progress range _ kept
+    (part_len (index_of index) _ (entries_of index) range.start range.end part order inside len)
+    (rest_len (index_of index) _ (entries_of index) range.start range.end part order inside len _ same)
+    (skip_room (index_of index) _ (entries_of index) range.start range.end part order inside len _ same fits))
 
-pub returns-in-Err : goal.returns-in-Err
-returns-in-Err g c =
-    let query = rw c.timestamp.ensures at c.new-decider.ensures.query in
+pub returns-clause-status : goal.returns-clause-status
+returns-clause-status g c =
+    let index = c.args.index.now in
+    let range = c.considered_range-range.result in
+    let query = rw c.timestamp.ensures at c.new-decider.ensures in
     let part = rw c.common_prefix.ensures at c.considered_range-range.ensures.part in
     let start = rw c.common_prefix.ensures at c.considered_range-range.ensures.start in
-    let work = rw (c.entries-entries.ensures.value, c.path_backing-backing.ensures) at c.in-Err.ensures.work in
-    status_err _ _ _ _ _ _ _ _ c.in-Err.ensures.workers c.in-Err.error c.in-Err.ensures.alone (work_kept _ _ _ _ _ _ _ _ _ _ _ _ _ _ _ query c.new-decider.ensures.modelled start part work)
+    let whole = map-part (index_entry (backing_of index)) (entries_of index) range.start range.end ∙ part in
+    let work = rw (c.entries-entries.ensures.value, c.path_backing-backing.ensures, c.by_limit-workers.ensures.interrupt) at c.in-Err.ensures in
+    status_err _ _ _ _ _ _ c.in-Err.error (work_kept _ _ _ _ _ _ _ _ _ _ _ _ query start whole work)
+
+pub returns-clause-alone : goal.returns-clause-alone
+returns-clause-alone g c =
+    let index = c.args.index.now in
+    let range = c.considered_range-range.result in
+    let query = rw c.timestamp.ensures at c.new-decider.ensures in
+    let part = rw c.common_prefix.ensures at c.considered_range-range.ensures.part in
+    let start = rw c.common_prefix.ensures at c.considered_range-range.ensures.start in
+    let whole = map-part (index_entry (backing_of index)) (entries_of index) range.start range.end ∙ part in
+    let work = rw (c.entries-entries.ensures.value, c.path_backing-backing.ensures, c.by_limit-workers.ensures.interrupt) at c.in-Err.ensures in
+    status_alone _ index _ _ _ _ c.in-Err.error (work_kept _ _ _ _ _ _ _ _ _ _ _ _ query start whole work) c.args.options.thread_limit c.by_limit-workers.ensures.most

@@ -7,8 +7,8 @@ returns-in_err-summary c =
     let ours = c.last_of_stage-ours in
     let theirs = c.last_of_stage-theirs in
     rw c.from_residual.ensures
-    (IsConflict-none base.result ours.result theirs.result c.is_some.result c.is_some-2.result c.is_some-3.result c.args.path_backing.now c.conflict_run-run.result.now _ c.conflict_run-run.ensures
-    (record { last = base.ensures; some = c.is_some.ensures }) (record { last = ours.ensures; some = c.is_some-2.ensures }) (record { last = theirs.ensures; some = c.is_some-3.ensures })
+    (IsConflict-none c.args.path_backing.now base.result ours.result theirs.result c.is_some.result c.is_some-2.result c.is_some-3.result c.conflict_run-run.result.now
+    (record { last = base.ensures; some = c.is_some.ensures }) (record { last = ours.ensures; some = c.is_some-2.ensures }) (record { last = theirs.ensures; some = c.is_some-3.ensures }) _ c.conflict_run-run.ensures
     c.conflict_named.result c.conflict_named.ensures c.in_err-summary.was)
 
 pub returns : goal.returns
@@ -16,6 +16,6 @@ returns c =
     let base = c.last_of_stage-base in
     let ours = c.last_of_stage-ours in
     let theirs = c.last_of_stage-theirs in
-    IsConflict-some base.result ours.result theirs.result c.is_some.result c.is_some-2.result c.is_some-3.result c.args.path_backing.now c.conflict_run-run.result.now _ c.conflict_run-run.ensures
-    (record { last = base.ensures; some = c.is_some.ensures }) (record { last = ours.ensures; some = c.is_some-2.ensures }) (record { last = theirs.ensures; some = c.is_some-3.ensures })
+    IsConflict-some c.args.path_backing.now base.result ours.result theirs.result c.is_some.result c.is_some-2.result c.is_some-3.result c.conflict_run-run.result.now
+    (record { last = base.ensures; some = c.is_some.ensures }) (record { last = ours.ensures; some = c.is_some-2.ensures }) (record { last = theirs.ensures; some = c.is_some-3.ensures }) _ c.conflict_run-run.ensures
     c.in_ok-summary.summary c.conflict_named.result c.conflict_named.ensures c.in_ok-summary.was

@@ -1,0 +1,37 @@
+use Rattle.std.proofs.Common.{None}
+use Rattle.bstr.specs.BStr.{bstr_bytes}
+use Rattle.status_index.specs.Entries.{entry_at}
+use Rattle.status_call.specs.EntryParts.{counted_of}
+use Rattle.status_call.specs.Modelled.{all_modelled}
+use Rattle.status_call.specs.Query.{Query}
+use Rattle.status_call.proofs.EntryCases.{compared_of_case}
+use Rattle.status_call.proofs.index_as_worktree.decider.Decider.decide_content.Goals as goal
+
+pub returns-clause-decided : goal.returns-clause-decided
+returns-clause-decided g c =
+    let i = c.args.self.now.interfaces in
+    let s = c.args.self.now.settings in
+    let q : Query g.row.C-Output.Denot g.row.S-Output.Denot = record {
+      modelled = all_modelled (g.W.Worktree.modelled i.worktree.now) (g.O.Find.modelled i.objects) (g.S.SubmoduleStatus.modelled i.submodule);
+      stat_options = s.stat;
+      symlink = s.fs.symlink;
+      executable_bit = s.fs.executable_bit;
+      timestamp = s.timestamp;
+      lstat = g.W.Worktree.lstat_of i.worktree.now;
+      opened = g.W.Worktree.open_of i.worktree.now;
+      linked = g.W.Worktree.target_of i.worktree.now;
+      cached = λ _. None;
+      prefix = g.P.Pathspec.prefix i.pathspec;
+      included = g.P.Pathspec.included i.pathspec;
+      conversion = λ content path. g.T.ToGit.conversion i.filter content path;
+      blob = g.O.Find.found i.objects;
+      submodule = g.S.SubmoduleStatus.meaning i.submodule;
+      compared = g.C.CompareBlobs.answer i.compare;
+      counted = g.C.CompareBlobs.counts_after i.compare;
+    } in
+    let e = entry_at (bstr_bytes c.args.path) c.args.entry.now in
+    let n = c.args.node.now in
+    λ modelled.
+    let answer = c.in_ok-comparison.ensures.compared modelled in
+    compared_of_case q e n c.args.stat c.args.executable_bit_changed c.is_trusted-trusted.result c.is_racy-racy.result c.needs_comparison-compares.result c.in_ok-comparison.comparison.change (counted_of q e n) c.decision_of.result
+    c.is_trusted-trusted.ensures c.is_racy-racy.ensures c.needs_comparison-compares.ensures c.if-not-compares.false answer.0 (c.decision_of.ensures e.path (counted_of q e n) answer.1)

@@ -1,0 +1,24 @@
+-- The considered entries of a call, as its workers run through them.
+use Rattle.std.specs.Prelude.{ℕ, List, is_some, Result}
+use Rattle.status_index.specs.Entries.{IndexEntry, index_entries}
+use Rattle.status_index.specs.Stretch.{part_of}
+use Rattle.status_compare.specs.declared.error.Error.{Error}
+use Rattle.status_call.specs.declared.index_as_worktree.counts.Progress.{Progress}
+use Rattle.status_call.specs.declared.index_as_worktree.considered.Considered.{Considered}
+use Rattle.status_call.specs.declared.index_as_worktree.workers.Workers.{Workers}
+use Rattle.status_call.specs.Query.{Query}
+use Rattle.status_call.specs.Visits.{Visit, IsFaithful}
+use Rattle.status_call.specs.Worked.{IsReportedWork}
+
+-- what the index says of the considered entries
+abbrev pub part_entries : Considered → List IndexEntry
+part_entries c = index_entries c.backing.now (part_of c.entries.now c.start c.end)
+
+-- the collector is given the index's own entry
+abbrev pub IsFaithfulTo : {T U : Type 0} → Considered → Visit T U → Type 0
+IsFaithfulTo c = IsFaithful c.entries.now c.backing.now
+
+-- what was reported of the considered entries from place `from` on, and how that ended
+abbrev pub IsRun : {T U : Type 0} → Query T U → Considered → Workers → ℕ → ℕ → List (Visit T U) → Result Progress Error → List (Visit T U) → Type 0
+IsRun q c w from to old result new =
+    IsReportedWork q c.start (part_entries c) from (IsFaithfulTo c) (is_some w.interrupt) w.most to old result new

@@ -1,0 +1,18 @@
+//! The considered entries of a call.
+
+ghost use Rattle.std.specs.Prelude.{◌≤◌, length};
+ghost use Rattle.status_index.specs.Entries.{IsIndex, index_entries};
+
+use status_base::index::{Entry, PathStorage};
+
+/// The considered entries: those from place `start` up to `end` of the whole index.
+#[derive(Drop)]
+pub(crate) struct Considered<'index> {
+    pub(crate) entries: &'index [Entry],
+    pub(crate) backing: &'index PathStorage,
+    pub(crate) start: usize,
+    pub(crate) end: usize,
+    ghost index: { IsIndex (index_entries backing.now entries.now) },
+    ghost order: { start ≤ end },
+    ghost inside: { end ≤ length entries.now },
+}

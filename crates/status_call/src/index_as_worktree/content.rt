@@ -1,0 +1,134 @@
+//! What an entry's content says, and when it has to be read.
+
+ghost use Rattle.std.specs.Prelude.{◌≡◌, ℕ, ◌==◌, not, ◌&&◌, ◌||◌, List, Option, Ok, IsTrue, true, false, IfSome};
+ghost use Rattle.status_index.specs.BlobId.{is_empty_blob};
+ghost use Rattle.status_index.specs.Entries.{entry_at};
+ghost use Rattle.status_index.specs.Stat.{stat_agrees};
+ghost use Rattle.status_compare.specs.EntryMeaning.{entry_meaning};
+ghost use Rattle.status_compare.specs.Reads.{no_reads};
+ghost use Rattle.status_compare.specs.declared.reads.Reads.{Reads as ReadCounts};
+ghost use Rattle.status_call.specs.EntryParts.{IsOfCase, IsComparison};
+ghost use Rattle.status_call.specs.Modelled.{both_modelled};
+ghost use Rattle.status_call.specs.Status.{reads_link, same_bool, compared};
+
+use crate::index_as_worktree::decide::Decided;
+use crate::index_as_worktree::types::{Change, EntryStatus, Error};
+use bstr::BStr;
+use status_base::index::{Entry, Mode, Stat, stat};
+use status_base::worktree::{Find, Metadata, NodeKind, ToGit, Worktree};
+use status_compare::{CompareBlobs, EntryReader, Reads};
+use std::alloc::Global;
+
+/// What a comparer answered of an entry.
+pub(crate) struct Comparison<T> {
+    /// What it reported of a change.
+    pub(crate) change: Option<T>,
+    /// What it read.
+    pub(crate) reads: Reads,
+}
+
+/// Compares an entry's content with that of the node at its path.
+///
+/// # Errors
+/// The comparer's error.
+pub(crate) fn compare_node<W: Worktree, C: CompareBlobs, O: Find, T: ToGit>(
+    alloc: Global,
+    worktree: &W,
+    filter: &T,
+    objects: &O,
+    compare: &mut C,
+    buffer: &mut Vec<u8>,
+    entry: &Entry,
+    path: &[u8],
+    node: &Metadata,
+    symlink: bool,
+) -> Result<Comparison<C::Output>, Error>
+    ensures compared { let e = entry_at path.now entry.now in
+        let m = entry_meaning (reads_link symlink e.mode node.now.kind) (λ c. T.conversion filter.now c e.path) node.now.len
+        (W.open_of worktree.now e.path) (W.target_of worktree.now e.path) (O.found objects.now e.id) in
+        IsTrue (both_modelled (W.modelled worktree.now) (O.modelled objects.now))
+        → IsComparison (C.answer compare.old e node.now.len m) (C.counts_after compare.old e node.now.len m no_reads) result }
+    ensures same_answer { C.answer compare.new ≡ C.answer compare.old }
+    ensures same_counts { C.counts_after compare.new ≡ C.counts_after compare.old }
+{
+    buffer.clear();
+    let is_link = reads_link(entry.mode, node.kind, symlink);
+    // Reborrowed, so that what the reader holds is of one lifetime.
+    let path = BStr::new(&*path);
+    let mut reader = EntryReader::new(
+        &*worktree, &*filter, &*objects, entry.id, path, is_link, node.len,
+    );
+    let change = compare.compare_blobs(alloc, entry, node.len, &mut reader, buffer)?;
+    let reads = reader.reads();
+    Ok(Comparison { change, reads })
+}
+
+/// Whether an entry is read as a link's target: it is a link, and so is the node, or the file system has links.
+pub(crate) fn reads_link(mode: Mode, kind: NodeKind, symlink: bool) -> bool
+    ensures { result ≡ reads_link symlink mode kind }
+{
+    mode == Mode::Symlink && (symlink || kind == NodeKind::Link)
+}
+
+/// Whether an entry's stat may be trusted: it agrees with the node's, and says that the content is empty exactly where
+/// the id does. Size 0 beside another id marks an entry whose content has to be compared (git's racy-git document: a
+/// racily clean entry is written with size 0).
+pub(crate) fn is_trusted(entry: &Entry, stat: &Stat, options: stat::Options) -> bool
+    ensures { result ≡ (stat_agrees options stat.now entry.now.stat && same_bool (is_empty_blob entry.now.id) (entry.now.stat.size == 0)) }
+{
+    stat.matches(&entry.stat, options) && entry.id.is_empty_blob() == (entry.stat.size == 0)
+}
+
+/// Whether an entry has to be compared: the stats alone decide where they are trusted and hide no write, and the
+/// executable bit didn't change. A stat is racy, and so may hide a write, where the node is as new as the index or newer:
+/// it may have been written once more after its stat was stored, within the clock's resolution (git's racy-git document).
+pub(crate) fn needs_comparison(executable_bit_changed: bool, trusted: bool, racy: bool) -> bool
+    ensures { result ≡ (executable_bit_changed || not trusted || racy) }
+{
+    executable_bit_changed || !trusted || racy
+}
+
+/// A decision for which nothing was read.
+pub(crate) fn unread<T, U>(status: Option<EntryStatus<T, U>>, lstat_called: bool) -> Decided<T, U>
+    ensures { result ≡ record { status = status; lstat_called = lstat_called; racy = false; reads = no_reads } }
+{
+    Decided {
+        status,
+        lstat_called,
+        racy: false,
+        reads: Reads::none(),
+    }
+}
+
+/// What a comparison decides of an entry whose node has this stat.
+pub(crate) fn decision_of<T, U>(
+    comparison: Comparison<T>,
+    stat: Stat,
+    executable_bit_changed: bool,
+    trusted: bool,
+    racy: bool,
+) -> Decided<T, U>
+    ensures { (path : List ℕ) (counted : Option ReadCounts) → IfSome counted (λ k. comparison.reads ≡ k)
+        → IsOfCase {U = U} path (compared executable_bit_changed trusted racy stat (Ok comparison.change)) true counted result }
+{
+    let Comparison { change, reads } = comparison;
+    let status = match change {
+        Some(change) => EntryStatus::Change(Change::Modification {
+            executable_bit_changed,
+            content_change: Some(change),
+            set_entry_stat_size_zero: trusted && racy,
+        }),
+        None if executable_bit_changed => EntryStatus::Change(Change::Modification {
+            executable_bit_changed,
+            content_change: None,
+            set_entry_stat_size_zero: false,
+        }),
+        None => EntryStatus::NeedsUpdate(stat),
+    };
+    Decided {
+        status: Some(status),
+        lstat_called: true,
+        racy: !executable_bit_changed && trusted && racy,
+        reads,
+    }
+}

@@ -1,0 +1,251 @@
+//! Who decides entries over a worktree.
+
+ghost use Rattle.std.specs.Prelude.{◌≡◌, List, Option, Result, IsTrue};
+ghost use Rattle.bstr.specs.BStr.{bstr_bytes};
+ghost use Rattle.status_base.specs.CheckState.{IsClear};
+ghost use Rattle.status_index.specs.Entries.{entry_at};
+ghost use Rattle.status_compare.specs.Reading.{IsMeant};
+ghost use Rattle.status_call.specs.Status.{answer, in_submodule};
+
+use crate::index_as_worktree::content::{
+    Comparison, compare_node, decision_of, is_trusted, needs_comparison, unread,
+};
+use crate::index_as_worktree::decide::{Decide, Decided};
+use crate::index_as_worktree::interfaces::{Handed, Interfaces, Settings};
+use crate::index_as_worktree::site::{Site, find};
+use crate::index_as_worktree::types::{Change, EntryStatus, Error};
+use bitflags::Flags as _;
+use bstr::{BStr, BString};
+use status_base::index::{Entry, Flags, Stat, mode};
+use status_base::stack::SymlinkCheck;
+use status_base::worktree::{
+    ByteText, Find, Metadata, Pathspec, SubmoduleFault, SubmoduleStatus, ToGit, Worktree,
+};
+use status_compare::CompareBlobs;
+use std::alloc::{AllocError, Global};
+
+/// Decides entries over a worktree. It keeps the buffers, so that an entry whose stat decides takes no memory.
+#[derive(Drop)]
+pub(crate) struct Decider<'w, W: Worktree, C, S, O, P, T> {
+    alloc: Global,
+    interfaces: Interfaces<'w, W, C, S, O, P, T>,
+    settings: Settings,
+    check: SymlinkCheck,
+    buffer: Vec<u8>,
+    ghost clear: { IsTrue (W.modelled interfaces.worktree.now) → IsClear (W.lstat_of interfaces.worktree.now) check.path },
+}
+
+impl<'w, W: Worktree, C: CompareBlobs, S: SubmoduleStatus, O: Find, P: Pathspec, T: ToGit> Decider<
+    'w,
+    W,
+    C,
+    S,
+    O,
+    P,
+    T,
+>
+where
+    C::Output: Drop,
+    S::Output: Drop,
+{
+    /// A decider by these settings.
+    pub(crate) fn new(
+        alloc: Global,
+        interfaces: Interfaces<'w, W, C, S, O, P, T>,
+        settings: Settings,
+    ) -> Decider<'w, W, C, S, O, P, T>
+        ensures { ⟦<Decider<'w, W, C, S, O, P, T> as Decide>⟧.query result
+            ≡ ⟦<Interfaces<'w, W, C, S, O, P, T> as Handed>⟧.query interfaces.entry settings }
+    {
+        let root = BString::new(Vec::new(alloc));
+        let check = SymlinkCheck::new(alloc, root);
+        Decider {
+            alloc,
+            interfaces,
+            settings,
+            check,
+            buffer: Vec::new(alloc),
+        }
+    }
+}
+
+impl<'w, W: Worktree, C: CompareBlobs, S: SubmoduleStatus, O: Find, P: Pathspec, T: ToGit> Decider<
+    'w,
+    W,
+    C,
+    S,
+    O,
+    P,
+    T,
+>
+where
+    C::Output: Drop,
+    S::Output: Drop,
+{
+    ghost use Rattle.status_call.specs.EntryParts.{IsNodeDecided, IsContentDecided, IsContentCompared};
+
+    /// Decides an entry at whose path something stands that is no directory.
+    ///
+    /// # Errors
+    /// An unknown stamp of the node, or the comparer's error.
+    fn decide_node(
+        &mut self,
+        entry: &Entry,
+        path: BStr<'_>,
+        node: &Metadata,
+    ) -> Result<Decided<C::Output, S::Output>, Error>
+        ensures decided { IsNodeDecided (⟦<Decider<'w, W, C, S, O, P, T> as Decide>⟧.query self.old)
+            (entry_at (bstr_bytes path.entry) entry.now) node.now result }
+        ensures same { ⟦<Decider<'w, W, C, S, O, P, T> as Decide>⟧.query self.new
+            ≡ ⟦<Decider<'w, W, C, S, O, P, T> as Decide>⟧.query self.old }
+    {
+        if entry.flags.intersects(Flags::INTENT_TO_ADD) {
+            return Ok(unread(Some(EntryStatus::IntentToAdd), true));
+        }
+        let stat = node.to_stat()?;
+        let fs = self.settings.fs;
+        match entry
+            .mode
+            .change_to_match_fs(node, fs.symlink, fs.executable_bit)
+        {
+            Some(mode::Change::TypeChange { new_mode }) => {
+                let change = Change::TypeChange {
+                    worktree_mode: new_mode,
+                };
+                Ok(unread(Some(EntryStatus::Change(change)), true))
+            }
+            Some(mode::Change::ExecutableBit) => self.decide_content(entry, path, node, stat, true),
+            None => self.decide_content(entry, path, node, stat, false),
+        }
+    }
+
+    /// Decides an entry whose node has the entry's type: by the stats where they may be trusted, else by the content.
+    ///
+    /// # Errors
+    /// The comparer's error.
+    fn decide_content(
+        &mut self,
+        entry: &Entry,
+        path: BStr<'_>,
+        node: &Metadata,
+        stat: Stat,
+        executable_bit_changed: bool,
+    ) -> Result<Decided<C::Output, S::Output>, Error>
+        ensures decided { IsContentDecided (⟦<Decider<'w, W, C, S, O, P, T> as Decide>⟧.query self.old)
+            (entry_at (bstr_bytes path.entry) entry.now) node.now stat executable_bit_changed result }
+        ensures same { ⟦<Decider<'w, W, C, S, O, P, T> as Decide>⟧.query self.new
+            ≡ ⟦<Decider<'w, W, C, S, O, P, T> as Decide>⟧.query self.old }
+    {
+        let trusted = is_trusted(entry, &stat, self.settings.stat);
+        let racy = stat.is_racy(self.settings.timestamp, self.settings.stat);
+        let compares = needs_comparison(executable_bit_changed, trusted, racy);
+        if !compares {
+            return Ok(unread(None, true));
+        }
+        let comparison = self.compare(entry, path, node)?;
+        Ok(decision_of(comparison, stat, executable_bit_changed, trusted, racy))
+    }
+
+    /// Compares an entry's content with its node's.
+    ///
+    /// # Errors
+    /// The comparer's error.
+    fn compare(
+        &mut self,
+        entry: &Entry,
+        path: BStr<'_>,
+        node: &Metadata,
+    ) -> Result<Comparison<C::Output>, Error>
+        ensures compared { IsContentCompared (⟦<Decider<'w, W, C, S, O, P, T> as Decide>⟧.query self.old)
+            (entry_at (bstr_bytes path.entry) entry.now) node.now result }
+        ensures same { ⟦<Decider<'w, W, C, S, O, P, T> as Decide>⟧.query self.new
+            ≡ ⟦<Decider<'w, W, C, S, O, P, T> as Decide>⟧.query self.old }
+    {
+        let path = path.as_bytes();
+        let interfaces = &mut self.interfaces;
+        compare_node(
+            self.alloc,
+            interfaces.worktree,
+            &interfaces.filter,
+            &interfaces.objects,
+            &mut interfaces.compare,
+            &mut self.buffer,
+            entry,
+            path,
+            node,
+            self.settings.fs.symlink,
+        )
+    }
+}
+
+impl<'w, W: Worktree, C: CompareBlobs, S: SubmoduleStatus, O: Find, P: Pathspec, T: ToGit> Decide
+    for Decider<'w, W, C, S, O, P, T>
+where
+    C::Output: Drop,
+    S::Output: Drop,
+{
+    type Content = C::Output;
+
+    type Submodule = S::Output;
+
+    ghost query = { λ d. ⟦<Interfaces<'w, W, C, S, O, P, T> as Handed>⟧.query d.interfaces d.settings };
+
+    fn includes(&self, entry: &Entry, path: BStr<'_>) -> bool {
+        let is_submodule = entry.mode.is_submodule();
+        self.interfaces.pathspec.includes(path, is_submodule)
+    }
+
+    fn decide(
+        &mut self,
+        entry: &Entry,
+        path: BStr<'_>,
+    ) -> Result<Decided<C::Output, S::Output>, Error> {
+        match find(self.interfaces.worktree, &mut self.check, path)? {
+            Site::Nothing { lstat_called } => {
+                let removed = EntryStatus::Change(Change::Removed);
+                Ok(unread(Some(removed), lstat_called))
+            }
+            Site::Directory if entry.mode.is_submodule() => {
+                let submodule = &mut self.interfaces.submodule;
+                let status = submodule_status(self.alloc, submodule, entry, path)?;
+                Ok(unread(status, true))
+            }
+            Site::Directory => Ok(unread(Some(EntryStatus::Change(Change::Removed)), true)),
+            Site::Node(node) => self.decide_node(entry, path, &node),
+        }
+    }
+
+    fn another(&self) -> Result<Decider<'w, W, C, S, O, P, T>, AllocError> {
+        let interfaces = self.interfaces.another()?;
+        Ok(Decider::new(self.alloc, interfaces, self.settings))
+    }
+}
+
+/// What is reported of a submodule's entry whose directory is there.
+///
+/// # Errors
+/// What the submodule answers, with the entry's path.
+fn submodule_status<T, S: SubmoduleStatus>(
+    alloc: Global,
+    submodule: &mut S,
+    entry: &Entry,
+    path: BStr<'_>,
+) -> Result<Option<EntryStatus<T, S::Output>>, Error>
+    ensures answer { let e = entry_at (bstr_bytes path.entry) entry.now in
+        IsTrue (S.modelled submodule.old) → IsMeant (answer {T = T} e.path (in_submodule (S.meaning submodule.old e))) result }
+    ensures same { S.meaning submodule.new ≡ S.meaning submodule.old }
+    ensures modelled { S.modelled submodule.new ≡ S.modelled submodule.old }
+{
+    match submodule.status(entry, path) {
+        Ok(None) => Ok(None),
+        Ok(Some(change)) => {
+            let change = Change::SubmoduleModification(change);
+            Ok(Some(EntryStatus::Change(change)))
+        }
+        Err(SubmoduleFault::Failed { text }) => {
+            let rela_path = ByteText::from_slice(alloc, path.as_bytes())?;
+            Err(Error::SubmoduleStatus { rela_path, text })
+        }
+        Err(SubmoduleFault::Memory) => Err(Error::Memory),
+    }
+}

@@ -1,0 +1,96 @@
+//! What a caller hands in, and what it means.
+
+ghost use Rattle.std.specs.Prelude.{◌≡◌, None, IfOk};
+ghost use Rattle.status_call.specs.Modelled.{all_modelled};
+ghost use Rattle.status_call.specs.Query.{Query};
+ghost use Rattle.status_call.specs.declared.index_as_worktree.interfaces.Settings.{Settings as StatusSettings};
+
+use crate::index_as_worktree::types::Capabilities;
+use status_base::index::{Moment, stat};
+use status_base::worktree::{Find, Pathspec, SubmoduleStatus, ToGit, Worktree};
+use status_compare::CompareBlobs;
+use std::alloc::AllocError;
+
+/// What a status is computed by, beside the interfaces: a part of the options, and the index's timestamp.
+#[derive(Clone, Copy, Debug)]
+pub struct Settings {
+    /// When the index was written.
+    pub timestamp: Moment,
+    /// Which parts of stats have to be equal.
+    pub stat: stat::Options,
+    /// What the file system can keep.
+    pub fs: Capabilities,
+}
+
+/// The worktree and the interfaces that a caller hands in.
+#[derive(Drop)]
+pub struct Interfaces<'w, W, C, S, O, P, T> {
+    /// The worktree.
+    pub worktree: &'w W,
+    /// Compares a file with a blob.
+    pub compare: C,
+    /// Has the status of submodules.
+    pub submodule: S,
+    /// Has the blobs.
+    pub objects: O,
+    /// Says which paths are looked at.
+    pub pathspec: P,
+    /// Converts a file to what git would store.
+    pub filter: T,
+}
+
+/// What a status is computed from, whoever hands it in.
+pub trait Handed {
+    /// What a comparer reports of a change.
+    type Content;
+    /// What a submodule reports of a change.
+    type Submodule;
+
+    /// What a status by these settings depends on.
+    ghost query: { Self → StatusSettings → Query Self.Content Self.Submodule };
+
+    /// The same by clones, for another worker.
+    ///
+    /// # Errors
+    /// Want of memory.
+    fn another(&self) -> Result<Self, AllocError>
+        ensures { IfOk result (λ other. query other ≡ query self.now) };
+}
+
+impl<'w, W: Worktree, C: CompareBlobs, S: SubmoduleStatus, O: Find, P: Pathspec, T: ToGit> Handed
+    for Interfaces<'w, W, C, S, O, P, T> {
+    type Content = C::Output;
+
+    type Submodule = S::Output;
+
+    // Listings of directories aren't used.
+    ghost query = { λ i settings. record {
+      modelled = all_modelled (W.modelled i.worktree.now) (O.modelled i.objects) (S.modelled i.submodule);
+      stat_options = settings.stat;
+      symlink = settings.fs.symlink;
+      executable_bit = settings.fs.executable_bit;
+      timestamp = settings.timestamp;
+      lstat = W.lstat_of i.worktree.now;
+      opened = W.open_of i.worktree.now;
+      linked = W.target_of i.worktree.now;
+      cached = λ _. None;
+      prefix = P.prefix i.pathspec;
+      included = P.included i.pathspec;
+      conversion = λ content path. T.conversion i.filter content path;
+      blob = O.found i.objects;
+      submodule = S.meaning i.submodule;
+      compared = C.answer i.compare;
+      counted = C.counts_after i.compare;
+    } };
+
+    fn another(&self) -> Result<Interfaces<'w, W, C, S, O, P, T>, AllocError> {
+        Ok(Interfaces {
+            worktree: self.worktree,
+            compare: self.compare.clone()?,
+            submodule: self.submodule.clone()?,
+            objects: self.objects.clone()?,
+            pathspec: self.pathspec.clone()?,
+            filter: self.filter.clone()?,
+        })
+    }
+}

@@ -1,0 +1,154 @@
+//! What the next entries give: one entry, or the stages of a conflict.
+
+ghost use Rattle.std.specs.Prelude.{◌≡◌, ◌<◌, List, [], ℕ, None, option_map, take, drop, length};
+ghost use Rattle.std.specs.Option.{option_copied};
+ghost use Rattle.bstr.specs.BStr.{bstr_bytes};
+ghost use Rattle.status_index.specs.Entries.{IsIndex, entry_at, index_entries};
+ghost use Rattle.status_call.specs.Conflicts.{kept_of, run_at};
+ghost use Rattle.status_call.specs.Considered.{is_flagged};
+ghost use Rattle.status_compare.specs.Reads.{no_reads, plus_reads};
+ghost use Rattle.status_call.specs.Counts.{no_totals};
+ghost use Rattle.status_call.specs.Records.{conflict_status};
+ghost use Rattle.status_call.specs.Steps.{IsFresh, IsStep, processed_counts, decided_counts};
+
+use crate::index_as_worktree::counts::{Counts, Totals};
+use crate::index_as_worktree::decide::{Decide, Decided};
+use crate::index_as_worktree::types::{Conflict, ConflictIndexEntry, EntryStatus, Error};
+use bitflags::Flags as _;
+use bstr::BStr;
+use status_base::index::{Entry, Flags, PathStorage};
+
+/// The flags that leave an entry out: git takes it to be unchanged, or not to be there.
+const SKIP_FLAGS: [Flags; 4] = [
+    Flags::UPTODATE,
+    Flags::SKIP_WORKTREE,
+    Flags::ASSUME_VALID,
+    Flags::FSMONITOR_VALID,
+];
+
+/// What the next entries give: one, or all stages of a conflict.
+#[derive(Debug, Drop)]
+pub struct Step<T, U> {
+    /// What is reported of the first of them.
+    pub status: Option<EntryStatus<T, U>>,
+    /// How many entries it took.
+    pub len: usize,
+    /// What was counted.
+    pub totals: Totals,
+}
+
+/// What the entry at place `i` gives, or all later stages of a conflict with it.
+pub(crate) fn next_step<D: Decide>(
+    entries: &[Entry],
+    backing: &PathStorage,
+    i: usize,
+    decide: &mut D,
+) -> Result<Step<D::Content, D::Submodule>, Error>
+    requires inside { i < length entries.now }
+    requires index { IsIndex (index_entries backing.now entries.now) }
+    requires fresh { IsFresh (D.query decide.old) (take i (index_entries backing.now entries.now)) (drop i (index_entries backing.now entries.now)) }
+    ensures next { IsStep (D.query decide.old) (index_entries backing.now entries.now) i result }
+    ensures same { D.query decide.new ≡ D.query decide.old }
+{
+    let entry = &entries[i];
+    let path = entry.path_in(backing);
+    if is_flagged(entry) {
+        return Ok(skipped_step(1, 0));
+    }
+    if !decide.includes(entry, path) {
+        return Ok(skipped_step(0, 1));
+    }
+    if entry.stage_raw() != 0 {
+        return Ok(conflict_step(entries, backing, i, path));
+    }
+    match decide.decide(entry, path) {
+        Ok(decided) => Ok(decided_step(decided)),
+        Err(error) => Err(error),
+    }
+}
+
+/// Whether a flag leaves an entry out.
+fn is_flagged(entry: &Entry) -> bool
+    ensures { (path : List ℕ) → result ≡ is_flagged (entry_at path entry.now) }
+{
+    SKIP_FLAGS.iter().any(|flag| entry.flags.intersects(*flag))
+}
+
+/// The step of one entry that is left out, by its flags or by the pathspec.
+fn skipped_step<T: Drop, U: Drop>(by_flags: usize, by_pathspec: usize) -> Step<T, U>
+    ensures { result ≡ record { status = None; len = 1; totals = record no_totals { counts = processed_counts by_flags by_pathspec } } }
+{
+    let counts = Counts {
+        processed: 1,
+        skipped_by_flags: by_flags,
+        skipped_by_pathspec: by_pathspec,
+        ..Counts::none()
+    };
+    Step {
+        status: None,
+        len: 1,
+        totals: Totals::unread(counts),
+    }
+}
+
+/// The step of the conflict whose first entry is at place `i`, and has this path.
+fn conflict_step<T: Drop, U: Drop>(
+    entries: &[Entry],
+    backing: &PathStorage,
+    i: usize,
+    path: BStr<'_>,
+) -> Step<T, U>
+    requires { 0 < length (run_at (index_entries backing.now entries.now) i (bstr_bytes path)) }
+    ensures status { result.status ≡ conflict_status (run_at (index_entries backing.now entries.now) i (bstr_bytes path.entry)) }
+    ensures len { result.len ≡ length (run_at (index_entries backing.now entries.now) i (bstr_bytes path.entry)) }
+    ensures totals { result.totals ≡ record no_totals { counts = processed_counts 0 0 } }
+{
+    let Some(found) = Conflict::try_from_entry(entries, backing, i, path) else {
+        return skipped_step(0, 0);
+    };
+    let entries = [kept(found.2[0]), kept(found.2[1]), kept(found.2[2])];
+    let counts = Counts {
+        processed: 1,
+        ..Counts::none()
+    };
+    Step {
+        status: Some(EntryStatus::Conflict {
+            summary: found.0,
+            entries,
+        }),
+        len: found.1 + 1,
+        totals: Totals::unread(counts),
+    }
+}
+
+/// What a conflict keeps of an entry.
+fn kept(entry: Option<&Entry>) -> Option<ConflictIndexEntry>
+    ensures { result ≡ option_map (λ e. kept_of (entry_at [] e)) (option_copied entry.entry) }
+{
+    entry.map(ConflictIndexEntry::from)
+}
+
+/// The step of one entry that was compared with the worktree.
+fn decided_step<T: Drop, U: Drop>(decided: Decided<T, U>) -> Step<T, U>
+    ensures status { result.status ≡ decided.status }
+    ensures len { result.len ≡ 1 }
+    ensures counts { result.totals.counts ≡ decided_counts decided }
+    ensures reads { result.totals.reads ≡ plus_reads no_reads decided.reads }
+{
+    let needs_update = matches!(decided.status, Some(EntryStatus::NeedsUpdate(_)));
+    let counts = Counts {
+        processed: 1,
+        lstat_calls: usize::from(decided.lstat_called),
+        racy_clean: usize::from(decided.racy),
+        to_update: usize::from(needs_update),
+        ..Counts::none()
+    };
+    Step {
+        status: decided.status,
+        len: 1,
+        totals: Totals {
+            counts,
+            reads: decided.reads,
+        },
+    }
+}
