@@ -9,6 +9,7 @@ mod filters;
 mod lengths;
 mod links;
 mod prefixes;
+mod rounds;
 mod sizes;
 mod submodules;
 mod sweep;
