@@ -8,6 +8,7 @@ mod faults;
 mod filters;
 mod lengths;
 mod links;
+mod openings;
 mod prefixes;
 mod rounds;
 mod sizes;
