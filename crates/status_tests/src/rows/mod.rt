@@ -1,6 +1,7 @@
 //! Small indexes and worktrees, and what is told of them.
 
 mod comparers;
+mod conflicts;
 mod copies;
 mod deep;
 mod empty;
