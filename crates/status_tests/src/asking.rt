@@ -9,7 +9,7 @@ use gix_status::index_as_worktree::{
     Capabilities, Change, Context, EntryStatus, Error, Options, Outcome, Record, Recorder,
     VisitEntry, index_as_worktree,
 };
-use status_base::index::{ObjectId, State};
+use status_base::index::{Entry, ObjectId, State};
 use status_base::worktree::{
     AllPaths, Fault, MemoryObjects, NoFilter, NoLister, NoSubmodules, Pathspec, SubmoduleStatus,
     ToGit, Worktree,
@@ -296,6 +296,30 @@ impl<'index, T, U> Told<'index, T, U> {
             _ => false,
         }
     }
+
+    /// Whether each record has the entry that stands at its place of this index, and that entry's path.
+    pub fn is_of(&self, index: &State) -> bool {
+        for record in &self.records {
+            let Some(entry) = index.entries().get(record.entry_index) else {
+                return false;
+            };
+            let path = entry.path_in(index.path_backing());
+            if record.relative_path != path || !is_same(record.entry, entry, index) {
+                return false;
+            }
+        }
+        true
+    }
+}
+
+// Whether two entries of an index are the same one.
+fn is_same(entry: &Entry, other: &Entry, index: &State) -> bool {
+    let backing = index.path_backing();
+    entry.path_in(backing) == other.path_in(backing)
+        && entry.stat == other.stat
+        && entry.id == other.id
+        && entry.flags == other.flags
+        && entry.mode == other.mode
 }
 
 impl<'index, T: PartialEq, U: PartialEq> Told<'index, T, U> {
