@@ -3,7 +3,7 @@
 ghost use Rattle.std.specs.Prelude.{◌<◌, ◌^◌, IfOk};
 ghost use Rattle.gix_status.specs.Outcomes.{skipped_of};
 
-use crate::collectors::Stopping;
+use crate::collectors::{Measuring, Stopping};
 use gix_status::index_as_worktree::traits::CompareBlobs;
 use gix_status::index_as_worktree::{
     Capabilities, Change, Context, EntryStatus, Error, Options, Outcome, Record, Recorder,
@@ -234,6 +234,41 @@ where
         records: stopping.collector.records,
         answer,
     }
+}
+
+/// The same as `ask`, but answers how long the list was that came along with each record.
+pub fn list_lengths<
+    R: AllocGlobal + Threads + Wait,
+    W: Worktree + Sync,
+    C: CompareBlobs<Output = ObjectId> + Send,
+    P: Pathspec + Send,
+    T: ToGit + Send,
+>(
+    rt: &R,
+    index: &State,
+    worktree: &W,
+    compare: C,
+    asked: Asked<NoSubmodules, P, T>,
+) -> Result<Vec<usize>, Error>
+where
+    W::File: Send,
+{
+    let alloc = rt.alloc();
+    let mut measuring = Measuring {
+        collector: Recorder::new(alloc),
+        lengths: Vec::new(alloc),
+    };
+    tell(
+        rt,
+        alloc,
+        index,
+        worktree,
+        &mut measuring,
+        compare,
+        asked,
+        None,
+    )?;
+    Ok(measuring.lengths)
 }
 
 /// Tells `collector` the status of an index against a worktree.
