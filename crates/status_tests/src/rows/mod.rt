@@ -10,6 +10,7 @@ mod filters;
 mod lengths;
 mod links;
 mod openings;
+mod orders;
 mod prefixes;
 mod rounds;
 mod sizes;
