@@ -34,7 +34,7 @@ impl io::Read for Folder {
 }
 
 // The exit status, the output and the fault lines of the status that a text asks for.
-fn run<R: AllocGlobal + Files + Sync + Threads + Wait>(
+fn run_text<R: AllocGlobal + Files + Sync + Threads + Wait>(
     rt: &R,
     text: &[u8],
 ) -> (u8, Vec<u8>, Vec<u8>)
@@ -59,7 +59,7 @@ where
     R::File: Send,
     R::Dir: Send,
 {
-    let (status, output, faults) = run(rt, text.as_bytes());
+    let (status, output, faults) = run_text(rt, text.as_bytes());
     assert_eq!(rt; status, 0, "at {text}");
     assert!(rt; faults.is_empty(), "at {text}");
     assert_eq!(rt; output.as_slice(), lines.as_bytes(), "at {text}");
@@ -75,7 +75,7 @@ where
     R::File: Send,
     R::Dir: Send,
 {
-    let (status, output, faults) = run(rt, text.as_bytes());
+    let (status, output, faults) = run_text(rt, text.as_bytes());
     assert_eq!(rt; status, 1, "at {text}");
     assert!(rt; output.is_empty(), "at {text}");
     assert_eq!(rt; faults.as_slice(), fault.as_bytes(), "at {text}");
@@ -84,7 +84,7 @@ where
 #[test]
 fn a_text_that_is_no_json_is_told(rt: HostRuntime) {
     assert_refused(&rt, "not", "not JSON\n");
-    let (status, output, faults) = run(&rt, b"{\"hash\":\"\xff\"}");
+    let (status, output, faults) = run_text(&rt, b"{\"hash\":\"\xff\"}");
     assert_eq!(rt; status, 1);
     assert!(rt; output.is_empty());
     assert_eq!(rt; faults.as_slice(), b"not JSON\n".as_slice());
@@ -384,7 +384,7 @@ fn the_records_before_a_fault_stay_printed(rt: HostRuntime) {
 {"path":"a//b","id":"19102815663d23f8b75a47e7a01965dcdc96468c","size":3,"mtime":[5,0]}],
 "worktree":[
 {"path":"a","text":"bar","mtime":[7,0]}]}"#;
-    let (status, output, faults) = run(&rt, text.as_bytes());
+    let (status, output, faults) = run_text(&rt, text.as_bytes());
     assert_eq!(rt; status, 1);
     assert_eq!(rt; output.as_slice(), b"0 modified -c- \"a\"\n".as_slice());
     let fault = b"status failed: not normal\n".as_slice();
