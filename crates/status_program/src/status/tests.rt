@@ -23,6 +23,27 @@ impl io::Write for Full {
     }
 }
 
+// A writer that keeps what it gets, and can't be flushed any more once that is so many bytes.
+#[derive(Drop)]
+struct Unflushed {
+    bytes: Vec<u8>,
+    most: usize,
+}
+
+impl io::Write for Unflushed {
+    fn write(&mut self, buf: &[u8]) -> io::Result<usize> {
+        self.bytes.extend_from_slice(buf)?;
+        Ok(buf.len())
+    }
+
+    fn flush(&mut self) -> io::Result<()> {
+        if self.bytes.len() >= self.most {
+            return Err(io::Error::from(io::ErrorKind::StorageFull));
+        }
+        Ok(())
+    }
+}
+
 // A reader that fails at once.
 #[derive(Drop)]
 struct Folder;
@@ -238,6 +259,52 @@ fn a_full_output_is_a_failure_with_no_line(rt: HostRuntime) {
         let status = run_status(&rt, "f", &mut text.as_bytes(), &mut output, &mut faults);
         assert_eq!(rt; status, 1);
         assert!(rt; faults.is_empty());
+    }
+}
+
+#[test]
+fn an_output_that_is_not_flushed_is_a_failure_with_no_line(rt: HostRuntime) {
+    let cases = [
+        // After the records.
+        (
+            r#"{"timestamp":[9,0],
+"index":[
+{"path":"a","id":"19102815663d23f8b75a47e7a01965dcdc96468c","size":3,"mtime":[5,0]}],
+"worktree":[
+{"path":"a","text":"bars","mtime":[7,0]}]}"#,
+            "0 modified -c- \"a\"\n",
+        ),
+        // After the records before a fault, which isn't printed then.
+        (
+            r#"{"timestamp":[9,0],
+"index":[
+{"path":"a","id":"19102815663d23f8b75a47e7a01965dcdc96468c","size":3,"mtime":[5,0]},
+{"path":"a//b","id":"19102815663d23f8b75a47e7a01965dcdc96468c","size":3,"mtime":[5,0]}],
+"worktree":[
+{"path":"a","text":"bars","mtime":[7,0]}]}"#,
+            "0 modified -c- \"a\"\n",
+        ),
+        // After the line of totals.
+        (
+            r#"{"timestamp":[9,0],
+"options":{"counts":true},
+"index":[
+{"path":"a","id":"19102815663d23f8b75a47e7a01965dcdc96468c","size":3,"mtime":[5,0]}],
+"worktree":[
+{"path":"a","text":"bars","mtime":[7,0]}]}"#,
+            "0 modified -c- \"a\"\ntotal: to process 1, processed 1, skipped 0, lstat 1, to update 0, racy 0, read 1, bytes 4\n",
+        ),
+    ];
+    for (text, wanted) in cases {
+        let mut faults = Vec::new(rt.alloc());
+        let mut output = Unflushed {
+            bytes: Vec::new(rt.alloc()),
+            most: wanted.len(),
+        };
+        let status = run_status(&rt, "f", &mut text.as_bytes(), &mut output, &mut faults);
+        assert_eq!(rt; status, 1, "at {text}");
+        assert_eq!(rt; output.bytes.as_slice(), wanted.as_bytes(), "at {text}");
+        assert!(rt; faults.is_empty(), "at {text}");
     }
 }
 
