@@ -3,13 +3,13 @@
 ghost use Rattle.std.specs.Prelude.{◌<◌, ◌^◌, IfOk};
 ghost use Rattle.status_call.specs.Outcomes.{skipped_of};
 
-use crate::collectors::Stopping;
+use crate::collectors::{Measuring, Stopping};
 use gix_status::index_as_worktree::traits::CompareBlobs;
 use gix_status::index_as_worktree::{
     Capabilities, Change, Context, EntryStatus, Error, Options, Outcome, Record, Recorder,
     VisitEntry, index_as_worktree,
 };
-use gix_status::index::{ObjectId, State};
+use gix_status::index::{Entry, ObjectId, State};
 use gix_status::worktree::{
     AllPaths, Fault, MemoryObjects, NoFilter, NoLister, NoSubmodules, Pathspec, SubmoduleStatus,
     ToGit, Worktree,
@@ -236,6 +236,41 @@ where
     }
 }
 
+/// The same as `ask`, but answers how long the list was that came along with each record.
+pub fn list_lengths<
+    R: AllocGlobal + Threads + Wait,
+    W: Worktree + Sync,
+    C: CompareBlobs<Output = ObjectId> + Send,
+    P: Pathspec + Send,
+    T: ToGit + Send,
+>(
+    rt: &R,
+    index: &State,
+    worktree: &W,
+    compare: C,
+    asked: Asked<NoSubmodules, P, T>,
+) -> Result<Vec<usize>, Error>
+where
+    W::File: Send,
+{
+    let alloc = rt.alloc();
+    let mut measuring = Measuring {
+        collector: Recorder::new(alloc),
+        lengths: Vec::new(alloc),
+    };
+    tell(
+        rt,
+        alloc,
+        index,
+        worktree,
+        &mut measuring,
+        compare,
+        asked,
+        None,
+    )?;
+    Ok(measuring.lengths)
+}
+
 /// Tells `collector` the status of an index against a worktree.
 pub fn tell<
     'index,
@@ -296,6 +331,30 @@ impl<'index, T, U> Told<'index, T, U> {
             _ => false,
         }
     }
+
+    /// Whether each record has the entry that stands at its place of this index, and that entry's path.
+    pub fn is_of(&self, index: &State) -> bool {
+        for record in &self.records {
+            let Some(entry) = index.entries().get(record.entry_index) else {
+                return false;
+            };
+            let path = entry.path_in(index.path_backing());
+            if record.relative_path != path || !is_same(record.entry, entry, index) {
+                return false;
+            }
+        }
+        true
+    }
+}
+
+// Whether two entries of an index are the same one.
+fn is_same(entry: &Entry, other: &Entry, index: &State) -> bool {
+    let backing = index.path_backing();
+    entry.path_in(backing) == other.path_in(backing)
+        && entry.stat == other.stat
+        && entry.id == other.id
+        && entry.flags == other.flags
+        && entry.mode == other.mode
 }
 
 impl<'index, T: PartialEq, U: PartialEq> Told<'index, T, U> {

@@ -7,7 +7,7 @@ ghost use Rattle.status_tests.specs.Returns.{is_no_return, without_returns};
 
 use bstr::BStr;
 use gix_status::worktree::{Fault, ReadBytes, ToGit, ToGitOutcome};
-use status_index::read_all;
+use gix_status::worktree::read_all;
 use std::alloc::AllocError;
 
 /// Takes out carriage returns, as where text is stored with line feeds alone.

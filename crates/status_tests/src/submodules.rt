@@ -1,6 +1,6 @@
-//! Submodules as a caller tells of them.
+//! Submodules as a caller writes them.
 
-ghost use Rattle.std.specs.Prelude.{◌≡◌};
+ghost use Rattle.std.specs.Prelude.{◌≡◌, true, refl};
 ghost use Rattle.status_tests.specs.Texts.{answer_of};
 
 use bstr::BStr;
@@ -31,9 +31,13 @@ impl<'a> SubmoduleStatus for Alike<'a> {
 
     type Output = u32;
 
-    ghost meaning = { λ s _ _. answer_of s.answer };
+    ghost modelled = { λ _. true };
 
-    ghost clone_keeps_meaning = { λ _ _ same. ap (λ s _ _. answer_of s.answer) same };
+    ghost meaning = { λ s _. answer_of s.answer };
+
+    ghost clone_keeps_modelled = { λ _ _ _. refl };
+
+    ghost clone_keeps_meaning = { λ _ _ same. ap (λ s _. answer_of s.answer) same };
 
     fn status(&mut self, _entry: &Entry, _path: BStr<'_>) -> Result<Option<u32>, SubmoduleFault> {
         match self.answer {

@@ -65,7 +65,7 @@ impl<'a> Files<'a> {
 impl<'a> Worktree for Files<'a> {
     type File = Piece<'a>;
 
-    ghost tells = { λ _. false };
+    ghost modelled = { λ _. false };
 
     ghost lstat_of = { λ _ _. Err NotFound };
 
@@ -113,7 +113,7 @@ pub struct Long<'a> {
 impl<'a> Worktree for Long<'a> {
     type File = Piece<'a>;
 
-    ghost tells = { λ _. false };
+    ghost modelled = { λ _. false };
 
     ghost lstat_of = { λ _ _. Err NotFound };
 
@@ -138,7 +138,7 @@ impl<'a> Worktree for Long<'a> {
     }
 }
 
-/// A worktree whose looks at one path, and whose openings of it, are counted.
+/// A worktree whose looks at one path, and whose openings of it, are counted. It is modelled where the one within is.
 #[derive(Clone, Copy)]
 pub struct Counted<'a, W> {
     pub worktree: W,
@@ -159,13 +159,13 @@ impl<'a, W> Counted<'a, W> {
 impl<'a, W: Worktree> Worktree for Counted<'a, W> {
     type File = W::File;
 
-    ghost tells = { λ _. false };
+    ghost modelled = { λ c. W.modelled c.worktree };
 
-    ghost lstat_of = { λ _ _. Err NotFound };
+    ghost lstat_of = { λ c. W.lstat_of c.worktree };
 
-    ghost open_of = { λ _ _. Err NotFound };
+    ghost open_of = { λ c. W.open_of c.worktree };
 
-    ghost target_of = { λ _ _. Err NotFound };
+    ghost target_of = { λ c. W.target_of c.worktree };
 
     fn lstat(&self, path: BStr<'_>) -> Result<Metadata, Fault> {
         self.count(path, self.looks);
@@ -193,7 +193,7 @@ pub struct Watched<'a> {
 impl<'a> Worktree for Watched<'a> {
     type File = Piece<'a>;
 
-    ghost tells = { λ _. false };
+    ghost modelled = { λ _. false };
 
     ghost lstat_of = { λ _ _. Err NotFound };
 
@@ -240,7 +240,7 @@ impl<'a> Meeting<'a> {
 impl<'a> Worktree for Meeting<'a> {
     type File = Piece<'a>;
 
-    ghost tells = { λ _. false };
+    ghost modelled = { λ _. false };
 
     ghost lstat_of = { λ _ _. Err NotFound };
 

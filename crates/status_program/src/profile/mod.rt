@@ -41,13 +41,13 @@ impl Profile {
     /// Text that isn't JSON, the first key that is missing or has a wrong form, or want of memory.
     pub fn from_json(alloc: Global, text: &[u8]) -> Result<Profile, ProfileError> {
         match serde_json::from_slice(alloc, text)? {
-            Document(Some(members)) => read_profile(alloc, members),
+            Document(Some(members)) => profile_of(alloc, members),
             Document(None) => Err(ProfileError::Bad(Key::Hash)),
         }
     }
 }
 
-fn read_profile(alloc: Global, members: Members) -> Result<Profile, ProfileError> {
+fn profile_of(alloc: Global, members: Members) -> Result<Profile, ProfileError> {
     let Members {
         entries,
         nodes,

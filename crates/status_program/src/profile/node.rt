@@ -39,7 +39,7 @@ impl Item for (BString, Node) {
 
 fn read_node(alloc: Global, fields: Fields<'_>) -> Result<Node, FieldError> {
     let kind = read_kind(fields)?;
-    let bytes = read_bytes(alloc, fields)?;
+    let bytes = read_content(alloc, fields)?;
     let stat = fields.stat(0)?;
     Ok(Node {
         kind,
@@ -66,7 +66,7 @@ fn read_kind(fields: Fields<'_>) -> Result<NodeKind, FieldError> {
 }
 
 /// The bytes as hexadecimal digits, which come before a text.
-fn read_bytes(alloc: Global, fields: Fields<'_>) -> Result<Vec<u8>, FieldError> {
+fn read_content(alloc: Global, fields: Fields<'_>) -> Result<Vec<u8>, FieldError> {
     if let Some(digits) = fields.get("hex") {
         return Ok(hex::decode(alloc, text_of(digits)?)?);
     }

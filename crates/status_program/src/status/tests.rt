@@ -23,6 +23,27 @@ impl io::Write for Full {
     }
 }
 
+// A writer that keeps what it gets, and can't be flushed any more once that is so many bytes.
+#[derive(Drop)]
+struct Unflushed {
+    bytes: Vec<u8>,
+    most: usize,
+}
+
+impl io::Write for Unflushed {
+    fn write(&mut self, buf: &[u8]) -> io::Result<usize> {
+        self.bytes.extend_from_slice(buf)?;
+        Ok(buf.len())
+    }
+
+    fn flush(&mut self) -> io::Result<()> {
+        if self.bytes.len() >= self.most {
+            return Err(io::Error::from(io::ErrorKind::StorageFull));
+        }
+        Ok(())
+    }
+}
+
 // A reader that fails at once.
 #[derive(Drop)]
 struct Folder;
@@ -34,7 +55,7 @@ impl io::Read for Folder {
 }
 
 // The exit status, the output and the fault lines of the status that a text asks for.
-fn run<R: AllocGlobal + Files + Sync + Threads + Wait>(
+fn run_text<R: AllocGlobal + Files + Sync + Threads + Wait>(
     rt: &R,
     text: &[u8],
 ) -> (u8, Vec<u8>, Vec<u8>)
@@ -59,7 +80,7 @@ where
     R::File: Send,
     R::Dir: Send,
 {
-    let (status, output, faults) = run(rt, text.as_bytes());
+    let (status, output, faults) = run_text(rt, text.as_bytes());
     assert_eq!(rt; status, 0, "at {text}");
     assert!(rt; faults.is_empty(), "at {text}");
     assert_eq!(rt; output.as_slice(), lines.as_bytes(), "at {text}");
@@ -75,7 +96,7 @@ where
     R::File: Send,
     R::Dir: Send,
 {
-    let (status, output, faults) = run(rt, text.as_bytes());
+    let (status, output, faults) = run_text(rt, text.as_bytes());
     assert_eq!(rt; status, 1, "at {text}");
     assert!(rt; output.is_empty(), "at {text}");
     assert_eq!(rt; faults.as_slice(), fault.as_bytes(), "at {text}");
@@ -84,7 +105,7 @@ where
 #[test]
 fn a_text_that_is_no_json_is_told(rt: HostRuntime) {
     assert_refused(&rt, "not", "not JSON\n");
-    let (status, output, faults) = run(&rt, b"{\"hash\":\"\xff\"}");
+    let (status, output, faults) = run_text(&rt, b"{\"hash\":\"\xff\"}");
     assert_eq!(rt; status, 1);
     assert!(rt; output.is_empty());
     assert_eq!(rt; faults.as_slice(), b"not JSON\n".as_slice());
@@ -242,6 +263,52 @@ fn a_full_output_is_a_failure_with_no_line(rt: HostRuntime) {
 }
 
 #[test]
+fn an_output_that_is_not_flushed_is_a_failure_with_no_line(rt: HostRuntime) {
+    let cases = [
+        // After the records.
+        (
+            r#"{"timestamp":[9,0],
+"index":[
+{"path":"a","id":"19102815663d23f8b75a47e7a01965dcdc96468c","size":3,"mtime":[5,0]}],
+"worktree":[
+{"path":"a","text":"bars","mtime":[7,0]}]}"#,
+            "0 modified -c- \"a\"\n",
+        ),
+        // After the records before a fault, which isn't printed then.
+        (
+            r#"{"timestamp":[9,0],
+"index":[
+{"path":"a","id":"19102815663d23f8b75a47e7a01965dcdc96468c","size":3,"mtime":[5,0]},
+{"path":"a//b","id":"19102815663d23f8b75a47e7a01965dcdc96468c","size":3,"mtime":[5,0]}],
+"worktree":[
+{"path":"a","text":"bars","mtime":[7,0]}]}"#,
+            "0 modified -c- \"a\"\n",
+        ),
+        // After the line of totals.
+        (
+            r#"{"timestamp":[9,0],
+"options":{"counts":true},
+"index":[
+{"path":"a","id":"19102815663d23f8b75a47e7a01965dcdc96468c","size":3,"mtime":[5,0]}],
+"worktree":[
+{"path":"a","text":"bars","mtime":[7,0]}]}"#,
+            "0 modified -c- \"a\"\ntotal: to process 1, processed 1, skipped 0, lstat 1, to update 0, racy 0, read 1, bytes 4\n",
+        ),
+    ];
+    for (text, wanted) in cases {
+        let mut faults = Vec::new(rt.alloc());
+        let mut output = Unflushed {
+            bytes: Vec::new(rt.alloc()),
+            most: wanted.len(),
+        };
+        let status = run_status(&rt, "f", &mut text.as_bytes(), &mut output, &mut faults);
+        assert_eq!(rt; status, 1, "at {text}");
+        assert_eq!(rt; output.bytes.as_slice(), wanted.as_bytes(), "at {text}");
+        assert!(rt; faults.is_empty(), "at {text}");
+    }
+}
+
+#[test]
 fn a_conflict_is_told_once_where_pieces_meet(rt: HostRuntime) {
     let text = r#"{"timestamp":[9,0],
 "options":{"counts":true,"chunk_size":2},
@@ -384,7 +451,7 @@ fn the_records_before_a_fault_stay_printed(rt: HostRuntime) {
 {"path":"a//b","id":"19102815663d23f8b75a47e7a01965dcdc96468c","size":3,"mtime":[5,0]}],
 "worktree":[
 {"path":"a","text":"bar","mtime":[7,0]}]}"#;
-    let (status, output, faults) = run(&rt, text.as_bytes());
+    let (status, output, faults) = run_text(&rt, text.as_bytes());
     assert_eq!(rt; status, 1);
     assert_eq!(rt; output.as_slice(), b"0 modified -c- \"a\"\n".as_slice());
     let fault = b"status failed: not normal\n".as_slice();

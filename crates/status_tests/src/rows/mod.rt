@@ -1,6 +1,7 @@
 //! Small indexes and worktrees, and what is told of them.
 
 mod comparers;
+mod conflicts;
 mod copies;
 mod deep;
 mod empty;
@@ -8,7 +9,10 @@ mod faults;
 mod filters;
 mod lengths;
 mod links;
+mod openings;
+mod orders;
 mod prefixes;
+mod rounds;
 mod sizes;
 mod submodules;
 mod sweep;

@@ -1,7 +1,7 @@
 //! Paths that begin with a prefix.
 
 use crate::asking::{
-    Asked, Told, ask, changed, one_file, one_file_read, options, removed, skipped,
+    Asked, Told, ask, changed, list_lengths, one_file, one_file_read, options, removed, skipped,
 };
 use crate::given::{BAR, WRITTEN, file, foo_entry, index, later_file, worktree};
 use bstr::BStr;
@@ -101,5 +101,20 @@ fn a_prefix_may_be_a_whole_path(rt: HostRuntime) -> Result<(), Fail> {
         ..one_file_read(3)
     };
     assert!(rt; told.took(&wanted));
+    Ok(())
+}
+
+#[test]
+fn the_whole_index_comes_along_with_each_record(rt: HostRuntime) -> Result<(), Fail> {
+    let entries = [foo_entry("a"), foo_entry("b"), foo_entry("c")];
+    let index = index(rt.alloc(), WRITTEN, &entries)?;
+    let worktree = worktree(rt.alloc(), &[])?;
+    for (prefix, wanted) in [("", [3, 3, 3].as_slice()), ("b", [3].as_slice())] {
+        let asked = asked_below(rt.alloc(), prefix)?;
+        let Ok(lengths) = list_lengths(&rt, &index, &worktree, HashEq, asked) else {
+            return Err(Fail::new("the status failed"));
+        };
+        assert_eq!(rt; lengths.as_slice(), wanted, "at {prefix}");
+    }
     Ok(())
 }

@@ -223,6 +223,7 @@ fn chunk_sizes_and_thread_limits_change_nothing(rt: HostRuntime) -> Result<(), F
             let asked = with_options(alloc, options);
             let told = ask(&rt, &index, &worktree, HashEq, asked);
             assert!(rt; told.is_all(&wanted), "{chunk_size}, {thread_limit:?}");
+            assert!(rt; told.is_of(&index), "{chunk_size}, {thread_limit:?}");
             assert!(rt; told.took(&took), "{chunk_size}, {thread_limit:?}");
         }
     }

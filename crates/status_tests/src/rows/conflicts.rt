@@ -1,0 +1,63 @@
+//! Conflicts of entries that differ in id and mode.
+
+use crate::asking::{ask, plainly};
+use crate::given::{BAR, BARS, FOO, GivenEntry, WRITTEN, index, stage_entry, worktree};
+use gix_status::index_as_worktree::traits::HashEq;
+use gix_status::index_as_worktree::{Conflict, ConflictIndexEntry, EntryStatus};
+use gix_status::index::Mode;
+use std::sync::Wait;
+use std::test::Fail;
+use std::thread::Threads;
+
+// The entry of a stage, with an id and a mode of its own.
+fn side(stage: u32) -> GivenEntry<'static> {
+    let (id, mode) = match stage {
+        1 => (FOO, Mode::File),
+        2 => (BAR, Mode::FileExecutable),
+        _ => (BARS, Mode::Symlink),
+    };
+    GivenEntry {
+        id,
+        mode,
+        ..stage_entry("f", stage)
+    }
+}
+
+// What a conflict of these stages keeps in the place of one of them.
+fn kept(stage: u32, stages: &[u32]) -> Option<ConflictIndexEntry> {
+    let GivenEntry {
+        id,
+        flags,
+        mode,
+        ..
+    } = side(stage);
+    stages
+        .contains(&stage)
+        .then_some(ConflictIndexEntry { id, flags, mode })
+}
+
+// Whether the entries of these stages are recorded as this conflict, each in the place of its stage.
+fn is_recorded<R: AllocGlobal + Threads + Wait>(
+    rt: &R,
+    stages: &[u32],
+    summary: Conflict,
+) -> Result<bool, Fail> {
+    let mut sides = Vec::new(rt.alloc());
+    for stage in stages {
+        sides.push(side(*stage))?;
+    }
+    let index = index(rt.alloc(), WRITTEN, &sides)?;
+    let worktree = worktree(rt.alloc(), &[])?;
+    let told = ask(rt, &index, &worktree, HashEq, plainly(rt.alloc()));
+    let entries = [kept(1, stages), kept(2, stages), kept(3, stages)];
+    Ok(told.is_all(&[(0, "f", EntryStatus::Conflict { summary, entries })]))
+}
+
+#[test]
+fn each_side_of_a_conflict_has_its_place(rt: HostRuntime) -> Result<(), Fail> {
+    assert!(rt; is_recorded(&rt, &[1, 2, 3], Conflict::BothModified)?);
+    assert!(rt; is_recorded(&rt, &[1, 3], Conflict::DeletedByUs)?);
+    assert!(rt; is_recorded(&rt, &[2, 3], Conflict::BothAdded)?);
+    assert!(rt; is_recorded(&rt, &[1, 2], Conflict::DeletedByThem)?);
+    Ok(())
+}
