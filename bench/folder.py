@@ -32,13 +32,13 @@ def main():
     parser = argparse.ArgumentParser(description="Makes a git repository of COUNT files in a new FOLDER.")
     parser.add_argument("folder", help="where the repository is made; it may not be there yet")
     parser.add_argument("count", type=int, help="how many files it has")
-    asked = parser.parse_args()
-    if asked.count < 0:
+    arguments = parser.parse_args()
+    if arguments.count < 0:
         parser.error("COUNT may not be below 0")
     try:
-        make(asked.folder, asked.count)
+        make(arguments.folder, arguments.count)
     except FileExistsError:
-        sys.exit(f"refused: {asked.folder} is there already")
+        sys.exit(f"refused: {arguments.folder} is there already")
     except FileNotFoundError as error:
         sys.exit(f"refused: {error.filename} isn't there")
     except subprocess.CalledProcessError as error:

@@ -1,9 +1,12 @@
 #!/usr/bin/env python3
 """Writes a status profile of COUNT entries to standard output: even ones are clean by their stat, odd ones are hashed.
 
-With --depth the paths have so many components, 3 where nothing is said. With --size each file has so many bytes, and all
-are hashed; with --size 0, as where nothing is said, a file has one short line. With --clean all are clean.
+    python3 bench/profiles.py COUNT [--depth 3] [--size 0] [--clean]
+
+A path has --depth components. With --size above 0 each file has so many bytes and all are hashed; with 0 a file has one
+short line. With --clean all are clean by their stat.
 """
+
 import argparse
 import hashlib
 import json

@@ -44,13 +44,13 @@ def timed(program, path):
 
 def main():
     parser = argparse.ArgumentParser(description=__doc__.splitlines()[0])
-    parser.add_argument("program")
-    parser.add_argument("profile")
-    parser.add_argument("--runs", type=int, default=7)
-    asked = parser.parse_args()
-    if asked.runs < 1:
+    parser.add_argument("program", help="the built program")
+    parser.add_argument("profile", help="the profile's file")
+    parser.add_argument("--runs", type=int, default=7, help="how many runs of each setting (7)")
+    arguments = parser.parse_args()
+    if arguments.runs < 1:
         parser.error("--runs above 0 is wanted")
-    with open(asked.profile, encoding="utf-8") as text:
+    with open(arguments.profile, encoding="utf-8") as text:
         profile = json.load(text)
     with tempfile.TemporaryDirectory() as folder:
         paths = {
@@ -59,9 +59,9 @@ def main():
         }
         paths["none"] = variant(profile, folder, "none", thread_limit=1, chunk_size=500, prefix="no path/")
         least = dict.fromkeys(paths, (float("inf"), float("inf")))
-        for _ in range(asked.runs):
+        for _ in range(arguments.runs):
             for key, path in paths.items():
-                least[key] = tuple(map(min, least[key], timed(asked.program, path)))
+                least[key] = tuple(map(min, least[key], timed(arguments.program, path)))
     print("limit  chunk size  wall ms  processor ms")
     for limit, chunk in SETTINGS:
         wall, processor = (a - b for a, b in zip(least[(limit, chunk)], least["none"]))

@@ -4,24 +4,24 @@
     python3 tools/profile_from_git.py [--counts] [FOLDER] > profile.json
 
 FOLDER is in the repository's worktree; without it the working folder is taken. Nothing is written but the profile, to
-standard output, and to standard error the git command whose answer is comparable. What a profile can't say is refused
-with a line on standard error and the status 1. It needs git.
+standard output, and the git command to compare with, to standard error. What a profile can't say is refused with a line
+on standard error and the exit status 1. It needs git.
 
-Over a folder the program knows of a file its kind, its length and when its content last changed. So the profile has
-`trust_ctime` and `check_stat` off, and git has to be told the same: not to compare the change of metadata
-(core.trustctime=false), the inode, the owner and the nanoseconds (core.checkStat=minimal), and the executable bit
-(core.fileMode=false). The second letter of each line of git's answer is what the program tells:
+Over a folder the program sees a file's kind, its length and when its content last changed. So the profile has
+`trust_ctime` and `check_stat` off, and git needs the same settings: it must not compare the time of the last change of
+metadata (core.trustctime=false), nor inode, owner and nanoseconds (core.checkStat=minimal), nor the executable bit
+(core.fileMode=false). The second letter of each of git's lines then says what the program reports:
 
     git            program                          git            program
     M              modified -c- or -cs              D              removed
     T              type                             A (intent)     intent
     two letters of a conflict: conflict             no line        no line, or update (only the stat differs)
 
-`-cs` is told where the content changed though the stat agrees: such a stat is racy, since the file's time isn't before
+The program prints `-cs` where the content changed and the stat agrees. Such a stat is racy: the file's time isn't before
 that of the index, in seconds.
 
-Not known to the program, and so a difference: conversions (line ends, filters: a note tells how many paths have any),
-what is in a submodule, and the kinds of files that git has no mode for.
+What the program doesn't know differs: conversions (line ends and filters; a note says how many paths have any), the
+content of submodules, and the kinds of files for which git has no mode.
 """
 
 import argparse
@@ -148,7 +148,7 @@ def moment_of(index):
 
 
 def converts_lines(folder):
-    """Whether git converts line ends without being asked by an attribute: `input`, or what git takes as true."""
+    """Whether git converts line ends where no attribute says so: by `input`, or by what git takes as true."""
     said = git(folder, "config", "--default", "false", "core.autocrlf").strip()
     return said.lower() == b"input" or setting(folder, "core.autocrlf", "false")
 
@@ -190,11 +190,11 @@ def comparable(folder):
 
 def main():
     parser = argparse.ArgumentParser(description="Prints the profile of a git repository's index, over its real folder.")
-    parser.add_argument("--counts", action="store_true", help="ask the program for its line of totals too")
+    parser.add_argument("--counts", action="store_true", help="have the program print its total line too")
     parser.add_argument("folder", nargs="?", default=".", help="a folder of the repository's worktree")
-    asked = parser.parse_args()
+    arguments = parser.parse_args()
     try:
-        profile, conversions = profile_of(asked.folder, asked.counts)
+        profile, conversions = profile_of(arguments.folder, arguments.counts)
     except Refused as refusal:
         print(f"refused: {refusal}", file=sys.stderr)
         return 1

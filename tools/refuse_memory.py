@@ -5,12 +5,12 @@
     python3 tools/refuse_memory.py crates/status_round
 
 In the crate's folder it calls `rt try --fail-alloc N`: with arguments on the program, without any on all of the crate's
-tests, since `rt try` has no filter. A first run, in which nothing is refused, has to pass. Each later one may pass as it
-did, a program with the same output, or fail by want of memory: each failure says one of the words of --want. Every other
-end is told with its N and what was printed: a fault, another answer, and a run that takes longer than --seconds. `rt`
-builds anew for each run, and doesn't say whether there was an Nth allocation: --calm passes in a row end the sweep, or
---last. Sweeps by --step share the work, each in a clone of its own. The status is 0 where no run was told, 1 where one
-was, and 2 where there is no sweep.
+tests, since `rt try` has no filter. A first run, in which nothing is refused, has to pass. Each later run may pass (a
+program with the same output), or fail by want of memory (each failure says one of the words of --want). Every other end
+is wrong, and is printed with its N and the run's output: a fault, another answer, or more than --seconds. `rt` builds
+anew for each run, and doesn't say whether there was an Nth allocation: --calm passes in a row end the sweep, or --last.
+Sweeps by --step share the work, each in a clone of its own. The exit status is 0 where no run ended wrongly, 1 where one
+did, and 2 where there is no sweep.
 """
 
 import argparse
@@ -47,7 +47,7 @@ def end(child):
 
 
 def judged(status, out, err, wanted, want):
-    """How a run ended, in capitals where that is to be told."""
+    """How a run ended, in capitals where that is wrong."""
     if status is None:
         return "HANGS"
     if re.search(r"^run=(?!ended)|^checked: fault", out + err, re.M):
@@ -59,23 +59,23 @@ def judged(status, out, err, wanted, want):
     return "want of memory" if len(wants) >= failures else "OTHER FAILURE"
 
 
-def sweep(asked, arguments):
+def sweep(options, arguments):
     """The exit status of the sweep."""
     words = ["--", *arguments] if arguments else ["--test"]
-    status, out, err = run(asked.folder, words, asked.seconds)
+    status, out, err = run(options.folder, words, options.seconds)
     if status != 0:
         print(f"{out}{err}refused: where nothing is refused, rt try ends with {status}", file=sys.stderr)
         return 2
-    wanted, told, calm, at = out if arguments else None, 0, 0, asked.first
-    while calm < asked.calm and (asked.last is None or at <= asked.last):
-        status, out, err = run(asked.folder, ["--fail-alloc", str(at), *words], asked.seconds)
-        how = judged(status, out, err, wanted, asked.want)
+    wanted, ended, calm, at = out if arguments else None, 0, 0, options.first
+    while calm < options.calm and (options.last is None or at <= options.last):
+        status, out, err = run(options.folder, ["--fail-alloc", str(at), *words], options.seconds)
+        how = judged(status, out, err, wanted, options.want)
         print(f"{at}: {how}", flush=True)
         if how.isupper():
-            told = 1
+            ended = 1
             print(f"status {status}\n{out}{err}", flush=True)
-        calm, at = (calm + 1 if how == "pass" else 0), at + asked.step
-    return told
+        calm, at = (calm + 1 if how == "pass" else 0), at + options.step
+    return ended
 
 
 def main():
@@ -89,11 +89,11 @@ def main():
     parser.add_argument("--want", default=r"AllocError|AllocFailed|Memory|[Oo]ut of memory", help="a pattern")
     words = sys.argv[1:]
     cut = words.index("--") if "--" in words else len(words)
-    asked = parser.parse_args(words[:cut])
-    if min(asked.first, asked.calm, asked.step) < 1 or not os.path.isdir(f"{asked.folder}/src"):
+    options = parser.parse_args(words[:cut])
+    if min(options.first, options.calm, options.step) < 1 or not os.path.isdir(f"{options.folder}/src"):
         parser.error("a crate's folder is wanted, and --first, --step and --calm above 0")
     try:
-        return sweep(asked, words[cut + 1 :])
+        return sweep(options, words[cut + 1 :])
     except FileNotFoundError:
         return parser.error("rt isn't there")
 

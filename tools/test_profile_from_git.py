@@ -1,7 +1,7 @@
 #!/usr/bin/env python3
 """Tests of profile_from_git.py, on repositories that git makes here:  python3 tools/test_profile_from_git.py
 
-Where STATUS_PROGRAM names the built program, its lines are compared with git's. Where there is no git, nothing is run.
+Where STATUS_PROGRAM names the built program, its lines are compared with git's. Without git no test is run.
 """
 
 import json
@@ -20,12 +20,17 @@ sys.path.insert(0, HERE)
 import profile_from_git as tool
 
 FOO = "19102815663d23f8b75a47e7a01965dcdc96468c"
-PROGRAM = os.environ.get("STATUS_PROGRAM")
+PROGRAM = os.path.abspath(os.environ["STATUS_PROGRAM"]) if os.environ.get("STATUS_PROGRAM") else None
 # git's letters for the program's words. None where git prints no line.
 LETTERS = {"removed": "D", "modified": "M", "type": "T", "intent": "A", "update": None}
 
+# No setting of the user's and none of a hook's changes what git does here.
+for name in [name for name in os.environ if name.startswith("GIT_")]:
+    del os.environ[name]
+os.environ.update(GIT_CONFIG_GLOBAL=os.devnull, GIT_CONFIG_NOSYSTEM="1")
 
-@unittest.skipUnless(shutil.which("git"), "needs git")
+
+@unittest.skipUnless(shutil.which("git"), "no git")
 class Case(unittest.TestCase):
     def setUp(self):
         room = tempfile.TemporaryDirectory()
@@ -57,7 +62,7 @@ class Case(unittest.TestCase):
 
 
 class Profiles(Case):
-    def test_an_entry_has_what_lstat_told_git(self):
+    def test_an_entry_has_what_lstat_reported(self):
         self.write("a", "foo")
         os.chmod(self.path("a"), 0o755)
         os.symlink("a", self.path("l"))
@@ -165,7 +170,7 @@ class Refusals(Case):
             tool.entries_of(b"100644 x\n")
 
 
-@unittest.skipUnless(PROGRAM, "STATUS_PROGRAM names no program")
+@unittest.skipUnless(PROGRAM, "no built program")
 class Comparison(Case):
     def lines(self):
         """What the program prints."""
@@ -179,24 +184,25 @@ class Comparison(Case):
         return ran.stdout.splitlines()
 
     def program(self):
-        """What the program tells: a letter a path, as git's, or that there is a conflict."""
-        told = {}
+        """What the program reports of each path: a letter as git's, or that there is a conflict."""
+        reported = {}
         for line in self.lines():
             words = line.split(" ")
             path = json.loads(line[line.index('"') :])
-            told[path] = "conflict" if words[1] == "conflict" else LETTERS[words[1]]
-        return {path: letter for path, letter in told.items() if letter}
+            reported[path] = "conflict" if words[1] == "conflict" else LETTERS[words[1]]
+        return {path: letter for path, letter in reported.items() if letter}
 
-    def git_tells(self):
-        told = {}
+    def git_reports(self):
+        """What git reports of each path, in the same words."""
+        reported = {}
         ran = subprocess.run([*tool.comparable(self.top), "-z"], capture_output=True, check=True)
         for line in ran.stdout.decode().split("\0")[:-1]:
             pair, path = line[:2], line[3:]
             conflict = "U" in pair or pair in ("AA", "DD")
-            told[path] = "conflict" if conflict else pair[1]
-        return {path: letter for path, letter in told.items() if letter != " "}
+            reported[path] = "conflict" if conflict else pair[1]
+        return {path: letter for path, letter in reported.items() if letter != " "}
 
-    def test_the_program_tells_what_git_tells(self):
+    def test_the_program_reports_what_git_reports(self):
         names = ["clean", "touched", "changed", "shrunk", "same-size", "removed", "d/e/gone", "becomes-link", "a b"]
         for name in [*names, "becomes-folder", "folder-link/x", "odd\t\n\"é", "assumed", "skipped"]:
             self.write(name, "foo")
@@ -224,10 +230,10 @@ class Comparison(Case):
         os.symlink("d", self.path("relinked"))
         shutil.rmtree(self.path("folder-link"))
         os.symlink("d", self.path("folder-link"))
-        told = self.program()
-        self.assertEqual(told, self.git_tells())
-        self.assertNotIn("touched", told)
-        self.assertEqual(len(told), 14)
+        reported = self.program()
+        self.assertEqual(reported, self.git_reports())
+        self.assertNotIn("touched", reported)
+        self.assertEqual(len(reported), 14)
 
     def test_what_is_no_file_is_not_opened(self):
         for name in ("pipe", "socket", "link-to-pipe"):
@@ -237,8 +243,10 @@ class Comparison(Case):
             os.remove(self.path(name))
         os.mkfifo(self.path("pipe"))
         os.symlink("pipe", self.path("link-to-pipe"))
+        self.addCleanup(os.chdir, os.getcwd())
+        os.chdir(self.top)
         with socket.socket(socket.AF_UNIX) as bound:
-            bound.bind(self.path("socket"))
+            bound.bind("socket")
             wanted = ['0 type 120000 "link-to-pipe"', '1 type 100644 "pipe"', '2 type 100644 "socket"']
             self.assertEqual(self.lines(), wanted)
 
@@ -251,7 +259,7 @@ class Comparison(Case):
         os.utime(self.path("a"), (now, now))
         os.utime(self.path(".git/index"), (now, now))
         self.assertEqual(self.lines(), ['0 modified -cs "a"'])
-        self.assertEqual(self.git_tells(), {"a": "M"})
+        self.assertEqual(self.git_reports(), {"a": "M"})
 
 
 if __name__ == "__main__":

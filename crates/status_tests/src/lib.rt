@@ -9,6 +9,8 @@ mod collectors;
 #[cfg(test)]
 mod comparers;
 #[cfg(test)]
+mod example;
+#[cfg(test)]
 mod filters;
 #[cfg(test)]
 mod given;

@@ -1,0 +1,105 @@
+//! The example of README.md, which has the part between the marks word for word.
+
+// The example begins.
+use bstr::{BStr, BString};
+use gix_status::index::{
+    Flags, HashKind, Mode, Moment, NewEntry, ObjectId, Stat, State, Time, compute_hash,
+};
+use gix_status::index_as_worktree::traits::HashEq;
+use gix_status::index_as_worktree::{
+    Change, Context, EntryStatus, Error, Options, Outcome, Recorder, VisitEntry, index_as_worktree,
+};
+use gix_status::worktree::{
+    AllPaths, MemoryObjects, MemoryWorktree, NoFilter, NoLister, NoSubmodules, Node, NodeKind,
+    Worktree,
+};
+use std::sync::Wait;
+use std::test::Fail;
+use std::thread::Threads;
+
+/// The call: every path, compared by ids, over any worktree and for any collector.
+fn status<
+    'index,
+    R: AllocGlobal + Threads + Wait,
+    W: Worktree + Sync,
+    V: VisitEntry<'index, ContentChange = ObjectId, SubmoduleStatus = ()>,
+>(rt: &R, index: &'index State, worktree: &W, collector: &mut V) -> Result<Outcome, Error>
+where
+    W::File: Send,
+{
+    let alloc = rt.alloc();
+    let objects = MemoryObjects::new(alloc);
+    let context = Context {
+        pathspec: AllPaths,
+        filter: NoFilter,
+        lister: NoLister,
+        should_interrupt: None,
+    };
+    let options = Options::default();
+    index_as_worktree(
+        rt,
+        alloc,
+        index,
+        worktree,
+        collector,
+        HashEq,
+        NoSubmodules,
+        objects,
+        context,
+        options,
+    )
+}
+
+#[test]
+fn a_change_and_a_removal(rt: HostRuntime) -> Result<(), Fail> {
+    let alloc = rt.alloc();
+    // The index: `a` and `b` were staged with the content `foo`.
+    let mut entries = Vec::new(alloc);
+    for path in ["a", "b"] {
+        entries.push(NewEntry {
+            path: BString::from_slice(alloc, path)?,
+            stat: Stat::default(),
+            id: compute_hash(HashKind::Sha1, b"foo"),
+            flags: Flags::from_stage(0),
+            mode: Mode::File,
+        })?;
+    }
+    let index = State::from_entries(alloc, entries, Moment { secs: 9, nsecs: 0 })?;
+    // The worktree: `a` was written since, and `b` is gone.
+    let node = Node {
+        kind: NodeKind::File,
+        bytes: Vec::from_slice(alloc, b"bar")?,
+        len: 3,
+        executable: false,
+        mtime: Some(Time { secs: 7, nsecs: 0 }),
+        ctime: Some(Time { secs: 7, nsecs: 0 }),
+        dev: 0,
+        ino: 0,
+        uid: 0,
+        gid: 0,
+    };
+    let mut worktree = MemoryWorktree::new(alloc);
+    worktree.put(BStr::from("a"), node)?;
+    // What comes back: a record for each entry that differs, in the order of the index, and counts.
+    let mut collector = Recorder::new(alloc);
+    let outcome = status(&rt, &index, &worktree, &mut collector)?;
+    let changed = EntryStatus::Change(Change::Modification {
+        executable_bit_changed: false,
+        content_change: Some(compute_hash(HashKind::Sha1, b"bar")),
+        set_entry_stat_size_zero: false,
+    });
+    let removed = EntryStatus::Change(Change::Removed);
+    assert_eq!(rt; collector.records.len(), 2);
+    for (record, status) in collector.records.iter().zip([changed, removed]) {
+        assert!(rt; record.status == status);
+    }
+    assert_eq!(rt; outcome.worktree_files_read, 1);
+    Ok(())
+}
+// The example ends.
+
+// The id that the example expects is the one that git gives `bar`.
+#[test]
+fn the_id_of_the_example_is_that_of_git(rt: HostRuntime) {
+    assert_eq!(rt; compute_hash(HashKind::Sha1, b"bar"), crate::given::BAR);
+}
