@@ -1,3 +1,4 @@
+pub mod Absence
 pub mod Answer
 pub mod BlobId
 pub mod Content
