@@ -8,6 +8,7 @@ pub mod FlagBits
 pub mod HasherState
 pub mod Mode
 pub mod NodeStat
+pub mod Orders
 pub mod ReadAll
 pub mod Stat
 pub mod States

@@ -9,6 +9,7 @@ pub mod hash;
 pub mod id;
 pub mod metadata;
 pub mod mode;
+pub mod orders;
 pub mod reader;
 pub mod reading;
 pub mod stat;
