@@ -12,8 +12,8 @@ use crate::read_data::ReadData;
 use status_base::index::Entry;
 use std::alloc::Global;
 
-/// Compares by sizes where these decide, and else by ids. A change is told without the new id, since the file may not
-/// have been read.
+/// Compares by sizes where these decide, and else by ids. A change is reported without the new id,
+/// since the file may not have been read.
 #[derive(Clone, Copy, Debug, Default, PartialEq, Eq)]
 pub struct FastEq;
 

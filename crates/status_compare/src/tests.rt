@@ -22,7 +22,7 @@ const BARS: [u8; 20] = [
     0x39, 0x10, 0x1c, 0xa7,
 ];
 
-// Bytes, and then the end or a fault. It tells nothing.
+// Bytes, and then the end or a fault. It isn't modelled.
 #[derive(Clone, Copy)]
 struct Piece<'a> {
     bytes: &'a [u8],
