@@ -1,6 +1,7 @@
 -- The directories above a path, and its components.
 use Rattle.std.proofs.Common.{◌≡◌, ℕ, zero, suc, ◌+◌, ◌<◌, ◌≤◌, Bool, true, false, cond, ltb, IsTrue, List, [], ◌∷◌, ◌++◌, length, take, drop, position, Option, Some, None, Result, Err, Contains, slice_index, refl, sym, ◌∙◌, ap, subst, inl, inr, arith, add-one, append_assoc, if◌then◌else◌}
 use Rattle.std.specs.List.{slice_split, position_or_len}
+use Rattle.std.specs.Result.{result_err}
 use Rattle.std.proofs.lemmas.List.{append-nil, length-append}
 use Rattle.std.proofs.lemmas.List.Splits.{slice_split_none, slice_split_first}
 use Rattle.std.proofs.lemmas.List.Sums.{fails_before_first, position_or_len_is}
@@ -15,10 +16,10 @@ use Rattle.status_base.specs.declared.stack.error.StackError.{StackError}
 use Rattle.status_base.specs.declared.stack.error.StackError.TheVariants.{EmptyPath, NotNormal, ThroughLink, Memory}
 use Rattle.status_base.specs.declared.stack.error.StackError.TheVariants as errors
 use Rattle.status_base.specs.Paths.{is_slash, components, directories, directories_below, odd_component}
-use Rattle.status_base.specs.LinkCheck.{LinkCheck, Barrier, accepted, decided, barrier_of, leftmost_barrier, check_of_normal, link_check}
-use Rattle.status_base.specs.CheckState.{IsClear, IsClearBelow}
-use Rattle.status_base.specs.Verified.{IsRefused, IsNamed, IsChecked, accepting_absent}
-use Rattle.status_base.specs.Stopped.{IsOfDirectory, IsStop, IsBarredAt, OnReached}
+use Rattle.status_base.specs.LinkCheck.{LinkCheck, Barrier, accepted, faulty, decided, barrier_of, leftmost_barrier, check_of_normal, link_check}
+use Rattle.status_base.specs.CheckState.{CheckState, IsClear, IsClearBelow}
+use Rattle.status_base.specs.Verified.{IsRefused, IsNamed, IsChecked, IsAfterQuery, OnBarred, HasLooked, accepting_absent}
+use Rattle.status_base.specs.Stopped.{IsOfDirectory, IsStop, IsBarredAt, OnReached, on_the_way}
 
 one_open : (lstat : List ℕ → Result Metadata Fault) (directory : List ℕ) (slash : Bool) (others : List (List ℕ)) → (IsTrue slash → barrier_of (lstat directory) ≡ None) → leftmost_barrier lstat ((if slash then directory ∷ [] else []) ++ others) ≡ leftmost_barrier lstat others
 one_open lstat directory true others clear = ap (λ (v : Option Barrier). decided directory v (leftmost_barrier lstat others)) (clear refl)
@@ -137,11 +138,48 @@ length-directories-more path at slash =
     ∙ ap length (directories_last path at slash)
     ∙ length-append (directories_below path at) (take at path ∷ [])
 
+-- and no more where none follows
+pub length-directories-same : (path : List ℕ) (at : ℕ) → is_slash (slice_index path at) ≡ false → length (directories_below path (at + 1)) ≡ length (directories_below path at)
+length-directories-same path at bare =
+    ap (λ (n : ℕ). length (directories_below path n)) (add-one at)
+    ∙ ap (λ (b : Bool). length (directories_below path at ++ (if b then take at path ∷ [] else []))) bare
+    ∙ ap length (append-nil (directories_below path at))
+
+-- what holds anyway holds where a link or a fault bars the way
+pub on_barred : (e : StackError) (P : Type 0) → P → OnBarred (Some e) P
+on_barred EmptyPath P h = tt
+on_barred (NotNormal component) P h = tt
+on_barred (ThroughLink prefix) P h = h
+on_barred (errors.Fault f) P h = h
+on_barred Memory P h = tt
+
+-- of the directories on the way there is one at least up to one that bars it
+pub on_the_way-some : (path : List ℕ) (stop : Stop) → IsStop path stop → 1 ≤ length (on_the_way path (Some stop))
+on_the_way-some path stop is_stop = omega (arith, length-directories-more path stop.at is_stop.slash)
+
+-- the directories on the way are no more than those above the path
+pub on_the_way-few : (path : List ℕ) (stop : Stop) → IsStop path stop → length (on_the_way path (Some stop)) ≤ length (directories path)
+on_the_way-few path stop is_stop = length-directories path (stop.at + 1) (length path) (omega (arith, is_stop.within))
+
 -- where nothing is there
 pub absent_accepted : {A : Type 0} (check : LinkCheck) (result : Result A StackError) → result ≡ Err (errors.Fault faults.NotFound) → IsChecked check result → accepting_absent check ≡ accepted
 absent_accepted {A} check result is checked =
     let P : Result A StackError → Type 0 = λ r. IsChecked check r in
     elim (subst P is checked) [ inl e ↦ ap accepting_absent e | inr e ↦ absurd (cc) ]
+
+-- an accepted path is accepted too where absence is
+pub still_accepted : (check : LinkCheck) → check ≡ accepted → accepting_absent check ≡ accepted
+still_accepted check is = ap accepting_absent is
+
+-- an accepted path is not absent
+pub accepted_present : (check : LinkCheck) → check ≡ accepted → check ≡ faulty faults.NotFound → ⊥
+accepted_present check is absent = cc
+
+-- a check after a query that found nothing, where that is accepted
+pub after_absent : {A : Type 0} (modelled : Bool) (lstat : List ℕ → Result Metadata Fault) (query : List ℕ) (result : Result A StackError) (old new : CheckState) → result ≡ Err (errors.Fault faults.NotFound) → IsAfterQuery modelled lstat query (result_err result) old new → HasLooked old new × IsAfterQuery modelled lstat query None old new
+after_absent {A} modelled lstat query result old new is after =
+    let P : Result A StackError → Type 0 = λ r. OnBarred (result_err r) (HasLooked old new) in
+    (subst P is after.barred, record { root = after.root; clear = after.clear; looks = after.looks; few = after.few; barred = tt; unchanged = after.unchanged })
 
 pub reached_at_absent : {A : Type 0} (result : Result A StackError) (F : Type 0) → result ≡ Err (errors.Fault faults.NotFound) → OnReached result F → F
 reached_at_absent {A} result F is reached =

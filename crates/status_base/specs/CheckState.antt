@@ -5,7 +5,7 @@ use Rattle.status_index.specs.declared.metadata.Metadata.{Metadata}
 use Rattle.status_base.specs.Paths.{is_slash}
 use Rattle.status_base.specs.LinkCheck.{barrier_of}
 
--- the worktree's root, the path whose proper directory prefixes were found open, and how often lstat was asked
+-- the worktree's root, the path whose proper directory prefixes were found open, and how often lstat was called
 pub record CheckState : Type 0 where
   pub root : List ℕ
   pub path : List ℕ

@@ -73,7 +73,7 @@ bare_directory = record {
   gid = 0;
 }
 
--- why nothing is told of a path without a node
+-- the fault of a path without a node
 abbrev pub absence : Tree → List ℕ → Fault
 absence tree path = if has_file_above tree path then faults.NotADirectory else faults.NotFound
 

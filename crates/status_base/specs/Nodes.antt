@@ -11,7 +11,7 @@ use Rattle.status_base.specs.declared.worktree.memory.Node.{Node}
 use Rattle.status_base.specs.declared.worktree.memory.TreeError.{TreeError}
 use Rattle.status_base.specs.declared.worktree.memory.TreeError.TheVariants.{BadPath, InTheWay, Memory}
 
--- the metadata that lstat tells of a node, and its bytes
+-- the metadata that lstat reports of a node, and its bytes
 abbrev pub placed_of : Node → Placed
 placed_of node = record {
   metadata = record {

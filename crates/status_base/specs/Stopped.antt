@@ -1,5 +1,5 @@
 -- Where the way to a path is barred.
-use Rattle.std.specs.Prelude.{◌≡◌, ◌<◌, ℕ, IsTrue, List, length, take, Option, Some, None, Result, Ok, Err, slice_index}
+use Rattle.std.specs.Prelude.{◌≡◌, ◌<◌, ◌+◌, ℕ, IsTrue, List, length, take, Option, Some, None, Result, Ok, Err, slice_index}
 use Rattle.bstr.specs.BStr.{bstr_bytes}
 use Rattle.status_index.specs.declared.fault.Fault.{Fault}
 use Rattle.status_index.specs.declared.metadata.Metadata.{Metadata}
@@ -7,7 +7,7 @@ use Rattle.status_base.specs.declared.stack.Stop.{Stop}
 use Rattle.status_base.specs.declared.stack.error.StackError.{StackError}
 use Rattle.status_base.specs.declared.stack.error.StackError.TheVariants.{EmptyPath, NotNormal, ThroughLink, Memory}
 use Rattle.status_base.specs.declared.stack.error.StackError.TheVariants as errors
-use Rattle.status_base.specs.Paths.{is_slash}
+use Rattle.status_base.specs.Paths.{is_slash, directories, directories_below}
 use Rattle.status_base.specs.LinkCheck.{Barrier, accepted, decided, barrier_of}
 use Rattle.status_base.specs.CheckState.{IsClear, IsClearBelow}
 use Rattle.status_base.specs.Verified.{IsRefused}
@@ -17,7 +17,7 @@ abbrev pub IsBarrier : List ℕ → Option Barrier → Option StackError → Typ
 IsBarrier directory barrier None = barrier ≡ None
 IsBarrier directory barrier (Some e) = IsRefused (decided directory barrier accepted) e
 
--- of a directory only a link or a fault is told
+-- of a directory only a link or a fault is answered
 abbrev pub IsOfDirectory : List ℕ → StackError → Type 0
 IsOfDirectory directory (ThroughLink prefix) = bstr_bytes prefix ≡ directory
 IsOfDirectory directory (errors.Fault f) = Unit {0}
@@ -25,7 +25,7 @@ IsOfDirectory directory EmptyPath = ⊥
 IsOfDirectory directory (NotNormal component) = ⊥
 IsOfDirectory directory Memory = ⊥
 
--- the way is open below a directory, whose barrier is told
+-- the way is open below a directory, whose barrier is answered
 pub record IsBarredAt (lstat : List ℕ → Result Metadata Fault) (path : List ℕ) (stop : Stop) : Type 0 where
   pub open_below : IsClearBelow lstat path stop.at
   pub barred : IsRefused (decided (take stop.at path) (barrier_of (lstat (take stop.at path))) accepted) stop.error
@@ -35,6 +35,11 @@ pub record IsStop (path : List ℕ) (stop : Stop) : Type 0 where
   pub within : stop.at < length path
   pub slash : IsTrue (is_slash (slice_index path stop.at))
   pub of_directory : IsOfDirectory (take stop.at path) stop.error
+
+-- the directories on the way, up to and with the one that bars it
+abbrev pub on_the_way : List ℕ → Option Stop → List (List ℕ)
+on_the_way path None = directories path
+on_the_way path (Some stop) = directories_below path (stop.at + 1)
 
 abbrev pub IsWay : (List ℕ → Result Metadata Fault) → List ℕ → Option Stop → Type 0
 IsWay lstat path None = IsClear lstat path

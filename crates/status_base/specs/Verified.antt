@@ -1,15 +1,17 @@
 -- What a check for links answers.
-use Rattle.std.specs.Prelude.{◌≡◌, ◌⊎◌, ◌<◌, ◌≤◌, ◌+◌, ℕ, Bool, IsTrue, List, [], length, Contains, OnOk, Some, None, Result, Ok, Err}
+use Rattle.std.specs.Prelude.{◌≡◌, ◌⊎◌, ◌<◌, ◌≤◌, ◌+◌, ℕ, Bool, IsTrue, List, [], length, Contains, OnOk, Option, Some, None, Result, Ok, Err}
+use Rattle.std.specs.Result.{result_err}
 use Rattle.bstr.specs.declared.bstr.BStr.{BStr}
 use Rattle.bstr.specs.BStr.{bstr_bytes}
 use Rattle.status_index.specs.declared.fault.Fault.{Fault}
 use Rattle.status_index.specs.declared.fault.Fault.TheVariants as faults
 use Rattle.status_index.specs.declared.metadata.Metadata.{Metadata}
+use Rattle.status_index.specs.Content.{saturate}
 use Rattle.status_base.specs.declared.stack.error.StackError.{StackError}
 use Rattle.status_base.specs.declared.stack.error.StackError.TheVariants.{EmptyPath, NotNormal, ThroughLink, Memory}
 use Rattle.status_base.specs.declared.stack.error.StackError.TheVariants as errors
 use Rattle.status_base.specs.Paths.{odd_component, directories}
-use Rattle.status_base.specs.LinkCheck.{LinkCheck, accepted, empty_path, not_normal, through_link, faulty}
+use Rattle.status_base.specs.LinkCheck.{LinkCheck, accepted, empty_path, not_normal, through_link, faulty, link_check}
 use Rattle.status_base.specs.CheckState.{CheckState, IsClear}
 
 -- the error that is meant, or want of memory
@@ -32,14 +34,7 @@ IsChecked check (Err e) = IsRefused check e
 
 abbrev pub unless_absent : Fault → LinkCheck
 unless_absent faults.NotFound = accepted
-unless_absent faults.NotADirectory = faulty faults.NotADirectory
-unless_absent faults.PermissionDenied = faulty faults.PermissionDenied
-unless_absent faults.Interrupted = faulty faults.Interrupted
-unless_absent faults.IllformedUtf8 = faulty faults.IllformedUtf8
-unless_absent faults.UnexpectedEnd = faulty faults.UnexpectedEnd
-unless_absent faults.NotNormal = faulty faults.NotNormal
-unless_absent faults.Memory = faulty faults.Memory
-unless_absent (faults.Other n) = faulty (faults.Other n)
+unless_absent f = faulty f
 
 -- a path is accepted too where nothing is there
 abbrev pub accepting_absent : LinkCheck → LinkCheck
@@ -62,15 +57,33 @@ pub record IsNormal (path : List ℕ) : Type 0 where
   pub nonempty : 0 < length path
   pub even : odd_component path ≡ None
 
--- a check after a query: one for a path that isn't normal leaves it as it was
-pub record IsAfterQuery (modelled : Bool) (lstat : List ℕ → Result Metadata Fault) (query : List ℕ) (old new : CheckState) : Type 0 where
+-- a fact where a link or a fault bars the way to a path
+abbrev pub OnBarred : Option StackError → Type 0 → Type 0
+OnBarred (Some (ThroughLink _)) P = P
+OnBarred (Some (errors.Fault _)) P = P
+OnBarred _ P = Unit {0}
+
+-- lstat was called, and counted
+abbrev pub HasLooked : CheckState → CheckState → Type 0
+HasLooked old new = saturate (old.looks + 1) ≤ new.looks
+
+-- a check after a query, by what the path was refused for. The look that finds a link or a fault is counted; a query for
+-- a path that isn't normal leaves the check as it was
+pub record IsAfterQuery (modelled : Bool) (lstat : List ℕ → Result Metadata Fault) (query : List ℕ) (refusal : Option StackError) (old new : CheckState) : Type 0 where
   pub root : new.root ≡ old.root
   pub clear : IsTrue modelled → IsClear lstat old.path → IsClear lstat new.path
   pub looks : old.looks ≤ new.looks
   pub few : new.looks ≤ old.looks + length (directories query)
-  pub unlooked : (IsNormal query → ⊥) → new ≡ old
+  pub barred : OnBarred refusal (HasLooked old new)
+  pub unchanged : (IsNormal query → ⊥) → new ≡ old
 
 -- a check after a query that was answered by its path only where each directory above is open
-pub record IsAfterVerified {A E : Type 0} (modelled : Bool) (lstat : List ℕ → Result Metadata Fault) (query : List ℕ) (result : Result A E) (old new : CheckState) : Type 0 where
+pub record IsAfterVerified {A : Type 0} (modelled : Bool) (lstat : List ℕ → Result Metadata Fault) (query : List ℕ) (result : Result A StackError) (old new : CheckState) : Type 0 where
   pub path : OnOk result (new.path ≡ query)
-  pub after : IsAfterQuery modelled lstat query old new
+  pub after : IsAfterQuery modelled lstat query (result_err result) old new
+
+-- a check after a query that accepts where nothing is there. The look that finds nothing is counted too, where the
+-- directories that were found open still are
+pub record IsAfterLenient {A : Type 0} (modelled : Bool) (lstat : List ℕ → Result Metadata Fault) (query : List ℕ) (result : Result A StackError) (old new : CheckState) : Type 0 where
+  pub absent : OnOk result (IsTrue modelled → IsClear lstat old.path → link_check lstat query ≡ faulty faults.NotFound → HasLooked old new)
+  pub after : IsAfterQuery modelled lstat query (result_err result) old new

@@ -1,6 +1,6 @@
-//! What a listing of a directory tells of its files.
+//! What a listing of a directory says of its files.
 
-/// What a listing tells of one file.
+/// What a listing says of one file.
 #[derive(Clone, Copy, Debug, Default)]
 pub struct Stat {
     /// Whether it is a directory.

@@ -3,10 +3,11 @@
 ghost use Rattle.std.specs.Prelude.{◌≡◌, ◌≤◌, ◌<◌, ◌+◌, IsTrue, List, [], ◌∷◌, length, take, drop, option_map, IfOk, OnOk, IfErr, IfSome, vec_len, position};
 ghost use Rattle.std.specs.Option.{option_map_or};
 ghost use Rattle.bstr.specs.BStr.{bstr_bytes};
-ghost use Rattle.status_base.specs.Paths.{is_slash, components, is_odd, odd_component, directories, joined};
+ghost use Rattle.status_base.specs.Paths.{is_slash, components, is_odd, odd_component, joined};
 ghost use Rattle.status_base.specs.LinkCheck.{link_check, barrier_of};
 ghost use Rattle.status_base.specs.CheckState.{IsClear};
-ghost use Rattle.status_base.specs.Stopped.{IsWay, IsStop, IsBarrier, IsOfDirectory};
+ghost use Rattle.status_index.specs.Content.{saturate};
+ghost use Rattle.status_base.specs.Stopped.{IsWay, IsStop, IsBarrier, IsOfDirectory, on_the_way};
 
 mod error;
 #[cfg(test)]
@@ -18,8 +19,8 @@ pub use error::StackError;
 use std::alloc::{AllocError, Global};
 use std::marker::Model;
 
-/// A check that paths don't lead through a symbolic link. Each answer is a fresh check's, whatever was asked before, as
-/// long as the worktree answers as it did.
+/// A check that paths don't lead through a symbolic link. Each answer is a fresh check's, whatever
+/// queries came before, as long as the worktree answers as it did.
 #[derive(Drop)]
 pub struct SymlinkCheck {
     parts: Parts,
@@ -43,7 +44,7 @@ impl SymlinkCheck {
     ghost use Rattle.status_base.specs.declared.stack.error.StackError.TheVariants as errors;
     ghost use Rattle.bstr.specs.Owned.{bstring_bytes};
     ghost use Rattle.status_base.specs.contracts.stack.SymlinkCheck.{the_row};
-    ghost use Rattle.status_base.specs.Verified.{IsVerified, IsNamed, IsNormal, IsAfterQuery, IsAfterVerified, accepting_absent};
+    ghost use Rattle.status_base.specs.Verified.{IsVerified, IsNamed, IsNormal, IsAfterVerified, IsAfterLenient, accepting_absent};
 
     /// A check of paths below a root. An empty root stands before no path.
     pub fn new(alloc: Global, root: BString) -> SymlinkCheck
@@ -115,7 +116,7 @@ impl SymlinkCheck {
         ensures joined { IfOk result (λ answer. bstr_bytes answer ≡ joined self.old.root (bstr_bytes path.entry)) }
         ensures present { IfErr result (λ e. e ≢ errors.Fault NotFound) }
         ensures* rests { sem 𝓛 (Rests the_row self.entry
-            (IsAfterQuery (W.modelled worktree.now) (W.lstat_of worktree.now) (bstr_bytes path.entry) self.old)) }
+            (IsAfterLenient (W.modelled worktree.now) (W.lstat_of worktree.now) (bstr_bytes path.entry) result self.old)) }
     {
         match self.parts.verify(worktree, path.as_bytes()) {
             Ok(()) => Ok(BStr::new(self.parts.buffer.as_slice())),
@@ -144,6 +145,7 @@ struct Parts {
 }
 
 impl Parts {
+    ghost use Rattle.std.specs.Result.{result_err};
     ghost use Rattle.bstr.specs.Owned.{bstring_bytes};
     ghost use Rattle.status_base.specs.Verified.{IsRefused, IsNamed, IsNormal, IsAfterQuery, IsChecked};
     ghost use Rattle.status_base.specs.Stopped.{OnReached};
@@ -163,7 +165,7 @@ impl Parts {
         ensures normal { OnReached result (IsNormal path.now) }
         ensures joined { OnReached result (self.new.buffer.items ≡ joined (bstring_bytes self.old.root) path.now) }
         ensures tested { OnOk result ((state_of self.new).path ≡ path.now) }
-        ensures after { IsAfterQuery (W.modelled worktree.now) (W.lstat_of worktree.now) path.now (state_of self.old) (state_of self.new) }
+        ensures after { IsAfterQuery (W.modelled worktree.now) (W.lstat_of worktree.now) path.now (result_err result) (state_of self.old) (state_of self.new) }
     {
         if path.is_empty() {
             return Err(StackError::EmptyPath);
@@ -220,7 +222,8 @@ fn first_barrier<'p, W: Worktree>(worktree: &W, path: &'p [u8], looks: &mut u64)
     ensures way { IsTrue (W.modelled worktree.now) → IsWay (W.lstat_of worktree.now) path.now result }
     ensures stop { IfSome result (IsStop path.now) }
     ensures looks { looks.old ≤ looks.new }
-    ensures few { looks.new ≤ looks.old + length (directories path.now) }
+    ensures few { looks.new ≤ looks.old + length (on_the_way path.now result) }
+    ensures counted { saturate (looks.old + length (on_the_way path.now result)) ≤ looks.new }
 {
     for (at, byte) in path.iter().enumerate() {
         if *byte == b'/' {
@@ -235,7 +238,7 @@ fn first_barrier<'p, W: Worktree>(worktree: &W, path: &'p [u8], looks: &mut u64)
 
 /// What keeps paths from leading through a directory: a link there, or a fault.
 fn barrier<'p, W: Worktree>(worktree: &W, directory: &'p [u8]) -> Option<StackError<'p>>
-    ensures reported { IsTrue (W.modelled worktree.now) → IsBarrier directory.now (barrier_of (W.lstat_of worktree.now directory.now)) result }
+    ensures barrier { IsTrue (W.modelled worktree.now) → IsBarrier directory.now (barrier_of (W.lstat_of worktree.now directory.now)) result }
     ensures of_directory { IfSome result (IsOfDirectory directory.now) }
 {
     let prefix = BStr::new(directory);

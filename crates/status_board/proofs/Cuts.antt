@@ -48,7 +48,7 @@ module _ (pieces seats : ℕ) where
         reported = fits.reported;
         inside = fits.inside;
         barred = fits.barred;
-        asked = fits.asked;
+        barred_inside = fits.barred_inside;
         missed = fits.missed;
         few = omega arith;
         idle = λ no_part. absurd (omega arith);
@@ -59,7 +59,7 @@ module _ (pieces seats : ℕ) where
         reported = All-nil (λ j. least ≤ j);
         inside = All-nil (λ j. j < pieces);
         barred = All-nil (λ j. least < j);
-        asked = All-nil (λ j. j < pieces);
+        barred_inside = All-nil (λ j. j < pieces);
         missed = λ some_missed. absurd (omega arith);
         few = omega arith;
         idle = λ no_part. (refl, refl);
@@ -88,7 +88,7 @@ module _ (pieces seats : ℕ) where
     reported = All-append (λ j. least ≤ j) w.reported v.reported fw.reported fv.reported;
     inside = All-append (λ j. j < pieces) w.reported v.reported fw.inside fv.inside;
     barred = All-append (λ j. least < j) w.barred v.barred fw.barred fv.barred;
-    asked = All-append (λ j. j < pieces) w.barred v.barred fw.asked fv.asked;
+    barred_inside = All-append (λ j. j < pieces) w.barred v.barred fw.barred_inside fv.barred_inside;
     missed = λ some_missed. ⊎_elim fv.missed (λ no_miss. fw.missed (omega arith)) (cases_lt 0 v.misses);
     few = let a = fv.few in let b = fw.few in omega arith;
     idle = λ no_part. absurd (omega arith);
@@ -101,7 +101,7 @@ module _ (pieces seats : ℕ) where
     reported = All-nil (λ j. least ≤ j);
     inside = All-nil (λ j. j < pieces);
     barred = All-nil (λ j. least < j);
-    asked = All-nil (λ j. j < pieces);
+    barred_inside = All-nil (λ j. j < pieces);
     missed = λ some_missed. absurd (omega arith);
     few = omega arith;
     idle = λ no_part. (refl, refl);
@@ -147,7 +147,7 @@ module _ (pieces seats : ℕ) where
   barred_by true next least v fits is = fits.barred
   barred_by false next least v fits is = λ k d within.
       let p = fits.barred k d within in
-      let q = fits.asked k d within in
+      let q = fits.barred_inside k d within in
       let r = ltb-false least pieces is in
       absurd (omega arith)
 

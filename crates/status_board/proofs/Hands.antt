@@ -144,12 +144,12 @@ pub ended : (table : TableId) (pieces : ℕ) (all left : List SeatState) (held :
 ended table pieces all [] held me g none_left = g.me_is ∙ ap (λ (l : List SeatState). (gathered pieces l, [])) g.split
 ended table pieces all (s ∷ ss) held me g none_left = absurd (omega arith)
 
--- what the words tell once all seats came back
-pub told : (key : Limits) (pieces seats : ℕ) → key ≡ record { pieces = pieces; seats = seats }
+-- what the words say once all seats came back
+pub words_say : (key : Limits) (pieces seats : ℕ) → key ≡ record { pieces = pieces; seats = seats }
     → (all : List SeatState) (id : ℕ) (me : Hand) → me ≡ (gathered pieces all, []) → length all ≡ seats
     → (words : List ℕ) (slots : List (Unit {0})) → Final (Seen (Kept key.pieces key.seats) id me.0) words slots
     → (n m : ℕ) → get_elem? words 0 ≡ some n → get_elem? words 1 ≡ some m → Closing pieces n m (gathered pieces all)
-told key pieces seats key_is all id me me_is whole words slots final n m first second =
+words_say key pieces seats key_is all id me me_is whole words slots final n m first second =
     let parts : me.0.parts ≡ key.seats = ap (λ (h : Hand). h.0.parts) me_is ∙ whole ∙ sym (ap (λ (l : Limits). l.seats) key_is) in
     let closing = closes key.pieces key.seats final.0 final.1.0 id me.0 final.1.1 parts words final.2 n m first second in
     subst (λ (v : Known). Closing pieces n m v) (ap (λ (h : Hand). h.0) me_is) (subst (λ (p : ℕ). Closing p n m me.0) (ap (λ (l : Limits). l.pieces) key_is) closing)

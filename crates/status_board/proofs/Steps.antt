@@ -22,25 +22,25 @@ module _ (pieces seats : ℕ) where
   K = Kept pieces seats
 
   -- a step on the first word, in plain facts
-  first_word : (slots id : ℕ) (me : M) (f : ℕ → ℕ) (told : ℕ → M → Type 0)
-      → ((next least : ℕ) (views : List Known) → F next least views → get_elem? views id ≡ some me.0 → (w : Known) × F (f next) least (set views id w) × told next (w, me.1))
-      → Allows K slots id me 0 f told
-  first_word slots id me f told go s k homes at small =
+  first_word : (slots id : ℕ) (me : M) (f : ℕ → ℕ) (learned : ℕ → M → Type 0)
+      → ((next least : ℕ) (views : List Known) → F next least views → get_elem? views id ≡ some me.0 → (w : Known) × F (f next) least (set views id w) × learned next (w, me.1))
+      → Allows K slots id me 0 f learned
+  first_word slots id me f learned go s k homes at small =
       let t = go k.next k.least s.views k.facts at in
       let P : List ℕ → Type 0 = λ ws. (w : Known) × (a : Act (Unit {0})) × Valid s.homes me.1 a
       × K record { words = set ws 0 (f (get_or ws 0 0)); homes = homes_after s.homes me.1 a; views = set s.views id w }
-      × told (get_or ws 0 0) (w, carried_after me.1 a) in
+      × learned (get_or ws 0 0) (w, carried_after me.1 a) in
       subst P (sym k.words) (t.0, keeps, tt, record { next = f k.next; least = k.least; words = refl; facts = t.1 }, t.2)
 
   -- a step on the second word
-  second_word : (slots id : ℕ) (me : M) (f : ℕ → ℕ) (told : ℕ → M → Type 0)
-      → ((next least : ℕ) (views : List Known) → F next least views → get_elem? views id ≡ some me.0 → (w : Known) × F next (f least) (set views id w) × told least (w, me.1))
-      → Allows K slots id me 1 f told
-  second_word slots id me f told go s k homes at small =
+  second_word : (slots id : ℕ) (me : M) (f : ℕ → ℕ) (learned : ℕ → M → Type 0)
+      → ((next least : ℕ) (views : List Known) → F next least views → get_elem? views id ≡ some me.0 → (w : Known) × F next (f least) (set views id w) × learned least (w, me.1))
+      → Allows K slots id me 1 f learned
+  second_word slots id me f learned go s k homes at small =
       let t = go k.next k.least s.views k.facts at in
       let P : List ℕ → Type 0 = λ ws. (w : Known) × (a : Act (Unit {0})) × Valid s.homes me.1 a
       × K record { words = set ws 1 (f (get_or ws 1 0)); homes = homes_after s.homes me.1 a; views = set s.views id w }
-      × told (get_or ws 1 0) (w, carried_after me.1 a) in
+      × learned (get_or ws 1 0) (w, carried_after me.1 a) in
       subst P (sym k.words) (t.0, keeps, tt, record { next = k.next; least = f k.least; words = refl; facts = t.1 }, t.2)
 
   -- what a seat knows stays true where the next number grows and the least reported one doesn't
@@ -51,7 +51,7 @@ module _ (pieces seats : ℕ) where
     reported = All-weaker (λ k. least ≤ k) (λ k. least' ≤ k) (λ k (h : least ≤ k). omega arith) v.reported fits.reported;
     inside = fits.inside;
     barred = All-weaker (λ k. least < k) (λ k. least' < k) (λ k (h : least < k). omega arith) v.barred fits.barred;
-    asked = fits.asked;
+    barred_inside = fits.barred_inside;
     missed = λ some_missed. (let r = fits.missed some_missed in omega arith);
     few = fits.few;
     idle = fits.idle;
@@ -95,7 +95,7 @@ module _ (pieces seats : ℕ) where
               reported = fits.reported;
               inside = fits.inside;
               barred = fits.barred;
-              asked = fits.asked;
+              barred_inside = fits.barred_inside;
               missed = grown.missed;
               few = fits.few;
               idle = λ no_part. absurd (omega arith);
@@ -126,7 +126,7 @@ module _ (pieces seats : ℕ) where
               reported = fits.reported;
               inside = fits.inside;
               barred = fits.barred;
-              asked = fits.asked;
+              barred_inside = fits.barred_inside;
               missed = λ _. omega arith;
               few = omega arith;
               idle = λ no_part. absurd (omega arith);
@@ -172,7 +172,7 @@ module _ (pieces seats : ℕ) where
         reported = had.reported;
         inside = had.inside;
         barred = All-push (λ j. least < j) v.barred piece had.barred (ltb-true least piece is);
-        asked = All-push (λ j. j < pieces) v.barred piece had.asked within;
+        barred_inside = All-push (λ j. j < pieces) v.barred piece had.barred_inside within;
         missed = had.missed;
         few = had.few;
         idle = had.idle;
@@ -222,7 +222,7 @@ module _ (pieces seats : ℕ) where
               reported = All-push (λ j. min least piece ≤ j) v.reported piece less.reported (omega arith);
               inside = All-push (λ j. j < pieces) v.reported piece fits.inside within;
               barred = less.barred;
-              asked = fits.asked;
+              barred_inside = fits.barred_inside;
               missed = fits.missed;
               few = fits.few;
               idle = λ no_part. absurd (omega arith);

@@ -1,4 +1,4 @@
--- The rule of a board's two words, and what one step tells a seat. The first word is the next number to be drawn, the second the least number that was reported, or the number of pieces where none was.
+-- The rule of a board's two words, and what a seat learns by one step. The first word is the next number to be drawn, the second the least number that was reported, or the number of pieces where none was.
 -- Each fact about all seats is a sum over what they know, so that it stays where one seat's knowledge is cut in two or two are put together.
 use Rattle.std.specs.Prelude.{◌≡◌, ◌<◌, ◌≤◌, ◌+◌, ◌-◌, ◌^◌, ℕ, Bool, true, false, nat_lt, min, if◌then◌else◌, List, [], ◌∷◌, ◌++◌, Option, All}
 use mathlib.Core.Option.{some}
@@ -29,7 +29,7 @@ pub record Fits (pieces next least : ℕ) (v : Known) : Type 0 where
   pub reported : All (λ k. least ≤ k) v.reported
   pub inside : All (λ k. k < pieces) v.reported
   pub barred : All (λ k. least < k) v.barred
-  pub asked : All (λ k. k < pieces) v.barred
+  pub barred_inside : All (λ k. k < pieces) v.barred
   pub missed : 0 < v.misses → pieces ≤ next
   pub few : v.misses ≤ v.parts
   pub idle : v.parts ≡ 0 → (v.drawn ≡ []) × (v.reported ≡ [])

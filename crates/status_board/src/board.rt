@@ -1,12 +1,13 @@
 //! A board from which workers draw the numbers of pieces, each number once.
 //!
-//! Each worker has a seat. With it the worker draws numbers, reports a piece at which the work is to end, and asks
-//! whether a lower piece was reported. Each of these is one atomic step at most, and none waits, locks or takes memory.
+//! Each worker has a seat. With it the worker draws numbers, reports a piece at which the work is
+//! to end, and looks whether a lower piece was reported. Each of these is one atomic step at most,
+//! and none waits, locks or takes memory.
 
 ghost use Rattle.std.specs.Prelude.{◌≡◌, ◌<◌, ◌≤◌, ◌^◌, ◌↔◌, true, false, if◌then◌else◌, nat_lt, min, [], ◌∷◌, ◌++◌, Some, None, IfOk, IfSome, OnSome, IfNone, IsSome, All, Any, IsTrue, replicate, vec_len};
 ghost use Rattle.status_board.specs.Numbers.{last_of, IsAscending, IsLeast, LiesBelow, HasEachBelow};
 
-use crate::rules::{Asked, Cut, Draw, Glue, Known, Limits, Look, Report, Rules};
+use crate::rules::{Cut, Draw, ForPiece, Glue, Known, Limits, Look, Report, Rules};
 use atomic_table::Table;
 use std::alloc::{AllocError, Global};
 use std::marker::{Brand, Model};
@@ -146,8 +147,8 @@ impl Board {
         self.look::<Brand>(&mut seat.token, piece) < piece as u64
     }
 
-    fn look<N: Asked>(&self, token: &mut Token, piece: usize) -> u64
-        requires asked { (piece ≡ N.piece) × (piece < self.now.id.pieces) }
+    fn look<N: ForPiece>(&self, token: &mut Token, piece: usize) -> u64
+        requires piece { (piece ≡ N.piece) × (piece < self.now.id.pieces) }
         requires board { token.old.table_id ≡ self.now.id.table }
         ensures { (token.new.table_id ≡ token.old.table_id) × Looks piece (step 0 1 0 0 none) token.old.me result token.new.me }
     {
@@ -155,7 +156,7 @@ impl Board {
         self.table.shared.load::<Look<N>>(token, 1)
     }
 
-    /// Tells all workers that the work ends at the piece that this seat drew last.
+    /// Reports to all workers that the work ends at the piece that this seat drew last.
     pub fn report(&self, seat: &mut Seat, piece: usize)
         requires board { seat.old.board ≡ self.now.id }
         requires last { last_of seat.old.drawn ≡ Some piece }

@@ -1,4 +1,4 @@
-//! The rule of a board's two words, and what each step on them tells a seat.
+//! The rule of a board's two words, and what a seat learns by each step on them.
 
 use atomic_table::{Join, Play, Split, TableRule};
 use std::collections::LinkedList;
@@ -16,7 +16,7 @@ pub(crate) struct Known {
     pub misses: usize,
 }
 
-/// What a board is told once, when it is made.
+/// What a board is given once, when it is made.
 #[derive(Drop)]
 pub(crate) struct Limits {
     pub pieces: usize,
@@ -43,23 +43,23 @@ impl Play<(), Known> for Draw {
     ghost then = { Draws };
 }
 
-/// The piece that a look asks about, which each call picks.
-pub(crate) trait Asked {
+/// The piece that a look is for, which each call picks.
+pub(crate) trait ForPiece {
     ghost use Rattle.std.specs.Prelude.{ℕ};
 
     ghost piece: { ℕ };
 }
 
-impl Asked for Brand {
+impl ForPiece for Brand {
     ghost piece = { 0 };
 }
 
 /// The least reported number is looked at, for one piece.
-pub(crate) struct Look<N: Asked> {
+pub(crate) struct Look<N: ForPiece> {
     of: PhantomData<N>,
 }
 
-impl<N: Asked> Play<(), Known> for Look<N> {
+impl<N: ForPiece> Play<(), Known> for Look<N> {
     ghost use Rattle.status_board.specs.Shared.{Looks};
 
     ghost then = { Looks N.piece };

@@ -66,13 +66,13 @@ fn barred(board: &Board, seat: &mut Seat, piece: usize) -> bool
 }
 
 #[test]
-fn two_seats_draw_report_and_ask(rt: HostRuntime) -> Result<(), Fail> {
+fn two_seats_draw_report_and_look(rt: HostRuntime) -> Result<(), Fail> {
     let (board, mut seats) = opened(rt.alloc(), 3, 2)?;
     let Some(mut t) = take(&board, &mut seats) else {
-        panic!(rt; "two seats were asked for")
+        panic!(rt; "a seat is missing")
     };
     let Some(mut s) = take(&board, &mut seats) else {
-        panic!(rt; "two seats were asked for")
+        panic!(rt; "a seat is missing")
     };
     assert_eq!(rt; draw(&board, &mut s), Some(0));
     assert_eq!(rt; draw(&board, &mut t), Some(1));
@@ -98,7 +98,7 @@ fn two_seats_draw_report_and_ask(rt: HostRuntime) -> Result<(), Fail> {
 fn no_tally_without_each_seat(rt: HostRuntime) -> Result<(), Fail> {
     let (board, mut seats) = opened(rt.alloc(), 3, 2)?;
     let Some(s) = take(&board, &mut seats) else {
-        panic!(rt; "two seats were asked for")
+        panic!(rt; "a seat is missing")
     };
     let mut back = Vec::new(rt.alloc());
     give_back(&board, &mut back, s)?;
@@ -163,13 +163,13 @@ fn three<R: Threads + Wait>(
 fn three_threads_draw_each_number_once(rt: HostRuntime) -> Result<(), Fail> {
     let (board, mut seats) = opened(rt.alloc(), 1000, 3)?;
     let Some(a) = take(&board, &mut seats) else {
-        panic!(rt; "three seats were asked for")
+        panic!(rt; "a seat is missing")
     };
     let Some(b) = take(&board, &mut seats) else {
-        panic!(rt; "three seats were asked for")
+        panic!(rt; "a seat is missing")
     };
     let Some(c) = take(&board, &mut seats) else {
-        panic!(rt; "three seats were asked for")
+        panic!(rt; "a seat is missing")
     };
     let (one, two, three) = three(&rt, rt.alloc(), &board, a, b, c)?;
     let mut times = vec![in rt.alloc(); 0u8; 1000]?;

@@ -37,7 +37,7 @@ reports_by_test : (same : Bool) (new : ObjectId) → (same ≡ true → ⊥) →
 reports_by_test true new other = absurd (other refl)
 reports_by_test false new other = refl
 
--- where sizes decide, it is enough that ids tell a change
+-- where sizes decide, it is enough that ids show a change
 agree_by_test : (decides : Bool) (answer : Result (Option ObjectId) Error) → (decides ≡ true → reports_change answer ≡ true) → reports_change (if decides then Ok (Some tt) else answer_without_id answer) ≡ reports_change answer
 agree_by_test true answer h = sym (h refl)
 agree_by_test false (Ok (Some _)) h = refl

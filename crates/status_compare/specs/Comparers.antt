@@ -12,7 +12,7 @@ use Rattle.status_compare.specs.Reading.{Reading, fails, streams, target, counts
 use Rattle.status_compare.specs.Reads.{with_bytes}
 use Rattle.status_compare.specs.declared.reads.Reads.{Reads}
 
--- a fault as a status tells it
+-- a fault as a status reports it
 abbrev pub worktree_result : {A : Type 0} → Result A Fault → Result A Error
 worktree_result (Ok x) = Ok x
 worktree_result (Err f) = Err (error_of f)
@@ -29,7 +29,7 @@ reading_id kind (target bytes) = Ok (blob_id kind bytes)
 reading_id kind (streams content (Some size)) = worktree_result (first_bytes_id kind content size)
 reading_id kind (streams content None) = whole_id kind content.bytes content.fault
 
--- a change is told by the new id
+-- a change is reported by the new id
 abbrev pub changed_id : ObjectId → ObjectId → Option ObjectId
 changed_id old new = if same_id old new then None else Some new
 

@@ -1,4 +1,4 @@
--- What std's readers tell of a worktree's file.
+-- What std's readers answer of a worktree's file.
 use Rattle.std.specs.Prelude.{◌≡◌, ◌⊎◌, ℕ, List, [], Option, Some, None, option_map}
 use Rattle.std.specs.declared.io.ErrorKind.{ErrorKind}
 use Rattle.std.specs.declared.io.ErrorKind.TheVariants as kinds
@@ -10,7 +10,7 @@ use Rattle.status_index.specs.Content.{Content}
 abbrev pub known_bytes : Option Content → Option (List ℕ)
 known_bytes left = option_map (λ l. l.bytes) left
 
--- the kind of error that is told of a fault
+-- the kind of error that stands for a fault
 abbrev pub kind_of : Fault → ErrorKind
 kind_of faults.NotFound = kinds.NotFound
 kind_of faults.NotADirectory = kinds.NotADirectory

@@ -18,6 +18,6 @@ abbrev pub count_or_none : Bool → ℕ → ℕ
 count_or_none true n = n
 count_or_none false n = 0
 
--- how many bytes a stream tells that it counted
+-- how many bytes a stream says that it counted
 abbrev pub count_reported : {F : Type 0} → Stream F → ℕ
 count_reported s = count_or_none s.counts s.counted

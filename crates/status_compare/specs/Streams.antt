@@ -18,7 +18,7 @@ abbrev pub outcome_buffer : {F : Type 0} → ToGitOutcome F → Option (List ℕ
 outcome_buffer (Unchanged file) = None
 outcome_buffer (Buffer buffer) = Some buffer.now
 
--- what a stream has left, where its file tells it
+-- what a stream has left, where its file is modelled
 abbrev pub stream_left : {F : Type 0} → (F → Option Content) → Stream F → Option Content
 stream_left left s = outcome_left left s.source
 

@@ -19,7 +19,7 @@ pub enum Error {
     /// A blob was not found.
     #[error("Failed to obtain blob from object database")]
     Find(FindError),
-    /// The status of a submodule could not be told.
+    /// The status of a submodule could not be determined.
     #[error("Could not determine status for submodule at '{rela_path}'")]
     SubmoduleStatus {
         /// The submodule's path.

@@ -2,7 +2,8 @@
 
 ghost use Rattle.std.specs.Prelude.{◌≡◌, ℕ, List, Some, refl};
 ghost use Rattle.status_compare.specs.Comparers.{fast_answer, counts_after_fast, size_decides};
-ghost use Rattle.status_index.specs.Entries.{entry_at};
+ghost use Rattle.status_compare.specs.FastAgrees.{FastAgrees};
+ghost use Rattle.status_index.specs.Entries.{IndexEntry, entry_at};
 
 use crate::compare::CompareBlobs;
 use crate::error::Error;
@@ -11,8 +12,8 @@ use crate::read_data::ReadData;
 use status_base::index::Entry;
 use std::alloc::Global;
 
-/// Compares by sizes where these decide, and else by ids. A change is told without the new id, since the file may not
-/// have been read.
+/// Compares by sizes where these decide, and else by ids. A change is reported without the new id,
+/// since the file may not have been read.
 #[derive(Clone, Copy, Debug, Default, PartialEq, Eq)]
 pub struct FastEq;
 
@@ -52,4 +53,10 @@ fn size_decides(entry: &Entry, size: u64) -> bool
         && (entry.id.is_empty_blob() || entry.stat.size != 0)
 }
 
-
+/// A law: both comparisons report a change of a file or link, or neither does. It holds where what
+/// is read is whole, the contents at hand have ids of their own, and the entry keeps its content's
+/// size or 0.
+#[tactic(auto, using(crate::proofs::Agree::agrees))]
+pub fn fast_agrees_with_hash()
+    ensures { (entry : IndexEntry) → FastAgrees entry }
+{}

@@ -14,7 +14,8 @@ use status_base::worktree::ReadBytes;
 use status_index::{compute_hash, compute_stream_hash};
 use std::alloc::Global;
 
-/// Compares by ids: the file is read and hashed, and a change is told by the id of its new content.
+/// Compares by ids: the file is read and hashed, and a change is reported by the id of its new
+/// content.
 #[derive(Clone, Copy, Debug, Default, PartialEq, Eq)]
 pub struct HashEq;
 

@@ -10,13 +10,13 @@ use crate::error::Error;
 use crate::stream::Stream;
 use status_base::worktree::ReadBytes;
 
-/// What a comparer may read of one entry: the file as git would store it, and the blob. Nothing is read before it is
-/// asked for.
+/// What a comparer may read of one entry: the file as git would store it, and the blob. Nothing is
+/// read before the call for it.
 pub trait ReadData {
     /// The file that a stream reads.
     type File: ReadBytes;
 
-    /// What there is to be read. None for a reader that tells nothing.
+    /// What there is to be read. None for a reader that isn't modelled.
     ghost means: { Self → Option Meaning };
 
     /// How much was read.

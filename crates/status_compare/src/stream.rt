@@ -130,7 +130,7 @@ impl<'a, F: ReadBytes> Stream<'a, F> {
     }
 }
 
-// The kind of error that std's readers tell of a fault.
+// The kind of error that std's readers answer for a fault.
 fn kind_of(fault: Fault) -> io::ErrorKind
     ensures { result ≡ kind_of fault }
 {

@@ -1,4 +1,4 @@
-ghost use Rattle.std.specs.Prelude.{false, Err, refl};
+ghost use Rattle.std.specs.Prelude.{true, false, Err, refl};
 ghost use Rattle.status_index.specs.declared.fault.Fault.TheVariants.{NotFound};
 ghost use Rattle.status_base.specs.declared.worktree.objects.FindError.TheVariants.{Missing};
 
@@ -22,7 +22,7 @@ const BARS: [u8; 20] = [
     0x39, 0x10, 0x1c, 0xa7,
 ];
 
-// Bytes, and then the end or a fault. It tells nothing.
+// Bytes, and then the end or a fault. It isn't modelled.
 #[derive(Clone, Copy)]
 struct Piece<'a> {
     bytes: &'a [u8],
@@ -76,7 +76,11 @@ impl<'a> Worktree for Everywhere<'a> {
 struct NoObjects;
 
 impl Find for NoObjects {
+    ghost modelled = { λ _. true };
+
     ghost found = { λ _ _. Err Missing };
+
+    ghost clone_keeps_modelled = { λ _ _ _. refl };
 
     ghost clone_keeps_found = { λ _ _ _. refl };
 

@@ -6,7 +6,7 @@ use Rattle.status_index.specs.declared.entry.Entry.{Entry}
 use Rattle.status_index.specs.declared.entry.PathStorage.{PathStorage}
 use Rattle.status_index.specs.Entries.{IndexEntry, IsIndex, index_entry, index_entries}
 
--- two entries that an index can't tell apart, but for stat and mode
+-- two entries that are one to an index, but for stat and mode
 pub record IsAlike (a b : IndexEntry) : Type 0 where
   pub path : b.path ≡ a.path
   pub id : b.id ≡ a.id

@@ -1,3 +1,4 @@
+pub mod Absences
 pub mod EmptyBlob
 pub mod Indexes
 pub mod ReaderPlace

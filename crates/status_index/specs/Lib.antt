@@ -1,3 +1,4 @@
+pub mod Absence
 pub mod Answer
 pub mod BlobId
 pub mod Content
@@ -7,6 +8,7 @@ pub mod FlagBits
 pub mod HasherState
 pub mod Mode
 pub mod NodeStat
+pub mod Orders
 pub mod ReadAll
 pub mod Stat
 pub mod States

@@ -7,7 +7,7 @@ use Rattle.status_index.specs.declared.id.ObjectId.{ObjectId}
 use Rattle.status_index.specs.BlobId.{blob_id}
 use Rattle.status_index.specs.Content.{Content}
 
--- what a reader tells that has too few bytes: the fault behind them, or that they end
+-- what a reader answers that has too few bytes: the fault behind them, or that they end
 abbrev pub early_end : Option Fault → Fault
 early_end None = UnexpectedEnd
 early_end (Some f) = f

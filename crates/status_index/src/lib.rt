@@ -1,4 +1,4 @@
-//! A git index, and what a worktree tells of a file: the values that a status is made of.
+//! A git index, and what a worktree reports of a file: the values that a status is made of.
 #![tactic(auto)]
 
 pub mod byte_text;
@@ -9,6 +9,7 @@ pub mod hash;
 pub mod id;
 pub mod metadata;
 pub mod mode;
+pub mod orders;
 pub mod reader;
 pub mod reading;
 pub mod stat;

@@ -1,4 +1,4 @@
-//! What a worktree tells of a node.
+//! What a worktree reports of a node.
 
 ghost use Rattle.std.specs.Prelude.{◌≡◌};
 ghost use Rattle.std.specs.Result.{result_ok};
@@ -20,7 +20,7 @@ pub enum NodeKind {
     Other,
 }
 
-/// What `lstat` tells of a node.
+/// What `lstat` reports of a node.
 #[derive(Clone, Copy, Debug, PartialEq, Eq)]
 pub struct Metadata {
     /// What the node is.

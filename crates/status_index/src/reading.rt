@@ -10,11 +10,11 @@ use crate::reader::ReadBytes;
 #[cfg(test)]
 pub(crate) mod tests;
 
-// How many bytes one read asks for.
+// How many bytes one read has room for.
 pub(crate) const CHUNK_LEN: usize = 4096;
 
-// How many bytes one read asks for where there are more than a chunk. It is not taken for all, since a chunk is filled
-// with zeros before it is read into.
+// How many bytes one read has room for where there are more than a chunk. It is not taken for all,
+// since a chunk is filled with zeros before it is read into.
 pub(crate) const LARGE_CHUNK_LEN: usize = 1 << 16;
 
 /// Appends all that the reader has left.

@@ -138,7 +138,8 @@ impl State {
         Ok(())
     }
 
-    /// Whether `entry` may stand behind the others. The last of them is enough to tell, since they are an index.
+    /// Whether `entry` may stand behind the others. The last of them decides, since they are an
+    /// index.
     fn check_next(&self, entry: &NewEntry) -> Result<(), IndexError>
         ensures ok { OnOk result (IsIndex ((index_of self.now) ++ new_entry entry.now ∷ [])) }
         ensures refused { IfErr result (IsRefusal ((index_of self.now) ++ new_entry entry.now ∷ [])) }

@@ -6,27 +6,11 @@ use Rattle.std.proofs.lemmas.Bool.{cases_Bool}
 use Rattle.status_board.specs.Numbers.{times, after_last}
 use Rattle.status_board.specs.Seats.{BoardId, SeatState, fresh, drawn_of, barred_of, reported_of}
 use Rattle.status_round.specs.declared.worker.Finished.{Finished}
-use Rattle.status_round.specs.Accounts.{Accounts, IsGathered, IsWorked, StaysDrawn}
+use Rattle.status_round.specs.Accounts.{Accounts, IsGathered, IsWorked}
 use Rattle.status_round.specs.Finished.{outs_at, shorts_of}
 use Rattle.status_board.proofs.Counts.{times-append}
 use Rattle.status_board.proofs.Lasts.{after_last-snoc, after_last-le}
 use Rattle.status_round.proofs.Lists.{outs_at-append, shorts_of-append, shorts_of-here, shorts_of-other}
-
-pub stays_same : (s t : SeatState) → t ≡ s → StaysDrawn s t
-stays_same s t is = record { board = ap (λ (u : SeatState). u.board) is; drawn = ap (λ (u : SeatState). u.drawn) is; done = ap (λ (u : SeatState). u.done) is }
-
-pub stays_barred : (s t : SeatState) (xs : List ℕ) → t ≡ record s { barred = xs } → StaysDrawn s t
-stays_barred s t xs is = record { board = ap (λ (u : SeatState). u.board) is; drawn = ap (λ (u : SeatState). u.drawn) is; done = ap (λ (u : SeatState). u.done) is }
-
-stays_reported : (s t : SeatState) (xs : List ℕ) → t ≡ record s { reported = xs } → StaysDrawn s t
-stays_reported s t xs is = record { board = ap (λ (u : SeatState). u.board) is; drawn = ap (λ (u : SeatState). u.drawn) is; done = ap (λ (u : SeatState). u.done) is }
-
-pub stays_told : (b : Bool) (s t : SeatState) (xs : List ℕ) → t ≡ (if b then record s { reported = xs } else s) → StaysDrawn s t
-stays_told true s t xs is = stays_reported s t xs is
-stays_told false s t xs is = stays_same s t is
-
-pub stays_both : (s t u : SeatState) → StaysDrawn s t → StaysDrawn t u → StaysDrawn s u
-stays_both s t u a b = record { board = b.board ∙ a.board; drawn = b.drawn ∙ a.drawn; done = b.done ∙ a.done }
 
 -- a draw leaves fewer numbers
 pub fewer_left : (pieces n : ℕ) (old mid new : List ℕ) → new ≡ mid → mid ≡ old ++ n ∷ [] → n < pieces → All (λ k. k < n) old → pieces - after_last new < pieces - after_last old

@@ -19,7 +19,7 @@ struct Numbers {
 }
 
 #[derive(Drop)]
-struct Told {
+struct Given {
     number: usize,
     short: bool,
 }
@@ -27,7 +27,7 @@ struct Told {
 impl Work for Numbers {
     type State = u64;
 
-    type Out = Told;
+    type Out = Given;
 
     ghost count = { λ s. s.pieces };
 
@@ -37,14 +37,14 @@ impl Work for Numbers {
 
     ghost short = { λ out. out.short };
 
-    fn piece(&self, _state: &mut u64, number: usize) -> Told {
-        Told {
+    fn piece(&self, _state: &mut u64, number: usize) -> Given {
+        Given {
             number,
             short: self.short == Some(number),
         }
     }
 
-    fn is_short(out: &Told) -> bool {
+    fn is_short(out: &Given) -> bool {
         out.short
     }
 }
@@ -107,7 +107,7 @@ fn outs_of<R: Threads + Wait>(
     workers: usize,
     pieces: usize,
     short: Option<usize>,
-) -> Result<Vec<Told>, Refused>
+) -> Result<Vec<Given>, Refused>
     requires { (pieces ≤ 2 ^ 20) × (1 ≤ workers) × (workers ≤ 64) }
 {
     let work = Numbers { pieces, short };
@@ -176,7 +176,7 @@ fn two_workers_work_at_once(rt: HostRuntime) -> Result<(), Fail> {
 }
 
 #[test]
-fn a_refused_thread_is_told(rt: HostRuntime) {
+fn a_refused_thread_is_reported(rt: HostRuntime) {
     let too_large = Some(usize::MAX);
     let alone = outs_of(&rt, rt.alloc(), too_large, 1, 5, None);
     assert!(rt; alone.is_ok());

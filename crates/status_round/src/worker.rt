@@ -76,13 +76,13 @@ where
         return Ok(());
     }
     let out = work.piece(state, number);
-    tell_short::<K>(board, &mut worked.seat, number, &out);
+    report_short::<K>(board, &mut worked.seat, number, &out);
     worked.finished.push(Finished { number, out })?;
     Ok(())
 }
 
 // Reports a piece that ended short.
-fn tell_short<K: Work>(board: &Board, seat: &mut Seat, number: usize, out: &K::Out)
+fn report_short<K: Work>(board: &Board, seat: &mut Seat, number: usize, out: &K::Out)
     requires board { seat.old.board ≡ board.now.id }
     requires last { last_of seat.old.drawn ≡ Some number }
     ensures { seat.new ≡ (if K.short out.now then record seat.old { reported = seat.old.reported ++ number ∷ [] } else seat.old) }

@@ -124,6 +124,8 @@ fn answers_a_second_query(rt: HostRuntime) {
     let (first, second) = (BStr::from("l/x"), BStr::from("m"));
     let answer = second_of_two(&mut check, &worktree, first, second);
     assert!(rt; matches!(answer, Ok(path) if path == second));
+    // The look that found the link.
+    assert_eq!(rt; check.looks(), 1);
 }
 
 #[test]

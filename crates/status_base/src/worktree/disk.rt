@@ -16,10 +16,11 @@ use std::{fs, io};
 // The bytes of a whole path that needs no memory of its own.
 const SHORT_PATH_LEN: usize = 256;
 
-/// A folder of the disk. It tells nothing of its nodes, which may change between any two calls.
+/// A folder of the disk. It isn't modelled: its nodes may change between any two calls.
 ///
-/// Paths have to be UTF-8. Of a node the kind, the length and the time of its last change are asked; the time of its
-/// metadata's last change is taken to be the same, no file is taken to be executable, and the other numbers are 0.
+/// Paths have to be UTF-8. Of a node the kind, the length and the time of its last change are read;
+/// the time of its metadata's last change is taken to be the same, no file is taken to be
+/// executable, and the other numbers are 0.
 #[derive(Drop)]
 pub struct DiskWorktree<R> {
     rt: R,
@@ -66,7 +67,8 @@ impl<R: Files + AllocGlobal + Drop> DiskWorktree<R> {
     }
 }
 
-/// A file of a folder. A read asks the system for as many bytes as the caller has room for.
+/// A file of a folder. A read is one call of the system, for as many bytes as the caller has room
+/// for.
 #[derive(Drop)]
 pub struct DiskFile<F> {
     file: F,

@@ -17,14 +17,14 @@ use std::collections::BTreeMap;
 use std::marker::Model;
 use thiserror::Error;
 
-/// A node of a worktree in memory: what `lstat` tells of it, and what it delivers.
+/// A node of a worktree in memory: what `lstat` reports of it, and what it delivers.
 #[derive(Debug, Drop)]
 pub struct Node {
     /// What the node is.
     pub kind: NodeKind,
     /// What a file delivers, or a link's target.
     pub bytes: Vec<u8>,
-    /// The length that `lstat` tells, which may differ from the number of bytes.
+    /// The length that `lstat` reports, which may differ from the number of bytes.
     pub len: u64,
     /// Whether a regular file's owner may execute it.
     pub executable: bool,
@@ -43,7 +43,7 @@ pub struct Node {
 }
 
 impl Node {
-    /// What `lstat` tells of the node.
+    /// What `lstat` reports of the node.
     pub fn metadata(&self) -> Metadata
         ensures { result ≡ (placed_of self.now).metadata }
     {
@@ -208,7 +208,7 @@ impl MemoryWorktree {
         Ok(None)
     }
 
-    /// Why nothing is told of a path without a node and without one below it.
+    /// The fault of a path without a node and without one below it.
     fn absence(&self, path: &[u8]) -> Fault
         ensures { result ≡ absence self.now path.now }
     {
@@ -245,7 +245,7 @@ fn is_odd(component: &[u8]) -> bool
     matches!(component, b"" | b"." | b"..")
 }
 
-/// What `lstat` tells of a directory that was not put.
+/// What `lstat` reports of a directory that was not put.
 fn bare_directory() -> Metadata
     ensures { result ≡ bare_directory }
 {

@@ -14,9 +14,9 @@ pub trait Pathspec: Clone {
     /// Whether a path is included, by whether it is a directory's.
     ghost included: { Self → List ℕ → Bool → Bool };
 
-    /// By which prefix entries are searched: those whose paths begin with it are considered, or all where no path does.
-    /// Nothing asks that each included path begins with it; one that doesn't is left out where the prefix begins another.
-    /// An empty one narrows nothing.
+    /// By which prefix entries are searched: those whose paths begin with it are considered, or all
+    /// where no path does. An included path needn't begin with it; one that doesn't is left out
+    /// where the prefix begins another. An empty one narrows nothing.
     fn common_prefix(&self) -> BStr<'_>
         ensures { bstr_bytes result ≡ prefix self.now };
 

@@ -11,13 +11,13 @@ ghost use Rattle.status_base.specs.Lawful.{IsOpened, IsTarget};
 use bstr::BStr;
 use status_index::{Fault, Metadata, ReadBytes};
 
-/// A worktree, by paths from its root with `/` between components. It either tells its nodes, and then its answers are
-/// those of three functions from paths, or tells nothing, as a folder of a real disk.
+/// A worktree, by paths from its root with `/` between components. It is either modelled, and
+/// then answered by three functions from paths, or not, as a folder of a real disk.
 pub trait Worktree {
     /// A file that was opened.
     type File: ReadBytes;
 
-    /// Whether it tells its nodes.
+    /// Whether it is modelled.
     ghost modelled: { Self → Bool };
 
     /// What `lstat` answers.

@@ -62,7 +62,7 @@ fn refused(alloc: Global, given: &[(&str, u32)]) -> Result<Option<IndexError>, A
 }
 
 #[test]
-fn the_lowest_place_is_told(rt: HostRuntime) -> Result<(), Fail> {
+fn the_lowest_place_is_named(rt: HostRuntime) -> Result<(), Fail> {
     let alloc = rt.alloc();
     let empty_first = refused(alloc, &[("", 0), ("", 0)])?;
     assert_eq!(rt; empty_first, Some(IndexError::EmptyPath { at: 0 }));

@@ -1,4 +1,5 @@
 use Rattle.std.proofs.Common.{◌≤◌, ◌+◌, length, IsTrue}
+use Rattle.status_index.specs.Content.{saturate}
 use Rattle.status_base.specs.Paths.{directories_below}
 use Rattle.status_base.specs.CheckState.{IsClearBelow}
 use Rattle.status_base.proofs.stack.first_barrier.Given as goal
@@ -9,4 +10,5 @@ invariant-loop-at g l = record {
   clear : IsTrue (g.W.Worktree.modelled l.worktree) → IsClearBelow (g.W.Worktree.lstat_of l.worktree) l.path l.at;
   looks : l.initial.looks ≤ l.looks;
   few : l.looks ≤ l.initial.looks + length (directories_below l.path l.at);
+  counted : saturate (l.initial.looks + length (directories_below l.path l.at)) ≤ l.looks;
 }

@@ -44,7 +44,7 @@ where
     file.set_times(fs::FileTimes::new().set_modified(time))
 }
 
-// What lstat tells of a node, its stamps aside. A folder may be shared by threads.
+// What lstat reports of a node, its stamps aside. A folder may be shared by threads.
 fn kind_and_len<W: Worktree + Sync>(worktree: &W, path: &[u8]) -> Result<(NodeKind, u64), Fault> {
     let found = worktree.lstat(BStr::new(path))?;
     Ok((found.kind, found.len))
@@ -206,7 +206,7 @@ fn unreadable_nodes_are_refused(rt: HostRuntime) -> Result<(), Fail> {
     Ok(())
 }
 
-// The ids are those that git tells.
+// The ids are git's.
 #[test]
 fn files_are_read_in_pieces(rt: HostRuntime) -> Result<(), Fail> {
     let alloc = rt.alloc();

@@ -38,7 +38,7 @@ fn small(alloc: Global) -> Result<MemoryWorktree, AllocError> {
     Ok(tree)
 }
 
-fn reported<W: Worktree>(tree: &W, path: &[u8]) -> Result<Metadata, Fault> {
+fn looked_up<W: Worktree>(tree: &W, path: &[u8]) -> Result<Metadata, Fault> {
     tree.lstat(BStr::new(path))
 }
 
@@ -49,7 +49,7 @@ fn opened<W: Worktree>(tree: &W, path: &[u8]) -> Result<W::File, Fault> {
 #[test]
 fn reports_nodes(rt: HostRuntime) -> Result<(), Fail> {
     let tree = small(rt.alloc())?;
-    let file = reported(&tree, b"f");
+    let file = looked_up(&tree, b"f");
     assert_eq!(rt; file, Ok(node(rt.alloc(), NodeKind::File, b"")?.metadata()));
     assert_eq!(rt;
         file.map(|file| (file.len, file.mtime)),
@@ -67,10 +67,10 @@ fn reports_nodes(rt: HostRuntime) -> Result<(), Fail> {
         uid: 0,
         gid: 0,
     };
-    assert_eq!(rt; reported(&tree, b"d"), Ok(directory));
-    assert_eq!(rt; reported(&tree, b"f/x"), Err(Fault::NotADirectory));
-    assert_eq!(rt; reported(&tree, b"missing"), Err(Fault::NotFound));
-    assert_eq!(rt; reported(&tree, b"d/x/y/z"), Err(Fault::NotADirectory));
+    assert_eq!(rt; looked_up(&tree, b"d"), Ok(directory));
+    assert_eq!(rt; looked_up(&tree, b"f/x"), Err(Fault::NotADirectory));
+    assert_eq!(rt; looked_up(&tree, b"missing"), Err(Fault::NotFound));
+    assert_eq!(rt; looked_up(&tree, b"d/x/y/z"), Err(Fault::NotADirectory));
     Ok(())
 }
 

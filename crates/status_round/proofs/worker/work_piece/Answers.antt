@@ -13,4 +13,4 @@ returns-clause-accounts g c =
     let fs = c.args.worked.now.finished.items in
     let f : Finished g.row.K-Out.Denot = record { number = c.args.number; out = c.piece-out.result } in
     let a = accounts_same gives g.K.Work.short c.args.worked.now.seat c.barred.new.seat (c.args.number ∷ []) fs (c.barred.ensures.clear c.if-barred.false) c.requires.accounts in
-    rw c.in_ok-push.ensures.items (accounts_finished gives g.K.Work.short c.barred.new.seat c.tell_short.new.seat f fs c.piece-out.ensures.gives a c.tell_short.ensures)
+    rw c.in_ok-push.ensures.items (accounts_finished gives g.K.Work.short c.barred.new.seat c.report_short.new.seat f fs c.piece-out.ensures.gives a c.report_short.ensures)

@@ -1,5 +1,5 @@
 use Rattle.status_board.proofs.board.Board.barred.Given as goal
 
--- the look asks about this piece
+-- the look is for this piece
 abbrev pub ghosts-look : goal.ghosts-look
 ghosts-look a = record { piece = a.piece }

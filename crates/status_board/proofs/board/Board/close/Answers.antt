@@ -4,7 +4,7 @@ use Rattle.status_board.specs.declared.board.Tally.{Tally}
 use Rattle.status_board.specs.Numbers.{HasEachBelow, IsLeast, LiesBelow}
 use Rattle.status_board.specs.Seats.{BoardId, BoardState, SeatState, drawn_of, barred_of, reported_of}
 use Rattle.status_board.proofs.Cuts.{joins}
-use Rattle.status_board.proofs.Hands.{Hand, begins, next_board, ended, told, some_done}
+use Rattle.status_board.proofs.Hands.{Hand, begins, next_board, ended, words_say, some_done}
 use Rattle.status_board.proofs.board.Board.close.Goals as goal
 
 pub loop-seat-init : goal.loop-seat-init
@@ -45,7 +45,7 @@ returns-clause-drawn c =
     let length_is = c.args.seats.ok.0 in
     let whole : length all ≡ inside.seats = omega arith in
     let closed = c.close_with-closed in
-    let t = told inside.table.shared.key inside.pieces inside.seats c.self.invariant.0 all c.loop-seat.token.id c.loop-seat.token.me me whole (slots_items closed.result.words) (slots_items closed.result.slots) closed.ensures.values.2 c.word-next.result c.word-least.result c.word-next.ensures c.word-least.ensures in
+    let t = words_say inside.table.shared.key inside.pieces inside.seats c.self.invariant.0 all c.loop-seat.token.id c.loop-seat.token.me me whole (slots_items closed.result.words) (slots_items closed.result.slots) closed.ensures.values.2 c.word-next.result c.word-least.result c.word-next.ensures c.word-least.ensures in
     let drawn = ap (λ (r : Tally). r.drawn) c.counted.ensures in
     let pieces = ap (λ (b : BoardState). b.id.pieces) c.self.view_is in
     (omega arith, subst (λ (k : ℕ). HasEachBelow k (drawn_of all)) (sym drawn) t.drawn)
@@ -63,7 +63,7 @@ returns-clause-least c =
     let length_is = c.args.seats.ok.0 in
     let whole : length all ≡ inside.seats = omega arith in
     let closed = c.close_with-closed in
-    let t = told inside.table.shared.key inside.pieces inside.seats c.self.invariant.0 all c.loop-seat.token.id c.loop-seat.token.me me whole (slots_items closed.result.words) (slots_items closed.result.slots) closed.ensures.values.2 c.word-next.result c.word-least.result c.word-next.ensures c.word-least.ensures in
+    let t = words_say inside.table.shared.key inside.pieces inside.seats c.self.invariant.0 all c.loop-seat.token.id c.loop-seat.token.me me whole (slots_items closed.result.words) (slots_items closed.result.slots) closed.ensures.values.2 c.word-next.result c.word-least.result c.word-next.ensures c.word-least.ensures in
     let least = ap (λ (r : Tally). r.least_reported) c.counted.ensures in
     subst (λ (o : Option ℕ). IsLeast o (reported_of all)) (sym least) t.least
 
@@ -80,7 +80,7 @@ returns-clause-barred c =
     let length_is = c.args.seats.ok.0 in
     let whole : length all ≡ inside.seats = omega arith in
     let closed = c.close_with-closed in
-    let t = told inside.table.shared.key inside.pieces inside.seats c.self.invariant.0 all c.loop-seat.token.id c.loop-seat.token.me me whole (slots_items closed.result.words) (slots_items closed.result.slots) closed.ensures.values.2 c.word-next.result c.word-least.result c.word-next.ensures c.word-least.ensures in
+    let t = words_say inside.table.shared.key inside.pieces inside.seats c.self.invariant.0 all c.loop-seat.token.id c.loop-seat.token.me me whole (slots_items closed.result.words) (slots_items closed.result.slots) closed.ensures.values.2 c.word-next.result c.word-least.result c.word-next.ensures c.word-least.ensures in
     let least = ap (λ (r : Tally). r.least_reported) c.counted.ensures in
     subst (λ (o : Option ℕ). All (LiesBelow o) (barred_of all)) (sym least) t.barred
 
@@ -97,7 +97,7 @@ returns-clause-done c = λ some_are_done.
     let length_is = c.args.seats.ok.0 in
     let whole : length all ≡ inside.seats = omega arith in
     let closed = c.close_with-closed in
-    let t = told inside.table.shared.key inside.pieces inside.seats c.self.invariant.0 all c.loop-seat.token.id c.loop-seat.token.me me whole (slots_items closed.result.words) (slots_items closed.result.slots) closed.ensures.values.2 c.word-next.result c.word-least.result c.word-next.ensures c.word-least.ensures in
+    let t = words_say inside.table.shared.key inside.pieces inside.seats c.self.invariant.0 all c.loop-seat.token.id c.loop-seat.token.me me whole (slots_items closed.result.words) (slots_items closed.result.slots) closed.ensures.values.2 c.word-next.result c.word-least.result c.word-next.ensures c.word-least.ensures in
     let through = t.through (some_done all some_are_done) in
     let drawn = ap (λ (r : Tally). r.drawn) c.counted.ensures in
     let pieces = ap (λ (b : BoardState). b.id.pieces) c.self.view_is in
