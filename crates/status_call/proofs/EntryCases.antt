@@ -14,8 +14,7 @@ use Rattle.status_base.specs.LinkCheck.{LinkCheck, empty_path, not_normal}
 use Rattle.status_base.specs.Verified.{IsRefused}
 use Rattle.status_compare.specs.declared.error.Error.{Error}
 use Rattle.status_compare.specs.declared.error.Error.TheVariants as errors
-use Rattle.status_compare.specs.EntryMeaning.{if_modelled}
-use Rattle.status_compare.specs.Reading.{Meaning}
+use Rattle.status_compare.specs.EntryMeaning.{both_modelled}
 use Rattle.status_compare.specs.declared.reads.Reads.{Reads}
 use Rattle.status_compare.specs.Reads.{no_reads}
 use Rattle.status_call.specs.declared.index_as_worktree.site.Site.{Site}
@@ -24,15 +23,9 @@ use Rattle.status_call.specs.declared.index_as_worktree.decide.Decided.{Decided}
 use Rattle.status_call.specs.Counts.{is_accepted, is_racy_case, is_compared_case, calls_lstat, reads_of_found, ModelsReads}
 use Rattle.status_call.specs.Decisions.{IsDecided}
 use Rattle.status_call.specs.EntryParts.{IsSite, IsOfCase, IsCaseDecided}
-use Rattle.status_call.specs.Modelled.{all_modelled, both_modelled}
+use Rattle.status_call.specs.Modelled.{all_modelled}
 use Rattle.status_call.specs.Query.{Query}
 use Rattle.status_call.specs.Status.{Found, found_by, refused, present, Case, compared, answer, found, meaning, is_trusted, case_of_found, case_of_content}
-
--- what is to be read, where worktree and blobs are modelled
-pub modelled_meaning : (a b : Bool) (m : Meaning) (o : Option Meaning) → o ≡ if_modelled a b m → IsTrue (both_modelled a b) → o ≡ Some m
-modelled_meaning true true m o e t = e
-modelled_meaning true false m o e t = absurd (cc)
-modelled_meaning false b m o e t = absurd (cc)
 
 -- where all is modelled, each is
 pub all_worktree : (a b c : Bool) → IsTrue (all_modelled a b c) → IsTrue a

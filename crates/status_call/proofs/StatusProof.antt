@@ -1,5 +1,5 @@
 -- The status theorem, from work in order and its end.
-use Rattle.std.proofs.Common.{◌≡◌, ◌≢◌, refl, sym, ap, ◌∙◌, subst, ℕ, ◌+◌, ◌-◌, ◌<◌, ◌≤◌, ◌^◌, ◌⊎◌, inl, inr, Bool, true, false, IsTrue, List, [], ◌∷◌, ◌++◌, length, length-append, take, drop, map, arith, append_assoc, Option, None, Result, Ok, Err}
+use Rattle.std.proofs.Common.{◌≡◌, ◌≢◌, refl, sym, ap, ◌∙◌, subst, ℕ, ◌+◌, ◌-◌, ◌<◌, ◌≤◌, ◌^◌, ◌⊎◌, inl, inr, Bool, true, false, IsTrue, List, [], ◌∷◌, ◌++◌, length, length-append, take, drop, map, arith, append_assoc, Option, Some, None, Result, Ok, Err}
 use Rattle.std.specs.Prelude.{AllPairs, slice_get}
 use Rattle.std.specs.List.{slice_index_or}
 use Rattle.std.proofs.lemmas.List.{take-append-drop, append-nil, length-map, length-take, length-drop, get_or-map}
@@ -21,7 +21,7 @@ use Rattle.status_call.specs.Pieces.{IsAsMeant, IsFaultAt}
 use Rattle.status_call.specs.Outcomes.{outcome_of, skipped_of}
 use Rattle.status_call.specs.Query.{Query}
 use Rattle.status_call.specs.Records.{records_in, records_of, faults_in, first_fault, verdict}
-use Rattle.status_call.specs.StatusTheorem.{IsBeginning, IsComplete, IsStatus, IsStatusOf, IsAlone, IsFirstFault, NeverSpawns, considered_entries, start_of}
+use Rattle.status_call.specs.StatusTheorem.{IsBeginning, IsComplete, IsMet, IsStatusOf, IsFirstFault, NeverSpawns, considered_entries, start_of}
 use Rattle.status_call.specs.Visits.{Visit, finding_of, IsFaithful}
 use Rattle.status_call.specs.Worked.{IsShortage, IsStopped, IsReportedWork}
 use Rattle.status_call.specs.Workers.{most_workers}
@@ -57,13 +57,10 @@ map_ascends {T} {U} vs fs e h =
 true_not_false : (b : Bool) → b ≡ true → b ≡ false → ⊥
 true_not_false b h k = cc
 
-abbrev result_of : Outcome → Result Outcome Error
-result_of o = Ok o
+abbrev result_err : Error → Result Outcome Error
+result_err e = Err e
 
-abbrev error_of : Error → Result Outcome Error
-error_of e = Err e
-
-err_same : (a b : Error) → error_of a ≡ error_of b → a ≡ b
+err_same : (a b : Error) → result_err a ≡ result_err b → a ≡ b
 err_same a b h = cc
 
 pub take_all : {X : Type 0} (xs : List X) → take (length xs) xs ≡ xs
@@ -162,7 +159,7 @@ module _ {T U : Type 0} (q : Query T U) (index : State) (has_flag : Bool) (old n
         }
 
     -- all considered entries were worked through, or an interrupt flag was seen
-    pub status_ok : IsStatus q index old (Ok outcome) new
+    pub status_ok : IsMet q index old (Ok outcome) new
     status_ok = record {
       more = work.fed.more;
       grew = work.fed.grew;
@@ -220,7 +217,7 @@ module _ {T U : Type 0} (q : Query T U) (index : State) (has_flag : Bool) (old n
     no_thread t one never (inr h) spawned = lone_shortage one h.0 spawned
 
     -- the work ended
-    pub status_err : IsStatus q index old (Err e) new
+    pub status_err : IsMet q index old (Err e) new
     status_err = record {
       more = work.fed.more;
       grew = work.fed.grew;
@@ -234,7 +231,7 @@ module _ {T U : Type 0} (q : Query T U) (index : State) (has_flag : Bool) (old n
     }
 
     -- with one worker no thread is refused
-    pub status_alone : (limit : Option ℕ) → workers ≡ most_workers limit → IsAlone q limit (Err e)
+    pub status_alone : (limit : Option ℕ) → workers ≡ most_workers limit → IsTrue q.modelled → limit ≡ Some 1 → NeverSpawns q → result_err e ≢ Err SpawnThread
     status_alone limit same t one never h =
         no_thread t (same ∙ ap most_workers one) never stop.by (err_same e SpawnThread h)
 

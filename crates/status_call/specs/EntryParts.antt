@@ -13,10 +13,12 @@ use Rattle.status_compare.specs.Reads.{no_reads}
 use Rattle.status_call.specs.declared.index_as_worktree.decide.Decided.{Decided}
 use Rattle.status_call.specs.declared.index_as_worktree.site.Site.{Site}
 use Rattle.status_call.specs.declared.index_as_worktree.site.Site.TheVariants as sites
-use Rattle.status_call.specs.declared.index_as_worktree.content.Comparison.{Comparison}
-use Rattle.status_call.specs.Counts.{is_racy_case, is_compared_case}
+use Rattle.status_compare.specs.declared.comparison.Comparison.{Comparison}
+use Rattle.status_compare.specs.Comparisons.{IsComparison}
+use Rattle.status_base.specs.LinkCheck.{link_check}
+use Rattle.status_call.specs.Counts.{is_accepted, is_racy_case, is_compared_case}
 use Rattle.status_call.specs.Query.{Query}
-use Rattle.status_call.specs.Status.{Found, nothing, refused, directory, present, Case, answer, case_of_found, case_of_content, is_trusted, meaning}
+use Rattle.status_call.specs.Status.{Found, nothing, refused, directory, present, Case, compared, answer, found_at, case_of_found, case_of_content, is_trusted, meaning}
 
 -- what is found, and whether `lstat` was called; the fault that is found, or want of memory
 abbrev pub IsSite : Found → Bool → Result Site Error → Type 0
@@ -24,6 +26,10 @@ IsSite found called (Ok (sites.Nothing a)) = (found ≡ nothing) × (a ≡ calle
 IsSite found called (Ok sites.Directory) = (found ≡ directory) × (called ≡ true)
 IsSite found called (Ok (sites.Node n)) = (found ≡ present n) × (called ≡ true)
 IsSite found called (Err e) = ((f : Fault) × (found ≡ refused f) × (e ≡ error_of f)) ⊎ (e ≡ Memory)
+
+-- what is found at a path without listings, by lstat's answers
+abbrev pub IsSiteAt : (List ℕ → Result Metadata Fault) → List ℕ → Result Site Error → Type 0
+IsSiteAt lstat path result = IsSite (found_at lstat path) (is_accepted (link_check lstat path)) result
 
 -- the answer of a case, and what that took: whether `lstat` was called, and what the comparer reads where it is called
 pub record IsOfCase {T U : Type 0} (path : List ℕ) (case : Case T U) (called : Bool) (counted : Option Reads) (d : Decided T U) : Type 0 where
@@ -37,10 +43,11 @@ abbrev pub IsCaseDecided : {T U : Type 0} → List ℕ → Case T U → Bool →
 IsCaseDecided path case called counted (Ok d) = IsOfCase path case called counted d
 IsCaseDecided path case called counted (Err x) = (answer path case ≡ Err x) ⊎ (x ≡ Memory)
 
--- the comparer's answer, and what it read where that is modelled; its error, or want of memory
-abbrev pub IsComparison : {T : Type 0} → Result (Option T) Error → Option Reads → Result (Comparison T) Error → Type 0
-IsComparison meant counted (Ok c) = (meant ≡ Ok c.change) × IfSome counted (λ k. c.reads ≡ k)
-IsComparison meant counted (Err x) = (meant ≡ Err x) ⊎ (x ≡ Memory)
+-- what a comparison decides of an entry whose node has this stat
+abbrev pub IsDecisionOf : {T U : Type 0} → Comparison T → Stat → Bool → Bool → Bool → Decided T U → Type 0
+IsDecisionOf c stat executable_changed trusted racy d =
+    (path : List ℕ) (counted : Option Reads) → IfSome counted (λ k. c.reads ≡ k)
+    → IsOfCase path (compared executable_changed trusted racy stat (Ok c.change)) true counted d
 
 module _ {T U : Type 0} (q : Query T U) (e : IndexEntry) (n : Metadata) where
   -- what the comparer reads of an entry and its node

@@ -5,7 +5,7 @@ pub mod Decisions
 pub mod DefaultCapabilities
 pub mod EntryParts
 pub mod Fed
-pub mod HandedIn
+pub mod Inputs
 pub mod Laws
 pub mod Modelled
 pub mod Outcomes
@@ -17,6 +17,7 @@ pub mod Records
 pub mod Rounds
 pub mod Runs
 pub mod Status
+pub mod StatusOf
 pub mod StatusTable
 pub mod StatusTheorem
 pub mod Steps

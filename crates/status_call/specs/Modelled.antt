@@ -7,9 +7,3 @@ all_modelled true true true = true
 all_modelled true true false = false
 all_modelled true false _ = false
 all_modelled false _ _ = false
-
--- the worktree and the object database
-abbrev pub both_modelled : Bool → Bool → Bool
-both_modelled true true = true
-both_modelled true false = false
-both_modelled false _ = false

@@ -59,7 +59,7 @@ module _ {T U : Type 0} (q : Query T U) (index : State) where
     pub records : reported ≡ records_in q considered_entries start_of (take place considered_entries)
 
   -- what was reported over any worktree, and where all that was handed in is modelled
-  pub record IsStatus (old : List (Visit T U)) (result : Result Outcome Error) (new : List (Visit T U)) : Type 0 where
+  pub record IsMet (old : List (Visit T U)) (result : Result Outcome Error) (new : List (Visit T U)) : Type 0 where
     pub more : List (Visit T U)
     pub grew : new ≡ old ++ more
     -- each entry that was reported is the index's at its place, with its own path and the whole index, and the places ascend
@@ -75,7 +75,3 @@ module _ {T U : Type 0} (q : Query T U) (index : State) where
     pub beginning : IsTrue q.modelled → IsBeginning (map finding_of more) (records_of q start_of considered_entries)
     -- over any worktree: the counts of those that were skipped add up to a number that fits
     pub fits : IfOk result (λ o. skipped_of o < 2 ^ 64)
-
--- with limit 1 no thread is refused, where the comparer doesn't answer so
-abbrev pub IsAlone : {T U : Type 0} → Query T U → Option ℕ → Result Outcome Error → Type 0
-IsAlone q limit result = IsTrue q.modelled → limit ≡ Some 1 → NeverSpawns q → result ≢ Err SpawnThread

@@ -2,7 +2,6 @@
 
 ghost use Rattle.std.specs.Prelude.{◌≡◌, ℕ, List, Some, refl};
 ghost use Rattle.status_compare.specs.Comparers.{fast_answer, counts_after_fast, size_decides};
-ghost use Rattle.status_compare.specs.FastAgrees.{FastAgrees};
 ghost use Rattle.status_index.specs.Entries.{IndexEntry, entry_at};
 
 use crate::compare::CompareBlobs;
@@ -52,11 +51,3 @@ fn size_decides(entry: &Entry, size: u64) -> bool
     u64::from(entry.stat.size) != size % (1 << 32)
         && (entry.id.is_empty_blob() || entry.stat.size != 0)
 }
-
-/// A law: both comparisons report a change of a file or link, or neither does. It holds where what
-/// is read is whole, the contents at hand have ids of their own, and the entry keeps its content's
-/// size or 0.
-#[tactic(auto, using(crate::proofs::Agree::agrees))]
-pub fn fast_agrees_with_hash()
-    ensures { (entry : IndexEntry) → FastAgrees entry }
-{}

@@ -2,6 +2,7 @@
 #![tactic(auto)]
 
 pub mod compare;
+pub mod comparison;
 pub mod entry_reader;
 pub mod error;
 pub mod fast_eq;
@@ -11,6 +12,7 @@ pub mod reads;
 pub mod stream;
 
 pub use compare::CompareBlobs;
+pub use comparison::{Comparison, compare_entry};
 pub use entry_reader::EntryReader;
 pub use error::Error;
 pub use fast_eq::FastEq;

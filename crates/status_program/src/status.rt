@@ -12,11 +12,11 @@ use crate::failure::Failure;
 use crate::lines::{status_line, total_line};
 use crate::profile::{Comparer, Place, Profile, ProfileOptions};
 use bstr::BString;
+use gix_status::index::State;
 use gix_status::index_as_worktree::traits::{CompareBlobs, FastEq, HashEq};
 use gix_status::index_as_worktree::{
     Context, Error, Options, Outcome, Record, Recorder, VisitEntry, index_as_worktree,
 };
-use gix_status::index::State;
 use gix_status::worktree::{
     AllPaths, DiskWorktree, MemoryObjects, MemoryWorktree, NoFilter, NoLister, NoSubmodules, Node,
     Pathspec, Prefix, Worktree,

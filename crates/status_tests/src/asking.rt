@@ -4,12 +4,12 @@ ghost use Rattle.std.specs.Prelude.{◌<◌, ◌^◌, IfOk};
 ghost use Rattle.status_call.specs.Outcomes.{skipped_of};
 
 use crate::collectors::{Measuring, Stopping};
+use gix_status::index::{Entry, ObjectId, State};
 use gix_status::index_as_worktree::traits::CompareBlobs;
 use gix_status::index_as_worktree::{
     Capabilities, Change, Context, EntryStatus, Error, Options, Outcome, Record, Recorder,
     VisitEntry, index_as_worktree,
 };
-use gix_status::index::{Entry, ObjectId, State};
 use gix_status::worktree::{
     AllPaths, Fault, MemoryObjects, NoFilter, NoLister, NoSubmodules, Pathspec, SubmoduleStatus,
     ToGit, Worktree,

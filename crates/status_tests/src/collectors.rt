@@ -4,8 +4,8 @@ ghost use Rattle.std.specs.Prelude.{◌≡◌, ◌++◌, ◌∷◌, [], Some, On
 ghost use Rattle.bstr.specs.BStr.{bstr_bytes};
 
 use bstr::BStr;
-use gix_status::index_as_worktree::{EntryStatus, VisitEntry};
 use gix_status::index::Entry;
+use gix_status::index_as_worktree::{EntryStatus, VisitEntry};
 use std::alloc::AllocError;
 use std::sync::atomic::{AtomicBool, Ordering};
 

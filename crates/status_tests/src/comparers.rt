@@ -6,9 +6,9 @@ ghost use Rattle.status_tests.specs.Lengths.{length_answer, length_counts};
 ghost use Rattle.status_tests.specs.Pieces.{pieces_counts};
 
 use crate::pieces::id_by_pieces;
+use gix_status::index::{Entry, ObjectId};
 use gix_status::index_as_worktree::Error;
 use gix_status::index_as_worktree::traits::{CompareBlobs, ReadData};
-use gix_status::index::{Entry, ObjectId};
 use std::alloc::Global;
 
 /// Compares the lengths of file and blob, and tells a change by the file's. The file isn't read.

@@ -6,8 +6,7 @@ ghost use Rattle.status_base.specs.Converted.{refused};
 ghost use Rattle.status_tests.specs.Returns.{is_no_return, without_returns};
 
 use bstr::BStr;
-use gix_status::worktree::{Fault, ReadBytes, ToGit, ToGitOutcome};
-use gix_status::worktree::read_all;
+use gix_status::worktree::{Fault, ReadBytes, ToGit, ToGitOutcome, read_all};
 use std::alloc::AllocError;
 
 /// Takes out carriage returns, as where text is stored with line feeds alone.

@@ -7,11 +7,10 @@ ghost use Rattle.status_index.specs.StreamId.{first_bytes_id};
 ghost use Rattle.status_compare.specs.Reading.{Reading, IsReading};
 ghost use Rattle.status_tests.specs.Pieces.{all_bytes_id, IsPiecesId};
 
+use gix_status::index::{HashKind, ObjectId, compute_hash};
 use gix_status::index_as_worktree::Error;
 use gix_status::index_as_worktree::traits::Stream;
-use gix_status::index::{HashKind, ObjectId};
 use gix_status::worktree::{Fault, ReadBytes};
-use gix_status::index::compute_hash;
 use std::alloc::Global;
 
 // How many bytes one read asks for.

@@ -1,66 +1,61 @@
 //! What an entry's content says, and when it has to be read.
 
-ghost use Rattle.std.specs.Prelude.{◌≡◌, ℕ, ◌==◌, not, ◌&&◌, ◌||◌, List, Option, Ok, IsTrue, true, false, IfSome};
+ghost use Rattle.std.specs.Prelude.{◌≡◌, ◌==◌, not, ◌&&◌, ◌||◌, false};
 ghost use Rattle.status_index.specs.BlobId.{is_empty_blob};
 ghost use Rattle.status_index.specs.Entries.{entry_at};
 ghost use Rattle.status_index.specs.Stat.{stat_agrees};
-ghost use Rattle.status_compare.specs.EntryMeaning.{entry_meaning};
 ghost use Rattle.status_compare.specs.Reads.{no_reads};
-ghost use Rattle.status_compare.specs.declared.reads.Reads.{Reads as ReadCounts};
-ghost use Rattle.status_call.specs.EntryParts.{IsOfCase, IsComparison};
-ghost use Rattle.status_call.specs.Modelled.{both_modelled};
-ghost use Rattle.status_call.specs.Status.{reads_link, same_bool, compared};
+ghost use Rattle.status_call.specs.EntryParts.{IsContentCompared, IsDecisionOf};
+ghost use Rattle.status_call.specs.Status.{reads_link, same_bool};
 
 use crate::index_as_worktree::decide::Decided;
+use crate::index_as_worktree::inputs::{Inputs, Means, Settings};
 use crate::index_as_worktree::types::{Change, EntryStatus, Error};
-use bstr::BStr;
 use status_base::index::{Entry, Mode, Stat, stat};
-use status_base::worktree::{Find, Metadata, NodeKind, ToGit, Worktree};
-use status_compare::{CompareBlobs, EntryReader, Reads};
+use status_base::worktree::{Find, Metadata, NodeKind, Pathspec, SubmoduleStatus, ToGit, Worktree};
+use status_compare::{CompareBlobs, Comparison, Reads, compare_entry};
 use std::alloc::Global;
-
-/// What a comparer answered of an entry.
-pub(crate) struct Comparison<T> {
-    /// What it reported of a change.
-    pub(crate) change: Option<T>,
-    /// What it read.
-    pub(crate) reads: Reads,
-}
 
 /// Compares an entry's content with that of the node at its path.
 ///
 /// # Errors
 /// The comparer's error.
-pub(crate) fn compare_node<W: Worktree, C: CompareBlobs, O: Find, T: ToGit>(
+pub(crate) fn compare_node<
+    'w,
+    W: Worktree,
+    C: CompareBlobs,
+    S: SubmoduleStatus,
+    O: Find,
+    P: Pathspec,
+    T: ToGit,
+>(
     alloc: Global,
-    worktree: &W,
-    filter: &T,
-    objects: &O,
-    compare: &mut C,
+    inputs: &mut Inputs<'w, W, C, S, O, P, T>,
+    settings: Settings,
     buffer: &mut Vec<u8>,
     entry: &Entry,
     path: &[u8],
     node: &Metadata,
-    symlink: bool,
 ) -> Result<Comparison<C::Output>, Error>
-    ensures compared { let e = entry_at path.now entry.now in
-        let m = entry_meaning (reads_link symlink e.mode node.now.kind) (λ c. T.conversion filter.now c e.path) node.now.len
-        (W.open_of worktree.now e.path) (W.target_of worktree.now e.path) (O.found objects.now e.id) in
-        IsTrue (both_modelled (W.modelled worktree.now) (O.modelled objects.now))
-        → IsComparison (C.answer compare.old e node.now.len m) (C.counts_after compare.old e node.now.len m no_reads) result }
-    ensures same_answer { C.answer compare.new ≡ C.answer compare.old }
-    ensures same_counts { C.counts_after compare.new ≡ C.counts_after compare.old }
+    ensures compared { IsContentCompared (⟦<Inputs<'w, W, C, S, O, P, T> as Means>⟧.query inputs.old settings)
+        (entry_at path.now entry.now) node.now result }
+    ensures only { inputs.new ≡ record inputs.old { compare = inputs.new.compare } }
+    ensures same { ⟦<Inputs<'w, W, C, S, O, P, T> as Means>⟧.query inputs.new
+        ≡ ⟦<Inputs<'w, W, C, S, O, P, T> as Means>⟧.query inputs.old }
 {
-    buffer.clear();
-    let is_link = reads_link(entry.mode, node.kind, symlink);
-    // Reborrowed, so that what the reader holds is of one lifetime.
-    let path = BStr::new(&*path);
-    let mut reader = EntryReader::new(
-        &*worktree, &*filter, &*objects, entry.id, path, is_link, node.len,
-    );
-    let change = compare.compare_blobs(alloc, entry, node.len, &mut reader, buffer)?;
-    let reads = reader.reads();
-    Ok(Comparison { change, reads })
+    let is_link = reads_link(entry.mode, node.kind, settings.fs.symlink);
+    compare_entry(
+        alloc,
+        inputs.worktree,
+        &inputs.filter,
+        &inputs.objects,
+        &mut inputs.compare,
+        buffer,
+        entry,
+        path,
+        is_link,
+        node.len,
+    )
 }
 
 /// Whether an entry is read as a link's target: it is a link, and so is the node, or the file system has links.
@@ -108,8 +103,7 @@ pub(crate) fn decision_of<T, U>(
     trusted: bool,
     racy: bool,
 ) -> Decided<T, U>
-    ensures { (path : List ℕ) (counted : Option ReadCounts) → IfSome counted (λ k. comparison.reads ≡ k)
-        → IsOfCase {U = U} path (compared executable_bit_changed trusted racy stat (Ok comparison.change)) true counted result }
+    ensures { IsDecisionOf comparison stat executable_bit_changed trusted racy result }
 {
     let Comparison { change, reads } = comparison;
     let status = match change {

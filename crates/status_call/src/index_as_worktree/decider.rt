@@ -8,10 +8,10 @@ ghost use Rattle.status_compare.specs.Reading.{IsMeant};
 ghost use Rattle.status_call.specs.Status.{answer, in_submodule};
 
 use crate::index_as_worktree::content::{
-    Comparison, compare_node, decision_of, is_trusted, needs_comparison, unread,
+    compare_node, decision_of, is_trusted, needs_comparison, unread,
 };
 use crate::index_as_worktree::decide::{Decide, Decided};
-use crate::index_as_worktree::interfaces::{Handed, Interfaces, Settings};
+use crate::index_as_worktree::inputs::{Inputs, Means, Settings};
 use crate::index_as_worktree::site::{Site, find};
 use crate::index_as_worktree::types::{Change, EntryStatus, Error};
 use bitflags::Flags as _;
@@ -21,18 +21,18 @@ use status_base::stack::SymlinkCheck;
 use status_base::worktree::{
     ByteText, Find, Metadata, Pathspec, SubmoduleFault, SubmoduleStatus, ToGit, Worktree,
 };
-use status_compare::CompareBlobs;
+use status_compare::{CompareBlobs, Comparison};
 use std::alloc::{AllocError, Global};
 
 /// Decides entries over a worktree. It keeps the buffers, so that an entry whose stat decides takes no memory.
 #[derive(Drop)]
 pub(crate) struct Decider<'w, W: Worktree, C, S, O, P, T> {
     alloc: Global,
-    interfaces: Interfaces<'w, W, C, S, O, P, T>,
+    inputs: Inputs<'w, W, C, S, O, P, T>,
     settings: Settings,
     check: SymlinkCheck,
     buffer: Vec<u8>,
-    ghost clear: { IsTrue (W.modelled interfaces.worktree.now) → IsClear (W.lstat_of interfaces.worktree.now) check.path },
+    ghost clear: { IsTrue (W.modelled inputs.worktree.now) → IsClear (W.lstat_of inputs.worktree.now) check.path },
 }
 
 impl<'w, W: Worktree, C: CompareBlobs, S: SubmoduleStatus, O: Find, P: Pathspec, T: ToGit> Decider<
@@ -51,17 +51,17 @@ where
     /// A decider by these settings.
     pub(crate) fn new(
         alloc: Global,
-        interfaces: Interfaces<'w, W, C, S, O, P, T>,
+        inputs: Inputs<'w, W, C, S, O, P, T>,
         settings: Settings,
     ) -> Decider<'w, W, C, S, O, P, T>
         ensures { ⟦<Decider<'w, W, C, S, O, P, T> as Decide>⟧.query result
-            ≡ ⟦<Interfaces<'w, W, C, S, O, P, T> as Handed>⟧.query interfaces.entry settings }
+            ≡ ⟦<Inputs<'w, W, C, S, O, P, T> as Means>⟧.query inputs.entry settings }
     {
         let root = BString::new(Vec::new(alloc));
         let check = SymlinkCheck::new(alloc, root);
         Decider {
             alloc,
-            interfaces,
+            inputs,
             settings,
             check,
             buffer: Vec::new(alloc),
@@ -145,7 +145,6 @@ where
         let comparison = self.compare(entry, path, node)?;
         Ok(decision_of(comparison, stat, executable_bit_changed, trusted, racy))
     }
-
     /// Compares an entry's content with its node's.
     ///
     /// # Errors
@@ -161,19 +160,16 @@ where
         ensures same { ⟦<Decider<'w, W, C, S, O, P, T> as Decide>⟧.query self.new
             ≡ ⟦<Decider<'w, W, C, S, O, P, T> as Decide>⟧.query self.old }
     {
+        let (inputs, settings) = (&mut self.inputs, self.settings);
         let path = path.as_bytes();
-        let interfaces = &mut self.interfaces;
         compare_node(
             self.alloc,
-            interfaces.worktree,
-            &interfaces.filter,
-            &interfaces.objects,
-            &mut interfaces.compare,
+            inputs,
+            settings,
             &mut self.buffer,
             entry,
             path,
             node,
-            self.settings.fs.symlink,
         )
     }
 }
@@ -188,11 +184,11 @@ where
 
     type Submodule = S::Output;
 
-    ghost query = { λ d. ⟦<Interfaces<'w, W, C, S, O, P, T> as Handed>⟧.query d.interfaces d.settings };
+    ghost query = { λ d. ⟦<Inputs<'w, W, C, S, O, P, T> as Means>⟧.query d.inputs d.settings };
 
     fn includes(&self, entry: &Entry, path: BStr<'_>) -> bool {
         let is_submodule = entry.mode.is_submodule();
-        self.interfaces.pathspec.includes(path, is_submodule)
+        self.inputs.pathspec.includes(path, is_submodule)
     }
 
     fn decide(
@@ -200,13 +196,13 @@ where
         entry: &Entry,
         path: BStr<'_>,
     ) -> Result<Decided<C::Output, S::Output>, Error> {
-        match find(self.interfaces.worktree, &mut self.check, path)? {
+        match find(self.inputs.worktree, &mut self.check, path)? {
             Site::Nothing { lstat_called } => {
                 let removed = EntryStatus::Change(Change::Removed);
                 Ok(unread(Some(removed), lstat_called))
             }
             Site::Directory if entry.mode.is_submodule() => {
-                let submodule = &mut self.interfaces.submodule;
+                let submodule = &mut self.inputs.submodule;
                 let status = submodule_status(self.alloc, submodule, entry, path)?;
                 Ok(unread(status, true))
             }
@@ -216,8 +212,8 @@ where
     }
 
     fn another(&self) -> Result<Decider<'w, W, C, S, O, P, T>, AllocError> {
-        let interfaces = self.interfaces.another()?;
-        Ok(Decider::new(self.alloc, interfaces, self.settings))
+        let inputs = self.inputs.another()?;
+        Ok(Decider::new(self.alloc, inputs, self.settings))
     }
 }
 

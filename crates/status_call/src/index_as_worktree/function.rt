@@ -5,13 +5,13 @@ ghost use Rattle.status_index.specs.States.{entries_of, index_of};
 ghost use Rattle.bstr.specs.BStr.{bstr_bytes};
 ghost use Rattle.status_index.specs.Stretch.{part_of};
 ghost use Rattle.status_call.specs.Considered.{considered, considered_start};
-ghost use Rattle.status_call.specs.HandedIn.{handed, settings};
-ghost use Rattle.status_call.specs.StatusTheorem.{IsAlone, IsStatus};
+ghost use Rattle.status_call.specs.Inputs.{inputs};
+ghost use Rattle.status_call.specs.StatusOf.{IsAlone, IsStatus};
 ghost use Rattle.status_call.specs.Workers.{chunk_size_of};
 
 use crate::index_as_worktree::considered::Considered;
 use crate::index_as_worktree::decider::Decider;
-use crate::index_as_worktree::interfaces::{Handed, Interfaces, Settings};
+use crate::index_as_worktree::inputs::{Inputs, Means, Settings};
 use crate::index_as_worktree::types::{Context, Error, Options, Outcome, VisitEntry};
 use crate::index_as_worktree::work::run_rounds;
 use crate::index_as_worktree::workers::Workers;
@@ -92,11 +92,12 @@ where
     W::File: Send,
     C::Output: Send,
     S::Output: Send,
-    ensures status { let q = ⟦<Interfaces<'w, W, C, S, O, P, T> as Handed>⟧.query (handed worktree.entry compare submodule objects context.entry) in
-        IsStatus (q (settings options index.now)) index.now (V.visits collector.old) result (V.visits collector.new) }
+    ensures all { IsStatus (⟦<Inputs<'w, W, C, S, O, P, T> as Means>⟧.query
+        (inputs worktree.entry compare submodule objects context.entry))
+        options index.now V.visits collector.old result collector.new }
     ensures uninterrupted { context.entry.should_interrupt ≡ None → IfOk result (λ o. o.interrupted ≡ false) }
-    ensures alone { let q = ⟦<Interfaces<'w, W, C, S, O, P, T> as Handed>⟧.query (handed worktree.entry compare submodule objects context.entry) in
-        IsAlone (q (settings options index.now)) options.thread_limit result }
+    ensures alone { IsAlone (⟦<Inputs<'w, W, C, S, O, P, T> as Means>⟧.query
+        (inputs worktree.entry compare submodule objects context.entry)) options index.now result }
 {
     let Context {
         pathspec,
@@ -113,7 +114,7 @@ where
         stat: options.stat,
         fs: options.fs,
     };
-    let interfaces = Interfaces {
+    let inputs = Inputs {
         worktree,
         compare,
         submodule,
@@ -121,7 +122,7 @@ where
         pathspec,
         filter,
     };
-    let decider = Decider::new(alloc, interfaces, settings);
+    let decider = Decider::new(alloc, inputs, settings);
     let workers = Workers::by_limit(options.thread_limit, should_interrupt);
     let chunk_size = chunk_size_of(options.chunk_size);
     let considered = Considered {

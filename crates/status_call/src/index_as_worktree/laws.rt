@@ -79,6 +79,6 @@ pub fn sizes_refuse_no_thread<U: Drop>()
 /// Comparison by sizes reports a change of a file or link exactly where comparison by ids does. It holds where a file
 /// delivers as many bytes as its length, nothing converts it, the contents at hand have ids of their own, and the entry
 /// keeps its content's size or 0.
-pub fn sizes_agree_with_ids()
+pub fn fast_agrees_with_hash()
     ensures { (e : IndexEntry) → FastAgrees e }
 {}

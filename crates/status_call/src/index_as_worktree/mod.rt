@@ -8,7 +8,7 @@ mod decide;
 mod decider;
 mod feed;
 mod function;
-mod interfaces;
+mod inputs;
 pub mod laws;
 mod piece;
 mod recorder;

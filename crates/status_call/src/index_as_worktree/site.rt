@@ -3,13 +3,13 @@
 ghost use Rattle.std.specs.Prelude.{◌≡◌, Result, IsTrue};
 ghost use Rattle.bstr.specs.BStr.{bstr_bytes};
 ghost use Rattle.status_base.specs.CheckState.{IsClear};
-ghost use Rattle.status_base.specs.LinkCheck.{LinkCheck, link_check};
+ghost use Rattle.status_base.specs.LinkCheck.{LinkCheck};
 ghost use Rattle.status_base.specs.Verified.{IsRefused};
 ghost use Rattle.status_index.specs.declared.metadata.Metadata.{Metadata as NodeMetadata};
 ghost use Rattle.status_index.specs.declared.fault.Fault.{Fault as WorktreeFault};
-ghost use Rattle.status_call.specs.EntryParts.{IsSite};
+ghost use Rattle.status_call.specs.EntryParts.{IsSite, IsSiteAt};
 ghost use Rattle.status_call.specs.Counts.{is_accepted};
-ghost use Rattle.status_call.specs.Status.{found_by, found_fault, found_at};
+ghost use Rattle.status_call.specs.Status.{found_by, found_fault};
 
 use crate::index_as_worktree::types::Error;
 use bstr::BStr;
@@ -40,8 +40,7 @@ pub(crate) fn find<W: Worktree>(
     path: BStr<'_>,
 ) -> Result<Site, Error>
     ensures site { IsTrue (W.modelled worktree.now) → IsClear (W.lstat_of worktree.now) check.old.path
-        → IsSite (found_at (W.lstat_of worktree.now) (bstr_bytes path.entry))
-        (is_accepted (link_check (W.lstat_of worktree.now) (bstr_bytes path.entry))) result }
+        → IsSiteAt (W.lstat_of worktree.now) (bstr_bytes path.entry) result }
     ensures clear { IsTrue (W.modelled worktree.now) → IsClear (W.lstat_of worktree.now) check.old.path
         → IsClear (W.lstat_of worktree.now) check.new.path }
 {

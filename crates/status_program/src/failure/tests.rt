@@ -1,9 +1,8 @@
 use crate::failure::Failure;
 use crate::profile::{Key, ProfileError};
-use gix_status::index_as_worktree::Error;
 use gix_status::index::IndexError;
-use gix_status::worktree::{Fault, FindError, TreeError};
-use gix_status::worktree::ByteText;
+use gix_status::index_as_worktree::Error;
+use gix_status::worktree::{ByteText, Fault, FindError, TreeError};
 use std::io;
 use std::process::Abort;
 use std::test::Fail;

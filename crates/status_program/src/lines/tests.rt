@@ -1,7 +1,7 @@
 use crate::lines::{path_value, status_line, total_line};
 use bstr::BStr;
-use gix_status::index_as_worktree::{Change, Conflict, ConflictIndexEntry, EntryStatus, Outcome};
 use gix_status::index::{Flags, HashKind, Mode, ObjectId, Stat};
+use gix_status::index_as_worktree::{Change, Conflict, ConflictIndexEntry, EntryStatus, Outcome};
 use std::test::Fail;
 
 type Told = EntryStatus<ObjectId, ()>;

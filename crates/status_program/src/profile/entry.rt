@@ -4,8 +4,8 @@ use crate::profile::error::FieldError;
 use crate::profile::field::{Fields, text_of};
 use crate::profile::members::Item;
 use bstr::BString;
-use serde_json::Value;
 use gix_status::index::{Flags, Mode, NewEntry, ObjectId};
+use serde_json::Value;
 use std::alloc::Global;
 
 impl Item for NewEntry {

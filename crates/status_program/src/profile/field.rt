@@ -1,8 +1,8 @@
 //! The fields of a profile's objects, by their forms. A field with a default may be missing, but not have a wrong form.
 
 use crate::profile::error::FieldError;
-use serde_json::{Map, Value};
 use gix_status::index::{Stat, Time};
+use serde_json::{Map, Value};
 
 /// The fields of an object. Of equal keys the last counts.
 #[derive(Clone, Copy)]

@@ -3,10 +3,10 @@
 use crate::profile::error::FieldError;
 use crate::profile::field::Fields;
 use bstr::BString;
-use serde::{Deserialize, DeserializeOwned, Deserializer, Format, Kind};
-use serde_json::{Map, Value};
 use gix_status::index::NewEntry;
 use gix_status::worktree::Node;
+use serde::{Deserialize, DeserializeOwned, Deserializer, Format, Kind};
+use serde_json::{Map, Value};
 use std::alloc::Global;
 
 /// What stands in a list of a profile: made from the fields of an object.

@@ -14,9 +14,9 @@ use crate::profile::members::{Document, Members};
 use crate::profile::node::read_place;
 use crate::profile::options::read_options;
 pub use error::{FieldError, Key, ProfileError};
+use gix_status::index::{HashKind, Moment, NewEntry};
 pub use node::Place;
 pub use options::{Comparer, ProfileOptions};
-use gix_status::index::{HashKind, Moment, NewEntry};
 use std::alloc::Global;
 
 /// What a profile says.

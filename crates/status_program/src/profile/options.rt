@@ -3,9 +3,9 @@
 use crate::profile::error::FieldError;
 use crate::profile::field::{Fields, number_of};
 use bstr::BString;
+use gix_status::index::stat;
 use gix_status::index_as_worktree::{Capabilities, Options};
 use serde_json::{Map, Value};
-use gix_status::index::stat;
 use std::alloc::Global;
 
 /// How a file is compared with what an entry names.

@@ -1,7 +1,7 @@
 use crate::profile::{Comparer, Key, Place, Profile, ProfileError};
 use bstr::BString;
-use gix_status::index_as_worktree::{Capabilities, Options};
 use gix_status::index::{Flags, HashKind, Mode, Moment, NewEntry, ObjectId, Stat, Time, stat};
+use gix_status::index_as_worktree::{Capabilities, Options};
 use gix_status::worktree::{Metadata, Node, NodeKind};
 use std::alloc::{AllocError, Global};
 use std::process::Abort;

@@ -6,9 +6,9 @@ use crate::given::{
     BARS, FOO, GivenEntry, GivenNode, LATER, WRITTEN, file, foo_entry, index, later_file,
     later_link, stat, worktree,
 };
+use gix_status::index::{Mode, ObjectId, State};
 use gix_status::index_as_worktree::traits::HashEq;
 use gix_status::index_as_worktree::{EntryStatus, Error, Outcome, Recorder};
-use gix_status::index::{Mode, ObjectId, State};
 use gix_status::worktree::{Fault, FindError, MemoryObjects, MemoryWorktree};
 use std::sync::Wait;
 use std::test::Fail;

@@ -2,9 +2,9 @@
 
 use crate::asking::{ask, plainly};
 use crate::given::{BAR, BARS, FOO, GivenEntry, WRITTEN, index, stage_entry, worktree};
+use gix_status::index::Mode;
 use gix_status::index_as_worktree::traits::HashEq;
 use gix_status::index_as_worktree::{Conflict, ConflictIndexEntry, EntryStatus};
-use gix_status::index::Mode;
 use std::sync::Wait;
 use std::test::Fail;
 use std::thread::Threads;

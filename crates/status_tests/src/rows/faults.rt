@@ -3,9 +3,9 @@
 use crate::asking::{Told, ask, changed, one_file_read, options, with_options};
 use crate::given::{BAR, WRITTEN, foo_entry, index};
 use crate::worktrees::{Counted, Files, Long, Piece};
+use gix_status::index::{ObjectId, State};
 use gix_status::index_as_worktree::Options;
 use gix_status::index_as_worktree::traits::HashEq;
-use gix_status::index::{ObjectId, State};
 use gix_status::worktree::{Fault, Worktree};
 use std::sync::Wait;
 use std::sync::atomic::{AtomicUsize, Ordering};

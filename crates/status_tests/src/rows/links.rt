@@ -2,8 +2,8 @@
 
 use crate::asking::{ask, changed, one_file_read, plainly};
 use crate::given::{BARS, GivenEntry, WRITTEN, foo_entry, index, later_link, worktree};
-use gix_status::index_as_worktree::traits::HashEq;
 use gix_status::index::Mode;
+use gix_status::index_as_worktree::traits::HashEq;
 use std::test::Fail;
 
 #[test]

@@ -2,8 +2,8 @@
 //! isn't 0, so that each step shows which of two fields comes first.
 
 use crate::given::{BAR, FOO};
-use gix_status::index_as_worktree::{Change, Conflict, ConflictIndexEntry, EntryStatus, Outcome};
 use gix_status::index::{Flags, Mode, Moment, ObjectId, Stat, Time};
+use gix_status::index_as_worktree::{Change, Conflict, ConflictIndexEntry, EntryStatus, Outcome};
 use std::cmp::Ordering;
 use std::process::Abort;
 

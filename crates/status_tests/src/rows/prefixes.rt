@@ -5,9 +5,9 @@ use crate::asking::{
 };
 use crate::given::{BAR, WRITTEN, file, foo_entry, index, later_file, worktree};
 use bstr::BStr;
+use gix_status::index::{ObjectId, State};
 use gix_status::index_as_worktree::Outcome;
 use gix_status::index_as_worktree::traits::HashEq;
-use gix_status::index::{ObjectId, State};
 use gix_status::worktree::{MemoryObjects, MemoryWorktree, NoFilter, NoSubmodules, Prefix};
 use std::alloc::{AllocError, Global};
 use std::sync::Wait;

@@ -2,9 +2,9 @@
 
 use crate::asking::{ask_until, ask_until_told, options, removed, with_options};
 use crate::given::{WRITTEN, foo_entry, index, worktree};
+use gix_status::index::{IndexError, State};
 use gix_status::index_as_worktree::traits::HashEq;
 use gix_status::index_as_worktree::{Options, Outcome};
-use gix_status::index::{IndexError, State};
 use std::alloc::{AllocError, Global};
 use std::sync::atomic::AtomicBool;
 use std::test::Fail;

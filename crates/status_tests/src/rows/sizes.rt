@@ -4,9 +4,9 @@ use crate::asking::{Asked, Told, changed, one_file, one_file_read, plainly, tell
 use crate::given::{
     EMPTY, GivenEntry, GivenNode, LATER, WRITTEN, foo_entry, index, later_file, stat, worktree,
 };
+use gix_status::index::State;
 use gix_status::index_as_worktree::traits::{CompareBlobs, FastEq};
 use gix_status::index_as_worktree::{EntryStatus, Outcome, Recorder};
-use gix_status::index::State;
 use gix_status::worktree::{Fault, NoSubmodules, Pathspec, ToGit, Worktree};
 use std::sync::Wait;
 use std::test::Fail;

@@ -3,9 +3,9 @@
 use crate::asking::{Asked, Told, one_file, options, tell};
 use crate::given::{GivenEntry, WRITTEN, directory, foo_entry, index, worktree};
 use crate::submodules::Alike;
+use gix_status::index::{Mode, ObjectId, State};
 use gix_status::index_as_worktree::traits::{CompareBlobs, HashEq};
 use gix_status::index_as_worktree::{Change, EntryStatus, Error, Recorder};
-use gix_status::index::{Mode, ObjectId, State};
 use gix_status::worktree::{
     AllPaths, MemoryObjects, MemoryWorktree, NoFilter, Pathspec, SubmoduleStatus, ToGit, Worktree,
 };

@@ -5,11 +5,11 @@ use crate::given::{
     BAR, BARS, FOO, GivenEntry, GivenNode, LATER, WRITTEN, directory, file, foo_entry, index,
     later_file, later_link, stage_entry, stat, worktree,
 };
+use gix_status::index::{Flags, Mode, ObjectId};
 use gix_status::index_as_worktree::traits::HashEq;
 use gix_status::index_as_worktree::{
     Change, Conflict, ConflictIndexEntry, EntryStatus, Options, Outcome,
 };
-use gix_status::index::{Flags, Mode, ObjectId};
 use std::test::Fail;
 
 type Status = EntryStatus<ObjectId, ()>;

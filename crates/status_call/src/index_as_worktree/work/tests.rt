@@ -5,7 +5,7 @@ ghost use Rattle.std.specs.Prelude.{◌≤◌};
 use crate::index_as_worktree::considered::Considered;
 use crate::index_as_worktree::counts::Progress;
 use crate::index_as_worktree::decider::Decider;
-use crate::index_as_worktree::interfaces::{Interfaces, Settings};
+use crate::index_as_worktree::inputs::{Inputs, Settings};
 use crate::index_as_worktree::piece::tests::index_of;
 use crate::index_as_worktree::recorder::Recorder;
 use crate::index_as_worktree::traits::HashEq;
@@ -33,7 +33,7 @@ fn status_by<'index, R: Threads + Wait>(
     requires few { most ≤ 64 }
 {
     let worktree = MemoryWorktree::new(alloc);
-    let interfaces = Interfaces {
+    let inputs = Inputs {
         worktree: &worktree,
         compare: HashEq,
         submodule: NoSubmodules,
@@ -46,7 +46,7 @@ fn status_by<'index, R: Threads + Wait>(
         stat: stat::Options::default(),
         fs: Capabilities::default(),
     };
-    let decider = Decider::new(alloc, interfaces, settings);
+    let decider = Decider::new(alloc, inputs, settings);
     let entries = index.entries();
     let considered = Considered {
         entries,

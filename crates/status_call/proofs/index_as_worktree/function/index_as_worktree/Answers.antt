@@ -6,8 +6,8 @@ use Rattle.status_call.proofs.Parts.{map-part}
 use Rattle.status_call.proofs.StatusProof.{status_alone, status_ok, status_err, work_kept, part_len, rest_len, skip_room}
 use Rattle.status_call.proofs.index_as_worktree.function.index_as_worktree.Goals as goal
 
-pub returns-in-Ok-clause-status : goal.returns-in-Ok-clause-status
-returns-in-Ok-clause-status g c =
+pub returns-in-Ok-clause-all : goal.returns-in-Ok-clause-all
+returns-in-Ok-clause-all g c =
     let index = c.args.index.now in
     let range = c.considered_range-range.result in
     let query = rw c.timestamp.ensures at c.new-decider.ensures in
@@ -26,8 +26,8 @@ returns-in-Ok-clause-status g c =
     (rest_len (index_of index) _ (entries_of index) range.start range.end part order inside len _ same)
     (skip_room (index_of index) _ (entries_of index) range.start range.end part order inside len _ same fits))
 
-pub returns-clause-status : goal.returns-clause-status
-returns-clause-status g c =
+pub returns-clause-all : goal.returns-clause-all
+returns-clause-all g c =
     let index = c.args.index.now in
     let range = c.considered_range-range.result in
     let query = rw c.timestamp.ensures at c.new-decider.ensures in

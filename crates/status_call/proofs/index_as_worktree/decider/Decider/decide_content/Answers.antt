@@ -9,7 +9,7 @@ use Rattle.status_call.proofs.index_as_worktree.decider.Decider.decide_content.G
 
 pub returns-clause-decided : goal.returns-clause-decided
 returns-clause-decided g c =
-    let i = c.args.self.now.interfaces in
+    let i = c.args.self.now.inputs in
     let s = c.args.self.now.settings in
     let q : Query g.row.C-Output.Denot g.row.S-Output.Denot = record {
       modelled = all_modelled (g.W.Worktree.modelled i.worktree.now) (g.O.Find.modelled i.objects) (g.S.SubmoduleStatus.modelled i.submodule);

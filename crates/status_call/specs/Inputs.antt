@@ -2,13 +2,13 @@
 use Rattle.std.specs.Borrow.{Bor}
 use Rattle.status_index.specs.declared.state.State.{State}
 use Rattle.status_index.specs.States.{timestamp_of}
-use Rattle.status_call.specs.declared.index_as_worktree.interfaces.Interfaces.{Interfaces}
-use Rattle.status_call.specs.declared.index_as_worktree.interfaces.Settings.{Settings}
+use Rattle.status_call.specs.declared.index_as_worktree.inputs.Inputs.{Inputs}
+use Rattle.status_call.specs.declared.index_as_worktree.inputs.Settings.{Settings}
 use Rattle.status_call.specs.declared.index_as_worktree.types.Context.{Context}
 use Rattle.status_call.specs.declared.index_as_worktree.types.Options.{Options}
 
-abbrev pub handed : {W C S O P T L : Type 0} → Bor W → C → S → O → Context P T L → Interfaces W C S O P T
-handed worktree compare submodule objects context = record {
+abbrev pub inputs : {W C S O P T L : Type 0} → Bor W → C → S → O → Context P T L → Inputs W C S O P T
+inputs worktree compare submodule objects context = record {
   worktree = worktree;
   compare = compare;
   submodule = submodule;

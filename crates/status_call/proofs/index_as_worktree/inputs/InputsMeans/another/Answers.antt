@@ -1,6 +1,6 @@
 use Rattle.std.proofs.Common.{None}
 use Rattle.status_call.specs.Modelled.{all_modelled}
-use Rattle.status_call.proofs.index_as_worktree.interfaces.InterfacesHanded.another.Goals as goal
+use Rattle.status_call.proofs.index_as_worktree.inputs.InputsMeans.another.Goals as goal
 
 pub returns : goal.returns
 returns g c =

@@ -3,7 +3,7 @@
 ghost use Rattle.std.specs.Prelude.{◌≡◌, None, IfOk};
 ghost use Rattle.status_call.specs.Modelled.{all_modelled};
 ghost use Rattle.status_call.specs.Query.{Query};
-ghost use Rattle.status_call.specs.declared.index_as_worktree.interfaces.Settings.{Settings as StatusSettings};
+ghost use Rattle.status_call.specs.declared.index_as_worktree.inputs.Settings.{Settings as StatusSettings};
 
 use crate::index_as_worktree::types::Capabilities;
 use status_base::index::{Moment, stat};
@@ -24,7 +24,7 @@ pub struct Settings {
 
 /// The worktree and the interfaces that a caller hands in.
 #[derive(Drop)]
-pub struct Interfaces<'w, W, C, S, O, P, T> {
+pub struct Inputs<'w, W, C, S, O, P, T> {
     /// The worktree.
     pub worktree: &'w W,
     /// Compares a file with a blob.
@@ -40,7 +40,7 @@ pub struct Interfaces<'w, W, C, S, O, P, T> {
 }
 
 /// What a status is computed from, whoever hands it in.
-pub trait Handed {
+pub trait Means {
     /// What a comparer reports of a change.
     type Content;
     /// What a submodule reports of a change.
@@ -57,8 +57,8 @@ pub trait Handed {
         ensures { IfOk result (λ other. query other ≡ query self.now) };
 }
 
-impl<'w, W: Worktree, C: CompareBlobs, S: SubmoduleStatus, O: Find, P: Pathspec, T: ToGit> Handed
-    for Interfaces<'w, W, C, S, O, P, T> {
+impl<'w, W: Worktree, C: CompareBlobs, S: SubmoduleStatus, O: Find, P: Pathspec, T: ToGit> Means
+    for Inputs<'w, W, C, S, O, P, T> {
     type Content = C::Output;
 
     type Submodule = S::Output;
@@ -83,8 +83,8 @@ impl<'w, W: Worktree, C: CompareBlobs, S: SubmoduleStatus, O: Find, P: Pathspec,
       counted = C.counts_after i.compare;
     } };
 
-    fn another(&self) -> Result<Interfaces<'w, W, C, S, O, P, T>, AllocError> {
-        Ok(Interfaces {
+    fn another(&self) -> Result<Inputs<'w, W, C, S, O, P, T>, AllocError> {
+        Ok(Inputs {
             worktree: self.worktree,
             compare: self.compare.clone()?,
             submodule: self.submodule.clone()?,

@@ -1,5 +1,5 @@
 use Rattle.status_compare.proofs.Agree.{agrees}
-use Rattle.status_call.proofs.index_as_worktree.laws.sizes_agree_with_ids.Goals as goal
+use Rattle.status_call.proofs.index_as_worktree.laws.fast_agrees_with_hash.Goals as goal
 
 pub returns : goal.returns
 returns c = agrees

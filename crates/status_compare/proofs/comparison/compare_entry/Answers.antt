@@ -1,6 +1,6 @@
 use Rattle.std.proofs.Common.{rules}
-use Rattle.status_call.proofs.EntryCases.{modelled_meaning}
-use Rattle.status_call.proofs.index_as_worktree.content.compare_node.Goals as goal
+use Rattle.status_compare.proofs.Modelled.{modelled_meaning}
+use Rattle.status_compare.proofs.comparison.compare_entry.Goals as goal
 
 pub returns-in_err-change-clause-compared : goal.returns-in_err-change-clause-compared
 returns-in_err-change-clause-compared g c = λ both.
