@@ -1,8 +1,9 @@
 -- The bounds of pieces, as they grow, and what pieces in a row give.
-use Rattle.std.proofs.Common.{◌≡◌, refl, sym, ap, ◌∙◌, subst, ℕ, zero, suc, ◌+◌, ◌-◌, ◌<◌, ◌≤◌, inl, inr, Bool, true, List, [], ◌∷◌, ◌++◌, length, length-append, All, Option, Some, None, arith}
+use Rattle.std.proofs.Common.{◌≡◌, refl, sym, ap, ◌∙◌, subst, ℕ, zero, suc, ◌+◌, ◌-◌, ◌<◌, ◌≤◌, ◌⊎◌, inl, inr, Bool, true, List, [], ◌∷◌, ◌++◌, length, length-append, All, Option, Some, None, arith}
 use Rattle.std.specs.Prelude.{AllPairs, slice_get}
 use Rattle.std.specs.List.{slice_index_or}
-use Rattle.std.proofs.lemmas.Bool.{cases_lt}
+use Rattle.std.proofs.lemmas.Bool.{cases_eq, cases_lt}
+use Rattle.std.proofs.lemmas.List.{get_or_push}
 use Rattle.std.proofs.lemmas.List.Elements.{All-nil, All-cons, All-append, All-weaker}
 use Rattle.std.proofs.Math.ListN.{get_or-append}
 use Rattle.status_index.specs.Entries.{IndexEntry}
@@ -12,11 +13,11 @@ use Rattle.status_call.specs.declared.index_as_worktree.piece.End.{End}
 use Rattle.status_call.specs.declared.index_as_worktree.piece.Piece.{Piece}
 use Rattle.status_call.specs.Pieces.{IsCut, IsThrough}
 use Rattle.status_call.specs.Query.{Query}
-use Rattle.status_call.specs.Rounds.{AreBounds, AreInRow, IsGiven, bound, last_bound, is_short}
+use Rattle.status_call.specs.Rounds.{AreBounds, AreInRow, ArePieces, IsGiven, IsPieceEnd, bound, last_bound, is_short}
 use Rattle.status_call.proofs.Parts.{AllPairs-append}
 
 -- bounds from a place up to another
-pub record AreGrowing (es : List IndexEntry) (from at : ℕ) (bounds : List ℕ) : Type 0 where
+pub record AreGrowing (es : List IndexEntry) (chunk from at : ℕ) (bounds : List ℕ) : Type 0 where
   pub some_bound : 0 < length bounds
   pub first : bound bounds 0 ≡ from
   pub upto : All (λ b. b ≤ at) bounds
@@ -24,12 +25,14 @@ pub record AreGrowing (es : List IndexEntry) (from at : ℕ) (bounds : List ℕ)
   pub ascending : AllPairs (λ a b. a < b) bounds
   pub inside : All (λ b. b ≤ length es) bounds
   pub cuts : All (λ b. IsCut es b) bounds
+  pub last : last_bound bounds ≡ at
+  pub ends : ArePieces es chunk bounds
 
 one_of : {X : Type 0} (P : X → Type 0) (x : X) → P x → All P (x ∷ [])
 one_of P x h = All-cons P x [] h (All-nil P)
 
-pub bounds_begin : (es : List IndexEntry) (from : ℕ) → from < length es → IsCut es from → AreGrowing es from from (from ∷ [])
-bounds_begin es from inside cut = record {
+pub bounds_begin : (es : List IndexEntry) (chunk from : ℕ) → from < length es → IsCut es from → AreGrowing es chunk from from (from ∷ [])
+bounds_begin es chunk from inside cut = record {
   some_bound = omega arith;
   first = refl;
   upto = one_of (λ b. b ≤ from) from (omega arith);
@@ -37,10 +40,12 @@ bounds_begin es from inside cut = record {
   ascending = λ i j d l m. absurd (omega arith);
   inside = one_of (λ b. b ≤ length es) from (omega arith);
   cuts = one_of (λ b. IsCut es b) from cut;
+  last = refl;
+  ends = λ k l. absurd (omega arith);
 }
 
-pub bounds_grow : (es : List IndexEntry) (from at to : ℕ) (bounds : List ℕ) → at < to → to ≤ length es → IsCut es to → AreGrowing es from at bounds → AreGrowing es from to (bounds ++ to ∷ [])
-bounds_grow es from at to bounds more inside cut h = record {
+pub bounds_grow : (es : List IndexEntry) (chunk from at to : ℕ) (bounds : List ℕ) → IsPieceEnd es chunk at to → to ≤ length es → IsCut es to → AreGrowing es chunk from at bounds → AreGrowing es chunk from to (bounds ++ to ∷ [])
+bounds_grow es chunk from at to bounds end inside cut h = let more = end.more in record {
   some_bound = omega (arith, length-append bounds (to ∷ []));
   first = get_or-append bounds (to ∷ []) 0 0 h.some_bound ∙ h.first;
   upto = All-append (λ b. b ≤ to) bounds (to ∷ []) (All-weaker (λ b. b ≤ at) (λ b. b ≤ to) (λ b l. omega (arith, l)) bounds h.upto) (one_of (λ b. b ≤ to) to (omega arith));
@@ -48,14 +53,24 @@ bounds_grow es from at to bounds more inside cut h = record {
   ascending = AllPairs-append (λ a b. a < b) bounds (to ∷ []) h.ascending (λ i j d l m. absurd (omega arith)) (λ i j d l m. omega (arith, h.upto i d l, last_one j m d));
   inside = All-append (λ b. b ≤ length es) bounds (to ∷ []) h.inside (one_of (λ b. b ≤ length es) to inside);
   cuts = All-append (λ b. IsCut es b) bounds (to ∷ []) h.cuts (one_of (λ b. IsCut es b) to cut);
+  last = get_or_push bounds to 0 (length (bounds ++ to ∷ []) - 1) (omega (arith, length-append bounds (to ∷ [])));
+  ends = λ k l. grown k l (cases_eq (k + 1) (length bounds));
 }
   where
+    grown : (k : ℕ) → k + 1 < length (bounds ++ to ∷ []) → (k + 1 ≡ length bounds) ⊎ (k + 1 ≡ length bounds → ⊥) → IsPieceEnd es chunk (bound (bounds ++ to ∷ []) k) (bound (bounds ++ to ∷ []) (k + 1))
+    grown k l (inl e) =
+        let here : bound (bounds ++ to ∷ []) k ≡ at = get_or-append bounds (to ∷ []) 0 k (omega (arith, e)) ∙ ap (bound bounds) (omega (arith, e)) ∙ h.last in
+        rw (here, get_or_push bounds to 0 (k + 1) (sym e)) end
+    grown k l (inr other) =
+        let few : k + 1 < length bounds = omega (arith, l, other, length-append bounds (to ∷ [])) in
+        rw (get_or-append bounds (to ∷ []) 0 k (omega arith), get_or-append bounds (to ∷ []) 0 (k + 1) few) (h.ends k few)
+
     last_one : (j : ℕ) → j < 1 → (d : ℕ) → slice_index_or (to ∷ []) j d ≡ to
     last_one zero l d = refl
     last_one (suc j) l d = absurd (omega arith)
 
-pub bounds_are : (es : List IndexEntry) (from at : ℕ) (bounds : List ℕ) → (length bounds ≡ 1 → at ≡ from → ⊥) → AreGrowing es from at bounds → AreBounds es bounds
-bounds_are es from at bounds more h = record {
+pub bounds_are : (es : List IndexEntry) (chunk from at : ℕ) (bounds : List ℕ) → (length bounds ≡ 1 → at ≡ from → ⊥) → AreGrowing es chunk from at bounds → AreBounds es bounds
+bounds_are es chunk from at bounds more h = record {
   pieces = many (length bounds) refl;
   ascending = h.ascending;
   inside = h.inside;

@@ -81,7 +81,7 @@ and_true true = refl
 and_true false = refl
 
 module _ {T U : Type 0} (q : Query T U) (e : IndexEntry) where
-  -- the comparer is asked, but for entries that are trusted and not racy
+  -- the comparer is called, but for entries that are trusted and not racy
   pub calls_comparer : (n : Metadata) (s : Stat) (x trusted racy : Bool) → (x || not trusted || racy) ≡ true
       → case_of_content q e n s x trusted racy ≡ compared x trusted racy s (q.compared e n.len (meaning q e n))
   calls_comparer n s true trusted racy h = refl

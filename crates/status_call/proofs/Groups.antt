@@ -119,7 +119,7 @@ module _ {T U : Type 0} (q : Query T U) (es : List IndexEntry) where
       ap (λ (o : Option Error). cons_option o (faults_in q es xs)) (ap fault_by (All-head (λ (e : IndexEntry). verdict q es e ≡ Ok None) x xs h))
       ∙ faults_none xs (All-tail (λ (e : IndexEntry). verdict q es e ≡ Ok None) x xs h)
 
-  -- a later stage of a conflict that is told already
+  -- a later stage of a conflict that is reported already
   pub record IsLater (e : IndexEntry) : Type 0 where
     pub over : is_over q es e ≡ true
     pub staged : (stage_of e == 0) ≡ false

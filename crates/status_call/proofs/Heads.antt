@@ -1,4 +1,4 @@
--- The next step at an entry whose path stands in a storage, by what was asked of the entry.
+-- The next step at an entry whose path stands in a storage, by what was looked at of the entry.
 use Rattle.std.proofs.Common.{◌≡◌, sym, ◌∙◌, subst, ℕ, ◌<◌, Bool, true, false, not, List, length, take, drop, slice_index_or, None, Result, Ok, Err, IsTrue, arith}
 use Rattle.std.specs.Result.{OnOk, OnErr, is_err}
 use Rattle.std.proofs.lemmas.Bool.{or_from, not-true, not-false}

@@ -1,4 +1,4 @@
--- A path has one conflict, and its head tells it.
+-- A path has one conflict, and its head reports it.
 use Rattle.std.proofs.Common.{◌≡◌, ◌⊎◌, ◌∙◌, inl, inr, refl, sym, ap, ℕ, ◌<◌, Bool, true, false, not, ◌&&◌, ◌||◌, cond, List, [], ◌∷◌, length, get_or, map, reverse, Option, Some, None, is_some, option_map, Result, Ok, if◌then◌else◌, nat_lt, nat_le, ◌==◌, arith, eq-eqb, Ordering}
 use Rattle.std.specs.List.{filter, find, list_any}
 use Rattle.std.specs.Ordering.{nat_cmp, ordering_then, is_eq}
@@ -146,7 +146,7 @@ conflict_at : (run : List IndexEntry) (s : ℕ) → 0 < s → s < 4 → has_stag
 conflict_at run s h k own = named (has_stage run 1) (has_stage run 2) (has_stage run 3) (stage_is run s own (stage_cases s h k))
 
 module _ {T U : Type 0} (q : Query T U) (es : List IndexEntry) (e : IndexEntry) where
-  -- what is told where a conflict is named
+  -- what is reported where a conflict is named
   abbrev reported : Option Conflict → Result (Option (EntryStatus T U)) Error
   reported named = Ok (option_map (λ c. statuses.Conflict c (map (option_map kept_of) (places_of (conflict_run es e)))) named)
 

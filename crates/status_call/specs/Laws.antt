@@ -70,7 +70,7 @@ module _ {T U : Type 0} (q : Query T U) where
   abbrev pub ExecutableLaw : Type 0
   ExecutableLaw = (e : IndexEntry) (c : Option T) (zero : Bool) → status_of q e ≡ changed (Modification true c zero) → IsTrue q.executable_bit × IsOtherExecutable e
 
-  -- of a directory's entry the comparer isn't asked, and nothing is read
+  -- of a directory's entry the comparer isn't called, and nothing is read
   abbrev pub UnreadLaw : Type 0
   UnreadLaw = (e : IndexEntry) → IsDirectoryMode e.mode → IsFalse (is_compared_case (case_of q e)) × (reads_of q e ≡ no_reads)
 
@@ -99,7 +99,7 @@ module _ {T U : Type 0} (q : Query T U) where
       (conflict_of (conflict_run es e) ≡ Some c)
       × (verdict q es e ≡ Ok (Some (statuses.Conflict c (map (option_map kept_of) (places_of (conflict_run es e))))))
 
-  -- an entry with a stage that is neither skipped nor over tells a conflict
+  -- an entry with a stage that is neither skipped nor over reports a conflict
   abbrev pub HeadLaw : Type 0
   HeadLaw = (es : List IndexEntry)
       → All (λ e. 0 < stage_of e → IsFalse (is_skipped q e) → IsFalse (is_over q es e) → (c : Conflict) × ReportsConflict es e c) es

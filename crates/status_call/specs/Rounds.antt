@@ -1,5 +1,5 @@
 -- The pieces of a round.
-use Rattle.std.specs.Prelude.{◌≡◌, ℕ, ◌-◌, ◌<◌, ◌≤◌, Bool, false, true, List, [], ◌∷◌, length, All, AllPairs}
+use Rattle.std.specs.Prelude.{◌≡◌, ℕ, ◌-◌, ◌<◌, ◌≤◌, Bool, false, true, List, [], ◌∷◌, length, All, AllPairs, min, ◌+◌}
 use Rattle.std.specs.List.{slice_index_or}
 use Rattle.status_index.specs.Entries.{IndexEntry}
 use Rattle.status_call.specs.declared.index_as_worktree.piece.End.{End}
@@ -22,6 +22,17 @@ bound bounds n = slice_index_or bounds n 0
 -- where the last ends
 abbrev pub last_bound : List ℕ → ℕ
 last_bound bounds = bound bounds (length bounds - 1)
+
+-- where a piece of `chunk` entries ends that begins at a place: no earlier than that many entries on, and no later than
+-- the next place behind those that parts no path
+pub record IsPieceEnd (es : List IndexEntry) (chunk from end : ℕ) : Type 0 where
+  pub more : from < end
+  pub full : min (from + chunk) (length es) ≤ end
+  pub tight : (k : ℕ) → from + chunk ≤ k → from < k → k < end → IsCut es k → ⊥
+
+-- each piece ends so
+abbrev pub ArePieces : List IndexEntry → ℕ → List ℕ → Type 0
+ArePieces es chunk bounds = (k : ℕ) → k + 1 < length bounds → IsPieceEnd es chunk (bound bounds k) (bound bounds (k + 1))
 
 -- a piece that didn't come to its end
 abbrev pub is_short : End → Bool

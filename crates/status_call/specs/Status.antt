@@ -52,7 +52,7 @@ abbrev pub found_node : Result Metadata Fault → Found
 found_node (Ok n) = found_kind n n.kind
 found_node (Err f) = found_fault f
 
--- by the check of the path, and the node that is told of it
+-- by the check of the path, and what lstat answers for it
 abbrev pub found_by : LinkCheck → Result Metadata Fault → Found
 found_by accepted node = found_node node
 found_by (through_link _) node = nothing

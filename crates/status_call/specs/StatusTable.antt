@@ -143,7 +143,7 @@ module _ {T U : Type 0} (q : Query T U) (e : IndexEntry) where
   abbrev pub HasChange : Bool → Option T → Type 0
   HasChange executable_changed content_change = IsTrue executable_changed ⊎ IsTrue (is_some content_change)
 
-  -- what a directory at a submodule's entry gives, by what the submodule tells
+  -- what a directory at a submodule's entry gives, by what the submodule reports
   pub record SubmoduleRow : Type 0 where
     pub same : q.submodule e ≡ Ok None → status_of q e ≡ Ok None
     pub other : (u : U) → q.submodule e ≡ Ok (Some u) → status_of q e ≡ changed (changes.SubmoduleModification u)

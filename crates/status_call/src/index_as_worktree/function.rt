@@ -54,7 +54,7 @@ fn chunk_size_of(chunk_size: usize) -> usize
 /// what that took.
 ///
 /// `compare` sees the files whose stat doesn't settle that they are unchanged; `submodule` has the status of submodules,
-/// and `objects` the blobs that the index names. Nothing is written: where a record asks for it, the caller puts a new
+/// and `objects` the blobs that the index names. Nothing is written: where a record says so, the caller puts a new
 /// stat into the index or sets a size to zero, and then gives the index a later timestamp.
 ///
 /// The work is shared by as many workers as the options' thread limit has it: one in the caller's thread, each other one in

@@ -4,7 +4,7 @@ ghost use Rattle.std.specs.Prelude.{◌≡◌, ◌≢◌, ◌+◌, ◌-◌, ◌*
 ghost use Rattle.status_index.specs.Entries.{IsIndex, index_entries};
 ghost use Rattle.status_compare.specs.declared.error.Error.TheVariants.{Memory, SpawnThread as NoThread};
 ghost use Rattle.status_call.specs.Pieces.{IsCut};
-ghost use Rattle.status_call.specs.Rounds.{AreBounds, AreInRow, IsGiven, bound, last_bound, is_short};
+ghost use Rattle.status_call.specs.Rounds.{AreBounds, AreInRow, ArePieces, IsGiven, bound, last_bound, is_short};
 ghost use Rattle.status_call.specs.Worked.{IsShortage, shortage_of};
 
 use crate::index_as_worktree::decide::Decide;
@@ -20,7 +20,8 @@ use std::sync::Wait;
 use std::sync::atomic::AtomicBool;
 use std::thread::Threads;
 
-/// The bounds of at most `most` pieces from place `from` on: where the first begins, and where each ends.
+/// The bounds of at most `most` pieces from place `from` on: where the first begins, and where each ends. There are fewer
+/// only where the last ends with the entries.
 pub(crate) fn round_bounds(
     alloc: Global,
     entries: &[Entry],
@@ -36,6 +37,8 @@ pub(crate) fn round_bounds(
     ensures bounds { IfOk result (λ b. AreBounds (index_entries backing.now entries.now) b.items) }
     ensures first { IfOk result (λ b. bound b.items 0 ≡ from) }
     ensures few { IfOk result (λ b. vec_len b ≤ most + 1) }
+    ensures pieces { IfOk result (λ b. ArePieces (index_entries backing.now entries.now) chunk b.items) }
+    ensures filled { IfOk result (λ b. vec_len b ≤ most → last_bound b.items ≡ length entries.now) }
 {
     let mut bounds = Vec::new(alloc);
     bounds.push(from)?;

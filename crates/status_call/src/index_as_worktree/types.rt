@@ -23,13 +23,13 @@ pub enum Change<T, U> {
     Modification {
         /// Whether the executability changed.
         executable_bit_changed: bool,
-        /// What the comparer told of the content. None where only the executability changed.
+        /// What the comparer reported of the content. None where only the executability changed.
         content_change: Option<T>,
         /// Whether the caller has to set the size of the entry's stat to 0: once the index has a later timestamp, the
         /// change would hide behind the entry's stat.
         set_entry_stat_size_zero: bool,
     },
-    /// A submodule changed, as it told.
+    /// A submodule changed, as it reported.
     SubmoduleModification(U),
 }
 
@@ -44,10 +44,10 @@ pub struct ConflictIndexEntry {
     pub mode: Mode,
 }
 
-/// What is told of an entry.
+/// What is reported of an entry.
 #[derive(Clone, Debug, Drop, PartialEq, Eq, PartialOrd, Ord)]
 pub enum EntryStatus<T, U> {
-    /// The entry's path has a conflict, told once for all its stages.
+    /// The entry's path has a conflict, reported once for all its stages.
     Conflict {
         /// Which stages there are.
         summary: Conflict,
@@ -62,12 +62,12 @@ pub enum EntryStatus<T, U> {
     IntentToAdd,
 }
 
-/// What is told of the entry at a place of the whole index.
+/// What is reported of the entry at a place of the whole index.
 #[derive(Debug, Drop)]
 pub struct Finding<T, U> {
     /// The entry's place in the whole index.
     pub entry_index: usize,
-    /// What is told of it.
+    /// What is reported of it.
     pub status: EntryStatus<T, U>,
 }
 
@@ -137,7 +137,7 @@ pub struct Context<'a, P, T, L> {
     pub pathspec: P,
     /// How files are converted to what git stores.
     pub filter: T,
-    /// Listings of directories. Not asked yet.
+    /// Listings of directories. Not used yet.
     pub lister: L,
     /// Once it is seen set the status ends early. None is never set.
     pub should_interrupt: Option<&'a AtomicBool>,

@@ -5,7 +5,7 @@ use Rattle.status_call.proofs.index_as_worktree.round.round_bounds.Given as goal
 
 abbrev pub invariant-loop-at : goal.invariant-loop-at
 invariant-loop-at l = record {
-  growing : AreGrowing (index_entries l.backing l.entries) l.from l.at l.bounds.items;
+  growing : AreGrowing (index_entries l.backing l.entries) l.chunk l.from l.at l.bounds.items;
   few : length l.bounds.items ≤ l.most + 1;
 }
 
