@@ -1,4 +1,4 @@
-use Rattle.std.proofs.Common.{◌≡◌, ℕ, ◌-◌, ◌^◌, List, length, vec_len}
+use Rattle.std.proofs.Common.{◌-◌, ◌^◌, length, vec_len}
 use Rattle.status_index.specs.Content.{CountsMore}
 use Rattle.status_tests.proofs.Places.{StandsAfter}
 use Rattle.status_tests.proofs.pieces.id_of_all.Given as goal
