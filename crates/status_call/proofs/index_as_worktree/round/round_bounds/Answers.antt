@@ -1,4 +1,4 @@
-use Rattle.std.proofs.Common.{◌≡◌, ap, ◌∙◌, List, ℕ, [], ◌∷◌, ◌++◌, length, length-append, arith}
+use Rattle.std.proofs.Common.{◌≡◌, ap, ◌∙◌, List, ℕ, [], ◌∷◌, ◌++◌, ◌-◌, length, length-append, arith}
 use Rattle.std.proofs.lemmas.List.{length-map}
 use Rattle.status_index.specs.Entries.{index_entry, index_entries}
 use Rattle.status_call.proofs.Bounds.{bounds_begin, bounds_grow, bounds_are}
