@@ -14,6 +14,7 @@ pub mod LawRecords
 pub mod LawRows
 pub mod LawTable
 pub mod Nexts
+pub mod NoBlob
 pub mod NoThread
 pub mod Parts
 pub mod RunLemmas

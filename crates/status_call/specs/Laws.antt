@@ -9,14 +9,14 @@ use Rattle.status_index.specs.declared.stat.Stat.{Stat}
 use Rattle.status_index.specs.Entries.{IndexEntry, IsIndex, stage_of}
 use Rattle.status_compare.specs.declared.error.Error.{Error}
 use Rattle.status_index.specs.declared.id.ObjectId.{ObjectId}
-use Rattle.status_compare.specs.Comparers.{hash_answer, fast_answer}
+use Rattle.status_compare.specs.Comparers.{hash_answer, fast_answer, counts_after_hash, counts_after_fast}
 use Rattle.status_compare.specs.Reads.{no_reads}
 use Rattle.status_call.specs.declared.index_as_worktree.types.Change.TheVariants.{Modification}
 use Rattle.status_call.specs.declared.index_as_worktree.types.Conflict.{Conflict}
 use Rattle.status_call.specs.declared.index_as_worktree.types.EntryStatus.TheVariants as statuses
 use Rattle.status_call.specs.Conflicts.{conflict_of, places_of, kept_of}
 use Rattle.status_call.specs.Considered.{same_path, is_skipped, is_over, stages_from}
-use Rattle.status_call.specs.Counts.{is_compared_case, reads_of}
+use Rattle.status_call.specs.Counts.{is_compared_case, reads_of, reads_in, ModelsReads}
 use Rattle.status_call.specs.Pieces.{IsCut}
 use Rattle.status_call.specs.Query.{Query}
 use Rattle.status_call.specs.Records.{verdict, records_of, faults_in, first_fault}
@@ -39,6 +39,19 @@ IdsLaw q = q.compared ≡ (λ e _ m. hash_answer e m.file) → NeverSpawns q
 -- nor does comparison by sizes
 abbrev pub SizesLaw : {U : Type 0} → Query (Unit {0}) U → Type 0
 SizesLaw q = q.compared ≡ (λ e n m. fast_answer e n m.file) → NeverSpawns q
+
+-- what a comparer reads is modelled, and it reads no blob, whichever entries there are
+pub record ReadsNoBlob {T U : Type 0} (q : Query T U) : Type 0 where
+  pub modelled : ModelsReads q
+  pub objects : (es : List IndexEntry) → (reads_in q es).objects ≡ 0
+  pub object_bytes : (es : List IndexEntry) → (reads_in q es).object_bytes ≡ 0
+
+-- so it is where entries are compared by ids, and where by sizes
+abbrev pub IdReadsLaw : {U : Type 0} → Query ObjectId U → Type 0
+IdReadsLaw q = q.counted ≡ (λ _ _ m k. Some (counts_after_hash m.file k)) → ReadsNoBlob q
+
+abbrev pub SizeReadsLaw : {U : Type 0} → Query (Unit {0}) U → Type 0
+SizeReadsLaw q = q.counted ≡ (λ e n m k. Some (counts_after_fast e n m.file k)) → ReadsNoBlob q
 
 module _ {T U : Type 0} (q : Query T U) where
   -- a node whose stat agrees with the entry's, and may hide a write
@@ -99,7 +112,7 @@ module _ {T U : Type 0} (q : Query T U) where
       (conflict_of (conflict_run es e) ≡ Some c)
       × (verdict q es e ≡ Ok (Some (statuses.Conflict c (map (option_map kept_of) (places_of (conflict_run es e))))))
 
-  -- an entry with a stage that is neither skipped nor over reports a conflict
+  -- an entry with a stage reports a conflict, unless it is skipped or over
   abbrev pub HeadLaw : Type 0
   HeadLaw = (es : List IndexEntry)
       → All (λ e. 0 < stage_of e → IsFalse (is_skipped q e) → IsFalse (is_over q es e) → (c : Conflict) × ReportsConflict es e c) es

@@ -3,6 +3,7 @@ pub mod Considered
 pub mod Counts
 pub mod Decisions
 pub mod DefaultCapabilities
+pub mod DefaultOptions
 pub mod EntryParts
 pub mod Fed
 pub mod Inputs

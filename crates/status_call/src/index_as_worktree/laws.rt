@@ -4,7 +4,7 @@ ghost use Rattle.std.specs.Prelude.{◌≡◌};
 ghost use Rattle.status_index.specs.Entries.{IndexEntry};
 ghost use Rattle.status_index.specs.declared.id.ObjectId.{ObjectId as BlobId};
 ghost use Rattle.status_compare.specs.FastAgrees.{FastAgrees};
-ghost use Rattle.status_call.specs.Laws.{ModificationLaw, UnreadLaw, ExecutableLaw, AscendLaw, CutLaw, FaultLaw, OneConflictLaw, HeadLaw, IdsLaw, SizesLaw};
+ghost use Rattle.status_call.specs.Laws.{ModificationLaw, UnreadLaw, ExecutableLaw, AscendLaw, CutLaw, FaultLaw, OneConflictLaw, HeadLaw, IdsLaw, SizesLaw, IdReadsLaw, SizeReadsLaw};
 ghost use Rattle.status_call.specs.Query.{Query};
 ghost use Rattle.status_call.specs.StatusTable.{Row, IsInRow, StatusTable};
 
@@ -61,7 +61,7 @@ pub fn one_conflict_a_path<T: Drop, U: Drop>()
     ensures { (q : Query T U) → OneConflictLaw q }
 {}
 
-/// An entry with a stage that is neither skipped nor over reports a conflict.
+/// An entry with a stage reports a conflict, unless it is skipped or over.
 pub fn head_reports_a_conflict<T: Drop, U: Drop>()
     ensures { (q : Query T U) → HeadLaw q }
 {}
@@ -74,6 +74,16 @@ pub fn ids_refuse_no_thread<U: Drop>()
 /// Nor does comparison by sizes.
 pub fn sizes_refuse_no_thread<U: Drop>()
     ensures { (q : Query (Unit {0}) U) → SizesLaw q }
+{}
+
+/// What comparison by ids reads is modelled, and it reads no blob.
+pub fn ids_read_no_blob<U: Drop>()
+    ensures { (q : Query BlobId U) → IdReadsLaw q }
+{}
+
+/// Nor does comparison by sizes, and what that reads is modelled too.
+pub fn sizes_read_no_blob<U: Drop>()
+    ensures { (q : Query (Unit {0}) U) → SizeReadsLaw q }
 {}
 
 /// Comparison by sizes reports a change of a file or link exactly where comparison by ids does. It holds where a file

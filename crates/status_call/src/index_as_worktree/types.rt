@@ -115,7 +115,7 @@ impl Default for Capabilities {
 
 /// How a status is computed. By default links and executability count, stats are compared as `stat::Options` has it, the
 /// number of workers is the usual one, no listing is used, and pieces are of the usual size.
-#[derive(Clone, Debug, Default, Drop, PartialEq, Eq, Hash)]
+#[derive(Clone, Debug, Drop, PartialEq, Eq, Hash)]
 pub struct Options {
     /// What the file system can keep.
     pub fs: Capabilities,
@@ -128,6 +128,23 @@ pub struct Options {
     pub fscache: bool,
     /// How many entries a piece of work has. 0 means 500.
     pub chunk_size: usize,
+}
+
+impl Default for Options {
+    ghost use Rattle.std.specs.Prelude.{◌≡◌};
+    ghost use Rattle.status_call.specs.DefaultOptions.{default_options};
+
+    ghost is_default = { λ o. o ≡ default_options };
+
+    fn default() -> Options {
+        Options {
+            fs: Capabilities::default(),
+            thread_limit: None,
+            stat: stat::Options::default(),
+            fscache: false,
+            chunk_size: 0,
+        }
+    }
 }
 
 /// What a status is computed with.
