@@ -1,7 +1,7 @@
 //! The status of an index against a worktree.
 
 ghost use Rattle.std.specs.Prelude.{◌≡◌, ◌≤◌, None, IfOk, false, length};
-ghost use Rattle.status_index.specs.States.{entries_of, index_of};
+ghost use Rattle.status_index.specs.States.{entries_of, backing_of, index_of};
 ghost use Rattle.bstr.specs.BStr.{bstr_bytes};
 ghost use Rattle.status_index.specs.Stretch.{part_of};
 ghost use Rattle.status_call.specs.Considered.{considered, considered_start};
@@ -37,6 +37,25 @@ fn considered_range(index: &State, prefix: BStr<'_>) -> Range<usize>
     match index.prefixed_entries_range(prefix) {
         Some(range) => range,
         None => 0..index.entries().len(),
+    }
+}
+
+/// The considered entries of an index: those whose paths begin with the prefix, or all, where none does.
+fn considered_entries<'index>(index: &'index State, prefix: BStr<'_>) -> Considered<'index>
+    ensures entries { result.entries.now ≡ entries_of index.entry.now }
+    ensures backing { result.backing.now ≡ backing_of index.entry.now }
+    ensures order { result.start ≤ result.end }
+    ensures inside { result.end ≤ length (entries_of index.entry.now) }
+    ensures part { part_of (index_of index.entry.now) result.start result.end
+        ≡ considered (bstr_bytes prefix.entry) (index_of index.entry.now) }
+    ensures start { result.start ≡ considered_start (bstr_bytes prefix.entry) (index_of index.entry.now) }
+{
+    let range = considered_range(index, prefix);
+    Considered {
+        entries: index.entries(),
+        backing: index.path_backing(),
+        start: range.start,
+        end: range.end,
     }
 }
 
@@ -106,9 +125,7 @@ where
         should_interrupt,
     } = context;
     drop(lister);
-    let entries = index.entries();
-    let backing = index.path_backing();
-    let range = considered_range(index, pathspec.common_prefix());
+    let considered = considered_entries(index, pathspec.common_prefix());
     let settings = Settings {
         timestamp: index.timestamp(),
         stat: options.stat,
@@ -124,23 +141,19 @@ where
     };
     let decider = Decider::new(alloc, inputs, settings);
     let workers = Workers::by_limit(options.thread_limit, should_interrupt);
-    let chunk_size = chunk_size_of(options.chunk_size);
-    let considered = Considered {
-        entries,
-        backing,
-        start: range.start,
-        end: range.end,
-    };
     match run_rounds(
         rt,
         alloc,
         &considered,
-        chunk_size,
+        chunk_size_of(options.chunk_size),
         &workers,
         &decider,
         collector,
     ) {
-        Ok(progress) => Ok(Outcome::of(progress, entries.len(), range)),
+        Ok(progress) => {
+            let range = considered.start..considered.end;
+            Ok(Outcome::of(progress, considered.entries.len(), range))
+        }
         Err(error) => Err(error),
     }
 }

@@ -9,41 +9,44 @@ use Rattle.status_call.proofs.index_as_worktree.function.index_as_worktree.Goals
 pub returns-in-Ok-clause-all : goal.returns-in-Ok-clause-all
 returns-in-Ok-clause-all g c =
     let index = c.args.index.now in
-    let range = c.considered_range-range.result in
+    let part_is = c.considered_entries-considered in
+    let considered = part_is.result in
     let query = rw c.timestamp.ensures at c.new-decider.ensures in
-    let part = rw c.common_prefix.ensures at c.considered_range-range.ensures.part in
-    let start = rw c.common_prefix.ensures at c.considered_range-range.ensures.start in
-    let whole = map-part (index_entry (backing_of index)) (entries_of index) range.start range.end ∙ part in
-    let work = rw (c.entries-entries.ensures.value, c.path_backing-backing.ensures, c.by_limit-workers.ensures.interrupt) at c.in-Ok.ensures in
+    let part = rw c.common_prefix.ensures at part_is.ensures.part in
+    let start = rw c.common_prefix.ensures at part_is.ensures.start in
+    let whole = map-part (index_entry (backing_of index)) (entries_of index) considered.start considered.end ∙ part in
+    let work = rw (part_is.ensures.entries, part_is.ensures.backing, c.by_limit-workers.ensures.interrupt) at c.in-Ok.ensures in
     let kept = work_kept _ _ _ _ _ _ _ _ _ _ _ _ query start whole work in
     let len = length-map (entries_of index) (index_entry (backing_of index)) in
-    let order = c.considered_range-range.ensures.order in
-    let inside = c.considered_range-range.ensures.inside in
-    let same = ap length c.entries-entries.ensures.value in
-    let fits : length c.entries-entries.result.now < 2 ^ 64 = search rules in
-    rw c.of.ensures (status_ok _ _ _ _ _ _ c.in-Ok.progress range _ kept
-    (part_len (index_of index) _ (entries_of index) range.start range.end part order inside len)
-    (rest_len (index_of index) _ (entries_of index) range.start range.end part order inside len _ same)
-    (skip_room (index_of index) _ (entries_of index) range.start range.end part order inside len _ same fits))
+    let order = part_is.ensures.order in
+    let inside = part_is.ensures.inside in
+    let same = ap length part_is.ensures.entries in
+    let fits : length considered.entries.now < 2 ^ 64 = search rules in
+    rw c.of.ensures (status_ok _ _ _ _ _ _ c.in-Ok.progress _ _ kept
+    (part_len (index_of index) _ (entries_of index) considered.start considered.end part order inside len)
+    (rest_len (index_of index) _ (entries_of index) considered.start considered.end part order inside len _ same)
+    (skip_room (index_of index) _ (entries_of index) considered.start considered.end part order inside len _ same fits))
 
 pub returns-clause-all : goal.returns-clause-all
 returns-clause-all g c =
     let index = c.args.index.now in
-    let range = c.considered_range-range.result in
+    let part_is = c.considered_entries-considered in
+    let considered = part_is.result in
     let query = rw c.timestamp.ensures at c.new-decider.ensures in
-    let part = rw c.common_prefix.ensures at c.considered_range-range.ensures.part in
-    let start = rw c.common_prefix.ensures at c.considered_range-range.ensures.start in
-    let whole = map-part (index_entry (backing_of index)) (entries_of index) range.start range.end ∙ part in
-    let work = rw (c.entries-entries.ensures.value, c.path_backing-backing.ensures, c.by_limit-workers.ensures.interrupt) at c.in-Err.ensures in
+    let part = rw c.common_prefix.ensures at part_is.ensures.part in
+    let start = rw c.common_prefix.ensures at part_is.ensures.start in
+    let whole = map-part (index_entry (backing_of index)) (entries_of index) considered.start considered.end ∙ part in
+    let work = rw (part_is.ensures.entries, part_is.ensures.backing, c.by_limit-workers.ensures.interrupt) at c.in-Err.ensures in
     status_err _ _ _ _ _ _ c.in-Err.error (work_kept _ _ _ _ _ _ _ _ _ _ _ _ query start whole work)
 
 pub returns-clause-alone : goal.returns-clause-alone
 returns-clause-alone g c =
     let index = c.args.index.now in
-    let range = c.considered_range-range.result in
+    let part_is = c.considered_entries-considered in
+    let considered = part_is.result in
     let query = rw c.timestamp.ensures at c.new-decider.ensures in
-    let part = rw c.common_prefix.ensures at c.considered_range-range.ensures.part in
-    let start = rw c.common_prefix.ensures at c.considered_range-range.ensures.start in
-    let whole = map-part (index_entry (backing_of index)) (entries_of index) range.start range.end ∙ part in
-    let work = rw (c.entries-entries.ensures.value, c.path_backing-backing.ensures, c.by_limit-workers.ensures.interrupt) at c.in-Err.ensures in
+    let part = rw c.common_prefix.ensures at part_is.ensures.part in
+    let start = rw c.common_prefix.ensures at part_is.ensures.start in
+    let whole = map-part (index_entry (backing_of index)) (entries_of index) considered.start considered.end ∙ part in
+    let work = rw (part_is.ensures.entries, part_is.ensures.backing, c.by_limit-workers.ensures.interrupt) at c.in-Err.ensures in
     status_alone _ index _ _ _ _ c.in-Err.error (work_kept _ _ _ _ _ _ _ _ _ _ _ _ query start whole work) c.args.options.thread_limit c.by_limit-workers.ensures.most
