@@ -1,6 +1,5 @@
 -- The rows of the status table cover all entries, and no entry is in two; what follows for modifications and reading.
 use Rattle.std.proofs.Common.{◌≡◌, ◌⊎◌, ◌∙◌, inl, inr, refl, sym, ap, Bool, true, false, Option, Some, None, Result, Ok, Err}
-use Rattle.std.proofs.lemmas.Bool.{false≢true}
 use Rattle.status_index.specs.declared.fault.Fault.{Fault}
 use Rattle.status_index.specs.declared.fault.Fault.TheVariants as faults
 use Rattle.status_index.specs.declared.metadata.Metadata.{Metadata}
@@ -11,6 +10,7 @@ use Rattle.status_index.specs.declared.mode.Change.TheVariants.{TypeChange, Exec
 use Rattle.status_index.specs.declared.stat.Stat.{Stat}
 use Rattle.status_index.specs.declared.flags.TheConstants.Flags.{INTENT_TO_ADD}
 use Rattle.status_index.specs.Entries.{IndexEntry}
+use Rattle.status_index.specs.Absence.{is_absence}
 use Rattle.status_index.specs.Mode.{is_submodule}
 use Rattle.status_index.specs.NodeStat.{stat_of}
 use Rattle.status_base.specs.LinkCheck.{LinkCheck, accepted, empty_path, not_normal, through_link, faulty}
@@ -19,30 +19,8 @@ use Rattle.status_call.specs.Considered.{has_flag}
 use Rattle.status_call.specs.Query.{Query}
 use Rattle.status_call.specs.Status as status
 use Rattle.status_call.specs.Status.{Case, changed, case_of, status_of}
-use Rattle.status_call.specs.StatusTable.{Row, gone, refused, in_submodule, added, unstamped, retyped, unchanged, failed, modified, to_update, IsAbsence, check_of, node_of, by_link, on_the_way, at_the_path, by_directory, unnamed, oddly_named, barred, unreadable, IsPresent, IsStamped, SameType, trusted, racy, IsCompared, comparison, HasChange, IsInRow}
+use Rattle.status_call.specs.StatusTable.{Row, gone, refused, in_submodule, added, unstamped, retyped, unchanged, failed, modified, to_update, check_of, node_of, by_link, on_the_way, at_the_path, by_directory, unnamed, oddly_named, barred, unreadable, IsPresent, IsStamped, SameType, trusted, racy, IsCompared, comparison, HasChange, IsInRow}
 use Rattle.status_call.proofs.LawTable.{change_of, case_gone, case_refused, case_in_submodule, case_added, case_unstamped, case_retyped, case_unchanged, case_compared}
-
-is_absence : Fault → Bool
-is_absence faults.NotFound = true
-is_absence faults.NotADirectory = true
-is_absence _ = false
-
-absence_is : (f : Fault) → IsAbsence f → is_absence f ≡ true
-unfolding is_absence
-absence_is f (inl h) = ap is_absence h
-absence_is f (inr h) = ap is_absence h
-
-absence : (f : Fault) → IsAbsence f ⊎ (¬ IsAbsence f)
-unfolding is_absence
-absence faults.NotFound = inl (inl refl)
-absence faults.NotADirectory = inl (inr refl)
-absence faults.PermissionDenied = inr (λ h. false≢true (absence_is faults.PermissionDenied h))
-absence faults.Interrupted = inr (λ h. false≢true (absence_is faults.Interrupted h))
-absence faults.IllformedUtf8 = inr (λ h. false≢true (absence_is faults.IllformedUtf8 h))
-absence faults.UnexpectedEnd = inr (λ h. false≢true (absence_is faults.UnexpectedEnd h))
-absence faults.NotNormal = inr (λ h. false≢true (absence_is faults.NotNormal h))
-absence faults.Memory = inr (λ h. false≢true (absence_is faults.Memory h))
-absence (faults.Other n) = inr (λ h. false≢true (absence_is (faults.Other n) h))
 
 -- the row of a case
 abbrev row_of_case : {T U : Type 0} → Case T U → Row
@@ -97,24 +75,24 @@ module _ {T U : Type 0} (q : Query T U) (e : IndexEntry) where
   cover_kind n clear reported kinds.Link h = cover_present n (record { clear = clear; answered = reported; no_directory = inr (inl h) }) (has_flag e INTENT_TO_ADD) refl
   cover_kind n clear reported kinds.Other h = cover_present n (record { clear = clear; answered = reported; no_directory = inr (inr h) }) (has_flag e INTENT_TO_ADD) refl
 
-  cover_fault : (f : Fault) → check_of q e ≡ accepted → node_of q e ≡ Err f → IsAbsence f ⊎ (¬ IsAbsence f) → Covered
-  cover_fault f clear reported (inl h) = (gone, at_the_path f clear reported h)
-  cover_fault f clear reported (inr h) = (refused, (f, unreadable clear reported h))
+  cover_fault : (f : Fault) → check_of q e ≡ accepted → node_of q e ≡ Err f → (b : Bool) → is_absence f ≡ b → Covered
+  cover_fault f clear reported true h = (gone, at_the_path f clear reported h)
+  cover_fault f clear reported false h = (refused, (f, unreadable clear reported h))
 
   cover_node : check_of q e ≡ accepted → (v : Result Metadata Fault) → node_of q e ≡ v → Covered
   cover_node clear (Ok n) reported = cover_kind n clear reported n.kind refl
-  cover_node clear (Err f) reported = cover_fault f clear reported (absence f)
+  cover_node clear (Err f) reported = cover_fault f clear reported (is_absence f) refl
 
-  cover_way : (f : Fault) → check_of q e ≡ faulty f → IsAbsence f ⊎ (¬ IsAbsence f) → Covered
-  cover_way f check (inl h) = (gone, on_the_way f check h)
-  cover_way f check (inr h) = (refused, (f, barred check h))
+  cover_way : (f : Fault) → check_of q e ≡ faulty f → (b : Bool) → is_absence f ≡ b → Covered
+  cover_way f check true h = (gone, on_the_way f check h)
+  cover_way f check false h = (refused, (f, barred check h))
 
   cover_check : (v : LinkCheck) → check_of q e ≡ v → Covered
   cover_check accepted h = cover_node h (node_of q e) refl
   cover_check empty_path h = (refused, (faults.NotNormal, unnamed h refl))
   cover_check (not_normal component) h = (refused, (faults.NotNormal, oddly_named component h refl))
   cover_check (through_link p) h = (gone, by_link p h)
-  cover_check (faulty f) h = cover_way f h (absence f)
+  cover_check (faulty f) h = cover_way f h (is_absence f) refl
 
   -- an entry falls in a row
   pub row_of : (r : Row) × IsInRow q e r

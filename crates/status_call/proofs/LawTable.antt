@@ -10,6 +10,7 @@ use Rattle.status_index.specs.declared.mode.Change.{Change as ModeChange}
 use Rattle.status_index.specs.declared.stat.Stat.{Stat}
 use Rattle.status_index.specs.declared.flags.TheConstants.Flags.{INTENT_TO_ADD}
 use Rattle.status_index.specs.Entries.{IndexEntry}
+use Rattle.status_index.specs.Absence.{is_absence}
 use Rattle.status_index.specs.Mode.{is_submodule, mode_change}
 use Rattle.status_index.specs.NodeStat.{stat_of}
 use Rattle.status_base.specs.LinkCheck.{LinkCheck, accepted}
@@ -20,22 +21,16 @@ use Rattle.status_call.specs.Considered.{has_flag}
 use Rattle.status_call.specs.Query.{Query}
 use Rattle.status_call.specs.Status as status
 use Rattle.status_call.specs.Status.{Case, Found, found_fault, found_kind, found_node, found_by, found, answer, changed, case_of, case_of_found, case_of_stat, case_of_change, case_of_content, status_of}
-use Rattle.status_call.specs.StatusTable.{IsAbsence, check_of, node_of, IsGone, by_link, on_the_way, at_the_path, by_directory, IsRefused, unnamed, oddly_named, barred, unreadable, IsInSubmodule, IsPresent, IsAdded, IsUnstamped, IsStamped, IsRetyped, SameType, trusted, racy, IsUnchanged, IsCompared, comparison, HasChange, SubmoduleRow, StatusTable}
+use Rattle.status_call.specs.StatusTable.{check_of, node_of, IsGone, by_link, on_the_way, at_the_path, by_directory, IsUnreachable, unnamed, oddly_named, barred, unreadable, IsInSubmodule, IsPresent, IsAdded, IsUnstamped, IsStamped, IsRetyped, SameType, trusted, racy, IsUnchanged, IsCompared, comparison, HasChange, SubmoduleRow, StatusTable}
 
-found_absent : (f : Fault) → IsAbsence f → found_fault f ≡ status.nothing
-found_absent f (inl h) = ap found_fault h
-found_absent f (inr h) = ap found_fault h
+abbrev found_if : Fault → Bool → Found
+found_if f b = if b then status.nothing else status.refused f
 
-found_other : (f : Fault) → ¬ IsAbsence f → found_fault f ≡ status.refused f
-found_other faults.NotFound h = absurd (h (inl refl))
-found_other faults.NotADirectory h = absurd (h (inr refl))
-found_other faults.PermissionDenied h = refl
-found_other faults.Interrupted h = refl
-found_other faults.IllformedUtf8 h = refl
-found_other faults.UnexpectedEnd h = refl
-found_other faults.NotNormal h = refl
-found_other faults.Memory h = refl
-found_other (faults.Other n) h = refl
+found_absent : (f : Fault) → IsTrue (is_absence f) → found_fault f ≡ status.nothing
+found_absent f h = ap (found_if f) h
+
+found_other : (f : Fault) → IsFalse (is_absence f) → found_fault f ≡ status.refused f
+found_other f h = ap (found_if f) h
 
 found_no_directory : (n : Metadata) → (n.kind ≡ kinds.File) ⊎ ((n.kind ≡ kinds.Link) ⊎ (n.kind ≡ kinds.Other)) → found_kind n n.kind ≡ status.present n
 found_no_directory n (inl h) = ap (found_kind n) h
@@ -71,7 +66,7 @@ module _ {T U : Type 0} (q : Query T U) (e : IndexEntry) where
   case_gone (at_the_path f h reported absent) = case_at (Err f) h reported ∙ ap (case_of_found q e) (found_absent f absent)
   case_gone (by_directory n h reported kind mode) = case_directory n h reported kind false mode
 
-  pub case_refused : (f : Fault) → IsRefused q e f → case_of q e ≡ status.fails f
+  pub case_refused : (f : Fault) → IsUnreachable q e f → case_of q e ≡ status.fails f
   case_refused f (unnamed h name) = ap at_check h ∙ ap (λ (g : Fault). status.fails g) (sym name)
   case_refused f (oddly_named component h name) = ap at_check h ∙ ap (λ (g : Fault). status.fails g) (sym name)
   case_refused f (barred h other) = ap at_check h ∙ ap (case_of_found q e) (found_other f other)

@@ -11,6 +11,7 @@ use Rattle.status_index.specs.declared.mode.Change.{Change as ModeChange}
 use Rattle.status_index.specs.declared.mode.Change.TheVariants.{TypeChange, ExecutableBit}
 use Rattle.status_index.specs.declared.stat.Stat.{Stat}
 use Rattle.status_index.specs.declared.flags.TheConstants.Flags.{INTENT_TO_ADD}
+use Rattle.status_index.specs.Absence.{is_absence}
 use Rattle.status_index.specs.BlobId.{is_empty_blob}
 use Rattle.status_index.specs.Entries.{IndexEntry}
 use Rattle.status_index.specs.Mode.{is_submodule, mode_change}
@@ -38,9 +39,7 @@ pub data Found : Type 0 where
 
 -- a fault that says that nothing is there, or another
 abbrev pub found_fault : Fault → Found
-found_fault faults.NotFound = nothing
-found_fault faults.NotADirectory = nothing
-found_fault f = refused f
+found_fault f = if is_absence f then nothing else refused f
 
 abbrev pub found_kind : Metadata → NodeKind → Found
 found_kind n kinds.Directory = directory

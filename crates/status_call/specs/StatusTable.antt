@@ -9,6 +9,7 @@ use Rattle.status_index.specs.declared.mode.Change.TheVariants.{TypeChange, Exec
 use Rattle.status_index.specs.declared.stat.Stat.{Stat}
 use Rattle.status_index.specs.declared.flags.TheConstants.Flags.{INTENT_TO_ADD}
 use Rattle.status_index.specs.Entries.{IndexEntry}
+use Rattle.status_index.specs.Absence.{is_absence}
 use Rattle.status_index.specs.Mode.{is_submodule, mode_change}
 use Rattle.status_index.specs.NodeStat.{stat_of}
 use Rattle.status_index.specs.Stat.{is_racy}
@@ -21,10 +22,6 @@ use Rattle.status_call.specs.declared.index_as_worktree.types.EntryStatus.TheVar
 use Rattle.status_call.specs.Considered.{has_flag}
 use Rattle.status_call.specs.Query.{Query}
 use Rattle.status_call.specs.Status.{cached_or, changed, is_trusted, meaning, status_of}
-
--- a fault that says that nothing is there
-abbrev pub IsAbsence : Fault → Type 0
-IsAbsence f = (f ≡ faults.NotFound) ⊎ (f ≡ faults.NotADirectory)
 
 -- the rows of the table
 pub data Row : Type 0 where
@@ -58,16 +55,16 @@ module _ {T U : Type 0} (q : Query T U) (e : IndexEntry) where
   -- entry is no submodule's
   pub data IsGone : Type 0 where
     by_link : (p : List ℕ) → check_of ≡ through_link p → IsGone
-    on_the_way : (f : Fault) → check_of ≡ faulty f → IsAbsence f → IsGone
-    at_the_path : (f : Fault) → check_of ≡ accepted → node_of ≡ Err f → IsAbsence f → IsGone
+    on_the_way : (f : Fault) → check_of ≡ faulty f → IsTrue (is_absence f) → IsGone
+    at_the_path : (f : Fault) → check_of ≡ accepted → node_of ≡ Err f → IsTrue (is_absence f) → IsGone
     by_directory : (n : Metadata) → check_of ≡ accepted → node_of ≡ Ok n → n.kind ≡ kinds.Directory → IsFalse (is_submodule e.mode) → IsGone
 
   -- a path that isn't normal, or another fault on the way or at the path
-  pub data IsRefused (f : Fault) : Type 0 where
-    unnamed : check_of ≡ empty_path → f ≡ faults.NotNormal → IsRefused f
-    oddly_named : (component : List ℕ) → check_of ≡ not_normal component → f ≡ faults.NotNormal → IsRefused f
-    barred : check_of ≡ faulty f → ¬ IsAbsence f → IsRefused f
-    unreadable : check_of ≡ accepted → node_of ≡ Err f → ¬ IsAbsence f → IsRefused f
+  pub data IsUnreachable (f : Fault) : Type 0 where
+    unnamed : check_of ≡ empty_path → f ≡ faults.NotNormal → IsUnreachable f
+    oddly_named : (component : List ℕ) → check_of ≡ not_normal component → f ≡ faults.NotNormal → IsUnreachable f
+    barred : check_of ≡ faulty f → IsFalse (is_absence f) → IsUnreachable f
+    unreadable : check_of ≡ accepted → node_of ≡ Err f → IsFalse (is_absence f) → IsUnreachable f
 
   -- a directory at a submodule's entry
   pub record IsInSubmodule : Type 0 where
@@ -152,7 +149,7 @@ module _ {T U : Type 0} (q : Query T U) (e : IndexEntry) where
   -- what each row answers
   pub record StatusTable : Type 0 where
     pub gone_row : IsGone → status_of q e ≡ changed changes.Removed
-    pub refused_row : (f : Fault) → IsRefused f → status_of q e ≡ Err (error_of f)
+    pub refused_row : (f : Fault) → IsUnreachable f → status_of q e ≡ Err (error_of f)
     pub submodule_row : IsInSubmodule → SubmoduleRow
     pub added_row : IsAdded → status_of q e ≡ Ok (Some statuses.IntentToAdd)
     pub unstamped_row : IsUnstamped → status_of q e ≡ Err errors.Time
@@ -166,7 +163,7 @@ module _ {T U : Type 0} (q : Query T U) (e : IndexEntry) where
   -- the entry falls in a row
   abbrev pub IsInRow : Row → Type 0
   IsInRow gone = IsGone
-  IsInRow refused = (f : Fault) × IsRefused f
+  IsInRow refused = (f : Fault) × IsUnreachable f
   IsInRow in_submodule = IsInSubmodule
   IsInRow added = IsAdded
   IsInRow unstamped = IsUnstamped
