@@ -37,7 +37,7 @@ abbrev pub decided : List ℕ → Option Barrier → LinkCheck → LinkCheck
 decided directory (Some barrier) others = verdict_of directory barrier
 decided directory None others = others
 
--- of these directories the leftmost that is a fault or a link decides; else the path is accepted
+-- the first of these directories that bars the way, by a fault or a link, decides; where none does the path is accepted
 abbrev pub leftmost_barrier : (List ℕ → Result Metadata Fault) → List (List ℕ) → LinkCheck
 leftmost_barrier lstat [] = accepted
 leftmost_barrier lstat (directory ∷ others) = decided directory (barrier_of (lstat directory)) (leftmost_barrier lstat others)

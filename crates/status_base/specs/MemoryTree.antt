@@ -113,7 +113,7 @@ abbrev pub open_of_node : Tree → List ℕ → Option Placed → Result Content
 open_of_node tree path (Some p) = open_of_kind (content_of p.bytes (planted_at tree path).reads) p.metadata.kind
 open_of_node tree path None = without_node tree path
 
--- opening: the planted fault; the file; Other(0) for any other node or directory; else as lstat
+-- opening: the planted fault, else a file's content; what is no file gives Other(0), and where nothing is, lstat's fault
 abbrev pub open_in : Tree → List ℕ → Result Content Fault
 open_in tree path = or_planted (planted_at tree path).opening (open_of_node tree path (map.get tree.nodes path))
 
@@ -127,6 +127,6 @@ abbrev pub target_of_node : Tree → List ℕ → Option Placed → Result (List
 target_of_node tree path (Some p) = target_of_kind p.bytes p.metadata.kind
 target_of_node tree path None = without_node tree path
 
--- reading a link: the planted fault; the link's target; Other(0) for any other node or directory; else as lstat
+-- reading a link: the planted fault, else a link's target; what is no link gives Other(0), and where nothing is, lstat's fault
 abbrev pub target_in : Tree → List ℕ → Result (List ℕ) Fault
 target_in tree path = or_planted (planted_at tree path).read_link (target_of_node tree path (map.get tree.nodes path))

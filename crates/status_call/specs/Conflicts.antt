@@ -48,7 +48,7 @@ kept_of e = record { id = e.id; flags = e.flags; mode = e.mode }
 abbrev pub is_in_run : List ℕ → IndexEntry → Bool
 is_in_run path e = bytes_eq e.path path && not (stage_of e == 0)
 
--- the longest run of at most three entries from a place that have this path and a stage
+-- from a place on, as many entries in a row as have this path and a stage, and no more than three
 abbrev pub run_at : List IndexEntry → ℕ → List ℕ → List IndexEntry
 run_at es start path = take_while (is_in_run path) (take 3 (drop start es))
 

@@ -22,7 +22,7 @@ use thiserror::Error;
 pub struct Node {
     /// What the node is.
     pub kind: NodeKind,
-    /// What a file delivers, or a link's target.
+    /// The bytes that reading the file gives, or the link's target.
     pub bytes: Vec<u8>,
     /// The length that `lstat` reports, which may differ from the number of bytes.
     pub len: u64,
@@ -86,7 +86,7 @@ impl From<AllocError> for TreeError {
     }
 }
 
-/// A worktree in memory. A path is a directory where a directory was put or where a node lies below it.
+/// A worktree in memory. Directories need not be put: what has a node below it is one.
 #[derive(Drop)]
 pub struct MemoryWorktree {
     alloc: Global,

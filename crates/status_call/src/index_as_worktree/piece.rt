@@ -55,7 +55,7 @@ impl<T, U> Piece<T, U> {
     }
 }
 
-/// The end of a piece of `chunk` entries that begins at `from`, lengthened while the next entry has the same path.
+/// The end of a piece of `chunk` entries that begins at `from`: later, where it would part entries of one path.
 pub(crate) fn piece_end(
     entries: &[Entry],
     backing: &PathStorage,
