@@ -69,10 +69,10 @@ by_counts q h = no_blob q (λ e n. (h e n).1) (λ e n. (h e n).0)
 pub id_reads_law : {U : Type 0} (q : Query ObjectId U) → IdReadsLaw q
 id_reads_law q is =
     by_counts q (λ e n. subst (λ (o : Option Reads). IsModelledWithoutBlob o)
-      (sym (ap (λ f. f e n.len (meaning q e n) no_reads) is)) (refl, after_hash (meaning q e n).file))
+    (sym (ap (λ f. f e n.len (meaning q e n) no_reads) is)) (refl, after_hash (meaning q e n).file))
 
 pub size_reads_law : {U : Type 0} (q : Query (Unit {0}) U) → SizeReadsLaw q
 size_reads_law q is =
     by_counts q (λ e n. subst (λ (o : Option Reads). IsModelledWithoutBlob o)
-      (sym (ap (λ f. f e n.len (meaning q e n) no_reads) is))
-      (refl, by_sizes (size_decides e n.len) (counts_after_hash (meaning q e n).file no_reads) (after_hash (meaning q e n).file)))
+    (sym (ap (λ f. f e n.len (meaning q e n) no_reads) is))
+    (refl, by_sizes (size_decides e n.len) (counts_after_hash (meaning q e n).file no_reads) (after_hash (meaning q e n).file)))
