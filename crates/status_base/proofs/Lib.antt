@@ -1,4 +1,5 @@
 pub mod AnyPath
+pub mod CommonFronts
 pub mod Contents
 pub mod FileReads
 pub mod LinkLemmas

@@ -1,4 +1,5 @@
 pub mod CheckState
+pub mod Common
 pub mod Converted
 pub mod Found
 pub mod Kept
