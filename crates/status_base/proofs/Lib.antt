@@ -3,5 +3,7 @@ pub mod CommonFronts
 pub mod Contents
 pub mod FileReads
 pub mod LinkLemmas
+pub mod ListedOnce
+pub mod LooksLemmas
 pub mod PathFronts
 pub mod Placed

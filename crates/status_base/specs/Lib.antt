@@ -6,6 +6,7 @@ pub mod Kept
 pub mod Lawful
 pub mod LinkCheck
 pub mod Listing
+pub mod Looks
 pub mod MemoryTree
 pub mod Nodes
 pub mod Objects

@@ -12,6 +12,7 @@ ghost use Rattle.status_base.specs.Stopped.{IsWay, IsStop, IsBarrier, IsOfDirect
 
 mod error;
 mod front;
+pub mod laws;
 #[cfg(test)]
 mod tests;
 
