@@ -1,8 +1,7 @@
-use Rattle.std.proofs.Common.{◌≡◌, ℕ, ◌<◌, ◌≤◌, ◌+◌, ◌-◌, List, length, take, drop, Some, None, Option, refl, sym, ◌∙◌, ap, subst, rules, arith}
+use Rattle.std.proofs.Common.{◌≡◌, ℕ, ◌<◌, ◌≤◌, ◌+◌, ◌-◌, List, length, take, drop, Some, None, sym, ◌∙◌, ap, subst, rules, arith}
 use Rattle.bstr.specs.BStr.{bstr_bytes}
 use Rattle.bstr.specs.Owned.{bstring_bytes}
 use Rattle.status_index.specs.Content.{saturate}
-use Rattle.status_base.specs.Common.{IsCommon}
 use Rattle.status_base.specs.Paths.{odd_component}
 use Rattle.status_base.specs.CheckState.{IsClear}
 use Rattle.status_base.specs.Verified.{IsNormal}
