@@ -29,8 +29,7 @@ directories_above qs = directories_beside [] qs
 abbrev pub IsAscending : List (List ℕ) → Type 0
 IsAscending qs = AllPairs (λ a b. slice_cmp nat_cmp a b ≡ Less) qs
 
--- a check that was asked nothing yet, or only paths without a directory, looks once at most at each directory above paths
--- that ascend
+-- a check whose tested path is empty, as a new one's, looks at most once at each directory above paths that ascend
 abbrev pub LooksLaw : Bool → (List ℕ → Result Metadata Fault) → CheckState → List (List ℕ) → CheckState → Type 0
 LooksLaw modelled lstat old qs new = old.path ≡ [] → IsAscending qs → AreVerified modelled lstat old qs new → new.looks ≤ old.looks + length (directories_above qs)
 
