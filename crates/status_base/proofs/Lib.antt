@@ -1,6 +1,9 @@
 pub mod AnyPath
+pub mod CommonFronts
 pub mod Contents
 pub mod FileReads
 pub mod LinkLemmas
+pub mod ListedOnce
+pub mod LooksLemmas
 pub mod PathFronts
 pub mod Placed

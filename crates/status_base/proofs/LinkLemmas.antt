@@ -16,7 +16,7 @@ use Rattle.status_base.specs.declared.stack.error.StackError.{StackError}
 use Rattle.status_base.specs.declared.stack.error.StackError.TheVariants.{EmptyPath, NotNormal, ThroughLink, Memory}
 use Rattle.status_base.specs.declared.stack.error.StackError.TheVariants as errors
 use Rattle.status_base.specs.Paths.{is_slash, components, directories, directories_below, odd_component}
-use Rattle.status_base.specs.LinkCheck.{LinkCheck, Barrier, accepted, faulty, decided, barrier_of, leftmost_barrier, check_of_normal, link_check}
+use Rattle.status_base.specs.LinkCheck.{LinkCheck, Barrier, accepted, not_normal, faulty, decided, barrier_of, leftmost_barrier, check_of_normal, link_check}
 use Rattle.status_base.specs.CheckState.{CheckState, IsClear, IsClearBelow}
 use Rattle.status_base.specs.Verified.{IsRefused, IsNamed, IsChecked, IsAfterQuery, OnBarred, HasLooked, accepting_absent}
 use Rattle.status_base.specs.Stopped.{IsOfDirectory, IsStop, IsBarredAt, OnReached, on_the_way}
@@ -83,6 +83,10 @@ refused_decided directory None rest e h = refused_accepted rest e h
 pub link_check_normal : (lstat : List ℕ → Result Metadata Fault) (path : List ℕ) → 0 < length path → odd_component path ≡ None → link_check lstat path ≡ leftmost_barrier lstat (directories path)
 link_check_normal lstat [] full even = absurd (omega arith)
 link_check_normal lstat (b ∷ path) full even = ap (check_of_normal lstat (b ∷ path)) even
+
+pub link_check_odd : (lstat : List ℕ → Result Metadata Fault) (path component : List ℕ) → 0 < length path → odd_component path ≡ Some component → link_check lstat path ≡ not_normal component
+link_check_odd lstat [] component full odd = absurd (omega arith)
+link_check_odd lstat (b ∷ path) component full odd = ap (check_of_normal lstat (b ∷ path)) odd
 
 pub link_check_clear : (lstat : List ℕ → Result Metadata Fault) (path : List ℕ) → 0 < length path → odd_component path ≡ None → IsClear lstat path → link_check lstat path ≡ accepted
 link_check_clear lstat path full even clear = link_check_normal lstat path full even ∙ leftmost_clear lstat path clear
@@ -153,10 +157,6 @@ on_barred (ThroughLink prefix) P h = h
 on_barred (errors.Fault f) P h = h
 on_barred Memory P h = tt
 
--- of the directories on the way there is one at least up to one that bars it
-pub on_the_way-some : (path : List ℕ) (stop : Stop) → IsStop path stop → 1 ≤ length (on_the_way path (Some stop))
-on_the_way-some path stop is_stop = omega (arith, length-directories-more path stop.at is_stop.slash)
-
 -- the directories on the way are no more than those above the path
 pub on_the_way-few : (path : List ℕ) (stop : Stop) → IsStop path stop → length (on_the_way path (Some stop)) ≤ length (directories path)
 on_the_way-few path stop is_stop = length-directories path (stop.at + 1) (length path) (omega (arith, is_stop.within))
@@ -180,6 +180,14 @@ pub after_absent : {A : Type 0} (modelled : Bool) (lstat : List ℕ → Result M
 after_absent {A} modelled lstat query result old new is after =
     let P : Result A StackError → Type 0 = λ r. OnBarred (result_err r) (HasLooked old new) in
     (subst P is after.barred, record { root = after.root; clear = after.clear; looks = after.looks; few = after.few; barred = tt; unchanged = after.unchanged })
+
+-- what holds anyway holds where the directories were looked at
+pub on_reached : (A : Type 0) (e : StackError) (P : Type 0) → P → OnReached {A = A} (Err e) P
+on_reached A EmptyPath P h = tt
+on_reached A (NotNormal component) P h = tt
+on_reached A (ThroughLink prefix) P h = tt
+on_reached A (errors.Fault f) P h = h
+on_reached A Memory P h = tt
 
 pub reached_at_absent : {A : Type 0} (result : Result A StackError) (F : Type 0) → result ≡ Err (errors.Fault faults.NotFound) → OnReached result F → F
 reached_at_absent {A} result F is reached =

@@ -1,10 +1,12 @@
 pub mod CheckState
+pub mod Common
 pub mod Converted
 pub mod Found
 pub mod Kept
 pub mod Lawful
 pub mod LinkCheck
 pub mod Listing
+pub mod Looks
 pub mod MemoryTree
 pub mod Nodes
 pub mod Objects

@@ -1,5 +1,5 @@
 -- Paths, with `/` between components.
-use Rattle.std.specs.Prelude.{ℕ, zero, suc, ◌==◌, nat_eq, Bool, true, false, ◌&&◌, List, [], ◌∷◌, ◌++◌, length, take, find, Option, slice_index, if◌then◌else◌}
+use Rattle.std.specs.Prelude.{ℕ, zero, suc, ◌==◌, nat_eq, Bool, true, false, not, ◌&&◌, List, [], ◌∷◌, ◌++◌, length, take, find, filter, Option, slice_index, if◌then◌else◌}
 use Rattle.std.specs.List.{slice_split, starts_with}
 
 abbrev pub is_slash : ℕ → Bool
@@ -32,6 +32,10 @@ directories path = directories_below path (length path)
 -- whether a path stands below a directory
 abbrev pub lies_above : List ℕ → List ℕ → Bool
 lies_above directory path = starts_with nat_eq path (directory ++ 47 ∷ [])
+
+-- the directories of a path that don't stand above another one
+abbrev pub new_directories : List ℕ → List ℕ → List (List ℕ)
+new_directories tested path = filter (λ d. not (lies_above d tested)) (directories path)
 
 -- a path below a root; the path alone where the root is empty
 abbrev pub joined : List ℕ → List ℕ → List ℕ

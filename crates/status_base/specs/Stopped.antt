@@ -1,5 +1,5 @@
 -- Where the way to a path is barred.
-use Rattle.std.specs.Prelude.{◌≡◌, ◌<◌, ◌+◌, ℕ, IsTrue, List, length, take, Option, Some, None, Result, Ok, Err, slice_index}
+use Rattle.std.specs.Prelude.{◌≡◌, ◌<◌, ◌+◌, ◌-◌, ℕ, IsTrue, List, length, take, Option, Some, None, Result, Ok, Err, slice_index}
 use Rattle.bstr.specs.BStr.{bstr_bytes}
 use Rattle.status_index.specs.declared.fault.Fault.{Fault}
 use Rattle.status_index.specs.declared.metadata.Metadata.{Metadata}
@@ -40,6 +40,10 @@ pub record IsStop (path : List ℕ) (stop : Stop) : Type 0 where
 abbrev pub on_the_way : List ℕ → Option Stop → List (List ℕ)
 on_the_way path None = directories path
 on_the_way path (Some stop) = directories_below path (stop.at + 1)
+
+-- how many of them end at a place or behind it
+abbrev pub looked_at : List ℕ → ℕ → Option Stop → ℕ
+looked_at path from stop = length (on_the_way path stop) - length (directories_below path from)
 
 abbrev pub IsWay : (List ℕ → Result Metadata Fault) → List ℕ → Option Stop → Type 0
 IsWay lstat path None = IsClear lstat path

@@ -10,7 +10,7 @@ use Rattle.status_index.specs.Content.{saturate}
 use Rattle.status_base.specs.declared.stack.error.StackError.{StackError}
 use Rattle.status_base.specs.declared.stack.error.StackError.TheVariants.{EmptyPath, NotNormal, ThroughLink, Memory}
 use Rattle.status_base.specs.declared.stack.error.StackError.TheVariants as errors
-use Rattle.status_base.specs.Paths.{odd_component, directories}
+use Rattle.status_base.specs.Paths.{odd_component, directories, new_directories}
 use Rattle.status_base.specs.LinkCheck.{LinkCheck, accepted, empty_path, not_normal, through_link, faulty, link_check}
 use Rattle.status_base.specs.CheckState.{CheckState, IsClear}
 
@@ -67,13 +67,13 @@ OnBarred _ P = Unit {0}
 abbrev pub HasLooked : CheckState → CheckState → Type 0
 HasLooked old new = saturate (old.looks + 1) ≤ new.looks
 
--- a check after a query, by what the path was refused for. The look that finds a link or a fault is counted; a query for
--- a path that isn't normal leaves the check as it was
+-- a check after a query, by what the path was refused for. Directories above the old path aren't looked at again. The
+-- look that finds a link or a fault is counted; a query for a path that isn't normal leaves the check as it was
 pub record IsAfterQuery (modelled : Bool) (lstat : List ℕ → Result Metadata Fault) (query : List ℕ) (refusal : Option StackError) (old new : CheckState) : Type 0 where
   pub root : new.root ≡ old.root
   pub clear : IsTrue modelled → IsClear lstat old.path → IsClear lstat new.path
   pub looks : old.looks ≤ new.looks
-  pub few : new.looks ≤ old.looks + length (directories query)
+  pub few : new.looks ≤ old.looks + length (new_directories old.path query)
   pub barred : OnBarred refusal (HasLooked old new)
   pub unchanged : (IsNormal query → ⊥) → new ≡ old
 

@@ -1,21 +1,25 @@
 //! Whether a path leads through a symbolic link.
 
-ghost use Rattle.std.specs.Prelude.{◌≡◌, ◌≤◌, ◌<◌, ◌+◌, IsTrue, List, [], ◌∷◌, length, take, drop, option_map, IfOk, OnOk, IfErr, IfSome, vec_len, position};
+ghost use Rattle.std.specs.Prelude.{◌≡◌, ◌≤◌, ◌<◌, ◌+◌, None, IsTrue, List, [], ◌∷◌, length, take, drop, option_map, IfOk, OnOk, IfErr, IfSome, vec_len, position};
 ghost use Rattle.std.specs.Option.{option_map_or};
 ghost use Rattle.bstr.specs.BStr.{bstr_bytes};
 ghost use Rattle.status_base.specs.Paths.{is_slash, components, is_odd, odd_component, joined};
 ghost use Rattle.status_base.specs.LinkCheck.{link_check, barrier_of};
-ghost use Rattle.status_base.specs.CheckState.{IsClear};
+ghost use Rattle.bstr.specs.Owned.{bstring_bytes};
+ghost use Rattle.status_base.specs.CheckState.{IsClear, IsClearBelow};
 ghost use Rattle.status_index.specs.Content.{saturate};
-ghost use Rattle.status_base.specs.Stopped.{IsWay, IsStop, IsBarrier, IsOfDirectory, on_the_way};
+ghost use Rattle.status_base.specs.Stopped.{IsWay, IsStop, IsBarrier, IsOfDirectory, looked_at};
 
 mod error;
+mod front;
+pub mod laws;
 #[cfg(test)]
 mod tests;
 
 use crate::worktree::{Fault, NodeKind, Worktree};
 use bstr::{BStr, BString};
 pub use error::StackError;
+use front::{common_front, component_start};
 use std::alloc::{AllocError, Global};
 use std::marker::Model;
 
@@ -42,7 +46,6 @@ impl SymlinkCheck {
     ghost use Rattle.std.specs.Io.BufRead.{Rests};
     ghost use Rattle.status_index.specs.declared.fault.Fault.TheVariants.{NotFound};
     ghost use Rattle.status_base.specs.declared.stack.error.StackError.TheVariants as errors;
-    ghost use Rattle.bstr.specs.Owned.{bstring_bytes};
     ghost use Rattle.status_base.specs.contracts.stack.SymlinkCheck.{the_row};
     ghost use Rattle.status_base.specs.Verified.{IsVerified, IsNamed, IsNormal, IsAfterVerified, IsAfterLenient, accepting_absent};
 
@@ -128,7 +131,7 @@ impl SymlinkCheck {
     }
 }
 
-/// What a check holds.
+/// What a check holds. The buffer may hold anything where no path is tested.
 #[derive(Drop)]
 struct Parts {
     /// What stands before each path.
@@ -142,16 +145,19 @@ struct Parts {
     /// How often `lstat` was called.
     looks: u64,
     ghost within: { start + tested ≤ vec_len buffer },
+    ghost below: { 0 < tested → take start buffer.items ≡ joined (bstring_bytes root) [] },
+    ghost even: { 0 < tested → odd_component (take tested (drop start buffer.items)) ≡ None },
 }
 
 impl Parts {
     ghost use Rattle.std.specs.Result.{result_err};
-    ghost use Rattle.bstr.specs.Owned.{bstring_bytes};
+    ghost use Rattle.status_base.specs.Common.{IsCommon};
     ghost use Rattle.status_base.specs.Verified.{IsRefused, IsNamed, IsNormal, IsAfterQuery, IsChecked};
     ghost use Rattle.status_base.specs.Stopped.{OnReached};
     ghost use Rattle.status_base.specs.Kept.{state_of};
 
-    /// Tests a path, and leaves it below the root in the buffer.
+    /// Tests a path, and leaves it below the root in the buffer. Of the directories above it those are tested that don't
+    /// stand above the tested path.
     ///
     /// # Errors
     /// As `verified_path`.
@@ -160,7 +166,7 @@ impl Parts {
         worktree: &W,
         path: &'p [u8],
     ) -> Result<(), StackError<'p>>
-        ensures answer { IsTrue (W.modelled worktree.now) → IsChecked (link_check (W.lstat_of worktree.now) path.now) result }
+        ensures answer { IsTrue (W.modelled worktree.now) → IsClear (W.lstat_of worktree.now) (state_of self.old).path → IsChecked (link_check (W.lstat_of worktree.now) path.now) result }
         ensures named { IfErr result (IsNamed path.now) }
         ensures normal { OnReached result (IsNormal path.now) }
         ensures joined { OnReached result (self.new.buffer.items ≡ joined (bstring_bytes self.old.root) path.now) }
@@ -170,14 +176,15 @@ impl Parts {
         if path.is_empty() {
             return Err(StackError::EmptyPath);
         }
-        if let Some(component) = leftmost_odd(path) {
+        let common = self.common_with(path);
+        // The tested path has no odd component, so the first that may be one begins behind the last slash in common.
+        let first = component_start(&path[..common]);
+        if let Some(component) = leftmost_odd(&path[first..]) {
             let component = BStr::new(component);
             return Err(StackError::NotNormal { component });
         }
-        self.tested = 0;
-        self.start = 0;
-        self.start = join_into(&mut self.buffer, self.root.as_bytes(), path)?;
-        match first_barrier(worktree, path, &mut self.looks) {
+        self.write(path, common)?;
+        match first_barrier(worktree, path, common, &mut self.looks) {
             None => {
                 self.tested = path.len();
                 Ok(())
@@ -188,6 +195,39 @@ impl Parts {
             }
         }
     }
+
+    /// How many bytes a path has in common with the tested path.
+    fn common_with(&self, path: &[u8]) -> usize
+        ensures { IsCommon (state_of self.now).path path.now result }
+    {
+        common_front(&self.buffer[self.start..self.start + self.tested], path)
+    }
+
+    /// Writes a path below the root, but for what it has in common with the tested path, which stays. Nothing is tested
+    /// then, also where memory was wanting.
+    ///
+    /// # Errors
+    /// Want of memory.
+    fn write(&mut self, path: &[u8], common: usize) -> Result<(), AllocError>
+        requires { IsCommon (state_of self.old).path path.now common }
+        ensures joined { OnOk result (self.new.buffer.items ≡ joined (bstring_bytes self.old.root) path.now) }
+        ensures below { OnOk result (take self.new.start self.new.buffer.items ≡ joined (bstring_bytes self.new.root) []) }
+        ensures path { OnOk result (drop self.new.start self.new.buffer.items ≡ path.now) }
+        ensures length { OnOk result (self.new.start + length path.now ≡ vec_len self.new.buffer) }
+        ensures forgotten { self.new.tested ≡ 0 }
+        ensures kept { (self.new.root ≡ self.old.root) × (self.new.looks ≡ self.old.looks) }
+    {
+        // Before the buffer changes: memory may be refused.
+        self.tested = 0;
+        if common == 0 {
+            self.start = 0;
+            self.start = join_into(&mut self.buffer, self.root.as_bytes(), path)?;
+            return Ok(());
+        }
+        self.buffer.truncate(self.start + common);
+        self.buffer.extend_from_slice(&path[common..])?;
+        Ok(())
+    }
 }
 
 /// Writes a path below a root in place of what the buffer held, and answers where the path begins. An empty root stands
@@ -197,6 +237,7 @@ impl Parts {
 /// Want of memory.
 fn join_into(buffer: &mut Vec<u8>, root: &[u8], path: &[u8]) -> Result<usize, AllocError>
     ensures joined { OnOk result (buffer.new.items ≡ joined root.now path.now) }
+    ensures below { IfOk result (λ start. take start buffer.new.items ≡ joined root.now []) }
     ensures path { IfOk result (λ start. drop start buffer.new.items ≡ path.now) }
     ensures length { IfOk result (λ start. start + length path.now ≡ vec_len buffer.new) }
 {
@@ -217,16 +258,23 @@ struct Stop<'p> {
     error: StackError<'p>,
 }
 
-/// The leftmost proper directory prefix of a path that is a link or has a fault. Each `lstat` is counted.
-fn first_barrier<'p, W: Worktree>(worktree: &W, path: &'p [u8], looks: &mut u64) -> Option<Stop<'p>>
-    ensures way { IsTrue (W.modelled worktree.now) → IsWay (W.lstat_of worktree.now) path.now result }
+/// The leftmost proper directory prefix of a path that is a link or has a fault, of those that end at a place or behind
+/// it. Each `lstat` is counted.
+fn first_barrier<'p, W: Worktree>(
+    worktree: &W,
+    path: &'p [u8],
+    from: usize,
+    looks: &mut u64,
+) -> Option<Stop<'p>>
+    ensures way { IsTrue (W.modelled worktree.now) → IsClearBelow (W.lstat_of worktree.now) path.now from → IsWay (W.lstat_of worktree.now) path.now result }
     ensures stop { IfSome result (IsStop path.now) }
+    ensures behind { IfSome result (λ stop. from ≤ stop.at) }
     ensures looks { looks.old ≤ looks.new }
-    ensures few { looks.new ≤ looks.old + length (on_the_way path.now result) }
-    ensures counted { saturate (looks.old + length (on_the_way path.now result)) ≤ looks.new }
+    ensures few { looks.new ≤ looks.old + looked_at path.now from result }
+    ensures counted { saturate (looks.old + looked_at path.now from result) ≤ looks.new }
 {
-    for (at, byte) in path.iter().enumerate() {
-        if *byte == b'/' {
+    for at in from..path.len() {
+        if path[at] == b'/' {
             *looks = looks.saturating_add(1);
             if let Some(error) = barrier(worktree, &path[..at]) {
                 return Some(Stop { at, error });

@@ -8,6 +8,7 @@ ghost use Rattle.status_base.specs.Verified.{IsVerified};
 use crate::stack::{StackError, SymlinkCheck};
 use crate::worktree::{Fault, Metadata, NodeKind, ReadBytes, Worktree};
 use bstr::{BStr, BString};
+use std::sync::atomic::{AtomicUsize, Ordering};
 use std::test::Fail;
 
 /// A worktree by a table of what `lstat` answers, which is NotFound for any other path.
@@ -54,6 +55,41 @@ impl Worktree for Table {
 
     fn read_link(&self, _path: BStr<'_>, _target: &mut Vec<u8>) -> Result<(), Fault> {
         Err(Fault::NotFound)
+    }
+}
+
+/// A table whose looks are counted.
+#[derive(Drop)]
+struct Counted<'a> {
+    table: Table,
+    looks: &'a AtomicUsize,
+}
+
+impl<'a> Worktree for Counted<'a> {
+    ghost use Rattle.std.specs.Prelude.{false, Err};
+    ghost use Rattle.status_index.specs.declared.fault.Fault.TheVariants.{NotFound};
+
+    type File = NoFile;
+
+    ghost modelled = { λ _. false };
+
+    ghost lstat_of = { λ _ _. Err NotFound };
+
+    ghost open_of = { λ _ _. Err NotFound };
+
+    ghost target_of = { λ _ _. Err NotFound };
+
+    fn lstat(&self, path: BStr<'_>) -> Result<Metadata, Fault> {
+        self.looks.fetch_add(1, Ordering::SeqCst);
+        self.table.lstat(path)
+    }
+
+    fn open(&self, path: BStr<'_>) -> Result<NoFile, Fault> {
+        self.table.open(path)
+    }
+
+    fn read_link(&self, path: BStr<'_>, target: &mut Vec<u8>) -> Result<(), Fault> {
+        self.table.read_link(path, target)
     }
 }
 
@@ -140,30 +176,156 @@ fn joins_paths_to_the_root(rt: HostRuntime) -> Result<(), Fail> {
 }
 
 #[test]
-fn counts_looks(rt: HostRuntime) -> Result<(), Fail> {
-    let worktree = Table {
-        answers: &[
-            ("a", Ok(NodeKind::Directory)),
-            ("a/b", Ok(NodeKind::Directory)),
-            ("a/e", Ok(NodeKind::Directory)),
-        ],
+fn looks_once_at_each_directory(rt: HostRuntime) -> Result<(), Fail> {
+    let looks = AtomicUsize::new(0);
+    let worktree = Counted {
+        table: Table {
+            answers: &[
+                ("a", Ok(NodeKind::Directory)),
+                ("a/b", Ok(NodeKind::Directory)),
+                ("a/e", Ok(NodeKind::Directory)),
+            ],
+        },
+        looks: &looks,
     };
     let mut check = SymlinkCheck::new(rt.alloc(), BString::new(Vec::new(rt.alloc())));
     assert_eq!(rt; check.looks(), 0);
+    // `a` and `a/b`; nothing new; `a/e`.
     for path in ["a/b/c", "a/b/d", "a/e/f"] {
         assert!(rt;
             check.verified_path(&worktree, BStr::from(path)).is_ok(),
             "at {path}"
         );
     }
-    assert_eq!(rt; check.looks(), 6);
+    assert_eq!(rt; check.looks(), 3);
+    assert_eq!(rt; looks.load(Ordering::SeqCst), 3);
     // A path that isn't normal is refused before any look.
     assert!(rt;
         check
             .verified_path(&worktree, BStr::from("a/b/../c"))
             .is_err()
     );
-    assert_eq!(rt; check.looks(), 6);
+    assert_eq!(rt; check.looks(), 3);
+    assert_eq!(rt; looks.load(Ordering::SeqCst), 3);
+    Ok(())
+}
+
+#[test]
+fn accepts_a_link_before_and_after_it_barred_the_way(rt: HostRuntime) -> Result<(), Fail> {
+    let worktree = Table {
+        answers: &[("l", Ok(NodeKind::Link))],
+    };
+    let mut check = SymlinkCheck::new(rt.alloc(), BString::new(Vec::new(rt.alloc())));
+    for (path, want) in [
+        ("l", "Ok(\"l\")"),
+        ("l/x", "Err(ThroughLink { prefix: \"l\" })"),
+        ("l", "Ok(\"l\")"),
+    ] {
+        let answer = check.verified_path(&worktree, BStr::from(path));
+        let answer = format!(in rt.alloc(); "{answer:?}")?;
+        assert_eq!(rt; answer.as_str(), want, "at {path}");
+    }
+    Ok(())
+}
+
+#[test]
+fn accepts_a_path_after_a_missing_directory(rt: HostRuntime) -> Result<(), Fail> {
+    let worktree = Table {
+        answers: &[("a", Ok(NodeKind::Directory))],
+    };
+    let mut check = SymlinkCheck::new(rt.alloc(), BString::new(Vec::new(rt.alloc())));
+    for (path, want) in [
+        ("a/x", "Ok(\"a/x\")"),
+        ("q/x", "Err(Fault(NotFound))"),
+        ("a/y", "Ok(\"a/y\")"),
+    ] {
+        let answer = check.verified_path(&worktree, BStr::from(path));
+        let answer = format!(in rt.alloc(); "{answer:?}")?;
+        assert_eq!(rt; answer.as_str(), want, "at {path}");
+    }
+    Ok(())
+}
+
+#[test]
+fn takes_no_sibling_for_a_directory(rt: HostRuntime) -> Result<(), Fail> {
+    let worktree = Table {
+        answers: &[("a", Ok(NodeKind::Link)), ("ab", Ok(NodeKind::Directory))],
+    };
+    let mut check = SymlinkCheck::new(rt.alloc(), BString::new(Vec::new(rt.alloc())));
+    for (path, want) in [
+        ("ab/x", "Ok(\"ab/x\")"),
+        ("a/x", "Err(ThroughLink { prefix: \"a\" })"),
+    ] {
+        let answer = check.verified_path(&worktree, BStr::from(path));
+        let answer = format!(in rt.alloc(); "{answer:?}")?;
+        assert_eq!(rt; answer.as_str(), want, "at {path}");
+    }
+    Ok(())
+}
+
+/// Paths to draw from: below directories, links, files and faults, below nothing, and odd ones.
+const PATHS: [&str; 28] = [
+    "a", "a/x", "a/y", "a/b", "a/b/x", "a/b/c/x", "a/b/c/y", "a/bc/x", "ab", "ab/x", "ab/l/x",
+    "a/l", "a/l/x", "a/f/x", "l", "l/x", "f/x", "f/x/y", "q/x", "a/q/x", "e/x", "", ".", "a/../x",
+    "a//x", "a/b/./x", "a/b/", "/a",
+];
+
+/// The next path that is drawn.
+fn draw(state: &mut u64) -> &'static str {
+    *state = state
+        .wrapping_mul(6364136223846793005)
+        .wrapping_add(1442695040888963407);
+    PATHS[(*state >> 33) as usize % PATHS.len()]
+}
+
+#[test]
+fn answers_drawn_queries_as_fresh_checks_do(rt: HostRuntime) -> Result<(), Fail> {
+    let worktree = Table {
+        answers: &[
+            ("a", Ok(NodeKind::Directory)),
+            ("a/b", Ok(NodeKind::Directory)),
+            ("a/b/c", Ok(NodeKind::Directory)),
+            ("a/bc", Ok(NodeKind::Link)),
+            ("a/f", Ok(NodeKind::File)),
+            ("a/l", Ok(NodeKind::Link)),
+            ("ab", Ok(NodeKind::Directory)),
+            ("ab/l", Ok(NodeKind::Link)),
+            ("e", Err(Fault::Other(5))),
+            ("f", Ok(NodeKind::File)),
+            ("f/x", Err(Fault::NotADirectory)),
+            ("l", Ok(NodeKind::Link)),
+        ],
+    };
+    for seed in 1..9u64 {
+        let mut state = seed;
+        let root = BString::from_slice(rt.alloc(), "r")?;
+        let mut check = SymlinkCheck::new(rt.alloc(), root);
+        for turn in 0..100 {
+            let path = draw(&mut state);
+            let root = BString::from_slice(rt.alloc(), "r")?;
+            let mut fresh = SymlinkCheck::new(rt.alloc(), root);
+            let (want, answer) = if turn % 3 == 0 {
+                let want = fresh.verified_path_allow_nonexisting(&worktree, BStr::from(path));
+                let answer = check.verified_path_allow_nonexisting(&worktree, BStr::from(path));
+                (
+                    format!(in rt.alloc(); "{want:?}")?,
+                    format!(in rt.alloc(); "{answer:?}")?,
+                )
+            } else {
+                let want = fresh.verified_path(&worktree, BStr::from(path));
+                let answer = check.verified_path(&worktree, BStr::from(path));
+                (
+                    format!(in rt.alloc(); "{want:?}")?,
+                    format!(in rt.alloc(); "{answer:?}")?,
+                )
+            };
+            assert_eq!(rt;
+                answer.as_str(),
+                want.as_str(),
+                "at {path}, turn {turn} of seed {seed}"
+            );
+        }
+    }
     Ok(())
 }
 

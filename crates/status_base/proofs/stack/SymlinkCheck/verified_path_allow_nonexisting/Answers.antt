@@ -1,4 +1,4 @@
-use Rattle.std.proofs.Common.{◌≡◌, Err, refl}
+use Rattle.std.proofs.Common.{◌≡◌, Err, refl, rules}
 use Rattle.bstr.specs.BStr.{bstr_bytes}
 use Rattle.bstr.specs.Owned.{bstring_bytes}
 use Rattle.status_index.specs.declared.fault.Fault.TheVariants.{NotFound}
@@ -17,9 +17,9 @@ returns-in-Ok g c =
     let buffer = c.in-Ok.ensures.joined in
     let written : bstr_bytes c.new.result ≡ joined (bstring_bytes c.self.inside.parts.root) path = cc in
     rw (← c.self.view_is, ← c.as_bytes.ensures) (
-      (refl, λ _. tt, record { absent = λ modelled _ absent. absurd (accepted_present check (c.in-Ok.ensures.answer modelled) absent); after = c.in-Ok.ensures.after }),
+      (refl, λ _. tt, record { absent = λ modelled clear absent. absurd (accepted_present check (c.in-Ok.ensures.answer modelled clear) absent); after = c.in-Ok.ensures.after }),
       record {
-        answer = λ modelled _. (still_accepted check (c.in-Ok.ensures.answer modelled), written);
+        answer = λ modelled clear. (still_accepted check (c.in-Ok.ensures.answer modelled clear), written);
         named = tt;
         normal = c.in-Ok.ensures.normal;
         joined = written;
@@ -40,7 +40,7 @@ returns-in-Err-Fault-NotFound g c =
     rw (← c.self.view_is, ← c.as_bytes.ensures) (
       (refl, λ _. tt, record { absent = λ _ _ _. after.0; after = after.1 }),
       record {
-        answer = λ modelled _. (absent_accepted check c.verify.result absent (c.verify.ensures.answer modelled), written);
+        answer = λ modelled clear. (absent_accepted check c.verify.result absent (c.verify.ensures.answer modelled clear), written);
         named = tt;
         normal = reached_at_absent c.verify.result (IsNormal path) absent c.verify.ensures.normal;
         joined = written;
@@ -48,3 +48,7 @@ returns-in-Err-Fault-NotFound g c =
         rests = tt;
       },
     )
+
+pub returns-in-Err : goal.returns-in-Err
+returns-in-Err g c =
+    rw (← c.self.view_is, ← c.as_bytes.ensures) (search rules)
