@@ -132,6 +132,31 @@ fn nodes_are_reported(rt: HostRuntime) -> Result<(), Fail> {
 }
 
 #[test]
+fn long_paths_lead_below_the_folder(rt: HostRuntime) -> Result<(), Fail> {
+    let alloc = rt.alloc();
+    let folder = new_folder(&rt, "long_paths", process::id(rt.process()))?;
+    let root = folder.as_str();
+    let mut name = String::new(alloc);
+    for _ in 0..15 {
+        name.push_str("long name_")?;
+    }
+    let name = name.as_str();
+    fs::create_dir(&rt, within(&rt, root, name)?)?;
+    // Of more bytes than a path for which no memory is taken.
+    let path = format!(in alloc; "{name}/{name}")?;
+    fs::write(&rt, within(&rt, root, path.as_str())?, "foo")?;
+
+    let worktree = DiskWorktree::new(&rt, Path::new(root))?;
+    assert_eq!(rt;
+        kind_and_len(&worktree, path.as_bytes()),
+        Ok((NodeKind::File, 3))
+    );
+    assert_eq!(rt; open_fault(&worktree, path.as_bytes()), None);
+    fs::remove_dir_all(&rt, root)?;
+    Ok(())
+}
+
+#[test]
 fn faults_are_named(rt: HostRuntime) -> Result<(), Fail> {
     let alloc = rt.alloc();
     let folder = new_folder(&rt, "faults_are_named", process::id(rt.process()))?;
