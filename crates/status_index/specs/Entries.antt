@@ -1,6 +1,6 @@
 -- What an index's entries say, and which lists of them are an index.
-use Rattle.std.specs.Prelude.{◌≡◌, ◌≢◌, ℕ, ◌<◌, ◌-◌, List, [], length, take, map, option_map, unwrap_or, All, AllPairs, slice_get, ⊤}
-use Rattle.std.specs.List.{slice_index_or}
+use Rattle.std.specs.Prelude.{◌≡◌, ◌≢◌, ℕ, ◌<◌, ◌-◌, nat_le, ◌&&◌, cond, List, [], length, take, map, All, AllPairs, ⊤}
+use Rattle.std.specs.List.{slice_index_or, slice_range}
 use Rattle.std.specs.Ordering.{nat_cmp, ordering_then}
 use Rattle.std.specs.Cmp.Lexicographic.{slice_cmp}
 use Rattle.std.specs.declared.cmp.Ordering.{Ordering}
@@ -34,9 +34,13 @@ stage_of e = stage_of_bits e.flags.0
 abbrev pub entry_at : List ℕ → Entry → IndexEntry
 entry_at path e = record { path = path; stat = e.stat; id = e.id; flags = e.flags; mode = e.mode }
 
+-- the bytes from one place up to another, or none where that is no part of them
+unfoldable pub bytes_within : List ℕ → ℕ → ℕ → List ℕ
+bytes_within bytes from to = cond (nat_le from to && nat_le to (length bytes)) (slice_range bytes from to) []
+
 -- the path that a storage has for an entry, or the empty one
 abbrev pub path_in : PathStorage → Entry → List ℕ
-path_in backing e = unwrap_or (option_map bstring_bytes (slice_get backing.paths.items e.path)) []
+path_in backing e = bytes_within backing.bytes.items e.path.start e.path.end
 
 abbrev pub index_entry : PathStorage → Entry → IndexEntry
 index_entry backing e = entry_at (path_in backing e) e
@@ -47,6 +51,10 @@ index_entries backing = map (index_entry backing)
 -- what an entry says that is to be put into an index
 abbrev pub new_entry : NewEntry → IndexEntry
 new_entry e = record { path = bstring_bytes e.path; stat = e.stat; id = e.id; flags = e.flags; mode = e.mode }
+
+-- the same of an entry whose path is lent
+abbrev pub said_of : List ℕ → Stat → ObjectId → Flags → Mode → IndexEntry
+said_of path stat id flags mode = record { path = path; stat = stat; id = id; flags = flags; mode = mode }
 
 -- by the paths' bytes, a proper prefix first, and then by stage
 abbrev pub entry_cmp : IndexEntry → IndexEntry → Ordering

@@ -1,7 +1,11 @@
 -- The stretch of an index whose paths begin with a prefix.
-use Rattle.std.specs.Prelude.{◌≡◌, ℕ, ◌<◌, ◌≤◌, ◌-◌, nat_eq, Bool, true, false, List, length, take, drop, Option, Some, None, All}
+use Rattle.std.specs.Prelude.{◌≡◌, ℕ, ◌<◌, ◌≤◌, ◌-◌, nat_eq, Bool, true, false, List, length, take, drop, Option, Some, None, All, AllPairs}
 use Rattle.std.specs.List.{starts_with}
+use Rattle.std.specs.Ordering.{nat_cmp, is_lt}
+use Rattle.std.specs.Cmp.Lexicographic.{slice_cmp}
 use Rattle.std.specs.declared.ops.Range.{Range}
+use Rattle.status_index.specs.declared.path_probe.Question.{Question}
+use Rattle.status_index.specs.declared.path_probe.Question.TheVariants.{Below, Under}
 use Rattle.status_index.specs.Entries.{IndexEntry}
 
 -- whether an entry's path begins with the prefix
@@ -24,3 +28,16 @@ pub record IsStretch (es : List IndexEntry) (prefix : List ℕ) (a b : ℕ) : Ty
 abbrev pub IsPrefixed : List IndexEntry → List ℕ → Option (Range ℕ) → Type 0
 IsPrefixed es prefix None = (0 < length prefix) × All (λ e. is_under prefix e ≡ false) es
 IsPrefixed es prefix (Some r) = IsStretch es prefix r.start r.end × (0 < length prefix → r.start < r.end)
+
+-- whether an entry's path is below the prefix
+abbrev pub is_below : List ℕ → IndexEntry → Bool
+is_below prefix e = is_lt (slice_cmp nat_cmp e.path prefix)
+
+-- what is asked of an entry: whether its path is below the prefix, or begins with it
+abbrev pub meets : Question → List ℕ → IndexEntry → Bool
+meets Below prefix = is_below prefix
+meets Under prefix = is_under prefix
+
+-- the entries that pass a test stand before those that don't
+abbrev pub IsFront : (IndexEntry → Bool) → List IndexEntry → Type 0
+IsFront p es = AllPairs (λ a b. p b ≡ true → p a ≡ true) es

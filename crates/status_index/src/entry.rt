@@ -8,6 +8,8 @@ use crate::id::ObjectId;
 use crate::mode::Mode;
 use crate::stat::Stat;
 use bstr::{BStr, BString};
+use std::alloc::AllocError;
+use std::ops::Range;
 
 /// An entry of an index. Its path is in the index's [`PathStorage`].
 #[derive(Clone, Debug, Drop)]
@@ -21,14 +23,14 @@ pub struct Entry {
     /// What kind of thing the entry is.
     pub mode: Mode,
     /// Where the path stands in the storage.
-    pub(crate) path: usize,
+    pub(crate) path: Range<usize>,
 }
 
-/// The paths of an index's entries.
+/// The paths of an index's entries, in one buffer.
 #[derive(Drop)]
 pub struct PathStorage {
-    /// The paths, one by one, in the order of the entries.
-    pub(crate) paths: Vec<BString>,
+    /// The bytes of all paths, in the order of the entries.
+    pub(crate) bytes: Vec<u8>,
 }
 
 /// An entry that is to be put into an index, with its path.
@@ -44,6 +46,21 @@ pub struct NewEntry {
     pub flags: Flags,
     /// What kind of thing the entry is.
     pub mode: Mode,
+}
+
+impl PathStorage {
+    ghost use Rattle.std.specs.Prelude.{◌≡◌, ◌++◌, length, is_ok, if◌then◌else◌, IfOk};
+
+    /// Puts a path behind the others, and answers where it stands.
+    pub(crate) fn push(&mut self, path: &[u8]) -> Result<Range<usize>, AllocError>
+        ensures bytes { self.new.bytes.items ≡ (if is_ok result then self.old.bytes.items ++ path.now else self.old.bytes.items) }
+        ensures start { IfOk result (λ range. range.start ≡ length self.old.bytes.items) }
+        ensures end { IfOk result (λ range. range.end ≡ length self.new.bytes.items) }
+    {
+        let start = self.bytes.len();
+        self.bytes.extend_from_slice(path)?;
+        Ok(start..self.bytes.len())
+    }
 }
 
 impl Entry {
@@ -63,8 +80,8 @@ impl Entry {
     pub fn path_in<'a>(&self, backing: &'a PathStorage) -> BStr<'a>
         ensures { bstr_bytes result ≡ path_in backing.now self.now }
     {
-        match backing.paths.get(self.path) {
-            Some(path) => path.as_bstr(),
+        match backing.bytes.get(self.path.start..self.path.end) {
+            Some(path) => BStr::new(path),
             None => BStr::new(b""),
         }
     }

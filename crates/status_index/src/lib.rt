@@ -10,8 +10,10 @@ pub mod id;
 pub mod metadata;
 pub mod mode;
 pub mod orders;
+mod path_probe;
 pub mod reader;
 pub mod reading;
+pub mod search;
 pub mod stat;
 pub mod state;
 
@@ -27,6 +29,3 @@ pub use reader::ReadBytes;
 pub use reading::read_all;
 pub use stat::{Moment, Stat, Time};
 pub use state::{IndexError, State};
-
-#[cfg(test)]
-mod tests;

@@ -4,9 +4,12 @@ ghost use Rattle.std.specs.Prelude.{map};
 ghost use Rattle.status_index.specs.Entries.{IsIndex, index_entries};
 
 use crate::entry::{Entry, NewEntry, PathStorage};
+use crate::flags::Flags;
 use crate::id::ObjectId;
+use crate::mode::Mode;
+use crate::path_probe::{Question, front_len};
 use crate::stat::{Moment, Stat};
-use bstr::{BStr, BString};
+use bstr::BStr;
 use std::alloc::{AllocError, AllocFailed, Global};
 use std::cmp::Ordering;
 use std::ops::Range;
@@ -70,14 +73,16 @@ pub struct State {
 }
 
 impl State {
-    ghost use Rattle.std.specs.Prelude.{◌≡◌, ◌<◌, ◌≤◌, length, map, not, [], ◌∷◌, ◌++◌, IfOk, IfErr, OnOk};
-    ghost use Rattle.std.specs.List.{AllWithin, HoldsAt};
+    ghost use Rattle.std.specs.Prelude.{◌≡◌, ℕ, ◌*◌, ◌<◌, ◌≤◌, ◌^◌, length, map, [], ◌∷◌, ◌++◌, IfOk, IfErr, OnOk, OnErr};
     ghost use Rattle.bstr.specs.BStr.{bstr_bytes};
-    ghost use Rattle.status_index.specs.Entries.{IsIndex, IsRefusal, entry_cmp, index_entry, new_entry};
+    ghost use Rattle.std.specs.Ordering.{nat_cmp, ordering_then};
+    ghost use Rattle.std.specs.Cmp.Lexicographic.{slice_cmp};
+    ghost use Rattle.status_index.specs.FlagBits.{stage_of_bits};
+    ghost use Rattle.status_index.specs.Entries.{IsIndex, IsRefusal, new_entry, said_of, path_in};
     ghost use Rattle.status_index.specs.States.{entries_of, backing_of, timestamp_of, index_of, ChangesAt, with_stat, smudged};
-    ghost use Rattle.status_index.specs.Stretch.{is_under, IsPrefixed};
+    ghost use Rattle.status_index.specs.Stretch.{IsPrefixed};
 
-    /// The index of these entries. The paths are moved and not copied; on an error the list is given up.
+    /// The index of these entries. The paths are copied into one buffer; on an error the list is given up.
     ///
     /// # Errors
     /// At the lowest place that has a fault: where the path is empty, else where the entry isn't above its predecessor,
@@ -91,23 +96,41 @@ impl State {
         ensures ok { IfOk result (λ s. IsIndex (map new_entry entries.items) × ((index_of s) ≡ map new_entry entries.items) × (timestamp_of s ≡ timestamp)) }
         ensures refused { IfErr result (IsRefusal (map new_entry entries.items)) }
     {
-        let mut state = State::with_room(alloc, entries.len(), timestamp)?;
+        let mut state = State::with_room(alloc, &entries, timestamp)?;
         for entry in entries {
             state.append(entry)?;
         }
         Ok(state)
     }
 
-    /// An index of no entries, with room for `count`.
-    fn with_room(alloc: Global, count: usize, timestamp: Moment) -> Result<State, AllocError>
-        ensures entries { IfOk result (λ s. entries_of s ≡ []) }
+    /// An index of no entries. It takes no memory.
+    pub fn new(alloc: Global, timestamp: Moment) -> State
+        ensures index { (index_of result) ≡ [] }
+        ensures timestamp { timestamp_of result ≡ timestamp }
+    {
+        State {
+            entries: Vec::new(alloc),
+            backing: PathStorage {
+                bytes: Vec::new(alloc),
+            },
+            timestamp,
+        }
+    }
+
+    /// An index of no entries, with room for these.
+    fn with_room(
+        alloc: Global,
+        entries: &[NewEntry],
+        timestamp: Moment,
+    ) -> Result<State, AllocError>
+        ensures index { IfOk result (λ s. (index_of s) ≡ []) }
         ensures timestamp { IfOk result (λ s. timestamp_of s ≡ timestamp) }
     {
-        let paths = Vec::with_capacity(alloc, count)?;
-        let entries = Vec::with_capacity(alloc, count)?;
+        let bytes = Vec::with_capacity(alloc, path_bytes(entries))?;
+        let entries = Vec::with_capacity(alloc, entries.len())?;
         Ok(State {
             entries,
-            backing: PathStorage { paths },
+            backing: PathStorage { bytes },
             timestamp,
         })
     }
@@ -118,7 +141,6 @@ impl State {
         ensures refused { IfErr result (IsRefusal ((index_of self.old) ++ new_entry entry ∷ [])) }
         ensures timestamp { timestamp_of self.new ≡ timestamp_of self.old }
     {
-        self.check_next(&entry)?;
         let NewEntry {
             path,
             stat,
@@ -126,47 +148,69 @@ impl State {
             flags,
             mode,
         } = entry;
-        let number = self.backing.paths.len();
-        self.backing.paths.push(path)?;
-        self.entries.push(Entry {
+        self.push_entry(stat, id, flags, mode, path.as_bstr())
+    }
+
+    /// Adds an entry behind the others. Its path is copied.
+    ///
+    /// # Errors
+    /// `at` is the number of entries: where the path is empty, else where the entry isn't above the last one, else where
+    /// its id is of another kind. Or where memory runs out. The index then is as it was.
+    pub fn push_entry(
+        &mut self,
+        stat: Stat,
+        id: ObjectId,
+        flags: Flags,
+        mode: Mode,
+        path: BStr<'_>,
+    ) -> Result<(), IndexError>
+        ensures valid { IsIndex ((index_of self.old) ++ said_of (bstr_bytes path.entry) stat id flags mode ∷ []) → IfErr result (λ e. e ≡ IndexError.Memory) }
+        ensures ok { OnOk result ((index_of self.new) ≡ (index_of self.old) ++ said_of (bstr_bytes path.entry) stat id flags mode ∷ []) }
+        ensures refused { IfErr result (IsRefusal ((index_of self.old) ++ said_of (bstr_bytes path.entry) stat id flags mode ∷ [])) }
+        ensures unchanged { OnErr result ((index_of self.new) ≡ index_of self.old) }
+        ensures timestamp { timestamp_of self.new ≡ timestamp_of self.old }
+    {
+        let path = path.as_bytes();
+        self.check_next(id, flags, path)?;
+        self.entries.reserve(1)?;
+        let path = self.backing.push(path)?;
+        self.entries.push_reserved(Entry {
             stat,
             id,
             flags,
             mode,
-            path: number,
-        })?;
+            path,
+        });
         Ok(())
     }
 
-    /// Whether `entry` may stand behind the others. The last of them decides, since they are an
-    /// index.
-    fn check_next(&self, entry: &NewEntry) -> Result<(), IndexError>
-        ensures ok { OnOk result (IsIndex ((index_of self.now) ++ new_entry entry.now ∷ [])) }
-        ensures refused { IfErr result (IsRefusal ((index_of self.now) ++ new_entry entry.now ∷ [])) }
+    /// Whether an entry of this path may stand behind the others. The last of them decides, since they are an index.
+    fn check_next(&self, id: ObjectId, flags: Flags, path: &[u8]) -> Result<(), IndexError>
+        ensures ok { (stat : Stat) (mode : Mode) → OnOk result (IsIndex ((index_of self.now) ++ said_of path.now stat id flags mode ∷ [])) }
+        ensures refused { (stat : Stat) (mode : Mode) → IfErr result (IsRefusal ((index_of self.now) ++ said_of path.now stat id flags mode ∷ [])) }
     {
         let at = self.entries.len();
-        if entry.path.as_bytes().is_empty() {
+        if path.is_empty() {
             return Err(IndexError::EmptyPath { at });
         }
         let Some(last) = self.entries.last() else {
             return Ok(());
         };
-        if self.order(last, entry).is_ge() {
+        if self.order(last, flags, path).is_ge() {
             return Err(IndexError::NotAscending { at });
         }
-        if last.id.kind() != entry.id.kind() {
+        if last.id.kind() != id.kind() {
             return Err(IndexError::MixedHash { at });
         }
         Ok(())
     }
 
-    /// How `last`, an entry of this index, stands to `entry`: by path and then by stage.
-    fn order(&self, last: &Entry, entry: &NewEntry) -> Ordering
-        ensures { result ≡ entry_cmp (index_entry (backing_of self.now) last.now) (new_entry entry.now) }
+    /// How `last`, an entry of this index, stands to an entry of this path: by path and then by stage.
+    fn order(&self, last: &Entry, flags: Flags, path: &[u8]) -> Ordering
+        ensures { result ≡ ordering_then (slice_cmp nat_cmp (path_in (backing_of self.now) last.now) path.now) (nat_cmp (stage_of_bits last.now.flags.0) (stage_of_bits flags.0)) }
     {
-        let path = last.path_in(&self.backing).as_bytes();
-        let by_path = path.cmp(entry.path.as_bytes());
-        by_path.then(last.stage_raw().cmp(&entry.flags.stage()))
+        let by_path = last.path_in(&self.backing).as_bytes().cmp(path);
+        by_path.then(last.stage_raw().cmp(&flags.stage()))
     }
 
     /// The entries, in ascending order of path and stage.
@@ -191,46 +235,33 @@ impl State {
         self.timestamp
     }
 
-    /// The first place from `from` on where a path begins with `prefix`, or with `under` doesn't; the number of entries
-    /// where there is none.
-    fn run_end(&self, prefix: &[u8], from: usize, under: bool) -> usize
-        requires { from ≤ length (entries_of self.now) }
-        ensures order { from ≤ result }
-        ensures inside { result ≤ length (entries_of self.now) }
-        ensures run { AllWithin (λ e. is_under prefix.now e ≡ under) (index_of self.now) from result }
-        ensures end { result < length (entries_of self.now) → HoldsAt (λ e. is_under prefix.now e ≡ not under) (index_of self.now) result }
-    {
-        for at in from..self.entries.len() {
-            if self.is_under(at, prefix) != under {
-                return at;
-            }
-        }
-        self.entries.len()
-    }
-
-    /// Whether the path of the entry at `at` begins with `prefix`.
-    fn is_under(&self, at: usize, prefix: &[u8]) -> bool
-        requires { at < length (entries_of self.now) }
-        ensures { HoldsAt (λ e. result ≡ is_under prefix.now e) (index_of self.now) at }
-    {
-        self.entries[at]
-            .path_in(&self.backing)
-            .as_bytes()
-            .starts_with(prefix)
-    }
-
     /// The stretch of entries whose paths begin with `prefix`: the whole list for an empty prefix, None where no path
     /// begins with it.
     pub fn prefixed_entries_range(&self, prefix: BStr<'_>) -> Option<Range<usize>>
         ensures { IsPrefixed (index_of self.now) (bstr_bytes prefix.entry) result }
     {
+        self.prefixed_entries_range_counted(prefix).0
+    }
+
+    /// The same, and how many paths were compared with the prefix: none for an empty prefix, else at most twice as many
+    /// as the number of entries has binary digits.
+    pub fn prefixed_entries_range_counted(&self, prefix: BStr<'_>) -> (Option<Range<usize>>, u32)
+        ensures range { IsPrefixed (index_of self.now) (bstr_bytes prefix.entry) result.0 }
+        ensures few { (digits : ℕ) → length (entries_of self.now) < 2 ^ digits → result.1 ≤ 2 * digits }
+        ensures empty { bstr_bytes prefix.entry ≡ [] → result.1 ≡ 0 }
+    {
         let prefix = prefix.as_bytes();
-        let start = self.run_end(prefix, 0, false);
-        if start == self.entries.len() && !prefix.is_empty() {
-            return None;
+        if prefix.is_empty() {
+            return (Some(0..self.entries.len()), 0);
         }
-        let end = self.run_end(prefix, start, true);
-        Some(start..end)
+        let (start, below) = front_len(&self.entries, &self.backing, prefix, Question::Below);
+        let rest = &self.entries[start..];
+        let (count, under) = front_len(rest, &self.backing, prefix, Question::Under);
+        let compared = below.saturating_add(under);
+        if count == 0 {
+            return (None, compared);
+        }
+        (Some(start..start + count), compared)
     }
 
     /// Replaces the stat of the entry at `i`.
@@ -265,5 +296,11 @@ impl State {
     }
 }
 
-#[cfg(test)]
-mod tests;
+/// How many bytes the paths have in all, up to the greatest `usize`.
+fn path_bytes(entries: &[NewEntry]) -> usize {
+    let mut count: usize = 0;
+    for entry in entries {
+        count = count.saturating_add(entry.path.as_bytes().len());
+    }
+    count
+}

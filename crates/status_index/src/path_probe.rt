@@ -1,0 +1,77 @@
+//! Questions about the paths of an index's entries, and how many paths were compared.
+
+ghost use Rattle.std.specs.Prelude.{◌≡◌, ℕ, ◌<◌, ◌≤◌, ◌^◌, length};
+ghost use Rattle.std.specs.List.{prefix_len};
+ghost use Rattle.status_index.specs.Entries.{index_entry, index_entries};
+ghost use Rattle.status_index.specs.Stretch.{meets, IsFront};
+
+use crate::entry::{Entry, PathStorage};
+use crate::search::{Probe, search};
+
+/// What is asked of a path.
+#[derive(Clone, Copy)]
+pub(crate) enum Question {
+    /// Whether it is below the prefix.
+    Below,
+    /// Whether it begins with the prefix.
+    Under,
+}
+
+/// Entries of which those that meet a question stand in front.
+#[derive(Drop)]
+struct PathProbe<'a> {
+    entries: &'a [Entry],
+    backing: &'a PathStorage,
+    prefix: &'a [u8],
+    question: Question,
+    compared: u32,
+    ghost front: { IsFront (meets question prefix.now) (index_entries backing.now entries.now) },
+}
+
+impl<'a> Probe for PathProbe<'a> {
+    ghost cut = { λ probe. prefix_len (meets probe.question probe.prefix.now) (index_entries probe.backing.now probe.entries.now) };
+
+    ghost asked = { λ probe. probe.compared };
+
+    fn before(&mut self, at: usize) -> bool {
+        self.compared = self.compared.saturating_add(1);
+        match self.entries.get(at) {
+            Some(entry) => is_met(self.question, entry, self.backing, self.prefix),
+            None => false,
+        }
+    }
+}
+
+/// The answer to the question of this entry, by one comparison.
+fn is_met(question: Question, entry: &Entry, backing: &PathStorage, prefix: &[u8]) -> bool
+    ensures { result ≡ meets question prefix.now (index_entry backing.now entry.now) }
+{
+    let path = entry.path_in(backing).as_bytes();
+    match question {
+        Question::Below => path.cmp(prefix).is_lt(),
+        Question::Under => path.starts_with(prefix),
+    }
+}
+
+/// How many entries meet a question, where these stand in front, and how many paths were compared.
+pub(crate) fn front_len(
+    entries: &[Entry],
+    backing: &PathStorage,
+    prefix: &[u8],
+    question: Question,
+) -> (usize, u32)
+    requires { IsFront (meets question prefix.now) (index_entries backing.now entries.now) }
+    ensures len { result.0 ≡ prefix_len (meets question prefix.now) (index_entries backing.now entries.now) }
+    ensures inside { result.0 ≤ length entries.now }
+    ensures few { (digits : ℕ) → length entries.now < 2 ^ digits → result.1 ≤ digits }
+{
+    let mut probe = PathProbe {
+        entries,
+        backing,
+        prefix,
+        question,
+        compared: 0,
+    };
+    let len = search(entries.len(), &mut probe);
+    (len, probe.compared)
+}
