@@ -1,9 +1,9 @@
 -- Which entries are considered, and which of them are left out.
-use Rattle.std.specs.Prelude.{ℕ, nat_lt, nat_le, Bool, not, ◌&&◌, ◌||◌, List, filter, if◌then◌else◌}
+use Rattle.std.specs.Prelude.{ℕ, nat_lt, nat_le, Bool, not, ◌&&◌, ◌||◌, List, [], ◌∷◌, filter, if◌then◌else◌}
 use Rattle.std.specs.List.{list_any, position_or_len}
 use Rattle.std.specs.Str.{bytes_eq}
 use Rattle.status_index.specs.declared.flags.Flags.{Flags}
-use Rattle.status_call.specs.declared.index_as_worktree.step.TheConstants.{SKIP_FLAGS}
+use Rattle.status_index.specs.declared.flags.TheConstants.Flags.{ASSUME_VALID, FSMONITOR_VALID, SKIP_WORKTREE, UPTODATE}
 use Rattle.status_index.specs.FlagBits.{has_bits}
 use Rattle.status_index.specs.Entries.{IndexEntry, stage_of}
 use Rattle.status_index.specs.Mode.{is_submodule}
@@ -22,9 +22,9 @@ considered_start prefix es = if list_any (is_under prefix) es then position_or_l
 abbrev pub has_flag : IndexEntry → Flags → Bool
 has_flag e flag = has_bits e.flags.0 flag.0
 
--- whether one of the flags UPTODATE, SKIP_WORKTREE, ASSUME_VALID and FSMONITOR_VALID leaves an entry out
+-- whether one of these flags leaves an entry out
 abbrev pub is_flagged : IndexEntry → Bool
-is_flagged e = list_any (has_flag e) SKIP_FLAGS
+is_flagged e = list_any (has_flag e) (UPTODATE ∷ SKIP_WORKTREE ∷ ASSUME_VALID ∷ FSMONITOR_VALID ∷ [])
 
 abbrev pub same_path : IndexEntry → IndexEntry → Bool
 same_path a b = bytes_eq a.path b.path
