@@ -1,0 +1,142 @@
+#!/usr/bin/env python3
+"""Times the program over a git repository's folder beside git, libgit2 and a bare loop of lstat, in turns.
+
+    python3 bench/peers.py crates/status_program/out/status_program FOLDER [--runs 11]
+
+FOLDER is a repository that bench/folder.py made. It is measured twice: clean, and touched, with another time of
+modification at each file, so that each is hashed. The loop and the driver of libgit2 are in bench/peers and are built with
+cc; without libgit2 (Debian's libgit2-dev) that row is left out. git runs on one thread and writes nothing, and compares
+what the program compares.
+
+Each row has the least and the middle processor time of the runs, in milliseconds, and the least beside the loop's and
+beside that of `git status -uno`. The status alone is the program's time without that of a run with a prefix that no path
+has, and the loop's is without that of a loop over no path: so no start of a process is in either.
+"""
+
+import argparse
+import json
+import os
+import resource
+import shutil
+import statistics
+import subprocess
+import sys
+import tempfile
+import time
+
+HERE = os.path.dirname(os.path.abspath(__file__))
+TOOL = os.path.join(HERE, os.pardir, "tools", "profile_from_git.py")
+GIT = ["git", "-c", "core.preloadIndex=false", "-c", "core.trustctime=false", "-c", "core.checkStat=minimal"]
+GIT += ["-c", "core.fileMode=false"]
+
+
+def build(folder, name, *words):
+    """The program that cc makes of a peer, or None where it can't."""
+    program = os.path.join(folder, name)
+    built = subprocess.run(
+        ["cc", "-O2", "-o", program, os.path.join(HERE, "peers", name + ".c"), *words], stderr=subprocess.DEVNULL
+    )
+    return program if built.returncode == 0 else None
+
+
+def profile_of(folder, top, name, **options):
+    """The path of the profile of the repository, with these options beside those of the tool."""
+    printed = subprocess.run([sys.executable, TOOL, top], stdout=subprocess.PIPE, stderr=subprocess.DEVNULL, check=True)
+    profile = json.loads(printed.stdout)
+    profile["options"] = dict(profile["options"], thread_limit=1, **options)
+    path = os.path.join(folder, name + ".json")
+    with open(path, "w", encoding="utf-8") as out:
+        json.dump(profile, out)
+    return path
+
+
+def spent():
+    """The processor time of all runs so far, in seconds."""
+    used = resource.getrusage(resource.RUSAGE_CHILDREN)
+    return used.ru_utime + used.ru_stime
+
+
+def timed(command):
+    """The processor time of one run, in milliseconds."""
+    before = spent()
+    subprocess.run(command, stdout=subprocess.DEVNULL, check=True, env=dict(os.environ, GIT_OPTIONAL_LOCKS="0"))
+    return (spent() - before) * 1000
+
+
+def commands(program, top, folder):
+    """What is run, by name."""
+    paths = os.path.join(folder, "paths")
+    with open(paths, "wb") as out:
+        subprocess.run(["git", "-C", top, "ls-files", "-z"], stdout=out, check=True)
+    open(os.path.join(folder, "no_paths"), "wb").close()
+    loop = build(folder, "lstat_loop")
+    if loop is None:
+        sys.exit("refused: cc doesn't build the loop")
+    rows = {
+        "no loop": [loop, top, os.path.join(folder, "no_paths")],
+        "loop": [loop, top, paths],
+        "git status": [*GIT, "-C", top, "status", "-uno", "--porcelain"],
+        "git diff-files": [*GIT, "-C", top, "diff-files", "--raw"],
+        "no status": [program, "status", profile_of(folder, top, "none", prefix="no path/")],
+        "program": [program, "status", profile_of(folder, top, "all")],
+    }
+    libgit2 = build(folder, "libgit2_status", "-lgit2")
+    if libgit2 is not None:
+        rows["libgit2"] = [libgit2, top]
+    return rows
+
+
+def measure(rows, runs):
+    """The times of each row, the runs taken in turns."""
+    times = {name: [] for name in rows}
+    for _ in range(runs):
+        for name, command in rows.items():
+            times[name].append(timed(command))
+    return times
+
+
+def report(times):
+    """Prints a line for each thing that is compared."""
+    differences = {"the loop": ("loop", "no loop"), "the status alone": ("program", "no status")}
+    lines = {name: [a - b for a, b in zip(times[x], times[y])] for name, (x, y) in differences.items()}
+    lines["the whole program"] = times["program"]
+    lines.update({name: times[name] for name in ("git status", "git diff-files", "libgit2") if name in times})
+    print(f"{'':18} {'least':>7} {'middle':>7} {'loops':>6} {'gits':>6}")
+    for name, spans in lines.items():
+        least = min(spans)
+        loops, gits = least / min(lines["the loop"]), least / min(lines["git status"])
+        print(f"{name:18} {least:7.1f} {statistics.median(spans):7.1f} {loops:6.2f} {gits:6.2f}")
+
+
+def touch(top):
+    """Gives each file of the index another time of modification."""
+    listed = subprocess.run(["git", "-C", top, "ls-files", "-z"], stdout=subprocess.PIPE, check=True).stdout
+    later = time.time() - 3600
+    for path in filter(None, listed.split(b"\0")):
+        os.utime(os.path.join(os.fsencode(top), path), (later, later))
+
+
+def main():
+    parser = argparse.ArgumentParser(description=__doc__.splitlines()[0])
+    parser.add_argument("program", help="the built program")
+    parser.add_argument("folder", help="a repository that bench/folder.py made; its files are touched")
+    parser.add_argument("--runs", type=int, default=11, help="how many runs of each row (11)")
+    arguments = parser.parse_args()
+    if arguments.runs < 1:
+        parser.error("--runs above 0 is wanted")
+    if shutil.which("git") is None:
+        sys.exit("refused: there is no git")
+    top, program = os.path.abspath(arguments.folder), os.path.abspath(arguments.program)
+    for state in ("clean", "touched"):
+        if state == "touched":
+            touch(top)
+        else:
+            subprocess.run(["git", "-C", top, "update-index", "-q", "--refresh"], check=False)
+        with tempfile.TemporaryDirectory() as folder:
+            rows = commands(program, top, folder)
+            print(f"\n{state}, {arguments.runs} runs, processor time in milliseconds")
+            report(measure(rows, arguments.runs))
+
+
+if __name__ == "__main__":
+    main()
