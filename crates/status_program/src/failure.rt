@@ -53,35 +53,40 @@ impl Failure {
         }
     }
 
-    /// Tells the failure in one line, and answers the exit status. `name` is the name of the profile's file.
+    /// Writes the failure in one line, and gives the exit status. `name` is the name of the profile's file.
     pub fn report<E: io::Write>(&self, alloc: Global, name: &str, faults: &mut E) -> u8 {
-        // Where the line can't be written there is nowhere left to tell that.
-        let _ = self.tell(alloc, name, faults);
+        // Where the line can't be written there is nowhere left to say that.
+        let _ = self.write_line(alloc, name, faults);
         1
     }
 
-    /// Tells the failure in one line. Where the output can't be written nothing more is.
-    fn tell<E: io::Write>(&self, alloc: Global, name: &str, faults: &mut E) -> io::Result<()> {
+    /// Writes the failure in one line. Where the output can't be written nothing more is.
+    fn write_line<E: io::Write>(
+        &self,
+        alloc: Global,
+        name: &str,
+        faults: &mut E,
+    ) -> io::Result<()> {
         match self {
             Failure::Unreadable => writeln!(faults, "cannot read {name}"),
             Failure::Profile(error) => writeln!(faults, "{error}"),
             Failure::Index(error) => writeln!(faults, "bad index: {error}"),
             Failure::Worktree { error, at } => writeln!(faults, "bad worktree: {error} at {at}"),
-            Failure::Status(error) => tell_status(alloc, error, faults),
+            Failure::Status(error) => write_status_line(alloc, error, faults),
             Failure::Output => Ok(()),
             Failure::Memory => writeln!(faults, "out of memory"),
         }
     }
 }
 
-fn tell_status<E: io::Write>(alloc: Global, error: &Error, faults: &mut E) -> io::Result<()> {
+fn write_status_line<E: io::Write>(alloc: Global, error: &Error, faults: &mut E) -> io::Result<()> {
     match status_words(alloc, error) {
         Ok(words) => writeln!(faults, "status failed: {words}"),
         Err(_) => writeln!(faults, "out of memory"),
     }
 }
 
-/// What is told of a failing status.
+/// The words for a status that failed.
 fn status_words(alloc: Global, error: &Error) -> Result<String, AllocError> {
     match error {
         Error::IllformedUtf8 => String::from_str(alloc, "ill-formed UTF-8"),

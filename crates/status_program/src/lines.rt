@@ -12,7 +12,7 @@ use serde_json::Value;
 use std::alloc::{AllocError, Global};
 use std::fmt;
 
-/// The line of what is told of the entry at a place of the index, with its line feed.
+/// The line of a record of the entry at a place of the index, with its line feed.
 pub fn status_line<T: Drop, U: Drop>(
     alloc: Global,
     entry_index: usize,
@@ -20,8 +20,8 @@ pub fn status_line<T: Drop, U: Drop>(
     status: &EntryStatus<T, U>,
 ) -> Result<String, AllocError> {
     let path = path_value(alloc, path)?;
-    let told = Told(status);
-    format!(in alloc; "{entry_index} {told} {path}\n")
+    let words = Words(status);
+    format!(in alloc; "{entry_index} {words} {path}\n")
 }
 
 /// The line of what a status took, with its line feed.
@@ -50,11 +50,11 @@ pub fn path_value(alloc: Global, path: BStr<'_>) -> Result<Value, AllocError> {
     Ok(Value::String(text))
 }
 
-/// What is told of an entry, as it stands between its index and its path.
+/// The words for a status, as they stand between an entry's place and its path.
 #[derive(Drop)]
-struct Told<'a, T, U>(&'a EntryStatus<T, U>);
+struct Words<'a, T, U>(&'a EntryStatus<T, U>);
 
-impl<T: Drop, U: Drop> fmt::Display for Told<'_, T, U> {
+impl<T: Drop, U: Drop> fmt::Display for Words<'_, T, U> {
     fn fmt<W: fmt::Write>(&self, f: &mut fmt::Formatter<W>) -> fmt::Result {
         match self.0 {
             EntryStatus::Conflict { summary, entries } => {

@@ -24,7 +24,7 @@ fn main(rt: HostRuntime) -> ExitCode {
     ExitCode::from(run(&rt, &mut rt.stderr()))
 }
 
-/// Runs the command that the program's arguments ask for, and answers the exit status.
+/// Runs the command that the program's arguments name, and gives the exit status.
 fn run<R: AllocGlobal + Env + Files + Print + Sync + Threads + Wait, E: io::Write>(
     rt: &R,
     faults: &mut E,
@@ -38,11 +38,11 @@ where
         Err(error) if error.kind() == io::ErrorKind::OutOfMemory => {
             Failure::Memory.report(rt.alloc(), "", faults)
         }
-        Err(_) => tell_usage(faults),
+        Err(_) => print_usage(faults),
     }
 }
 
-/// Runs the command that these words ask for, and answers the exit status.
+/// Runs the command that these words name, and gives the exit status.
 fn run_command<
     R: AllocGlobal + Files + Print + Sync + Threads + Wait,
     W: AsStr + Drop,
@@ -56,11 +56,11 @@ where
 {
     match file_of(words) {
         Some(file) => run_on_file(rt, file.as_str(), faults),
-        None => tell_usage(faults),
+        None => print_usage(faults),
     }
 }
 
-/// The name of the file whose status these words ask for. None where they aren't `status FILE`.
+/// The name of the file whose status these words want. None where they aren't `status FILE`.
 fn file_of<W: AsStr + Drop, I: Iterator<Item = W>>(mut words: I) -> Option<W>
     requires { I.can_next words }
 {
@@ -70,9 +70,9 @@ fn file_of<W: AsStr + Drop, I: Iterator<Item = W>>(mut words: I) -> Option<W>
     is_status.then_some(file)
 }
 
-/// Tells how the program is called, and answers the exit status.
-fn tell_usage<E: io::Write>(faults: &mut E) -> u8 {
-    // Where the line can't be written there is nowhere left to tell that.
+/// Prints how the program is called, and gives the exit status.
+fn print_usage<E: io::Write>(faults: &mut E) -> u8 {
+    // Where the line can't be written there is nowhere left to say that.
     let _ = writeln!(faults, "{USAGE}");
     2
 }

@@ -28,10 +28,10 @@ use std::rt::Files;
 use std::sync::Wait;
 use std::thread::Threads;
 
-/// Reads a profile, computes the status that it asks for, and prints a line a record to `output`, and with `counts` a line
+/// Reads a profile, computes its status, and prints a line a record to `output`, and with `counts` a line
 /// of totals. `name` is the name of the profile's file.
 ///
-/// Answers the exit status: 0, or 1 after a failure, which is one line on `faults`. What was printed before stays. Where
+/// Gives the exit status: 0, or 1 after a failure, which is one line on `faults`. What was printed before stays. Where
 /// `output` can't be written nothing more is.
 pub fn run_status<
     R: AllocGlobal + Files + Sync + Threads + Wait,
@@ -96,7 +96,7 @@ fn plant(alloc: Global, nodes: Vec<(BString, Node)>) -> Result<MemoryWorktree, F
     Ok(worktree)
 }
 
-/// Prints the status of an index against a worktree, as the options of a profile ask for it.
+/// Prints the status of an index against a worktree, as the options of a profile have it.
 fn status_of_profile<R: AllocGlobal + Threads + Wait, W: Worktree + Sync, O: io::Write>(
     rt: &R,
     index: &State,
@@ -161,7 +161,7 @@ where
     let alloc = rt.alloc();
     let counts = options.counts;
     let mut recorder = Recorder::new(alloc);
-    let answer = ask(
+    let answer = report_status(
         rt,
         alloc,
         index,
@@ -178,8 +178,8 @@ where
     }
 }
 
-/// Asks the status, with no filter, listing, submodule or blob.
-fn ask<
+/// Reports the status to a collector, with no filter, listing, submodule or blob.
+fn report_status<
     'index,
     R: Threads + Wait,
     W: Worktree + Sync,
@@ -240,7 +240,7 @@ fn print_records<T: Drop, U: Drop, O: io::Write>(
     flush(output)
 }
 
-/// Prints the line of totals where it is asked for.
+/// Prints the line of totals where the profile wants it.
 fn print_totals<O: io::Write>(
     alloc: Global,
     outcome: &Outcome,

@@ -20,7 +20,7 @@ fn other_words_are_answered_by_the_usage(rt: HostRuntime) {
 }
 
 #[test]
-fn a_file_that_is_not_there_is_told(rt: HostRuntime) {
+fn a_file_that_is_not_there_is_reported(rt: HostRuntime) {
     let mut faults = Vec::new(rt.alloc());
     let words = ["status", "/dev/null/f"].into_iter();
     let status = run_command(&rt, words, &mut faults);

@@ -8,7 +8,7 @@ use std::process::Abort;
 use std::test::Fail;
 
 // Asserts that a failure ends the program with status 1 and this line.
-fn assert_told<R: AllocGlobal + Abort>(rt: &R, failure: Failure, line: &str) {
+fn assert_reported<R: AllocGlobal + Abort>(rt: &R, failure: Failure, line: &str) {
     let mut faults = Vec::new(rt.alloc());
     let status = failure.report(rt.alloc(), "d/f", &mut faults);
     assert_eq!(rt; status, 1, "at {line}");
@@ -35,7 +35,7 @@ fn each_fault_of_a_status_has_its_words(rt: HostRuntime) {
         ),
     ];
     for (fault, line) in cases {
-        assert_told(&rt, Failure::from(Error::Io(fault)), line);
+        assert_reported(&rt, Failure::from(Error::Io(fault)), line);
     }
 }
 
@@ -59,7 +59,7 @@ fn each_error_of_a_status_has_its_words(rt: HostRuntime) -> Result<(), Fail> {
         (Error::SpawnThread, "status failed: no thread\n"),
     ];
     for (error, line) in cases {
-        assert_told(&rt, Failure::from(error), line);
+        assert_reported(&rt, Failure::from(error), line);
     }
     Ok(())
 }
@@ -78,7 +78,7 @@ fn want_of_memory_has_one_line_wherever_it_is_met(rt: HostRuntime) {
         Failure::from(Error::Find(FindError::Memory)),
     ];
     for failure in cases {
-        assert_told(&rt, failure, "out of memory\n");
+        assert_reported(&rt, failure, "out of memory\n");
     }
 }
 
@@ -103,6 +103,6 @@ fn what_comes_before_a_status_has_its_line(rt: HostRuntime) {
         (Failure::Output, ""),
     ];
     for (failure, line) in cases {
-        assert_told(&rt, failure, line);
+        assert_reported(&rt, failure, line);
     }
 }

@@ -8,7 +8,7 @@ use thiserror::Error;
 /// A key of a profile, in the order in which they are read.
 #[derive(Clone, Copy, Debug, PartialEq, Eq)]
 pub enum Key {
-    /// How ids are made. A profile that is no object is told as this key.
+    /// How ids are made. A profile that is no object is reported as this key.
     Hash,
     /// When the index was written.
     Timestamp,
@@ -59,7 +59,7 @@ impl From<serde_json::Error> for ProfileError {
 /// Why a field of a profile isn't read.
 #[derive(Clone, Copy, Debug, PartialEq, Eq)]
 pub enum FieldError {
-    /// It is missing, has a wrong form, or asks for what isn't supported.
+    /// It is missing, has a wrong form, or wants what isn't supported.
     Form,
     /// Memory ran out.
     Memory,

@@ -26,13 +26,13 @@ pub struct ProfileOptions {
     pub comparer: Comparer,
     /// What the paths that are looked at begin with.
     pub prefix: BString,
-    /// Whether untracked files are told.
+    /// Whether untracked files are reported.
     pub untracked: bool,
-    /// Whether renames are told.
+    /// Whether renames are reported.
     pub renames: bool,
     /// Whether the lines are sorted by path.
     pub sort: bool,
-    /// Whether the counts are told in a last line.
+    /// Whether the counts are printed in a last line.
     pub counts: bool,
 }
 

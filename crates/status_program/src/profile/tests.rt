@@ -429,7 +429,7 @@ fn more_than_127_levels_are_no_json(rt: HostRuntime) -> Result<(), Fail> {
 }
 
 #[test]
-fn the_first_bad_key_is_told(rt: HostRuntime) {
+fn the_first_bad_key_is_reported(rt: HostRuntime) {
     let alloc = rt.alloc();
     let cases = [
         ("[]", Key::Hash),
@@ -624,7 +624,7 @@ fn a_folder_stands_in_place_of_nodes(rt: HostRuntime) -> Result<(), Fail> {
 }
 
 #[test]
-fn wrong_options_are_told(rt: HostRuntime) -> Result<(), Fail> {
+fn wrong_options_are_reported(rt: HostRuntime) -> Result<(), Fail> {
     for options in BAD_OPTIONS {
         let text = with_options(rt.alloc(), options)?;
         let error = refusal(rt.alloc(), text.as_str());
@@ -638,7 +638,7 @@ fn wrong_options_are_told(rt: HostRuntime) -> Result<(), Fail> {
 }
 
 #[test]
-fn wrong_entries_are_told(rt: HostRuntime) -> Result<(), Fail> {
+fn wrong_entries_are_reported(rt: HostRuntime) -> Result<(), Fail> {
     let alloc = rt.alloc();
     let wanted = Some(ProfileError::Bad(Key::Index));
     for fields in INCOMPLETE_ENTRIES {
@@ -656,7 +656,7 @@ fn wrong_entries_are_told(rt: HostRuntime) -> Result<(), Fail> {
 }
 
 #[test]
-fn wrong_nodes_are_told(rt: HostRuntime) -> Result<(), Fail> {
+fn wrong_nodes_are_reported(rt: HostRuntime) -> Result<(), Fail> {
     for fields in BAD_NODES {
         let text = with_node(rt.alloc(), fields)?;
         let error = refusal(rt.alloc(), text.as_str());

@@ -102,8 +102,8 @@ fn a_relative_folder_starts_at_the_working_folder(rt: HostRuntime) -> Result<(),
     Ok(())
 }
 
-// What is told of an entry with the id of `foo`, by its path, as JSON text, and its mode.
-const TOLD: [(&str, &str, &str); 7] = [
+// The line of an entry with the id of `foo`, by its path, as JSON text, and its mode.
+const LINES: [(&str, &str, &str); 7] = [
     ("directory", "100644", "0 removed \"directory\"\n"),
     ("file", "160000", "0 type 100644 \"file\"\n"),
     ("file", "120000", "0 type 100644 \"file\"\n"),
@@ -121,15 +121,15 @@ const FAULTS: [(&str, &str); 3] = [
 ];
 
 #[test]
-fn odd_nodes_are_told(rt: HostRuntime) -> Result<(), Fail> {
+fn odd_nodes_are_reported(rt: HostRuntime) -> Result<(), Fail> {
     let alloc = rt.alloc();
-    let folder = new_folder(&rt, "odd_nodes_are_told", process::id(rt.process()))?;
+    let folder = new_folder(&rt, "odd_nodes_are_reported", process::id(rt.process()))?;
     let root = folder.as_str();
     fs::create_dir(&rt, within(&rt, root, "directory")?)?;
     fs::write(&rt, within(&rt, root, "file")?, "foo")?;
     fs::write(&rt, within(&rt, root, "line\n\u{1}")?, "foo")?;
     symlink(&rt, "loop", within(&rt, root, "loop")?)?;
-    for (path, mode, records) in TOLD {
+    for (path, mode, records) in LINES {
         let text = one_entry(alloc, root, path, mode)?;
         assert_printed(&rt, text.as_str(), records);
     }
@@ -145,9 +145,9 @@ fn odd_nodes_are_told(rt: HostRuntime) -> Result<(), Fail> {
 
 // Root may read every file.
 #[test]
-fn what_cannot_be_asked_is_a_fault(rt: HostRuntime) -> Result<(), Fail> {
+fn what_cannot_be_read_is_a_fault(rt: HostRuntime) -> Result<(), Fail> {
     let alloc = rt.alloc();
-    let folder = new_folder(&rt, "what_cannot_be_asked", process::id(rt.process()))?;
+    let folder = new_folder(&rt, "what_cannot_be_read", process::id(rt.process()))?;
     let root = folder.as_str();
     let is_root = fs::symlink_metadata(&rt, root)?.uid() == 0;
     let locked = within(&rt, root, "locked")?;
