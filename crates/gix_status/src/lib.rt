@@ -1,5 +1,6 @@
 //! How a git worktree differs from an index: the status, and what it is made of.
 #![tactic(auto)]
 
+pub mod index_as_worktree;
+
 pub use status_base::{board, fscache, index, stack, worktree};
-pub use status_call::index_as_worktree;

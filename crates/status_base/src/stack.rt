@@ -13,8 +13,6 @@ ghost use Rattle.status_base.specs.Stopped.{IsWay, IsStop, IsBarrier, IsOfDirect
 mod error;
 mod front;
 pub mod laws;
-#[cfg(test)]
-mod tests;
 
 use crate::worktree::{Fault, NodeKind, Worktree};
 use bstr::{BStr, BString};

@@ -3,5 +3,3 @@
 
 pub mod board;
 mod rules;
-#[cfg(test)]
-mod tests;

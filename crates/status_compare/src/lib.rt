@@ -20,6 +20,3 @@ pub use hash_eq::HashEq;
 pub use read_data::ReadData;
 pub use reads::Reads;
 pub use stream::Stream;
-
-#[cfg(test)]
-mod tests;

@@ -7,9 +7,6 @@ ghost use Rattle.status_index.specs.ReadAll.{ReadsAll};
 use crate::fault::Fault;
 use crate::reader::ReadBytes;
 
-#[cfg(test)]
-pub(crate) mod tests;
-
 // How many bytes one read has room for.
 pub(crate) const CHUNK_LEN: usize = 4096;
 

@@ -4,7 +4,5 @@
 mod crew;
 mod order;
 pub mod round;
-#[cfg(test)]
-mod tests;
 pub mod work;
 mod worker;

@@ -1,8 +1,5 @@
 //! A worktree in a folder of the disk.
 
-#[cfg(test)]
-mod tests;
-
 use crate::worktree::Worktree;
 use bstr::BStr;
 use status_index::{Fault, Metadata, NodeKind, ReadBytes, Time};
@@ -126,7 +123,8 @@ impl<R: Files + AllocGlobal + Drop> Worktree for DiskWorktree<R> {
     }
 }
 
-fn metadata_of(found: &fs::Metadata) -> Metadata {
+/// What lstat answers of a node, by what the system says of it.
+pub fn metadata_of(found: &fs::Metadata) -> Metadata {
     let changed = time_of(found);
     Metadata {
         kind: kind_of(found.file_type()),
@@ -164,7 +162,7 @@ fn time_of(found: &fs::Metadata) -> Option<Time> {
 }
 
 /// The fault that stands for an error of the system.
-fn fault_of(error: io::ErrorKind) -> Fault {
+pub fn fault_of(error: io::ErrorKind) -> Fault {
     match error {
         io::ErrorKind::NotFound => Fault::NotFound,
         io::ErrorKind::NotADirectory => Fault::NotADirectory,

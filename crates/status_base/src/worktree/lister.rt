@@ -7,10 +7,6 @@ ghost use Rattle.status_base.specs.Listing.{listing_of};
 ghost use Rattle.status_base.specs.declared.fscache.Stat.{Stat as ListedStat};
 
 use crate::fscache;
-
-#[cfg(test)]
-mod tests;
-
 use bstr::{BStr, BString};
 use std::alloc::AllocError;
 

@@ -371,6 +371,3 @@ impl Worktree for MemoryWorktree {
         }
     }
 }
-
-#[cfg(test)]
-mod tests;

@@ -89,6 +89,3 @@ fn last_of_stage(run: &[Entry], stage: u32) -> Option<&Entry>
 {
     run.iter().rev().find(|entry| entry.stage_raw() == stage)
 }
-
-#[cfg(test)]
-mod tests;

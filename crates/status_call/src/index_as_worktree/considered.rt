@@ -7,11 +7,11 @@ use status_base::index::{Entry, PathStorage};
 
 /// The considered entries: those from place `start` up to `end` of the whole index.
 #[derive(Drop)]
-pub(crate) struct Considered<'index> {
-    pub(crate) entries: &'index [Entry],
-    pub(crate) backing: &'index PathStorage,
-    pub(crate) start: usize,
-    pub(crate) end: usize,
+pub struct Considered<'index> {
+    pub entries: &'index [Entry],
+    pub backing: &'index PathStorage,
+    pub start: usize,
+    pub end: usize,
     ghost index: { IsIndex (index_entries backing.now entries.now) },
     ghost order: { start ≤ end },
     ghost inside: { end ≤ length entries.now },

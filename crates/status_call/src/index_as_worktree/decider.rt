@@ -26,7 +26,7 @@ use std::alloc::{AllocError, Global};
 
 /// Decides entries over a worktree. It keeps the buffers, so that an entry whose stat decides takes no memory.
 #[derive(Drop)]
-pub(crate) struct Decider<'w, W: Worktree, C, S, O, P, T> {
+pub struct Decider<'w, W: Worktree, C, S, O, P, T> {
     alloc: Global,
     inputs: Inputs<'w, W, C, S, O, P, T>,
     settings: Settings,
@@ -49,7 +49,7 @@ where
     S::Output: Drop,
 {
     /// A decider by these settings.
-    pub(crate) fn new(
+    pub fn new(
         alloc: Global,
         inputs: Inputs<'w, W, C, S, O, P, T>,
         settings: Settings,

@@ -1,24 +1,24 @@
 //! The status of an index against a worktree.
 
 mod conflict;
-mod considered;
+pub mod considered;
 mod content;
-mod counts;
+pub mod counts;
 mod decide;
-mod decider;
+pub mod decider;
 mod feed;
 mod function;
-mod inputs;
+pub mod inputs;
 pub mod laws;
-mod piece;
+pub mod piece;
 mod recorder;
 mod round;
 mod site;
 mod step;
 pub mod traits;
 mod types;
-mod work;
-mod workers;
+pub mod work;
+pub mod workers;
 
 pub use function::index_as_worktree;
 pub use recorder::{Record, Recorder};

@@ -14,9 +14,6 @@ use status_base::index::{Entry, PathStorage};
 use std::alloc::{AllocError, Global};
 use std::sync::atomic::{AtomicBool, Ordering};
 
-#[cfg(test)]
-pub(crate) mod tests;
-
 /// How a piece ended.
 #[derive(Debug, Drop)]
 pub enum End {
@@ -56,12 +53,7 @@ impl<T, U> Piece<T, U> {
 }
 
 /// The end of a piece of `chunk` entries that begins at `from`: later, where it would part entries of one path.
-pub(crate) fn piece_end(
-    entries: &[Entry],
-    backing: &PathStorage,
-    from: usize,
-    chunk: usize,
-) -> usize
+pub fn piece_end(entries: &[Entry], backing: &PathStorage, from: usize, chunk: usize) -> usize
     requires index { IsIndex (index_entries backing.now entries.now) }
     requires inside { from < length entries.now }
     ensures more { from < result }

@@ -16,9 +16,6 @@ use std::alloc::Global;
 use std::sync::Wait;
 use std::thread::Threads;
 
-#[cfg(test)]
-mod tests;
-
 /// How many pieces a worker has in a round, at most.
 const PIECES_OF_A_WORKER: usize = 8;
 
@@ -28,7 +25,7 @@ const PIECES_OF_A_WORKER: usize = 8;
 /// # Errors
 /// The first fault, once what stands before it was reported. A refused thread; then nothing of its round was reported.
 /// Want of memory.
-pub(crate) fn run_rounds<
+pub fn run_rounds<
     'index,
     R: Threads + Wait,
     D: Decide + Send + Drop,

@@ -13,13 +13,13 @@ const WORKERS: usize = 4;
 
 /// The workers of a call.
 #[derive(Drop)]
-pub(crate) struct Workers<'a> {
+pub struct Workers<'a> {
     /// How many there are at most.
-    pub(crate) most: usize,
+    pub most: usize,
     /// The bytes of the stack of each one's thread, or None for the usual ones.
-    pub(crate) stack_size: Option<usize>,
+    pub stack_size: Option<usize>,
     /// The flag that they look at.
-    pub(crate) interrupt: Option<&'a AtomicBool>,
+    pub interrupt: Option<&'a AtomicBool>,
     ghost some: { 1 ≤ most },
     ghost few: { most ≤ 64 },
 }

@@ -1,3 +1,5 @@
+//! Paths that lead through links, held against a table.
+
 ghost use Rattle.std.specs.Prelude.{◌≡◌, [], IsTrue};
 ghost use Rattle.bstr.specs.BStr.{bstr_bytes};
 ghost use Rattle.bstr.specs.Owned.{bstring_bytes};
@@ -5,9 +7,9 @@ ghost use Rattle.status_base.specs.Paths.{joined};
 ghost use Rattle.status_base.specs.LinkCheck.{link_check};
 ghost use Rattle.status_base.specs.Verified.{IsVerified};
 
-use crate::stack::{StackError, SymlinkCheck};
-use crate::worktree::{Fault, Metadata, NodeKind, ReadBytes, Worktree};
 use bstr::{BStr, BString};
+use status_base::stack::{StackError, SymlinkCheck};
+use status_base::worktree::{Fault, Metadata, NodeKind, ReadBytes, Worktree};
 use std::sync::atomic::{AtomicUsize, Ordering};
 use std::test::Fail;
 

@@ -1,12 +1,11 @@
-use super::{IndexError, State};
-use crate::entry::NewEntry;
-use crate::flags::Flags;
-use crate::id::{HashKind, ObjectId};
-use crate::mode::Mode;
-use crate::stat::{Moment, Stat};
+//! Indexes: what is refused, what is found below a prefix, what may change.
+
 use bstr::{BStr, BString};
+use status_index::{Flags, HashKind, IndexError, Mode, Moment, NewEntry, ObjectId, Stat, State};
 use std::alloc::{AllocError, Global};
 use std::test::Fail;
+
+const PATHS: [&str; 5] = ["a", "a-", "a/b", "a/c", "a0"];
 
 fn new_entry(alloc: Global, path: &str, kind: HashKind) -> Result<NewEntry, AllocError> {
     Ok(NewEntry {
@@ -20,7 +19,7 @@ fn new_entry(alloc: Global, path: &str, kind: HashKind) -> Result<NewEntry, Allo
 
 fn index(alloc: Global) -> Result<State, IndexError> {
     let mut entries = Vec::new(alloc);
-    for path in ["a", "a-", "a/b", "a/c", "a0"] {
+    for path in PATHS {
         entries.push(new_entry(alloc, path, HashKind::Sha1)?)?;
     }
     State::from_entries(alloc, entries, Moment::default())
@@ -75,16 +74,86 @@ fn the_lowest_place_is_named(rt: HostRuntime) -> Result<(), Fail> {
     Ok(())
 }
 
+// Adds an entry of this path and kind of id.
+fn push(state: &mut State, path: &str, kind: HashKind) -> Result<(), IndexError> {
+    state.push_entry(
+        Stat::default(),
+        ObjectId::null(kind),
+        Flags::default(),
+        Mode::File,
+        BStr::new(path.as_bytes()),
+    )
+}
+
+// Whether these are the paths of the entries, in order.
+fn has_paths(state: &State, paths: &[&str]) -> bool {
+    if state.entries().len() != paths.len() {
+        return false;
+    }
+    for (entry, path) in state.entries().iter().zip(paths) {
+        if entry.path_in(state.path_backing()).as_bytes() != path.as_bytes() {
+            return false;
+        }
+    }
+    true
+}
+
+#[test]
+fn an_index_grows_entry_by_entry(rt: HostRuntime) -> Result<(), Fail> {
+    let alloc = rt.alloc();
+    let moment = Moment { secs: 1, nsecs: 2 };
+    let mut grown = State::new(alloc, moment);
+    assert!(rt; has_paths(&grown, &[]));
+    for path in PATHS {
+        push(&mut grown, path, HashKind::Sha1)?;
+    }
+    let whole = index(alloc)?;
+    assert!(rt; has_paths(&grown, &PATHS));
+    assert!(rt; has_paths(&whole, &PATHS));
+    assert_eq!(rt; grown.timestamp(), moment);
+    for (entry, other) in grown.entries().iter().zip(whole.entries()) {
+        assert_eq!(rt; entry.stat, other.stat);
+        assert_eq!(rt; entry.id, other.id);
+        assert_eq!(rt; entry.flags, other.flags);
+        assert_eq!(rt; entry.mode, other.mode);
+    }
+    Ok(())
+}
+
+#[test]
+fn a_refused_entry_leaves_the_index_as_it_was(rt: HostRuntime) -> Result<(), Fail> {
+    let mut state = State::new(rt.alloc(), Moment::default());
+    push(&mut state, "a", HashKind::Sha1)?;
+    push(&mut state, "b", HashKind::Sha1)?;
+    for (path, kind, want) in [
+        ("", HashKind::Sha256, IndexError::EmptyPath { at: 2 }),
+        ("b", HashKind::Sha256, IndexError::NotAscending { at: 2 }),
+        ("a/c", HashKind::Sha1, IndexError::NotAscending { at: 2 }),
+        ("c", HashKind::Sha256, IndexError::MixedHash { at: 2 }),
+    ] {
+        let refused = push(&mut state, path, kind).err();
+        assert_eq!(rt; refused, Some(want), "at {path}");
+        assert!(rt; has_paths(&state, &["a", "b"]), "at {path}");
+    }
+    push(&mut state, "c", HashKind::Sha1)?;
+    assert!(rt; has_paths(&state, &["a", "b", "c"]));
+    Ok(())
+}
+
 #[test]
 fn finds_the_stretch_below_a_prefix(rt: HostRuntime) -> Result<(), Fail> {
     let state = index(rt.alloc())?;
-    for (prefix, want) in [
-        ("a/", Some(2..4)),
-        ("a", Some(0..5)),
-        ("b", None),
-        ("", Some(0..5)),
+    for (prefix, want, most) in [
+        ("a/", Some(2..4), 6),
+        ("a", Some(0..5), 6),
+        ("b", None, 6),
+        ("", Some(0..5), 0),
     ] {
-        let range = state.prefixed_entries_range(BStr::new(prefix.as_bytes()));
+        let prefix_bytes = BStr::new(prefix.as_bytes());
+        let (range, compared) = state.prefixed_entries_range_counted(prefix_bytes);
+        assert_eq!(rt; range, want, "at {prefix}");
+        assert!(rt; compared <= most, "at {prefix}");
+        let range = state.prefixed_entries_range(prefix_bytes);
         assert_eq!(rt; range, want, "at {prefix}");
     }
     Ok(())

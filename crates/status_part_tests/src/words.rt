@@ -1,4 +1,6 @@
-use crate::{ByteText, EntryKind, Fault, IndexError, Mode, TimeError};
+//! The words of the index and its errors.
+
+use status_index::{ByteText, EntryKind, Fault, IndexError, Mode, TimeError};
 use std::test::Fail;
 
 #[test]

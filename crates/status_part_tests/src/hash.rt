@@ -1,7 +1,7 @@
-use crate::fault::Fault;
-use crate::hash::{compute_hash, compute_stream_hash};
-use crate::id::{HashKind, ObjectId};
-use crate::reading::tests::Piece;
+//! Ids of content, held against those of git.
+
+use crate::pieces::Piece;
+use status_index::{Fault, HashKind, ObjectId, compute_hash, compute_stream_hash};
 
 const FOO: [u8; 20] = [
     0x19, 0x10, 0x28, 0x15, 0x66, 0x3d, 0x23, 0xf8, 0xb7, 0x5a, 0x47, 0xe7, 0xa0, 0x19, 0x65, 0xdc,

@@ -1,5 +1,7 @@
-use super::{Lister, NoLister};
+//! The lister that lists nothing.
+
 use bstr::BStr;
+use status_base::worktree::{Lister, NoLister};
 
 #[test]
 fn no_directory_is_listed(rt: HostRuntime) {

@@ -1,8 +1,14 @@
+//! Worktrees and blobs in memory.
+
 ghost use Rattle.status_base.specs.Lawful.{CloneKeeps};
 
-use super::*;
-use crate::worktree::{Find, FindError, MemoryObjects};
-use status_index::ObjectId;
+use bstr::BStr;
+use status_base::worktree::{
+    Fault, Find, FindError, MemoryObjects, MemoryWorktree, Metadata, Node, NodeKind, ReadBytes,
+    TreeError, Worktree,
+};
+use status_index::{ObjectId, Time};
+use std::alloc::{AllocError, Global};
 use std::test::Fail;
 
 fn node(alloc: Global, kind: NodeKind, bytes: &[u8]) -> Result<Node, AllocError> {

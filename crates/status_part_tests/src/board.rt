@@ -3,7 +3,7 @@
 ghost use Rattle.std.specs.Prelude.{◌≡◌, ◌<◌, ◌≤◌, ◌^◌, true, false, All, IfOk, IfSome, OnOk, vec_len};
 ghost use Rattle.status_board.specs.Seats.{fresh};
 
-use crate::board::{Board, Seat, Tally};
+use status_board::board::{Board, Seat, Tally};
 use std::alloc::{AllocError, Global};
 use std::sync::Wait;
 use std::test::Fail;

@@ -2,8 +2,8 @@
 
 ghost use Rattle.std.specs.Prelude.{◌≡◌, ◌≤◌, ◌^◌, ⊤, false, IfOk, vec_len};
 
-use crate::round::{Refused, work_round};
-use crate::work::Work;
+use status_round::round::{Refused, work_round};
+use status_round::work::Work;
 use std::alloc::{AllocError, Global};
 use std::sync::Wait;
 use std::sync::atomic::{AtomicBool, Ordering};

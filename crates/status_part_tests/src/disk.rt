@@ -1,6 +1,8 @@
-use super::{fault_of, metadata_of};
-use crate::worktree::{DiskWorktree, Fault, Metadata, NodeKind, ReadBytes, Worktree};
+//! Folders of the disk.
+
 use bstr::BStr;
+use status_base::worktree::disk::{fault_of, metadata_of};
+use status_base::worktree::{DiskWorktree, Fault, Metadata, NodeKind, ReadBytes, Worktree};
 use status_index::{HashKind, ObjectId, Time, compute_stream_hash};
 use std::fs::{File, OpenFile, Permissions};
 use std::os::unix::fs::{MetadataExt, PermissionsExt, symlink};

@@ -1,6 +1,6 @@
 use Rattle.std.proofs.Common.{◌≡◌, ◌-◌, false}
 use Rattle.status_board.specs.Numbers.{after_last}
-use Rattle.status_board.proofs.tests.draw_all.Given as goal
+use Rattle.status_part_tests.proofs.board.draw_all.Given as goal
 
 abbrev pub invariant-loop-number : goal.invariant-loop-number
 invariant-loop-number l = (l.seat.board ≡ l.board.id) × (l.seat.done ≡ false)

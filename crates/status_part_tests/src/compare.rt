@@ -1,13 +1,16 @@
+//! Comparers, and what they read.
+
 ghost use Rattle.std.specs.Prelude.{true, false, Err, refl};
 ghost use Rattle.status_index.specs.declared.fault.Fault.TheVariants.{NotFound};
 ghost use Rattle.status_base.specs.declared.worktree.objects.FindError.TheVariants.{Missing};
 
-use crate::{CompareBlobs, EntryReader, Error, FastEq, HashEq, ReadData, Reads, Stream};
+use crate::pieces::Piece;
 use bstr::{BStr, BString};
 use status_base::index::{Flags, Mode, Moment, NewEntry, ObjectId, Stat, State};
 use status_base::worktree::{
-    ByteText, Fault, Find, FindError, Metadata, NoFilter, ReadBytes, ToGitOutcome, Worktree,
+    ByteText, Fault, Find, FindError, Metadata, NoFilter, ToGitOutcome, Worktree,
 };
+use status_compare::{CompareBlobs, EntryReader, Error, FastEq, HashEq, ReadData, Reads, Stream};
 use std::alloc::Global;
 use std::io::{ErrorKind, Read};
 use std::test::Fail;
@@ -21,26 +24,6 @@ const BARS: [u8; 20] = [
     0x54, 0x12, 0x04, 0xba, 0x8c, 0x2e, 0xa9, 0x10, 0xe6, 0x4a, 0x91, 0xdd, 0xcf, 0xc8, 0x34, 0x7f,
     0x39, 0x10, 0x1c, 0xa7,
 ];
-
-// Bytes, and then the end or a fault. It isn't modelled.
-#[derive(Clone, Copy)]
-struct Piece<'a> {
-    bytes: &'a [u8],
-    fault: Option<Fault>,
-}
-
-impl<'a> ReadBytes for Piece<'a> {
-    fn read_bytes(&mut self, buffer: &mut [u8]) -> Result<usize, Fault> {
-        if let (true, Some(fault)) = (self.bytes.is_empty(), self.fault) {
-            return Err(fault);
-        }
-        let count = self.bytes.len().min(buffer.len());
-        let (front, back) = self.bytes.split_at(count);
-        buffer[..count].copy_from_slice(front);
-        self.bytes = back;
-        Ok(count)
-    }
-}
 
 // A worktree that has the same bytes at each path, as a file and as a link's target.
 #[derive(Drop)]

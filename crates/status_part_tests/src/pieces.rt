@@ -1,0 +1,30 @@
+//! Readers of a test's own.
+
+ghost use Rattle.std.specs.Prelude.{Some};
+
+use status_index::{Fault, ReadBytes};
+
+/// Bytes, and then the end or a fault.
+#[derive(Clone, Copy)]
+pub struct Piece<'a> {
+    pub bytes: &'a [u8],
+    pub fault: Option<Fault>,
+}
+
+impl<'a> ReadBytes for Piece<'a> {
+    ghost left = { λ piece. Some (record { bytes = piece.bytes.now; fault = piece.fault }) };
+
+    fn read_bytes(&mut self, buffer: &mut [u8]) -> Result<usize, Fault> {
+        if self.bytes.is_empty() {
+            return match self.fault {
+                Some(fault) => Err(fault),
+                None => Ok(0),
+            };
+        }
+        let count = self.bytes.len().min(buffer.len());
+        let (front, back) = self.bytes.split_at(count);
+        buffer[..count].copy_from_slice(front);
+        self.bytes = back;
+        Ok(count)
+    }
+}
