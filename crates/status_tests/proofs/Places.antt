@@ -2,7 +2,7 @@
 use Rattle.std.specs.Prelude.{◌≡◌, ℕ, List, ◌++◌, Option, Some, None}
 use Rattle.status_index.specs.Content.{Content}
 
--- the new content is what the old one has behind these bytes; a reader that tells nothing goes on so
+-- the new content is what the old one has behind these bytes; a reader that isn't modelled stays so
 abbrev pub StandsAfter : Option Content → Option Content → List ℕ → Type 0
 StandsAfter None new done = new ≡ None
 StandsAfter (Some old) None done = ⊥

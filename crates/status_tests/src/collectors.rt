@@ -9,50 +9,15 @@ use gix_status::index_as_worktree::{EntryStatus, VisitEntry};
 use std::alloc::AllocError;
 use std::sync::atomic::{AtomicBool, Ordering};
 
-/// Hands on what it is told, and sets a flag.
+/// Hands on each record, sets a flag, and keeps the length of the list of entries that comes along.
 #[derive(Drop)]
-pub struct Stopping<'a, V> {
+pub struct Noting<'a, V> {
     pub collector: V,
     pub flag: &'a AtomicBool,
-}
-
-impl<'index, 'a, V: VisitEntry<'index>> VisitEntry<'index> for Stopping<'a, V> {
-    ghost use Rattle.std.specs.Prelude.{◌≡◌, ◌++◌, ◌∷◌, [], Some, OnOk, OnErr, slice_get};
-    ghost use Rattle.bstr.specs.BStr.{bstr_bytes};
-    ghost use Rattle.status_call.specs.Visits.{visit};
-
-    type ContentChange = V::ContentChange;
-
-    type SubmoduleStatus = V::SubmoduleStatus;
-
-    ghost visits = { λ s. V.visits s.collector };
-
-    fn visit_entry(
-        &mut self,
-        entries: &'index [Entry],
-        entry: &'index Entry,
-        entry_index: usize,
-        rela_path: BStr<'index>,
-        status: EntryStatus<V::ContentChange, V::SubmoduleStatus>,
-    ) -> Result<(), AllocError>
-        requires { slice_get entries.now entry_index ≡ Some entry.now }
-        ensures ok { OnOk result (V.visits self.new.collector ≡ V.visits self.old.collector ++ visit entries.now entry.now entry_index (bstr_bytes rela_path.entry) status ∷ []) }
-        ensures err { OnErr result (V.visits self.new.collector ≡ V.visits self.old.collector) }
-    {
-        self.flag.store(true, Ordering::SeqCst);
-        self.collector
-            .visit_entry(entries, entry, entry_index, rela_path, status)
-    }
-}
-
-/// Hands on each record, and keeps the length of the list of entries that comes along.
-#[derive(Drop)]
-pub struct Measuring<V> {
-    pub collector: V,
     pub lengths: Vec<usize>,
 }
 
-impl<'index, V: VisitEntry<'index>> VisitEntry<'index> for Measuring<V>
+impl<'index, 'a, V: VisitEntry<'index>> VisitEntry<'index> for Noting<'a, V>
 where
     V::ContentChange: Drop,
     V::SubmoduleStatus: Drop,
@@ -79,6 +44,7 @@ where
         ensures ok { OnOk result (V.visits self.new.collector ≡ V.visits self.old.collector ++ visit entries.now entry.now entry_index (bstr_bytes rela_path.entry) status ∷ []) }
         ensures err { OnErr result (V.visits self.new.collector ≡ V.visits self.old.collector) }
     {
+        self.flag.store(true, Ordering::SeqCst);
         self.lengths.push(entries.len())?;
         self.collector
             .visit_entry(entries, entry, entry_index, rela_path, status)

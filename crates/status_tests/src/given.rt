@@ -1,4 +1,4 @@
-//! Indexes and worktrees to be asked about, in few words.
+//! Indexes and worktrees in few words.
 
 use bstr::{BStr, BString};
 use gix_status::index::{Flags, IndexError, Mode, Moment, NewEntry, ObjectId, Stat, State, Time};
@@ -67,10 +67,23 @@ pub fn foo_entry(path: &str) -> GivenEntry<'_> {
     }
 }
 
+/// An entry with flags.
+pub fn flag_entry(path: &str, flags: Flags) -> GivenEntry<'_> {
+    GivenEntry {
+        flags,
+        ..foo_entry(path)
+    }
+}
+
 /// An entry with a stage.
 pub fn stage_entry(path: &str, stage: u32) -> GivenEntry<'_> {
+    flag_entry(path, Flags::from_stage(stage))
+}
+
+/// An entry of a mode.
+pub fn mode_entry(path: &str, mode: Mode) -> GivenEntry<'_> {
     GivenEntry {
-        flags: Flags::from_stage(stage),
+        mode,
         ..foo_entry(path)
     }
 }
@@ -108,6 +121,24 @@ pub fn index(alloc: Global, written: u32, entries: &[GivenEntry<'_>]) -> Result<
     State::from_entries(alloc, list, timestamp)
 }
 
+/// The index of plain entries at these paths, with no racy one.
+pub fn foo_index(alloc: Global, paths: &[&str]) -> Result<State, IndexError> {
+    let mut entries = Vec::new(alloc);
+    for path in paths {
+        entries.push(foo_entry(*path))?;
+    }
+    index(alloc, WRITTEN, &entries)
+}
+
+/// The index of plain entries, by path and stage.
+pub fn staged_index(alloc: Global, stages: &[(&str, u32)]) -> Result<State, IndexError> {
+    let mut entries = Vec::new(alloc);
+    for (path, stage) in stages {
+        entries.push(stage_entry(*path, *stage))?;
+    }
+    index(alloc, WRITTEN, &entries)
+}
+
 /// A node of a worktree.
 #[derive(Clone, Copy)]
 pub struct GivenNode<'a> {
@@ -136,6 +167,14 @@ pub fn later_file<'a>(path: &'a str, bytes: &'a [u8]) -> GivenNode<'a> {
     GivenNode {
         mtime: LATER,
         ..file(path, bytes)
+    }
+}
+
+/// A file that ends before its length, which is four bytes. It is as old as the entries.
+pub fn short_file(path: &str) -> GivenNode<'_> {
+    GivenNode {
+        len: 4,
+        ..file(path, b"foo")
     }
 }
 

@@ -1,9 +1,7 @@
 //! Tests of the status call that cross crates: its answers over comparers, filters and submodules as a caller writes
-//! them, each proved to mean what it says, and over a worktree that tells nothing.
+//! them, each proved to mean what it says, and over worktrees, blobs and submodules that aren't modelled.
 #![tactic(auto)]
 
-#[cfg(test)]
-mod asking;
 #[cfg(test)]
 mod collectors;
 #[cfg(test)]
@@ -13,11 +11,17 @@ mod example;
 #[cfg(test)]
 mod filters;
 #[cfg(test)]
+mod folders;
+#[cfg(test)]
 mod given;
+#[cfg(test)]
+mod objects;
 #[cfg(test)]
 mod pieces;
 #[cfg(test)]
 mod rows;
+#[cfg(test)]
+mod statuses;
 #[cfg(test)]
 mod submodules;
 #[cfg(test)]

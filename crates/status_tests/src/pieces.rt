@@ -13,7 +13,7 @@ use gix_status::index_as_worktree::traits::Stream;
 use gix_status::worktree::{Fault, ReadBytes};
 use std::alloc::Global;
 
-// How many bytes one read asks for.
+// The most bytes of one read.
 const PIECE_LEN: usize = 3;
 
 /// The id of what the stream gives: with a known size of just that many bytes, else of all.

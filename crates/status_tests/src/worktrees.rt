@@ -10,7 +10,7 @@ use gix_status::worktree::{Fault, Metadata, NodeKind, ReadBytes, Worktree};
 use std::sync::atomic::{AtomicBool, AtomicUsize, Ordering};
 use std::thread;
 
-/// Bytes, and then the end or a fault. It tells nothing, and counts how often it is read.
+/// Bytes, and then the end or a fault. It isn't modelled, and counts how often it is read.
 #[derive(Clone, Copy)]
 pub struct Piece<'a> {
     pub bytes: &'a [u8],
@@ -43,19 +43,25 @@ impl<'a> ReadBytes for Piece<'a> {
     }
 }
 
-/// Files of three bytes, as lstat has it, that were written after the entries were staged: by path, what opening
-/// answers. It tells nothing of its nodes.
+/// Files that were written after the entries were staged: their length, as lstat has it, and by path what opening gives.
+/// They aren't modelled.
 #[derive(Clone, Copy)]
 pub struct Files<'a> {
     pub files: &'a [(&'a str, Result<Piece<'a>, Fault>)],
+    pub len: u64,
 }
 
 impl<'a> Files<'a> {
-    // What opening a path answers.
+    /// Files of three bytes.
+    pub fn new(files: &'a [(&'a str, Result<Piece<'a>, Fault>)]) -> Files<'a> {
+        Files { files, len: 3 }
+    }
+
+    // What opening a path gives.
     fn opened(&self, path: BStr<'_>) -> Result<Piece<'a>, Fault> {
-        for (name, answer) in self.files {
+        for (name, opened) in self.files {
             if name.as_bytes() == path.as_bytes() {
-                return *answer;
+                return *opened;
             }
         }
         Err(Fault::NotFound)
@@ -76,7 +82,7 @@ impl<'a> Worktree for Files<'a> {
     fn lstat(&self, _path: BStr<'_>) -> Result<Metadata, Fault> {
         Ok(Metadata {
             kind: NodeKind::File,
-            len: 3,
+            len: self.len,
             executable: false,
             mtime: Some(Time {
                 secs: LATER,
@@ -100,41 +106,6 @@ impl<'a> Worktree for Files<'a> {
     fn read_link(&self, _path: BStr<'_>, target: &mut Vec<u8>) -> Result<(), Fault> {
         target.clear();
         Err(Fault::NotFound)
-    }
-}
-
-/// Files of another length, as lstat has it.
-#[derive(Clone, Copy)]
-pub struct Long<'a> {
-    pub files: Files<'a>,
-    pub len: u64,
-}
-
-impl<'a> Worktree for Long<'a> {
-    type File = Piece<'a>;
-
-    ghost modelled = { λ _. false };
-
-    ghost lstat_of = { λ _ _. Err NotFound };
-
-    ghost open_of = { λ _ _. Err NotFound };
-
-    ghost target_of = { λ _ _. Err NotFound };
-
-    fn lstat(&self, path: BStr<'_>) -> Result<Metadata, Fault> {
-        let found = self.files.lstat(path)?;
-        Ok(Metadata {
-            len: self.len,
-            ..found
-        })
-    }
-
-    fn open(&self, path: BStr<'_>) -> Result<Piece<'a>, Fault> {
-        self.files.open(path)
-    }
-
-    fn read_link(&self, path: BStr<'_>, target: &mut Vec<u8>) -> Result<(), Fault> {
-        self.files.read_link(path, target)
     }
 }
 
@@ -182,15 +153,20 @@ impl<'a, W: Worktree> Worktree for Counted<'a, W> {
     }
 }
 
-/// Files, and a path at which a look sets a flag.
-#[derive(Clone, Copy)]
-pub struct Watched<'a> {
-    pub files: Files<'a>,
-    pub path: &'a str,
-    pub flag: &'a AtomicBool,
+/// What a look at a path does beside.
+pub trait Look {
+    /// Is called before the lstat of a path, and may refuse it.
+    fn look(&self, path: BStr<'_>) -> Result<(), Fault>;
 }
 
-impl<'a> Worktree for Watched<'a> {
+/// Files whose looks do something beside.
+#[derive(Clone, Copy)]
+pub struct Looked<'a, L> {
+    pub files: Files<'a>,
+    pub look: L,
+}
+
+impl<'a, L: Look> Worktree for Looked<'a, L> {
     type File = Piece<'a>;
 
     ghost modelled = { λ _. false };
@@ -202,9 +178,7 @@ impl<'a> Worktree for Watched<'a> {
     ghost target_of = { λ _ _. Err NotFound };
 
     fn lstat(&self, path: BStr<'_>) -> Result<Metadata, Fault> {
-        if path.as_bytes() == self.path.as_bytes() {
-            self.flag.store(true, Ordering::SeqCst);
-        }
+        self.look.look(path)?;
         self.files.lstat(path)
     }
 
@@ -217,18 +191,33 @@ impl<'a> Worktree for Watched<'a> {
     }
 }
 
-/// Files `a` and `b`, where a look at `a` ends only once `b` was looked at, or after very many turns by a fault.
+/// A look at one path sets a flag.
+#[derive(Clone, Copy)]
+pub struct SetsFlag<'a> {
+    pub path: &'a str,
+    pub flag: &'a AtomicBool,
+}
+
+impl<'a> Look for SetsFlag<'a> {
+    fn look(&self, path: BStr<'_>) -> Result<(), Fault> {
+        if path.as_bytes() == self.path.as_bytes() {
+            self.flag.store(true, Ordering::SeqCst);
+        }
+        Ok(())
+    }
+}
+
+/// A look at `a` ends only once `b` was looked at, or after very many turns by a fault.
 #[derive(Clone, Copy)]
 pub struct Meeting<'a> {
-    pub files: Files<'a>,
-    pub asked: &'a AtomicBool,
+    pub looked_at_b: &'a AtomicBool,
 }
 
 impl<'a> Meeting<'a> {
-    // Whether the other file was looked at before the turns ran out.
+    // Whether `b` was looked at before the turns ran out.
     fn meets(&self) -> bool {
         for _ in 0..100_000_000u64 {
-            if self.asked.load(Ordering::SeqCst) {
+            if self.looked_at_b.load(Ordering::SeqCst) {
                 return true;
             }
             thread::yield_now();
@@ -237,32 +226,14 @@ impl<'a> Meeting<'a> {
     }
 }
 
-impl<'a> Worktree for Meeting<'a> {
-    type File = Piece<'a>;
-
-    ghost modelled = { λ _. false };
-
-    ghost lstat_of = { λ _ _. Err NotFound };
-
-    ghost open_of = { λ _ _. Err NotFound };
-
-    ghost target_of = { λ _ _. Err NotFound };
-
-    fn lstat(&self, path: BStr<'_>) -> Result<Metadata, Fault> {
+impl<'a> Look for Meeting<'a> {
+    fn look(&self, path: BStr<'_>) -> Result<(), Fault> {
         if path.as_bytes() == "b".as_bytes() {
-            self.asked.store(true, Ordering::SeqCst);
+            self.looked_at_b.store(true, Ordering::SeqCst);
         }
         if path.as_bytes() == "a".as_bytes() && !self.meets() {
             return Err(Fault::Other(1));
         }
-        self.files.lstat(path)
-    }
-
-    fn open(&self, path: BStr<'_>) -> Result<Piece<'a>, Fault> {
-        self.files.open(path)
-    }
-
-    fn read_link(&self, path: BStr<'_>, target: &mut Vec<u8>) -> Result<(), Fault> {
-        self.files.read_link(path, target)
+        Ok(())
     }
 }

@@ -1,7 +1,7 @@
 //! Conflicts of entries that differ in id and mode.
 
-use crate::asking::{ask, plainly};
 use crate::given::{BAR, BARS, FOO, GivenEntry, WRITTEN, index, stage_entry, worktree};
+use crate::statuses::{plain_request, status_of};
 use gix_status::index::Mode;
 use gix_status::index_as_worktree::traits::HashEq;
 use gix_status::index_as_worktree::{Conflict, ConflictIndexEntry, EntryStatus};
@@ -48,9 +48,9 @@ fn is_recorded<R: AllocGlobal + Threads + Wait>(
     }
     let index = index(rt.alloc(), WRITTEN, &sides)?;
     let worktree = worktree(rt.alloc(), &[])?;
-    let told = ask(rt, &index, &worktree, HashEq, plainly(rt.alloc()));
+    let report = status_of(rt, &index, &worktree, HashEq, plain_request(rt.alloc()));
     let entries = [kept(1, stages), kept(2, stages), kept(3, stages)];
-    Ok(told.is_all(&[(0, "f", EntryStatus::Conflict { summary, entries })]))
+    Ok(report.is_all(&[(0, "f", EntryStatus::Conflict { summary, entries })]))
 }
 
 #[test]

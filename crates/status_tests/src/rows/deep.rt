@@ -1,7 +1,7 @@
 //! A path of very many components.
 
-use crate::asking::{ask, changed, one_file_read, plainly};
-use crate::given::{BAR, WRITTEN, foo_entry, index, later_file, worktree};
+use crate::given::{BAR, foo_index, later_file, worktree};
+use crate::statuses::{changed, one_file_read, plain_request, status_of};
 use gix_status::index_as_worktree::traits::HashEq;
 use std::alloc::{AllocError, Global};
 use std::test::Fail;
@@ -19,10 +19,10 @@ fn deep_path(alloc: Global, components: u32) -> Result<String, AllocError> {
 fn a_path_of_ten_thousand_components_is_followed(rt: HostRuntime) -> Result<(), Fail> {
     let path = deep_path(rt.alloc(), 10_000)?;
     let path = path.as_str();
-    let index = index(rt.alloc(), WRITTEN, &[foo_entry(path)])?;
+    let index = foo_index(rt.alloc(), &[path])?;
     let worktree = worktree(rt.alloc(), &[later_file(path, b"bar")])?;
-    let told = ask(&rt, &index, &worktree, HashEq, plainly(rt.alloc()));
-    assert!(rt; told.is_all(&[(0, path, changed(BAR))]));
-    assert!(rt; told.took(&one_file_read(3)));
+    let report = status_of(&rt, &index, &worktree, HashEq, plain_request(rt.alloc()));
+    assert!(rt; report.is_all(&[(0, path, changed(BAR))]));
+    assert!(rt; report.took(&one_file_read(3)));
     Ok(())
 }

@@ -1,8 +1,8 @@
 //! Faults of a worktree.
 
-use crate::asking::{Told, ask, changed, one_file_read, options, with_options};
-use crate::given::{BAR, WRITTEN, foo_entry, index};
-use crate::worktrees::{Counted, Files, Long, Piece};
+use crate::given::{BAR, foo_index};
+use crate::statuses::{Report, changed, one_file_read, options, request_with, status_of};
+use crate::worktrees::{Counted, Files, Piece};
 use gix_status::index::{ObjectId, State};
 use gix_status::index_as_worktree::Options;
 use gix_status::index_as_worktree::traits::HashEq;
@@ -19,11 +19,11 @@ const LONG: ObjectId = ObjectId::Sha1([
 ]);
 
 // The status with pieces of one entry, by one worker.
-fn ask_one_by_one<'index, R: AllocGlobal + Threads + Wait, W: Worktree + Sync>(
+fn status_one_by_one<'index, R: AllocGlobal + Threads + Wait, W: Worktree + Sync>(
     rt: &R,
     index: &'index State,
     worktree: &W,
-) -> Told<'index, ObjectId, ()>
+) -> Report<'index, ObjectId, ()>
 where
     W::File: Send,
 {
@@ -32,8 +32,8 @@ where
         thread_limit: Some(1),
         ..options()
     };
-    let asked = with_options(rt.alloc(), options);
-    ask(rt, index, worktree, HashEq, asked)
+    let request = request_with(rt.alloc(), options);
+    status_of(rt, index, worktree, HashEq, request)
 }
 
 #[test]
@@ -47,23 +47,10 @@ fn a_file_that_does_not_open_ends_the_status(rt: HostRuntime) -> Result<(), Fail
         ("d", Err(Fault::PermissionDenied)),
         ("e", Ok(bar)),
     ];
-    let entries = [
-        foo_entry("a"),
-        foo_entry("b"),
-        foo_entry("c"),
-        foo_entry("d"),
-        foo_entry("e"),
-    ];
-    let index = index(rt.alloc(), WRITTEN, &entries)?;
-    let told = ask_one_by_one(&rt, &index, &Files { files: &files });
-    assert!(rt;
-        told.is_all(&[
-            (0, "a", changed(BAR)),
-            (1, "b", changed(BAR)),
-            (2, "c", changed(BAR))
-        ])
-    );
-    assert!(rt; told.failed_by(Fault::PermissionDenied));
+    let index = foo_index(rt.alloc(), &["a", "b", "c", "d", "e"])?;
+    let report = status_one_by_one(&rt, &index, &Files::new(&files));
+    assert!(rt; report.is_each(&["a", "b", "c"], &changed(BAR)));
+    assert!(rt; report.failed_by(Fault::PermissionDenied));
     assert_eq!(rt; reads.load(Ordering::SeqCst), 3);
     Ok(())
 }
@@ -78,11 +65,10 @@ fn a_read_that_fails_is_not_tried_again(rt: HostRuntime) -> Result<(), Fail> {
         reads: &reads,
     };
     let files = [("a", Ok(bar)), ("b", Ok(interrupted)), ("c", Ok(bar))];
-    let entries = [foo_entry("a"), foo_entry("b"), foo_entry("c")];
-    let index = index(rt.alloc(), WRITTEN, &entries)?;
-    let told = ask_one_by_one(&rt, &index, &Files { files: &files });
-    assert!(rt; told.is_all(&[(0, "a", changed(BAR))]));
-    assert!(rt; told.failed_by(Fault::Interrupted));
+    let index = foo_index(rt.alloc(), &["a", "b", "c"])?;
+    let report = status_one_by_one(&rt, &index, &Files::new(&files));
+    assert!(rt; report.is_all(&[(0, "a", changed(BAR))]));
+    assert!(rt; report.failed_by(Fault::Interrupted));
     // One of `a`, and of `b` the one that gave bytes and the one that failed.
     assert_eq!(rt; reads.load(Ordering::SeqCst), 3);
     Ok(())
@@ -95,18 +81,18 @@ fn a_long_file_is_opened_once_and_read_in_large_pieces(rt: HostRuntime) -> Resul
     let files = [("a", Ok(Piece::new(content.as_slice(), &reads)))];
     let (looks, opens) = (AtomicUsize::new(0), AtomicUsize::new(0));
     let worktree = Counted {
-        worktree: Long {
-            files: Files { files: &files },
+        worktree: Files {
+            files: &files,
             len: 200_000,
         },
         path: "a",
         looks: &looks,
         opens: &opens,
     };
-    let index = index(rt.alloc(), WRITTEN, &[foo_entry("a")])?;
-    let told = ask_one_by_one(&rt, &index, &worktree);
-    assert!(rt; told.is_all(&[(0, "a", changed(LONG))]));
-    assert!(rt; told.took(&one_file_read(200_000)));
+    let index = foo_index(rt.alloc(), &["a"])?;
+    let report = status_one_by_one(&rt, &index, &worktree);
+    assert!(rt; report.is_all(&[(0, "a", changed(LONG))]));
+    assert!(rt; report.took(&one_file_read(200_000)));
     assert_eq!(rt; looks.load(Ordering::SeqCst), 1);
     assert_eq!(rt; opens.load(Ordering::SeqCst), 1);
     // Four of 64 KiB give the bytes, and one more may meet the end.

@@ -1,17 +1,22 @@
-//! Small indexes and worktrees, and what is told of them.
+//! Small indexes and worktrees, and what is reported of them.
 
 mod comparers;
+mod conflict_runs;
 mod conflicts;
 mod copies;
 mod deep;
 mod empty;
 mod faults;
 mod filters;
+mod folder_objects;
+mod folder_submodules;
 mod lengths;
 mod links;
 mod openings;
 mod orders;
+mod piece_ends;
 mod prefixes;
+mod refused_threads;
 mod rounds;
 mod sizes;
 mod submodules;

@@ -1,7 +1,7 @@
 //! How often a file is opened.
 
-use crate::asking::{ask, plainly};
-use crate::given::{WRITTEN, file, foo_entry, index, later_file, worktree};
+use crate::given::{file, foo_index, later_file, worktree};
+use crate::statuses::{plain_request, status_of};
 use crate::worktrees::Counted;
 use gix_status::index_as_worktree::traits::HashEq;
 use std::sync::atomic::{AtomicUsize, Ordering};
@@ -9,7 +9,7 @@ use std::test::Fail;
 
 #[test]
 fn a_file_is_opened_only_where_its_stat_does_not_decide(rt: HostRuntime) -> Result<(), Fail> {
-    let index = index(rt.alloc(), WRITTEN, &[foo_entry("a")])?;
+    let index = foo_index(rt.alloc(), &["a"])?;
     for (node, wanted) in [(file("a", b"foo"), 0), (later_file("a", b"foo"), 1)] {
         let (looks, opens) = (AtomicUsize::new(0), AtomicUsize::new(0));
         let worktree = Counted {
@@ -18,8 +18,8 @@ fn a_file_is_opened_only_where_its_stat_does_not_decide(rt: HostRuntime) -> Resu
             looks: &looks,
             opens: &opens,
         };
-        let told = ask(&rt, &index, &worktree, HashEq, plainly(rt.alloc()));
-        assert!(rt; told.answer.is_ok());
+        let report = status_of(&rt, &index, &worktree, HashEq, plain_request(rt.alloc()));
+        assert!(rt; report.answer.is_ok());
         assert_eq!(rt; looks.load(Ordering::SeqCst), 1);
         assert_eq!(rt; opens.load(Ordering::SeqCst), wanted);
     }

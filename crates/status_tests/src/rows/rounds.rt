@@ -1,7 +1,7 @@
 //! How many entries a round takes, and that a flag that stays unset interrupts none.
 
-use crate::asking::{ask_until, ask_until_told, options, removed, with_options};
-use crate::given::{WRITTEN, foo_entry, index, worktree};
+use crate::given::{foo_index, worktree};
+use crate::statuses::{files_found, options, removed, request_with, status_noting, status_until};
 use gix_status::index::{IndexError, State};
 use gix_status::index_as_worktree::traits::HashEq;
 use gix_status::index_as_worktree::{Options, Outcome};
@@ -20,22 +20,12 @@ fn numbered_paths(alloc: Global, count: usize) -> Result<Vec<String>, AllocError
 
 // An index of so many entries.
 fn numbered_index(alloc: Global, count: usize) -> Result<State, IndexError> {
-    let paths = numbered_paths(alloc, count)?;
-    let mut entries = Vec::new(alloc);
-    for path in &paths {
-        entries.push(foo_entry(path.as_str()))?;
+    let numbered = numbered_paths(alloc, count)?;
+    let mut paths = Vec::new(alloc);
+    for path in &numbered {
+        paths.push(path.as_str())?;
     }
-    index(alloc, WRITTEN, &entries)
-}
-
-// What it takes to find that none of these files is there.
-fn all_missing(to_process: usize, processed: usize) -> Outcome {
-    Outcome {
-        entries_to_process: to_process,
-        entries_processed: processed,
-        symlink_metadata_calls: processed,
-        ..Outcome::default()
-    }
+    foo_index(alloc, &paths)
 }
 
 #[test]
@@ -59,15 +49,17 @@ fn a_round_takes_eight_pieces_a_worker(rt: HostRuntime) -> Result<(), Fail> {
             ..options()
         };
         let flag = AtomicBool::new(false);
-        let asked = with_options(alloc, options);
-        let told = ask_until_told(&rt, &index, &worktree, HashEq, asked, &flag);
+        let interrupt = Some(&flag);
+        let request = request_with(alloc, options);
+        let (report, _) = status_noting(&rt, &index, &worktree, HashEq, request, &flag, interrupt);
         let wanted = Outcome {
+            entries_to_process: count,
             interrupted: true,
-            ..all_missing(count, processed)
+            ..files_found(processed)
         };
-        assert!(rt; told.took(&wanted), "{chunk_size}, {thread_limit:?}");
+        assert!(rt; report.took(&wanted), "{chunk_size}, {thread_limit:?}");
         assert_eq!(rt;
-            told.records.len(),
+            report.records.len(),
             processed,
             "{chunk_size}, {thread_limit:?}"
         );
@@ -87,11 +79,11 @@ fn a_flag_that_stays_unset_interrupts_nothing(rt: HostRuntime) -> Result<(), Fai
             thread_limit: Some(thread_limit),
             ..options()
         };
-        let asked = with_options(alloc, options);
-        let told = ask_until(&rt, &index, &worktree, HashEq, asked, Some(&flag));
-        assert!(rt; told.took(&all_missing(20, 20)), "{thread_limit}");
-        assert_eq!(rt; told.records.len(), 20, "{thread_limit}");
-        for (at, record) in told.records.iter().enumerate() {
+        let request = request_with(alloc, options);
+        let report = status_until(&rt, &index, &worktree, HashEq, request, Some(&flag));
+        assert!(rt; report.took(&files_found(20)), "{thread_limit}");
+        assert_eq!(rt; report.records.len(), 20, "{thread_limit}");
+        for (at, record) in report.records.iter().enumerate() {
             assert_eq!(rt; record.entry_index, at);
             assert!(rt; record.status == removed(), "at {at}");
         }

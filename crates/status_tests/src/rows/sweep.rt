@@ -1,10 +1,10 @@
 //! One index with something of everything, over chunk sizes and thread limits.
 
-use crate::asking::{ask, changed, removed, with_options};
 use crate::given::{
-    BAR, BARS, FOO, GivenEntry, GivenNode, LATER, WRITTEN, directory, file, foo_entry, index,
-    later_file, later_link, stage_entry, stat, worktree,
+    BAR, BARS, FOO, GivenEntry, GivenNode, LATER, WRITTEN, directory, file, flag_entry, foo_entry,
+    index, later_file, later_link, mode_entry, stage_entry, stat, worktree,
 };
+use crate::statuses::{changed, removed, request_with, status_of};
 use gix_status::index::{Flags, Mode, ObjectId};
 use gix_status::index_as_worktree::traits::HashEq;
 use gix_status::index_as_worktree::{
@@ -13,22 +13,6 @@ use gix_status::index_as_worktree::{
 use std::test::Fail;
 
 type Status = EntryStatus<ObjectId, ()>;
-
-// An entry with flags.
-fn flagged(path: &'static str, flags: Flags) -> GivenEntry<'static> {
-    GivenEntry {
-        flags,
-        ..foo_entry(path)
-    }
-}
-
-// An entry of a mode.
-fn moded(path: &'static str, mode: Mode) -> GivenEntry<'static> {
-    GivenEntry {
-        mode,
-        ..foo_entry(path)
-    }
-}
 
 // An entry that was staged in the second in which the index was written.
 fn racy_entry(path: &'static str) -> GivenEntry<'static> {
@@ -52,17 +36,17 @@ fn entries() -> [GivenEntry<'static>; 31] {
         foo_entry("a-clean"),
         foo_entry("b-changed"),
         foo_entry("c-touched"),
-        moded("d-executable", Mode::FileExecutable),
+        mode_entry("d-executable", Mode::FileExecutable),
         foo_entry("e-removed"),
         foo_entry("f-link/below"),
         foo_entry("g-file/below"),
-        moded("h-link", Mode::Symlink),
-        moded("i-submodule", Mode::Commit),
-        flagged("j-intent", Flags::INTENT_TO_ADD),
-        flagged("k-skipped", Flags::SKIP_WORKTREE),
-        flagged("l-assumed", Flags::ASSUME_VALID),
-        flagged("m-up-to-date", Flags::UPTODATE),
-        flagged("n-watched", Flags::FSMONITOR_VALID),
+        mode_entry("h-link", Mode::Symlink),
+        mode_entry("i-submodule", Mode::Commit),
+        flag_entry("j-intent", Flags::INTENT_TO_ADD),
+        flag_entry("k-skipped", Flags::SKIP_WORKTREE),
+        flag_entry("l-assumed", Flags::ASSUME_VALID),
+        flag_entry("m-up-to-date", Flags::UPTODATE),
+        flag_entry("n-watched", Flags::FSMONITOR_VALID),
         stage_entry("o1", 1),
         stage_entry("o2", 2),
         stage_entry("o3", 1),
@@ -220,11 +204,11 @@ fn chunk_sizes_and_thread_limits_change_nothing(rt: HostRuntime) -> Result<(), F
                 thread_limit,
                 ..Options::default()
             };
-            let asked = with_options(alloc, options);
-            let told = ask(&rt, &index, &worktree, HashEq, asked);
-            assert!(rt; told.is_all(&wanted), "{chunk_size}, {thread_limit:?}");
-            assert!(rt; told.is_of(&index), "{chunk_size}, {thread_limit:?}");
-            assert!(rt; told.took(&took), "{chunk_size}, {thread_limit:?}");
+            let request = request_with(alloc, options);
+            let report = status_of(&rt, &index, &worktree, HashEq, request);
+            assert!(rt; report.is_all(&wanted), "{chunk_size}, {thread_limit:?}");
+            assert!(rt; report.is_of(&index), "{chunk_size}, {thread_limit:?}");
+            assert!(rt; report.took(&took), "{chunk_size}, {thread_limit:?}");
         }
     }
     Ok(())

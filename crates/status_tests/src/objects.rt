@@ -1,0 +1,63 @@
+//! An object database as a caller writes it.
+
+ghost use Rattle.std.specs.Prelude.{◌≡◌, Err, false, refl};
+ghost use Rattle.status_base.specs.declared.worktree.objects.FindError.TheVariants.{Missing};
+
+use gix_status::index::ObjectId;
+use gix_status::worktree::{Find, FindError};
+use std::alloc::AllocError;
+use std::io::Read;
+use std::rt::Files;
+use std::{fs, io};
+
+/// Blobs in a folder, each in a file that is named by the hexadecimal digits of its id. They aren't modelled.
+#[derive(Drop)]
+pub struct FolderObjects<'a, R> {
+    pub rt: &'a R,
+    pub folder: &'a str,
+}
+
+impl<'a, R> Clone for FolderObjects<'a, R> {
+    ghost is_clone = { λ x y. y ≡ x };
+
+    fn clone(&self) -> Result<FolderObjects<'a, R>, AllocError> {
+        Ok(FolderObjects {
+            rt: self.rt,
+            folder: self.folder,
+        })
+    }
+}
+
+impl<'a, R: Files + AllocGlobal> Find for FolderObjects<'a, R> {
+    ghost modelled = { λ _. false };
+
+    ghost found = { λ _ _. Err Missing };
+
+    ghost clone_keeps_modelled = { λ _ _ _. refl };
+
+    ghost clone_keeps_found = { λ _ _ _. refl };
+
+    fn find_blob(&self, id: &ObjectId, buffer: &mut Vec<u8>) -> Result<(), FindError> {
+        match read_blob(self.rt, self.folder, id, buffer) {
+            Ok(()) => Ok(()),
+            Err(error) if error.kind() == io::ErrorKind::OutOfMemory => Err(FindError::Memory),
+            // The interface has no error for a file that can't be read.
+            Err(_) => Err(FindError::Missing),
+        }
+    }
+}
+
+// Reads the file of a blob.
+fn read_blob<R: Files + AllocGlobal>(
+    rt: &R,
+    folder: &str,
+    id: &ObjectId,
+    buffer: &mut Vec<u8>,
+) -> io::Result<()> {
+    let name = hex::encode(rt.alloc(), id.as_bytes())?;
+    let path = format!(in rt.alloc(); "{folder}/{name}")?;
+    let mut file = fs::open(rt, path.as_str())?;
+    buffer.clear();
+    file.read_to_end(buffer)?;
+    Ok(())
+}

@@ -1,0 +1,464 @@
+//! Statuses, and what they report.
+
+ghost use Rattle.std.specs.Prelude.{◌<◌, ◌^◌, IfOk};
+ghost use Rattle.status_call.specs.Outcomes.{skipped_of};
+
+use crate::collectors::Noting;
+use crate::comparers::BlobLength;
+use gix_status::index::{Entry, ObjectId, State};
+use gix_status::index_as_worktree::traits::{CompareBlobs, HashEq};
+use gix_status::index_as_worktree::{
+    Capabilities, Change, Context, EntryStatus, Error, Options, Outcome, Record, Recorder,
+    VisitEntry, index_as_worktree,
+};
+use gix_status::worktree::{
+    AllPaths, Fault, Find, MemoryObjects, NoFilter, NoLister, NoSubmodules, Pathspec,
+    SubmoduleStatus, ToGit, Worktree,
+};
+use std::alloc::Global;
+use std::sync::Wait;
+use std::sync::atomic::AtomicBool;
+use std::thread::Threads;
+
+/// What a status is computed by, beside an index, a worktree and a comparer.
+pub struct Request<S, O, P, T> {
+    pub submodule: S,
+    pub objects: O,
+    pub pathspec: P,
+    pub filter: T,
+    pub options: Options,
+}
+
+/// A request with no submodule and with blobs in memory.
+pub type FileRequest<P, T> = Request<NoSubmodules, MemoryObjects, P, T>;
+
+impl<S, O, P, T> Request<S, O, P, T> {
+    /// A request by these interfaces.
+    pub fn new(
+        submodule: S,
+        objects: O,
+        pathspec: P,
+        filter: T,
+        options: Options,
+    ) -> Request<S, O, P, T> {
+        Request {
+            submodule,
+            objects,
+            pathspec,
+            filter,
+            options,
+        }
+    }
+}
+
+/// A request for all paths as they are, with no blob or submodule.
+pub fn plain_request(alloc: Global) -> FileRequest<AllPaths, NoFilter> {
+    request_with(alloc, options())
+}
+
+/// The same, with other options.
+pub fn request_with(alloc: Global, options: Options) -> FileRequest<AllPaths, NoFilter> {
+    let objects = MemoryObjects::new(alloc);
+    Request::new(NoSubmodules, objects, AllPaths, NoFilter, options)
+}
+
+/// Options with which links count and executability doesn't.
+pub fn options() -> Options {
+    Options {
+        fs: Capabilities {
+            symlink: true,
+            executable_bit: false,
+        },
+        ..Options::default()
+    }
+}
+
+/// What it takes to compare one file of so many bytes.
+pub fn one_file_read(bytes: u64) -> Outcome {
+    files_read(1, bytes)
+}
+
+/// What it takes to compare so many files of so many bytes in all: an lstat of each.
+pub fn files_read(files: usize, bytes: u64) -> Outcome {
+    Outcome {
+        worktree_files_read: files,
+        worktree_bytes: bytes,
+        ..files_found(files)
+    }
+}
+
+/// What it takes to compare one file with a blob of so many bytes. The file isn't read.
+pub fn one_blob_read(bytes: u64) -> Outcome {
+    Outcome {
+        odb_objects_read: 1,
+        odb_bytes: bytes,
+        ..one_file()
+    }
+}
+
+/// The same, where one entry turns out to need a new stat.
+pub fn with_update(outcome: Outcome) -> Outcome {
+    Outcome {
+        entries_to_update: 1,
+        ..outcome
+    }
+}
+
+/// What it takes to find one file of which nothing is read.
+pub fn one_file() -> Outcome {
+    files_found(1)
+}
+
+/// What it takes to find so many files, or that they aren't there. Nothing is read.
+pub fn files_found(files: usize) -> Outcome {
+    Outcome {
+        entries_to_process: files,
+        entries_processed: files,
+        symlink_metadata_calls: files,
+        ..Outcome::default()
+    }
+}
+
+/// A record of a file that has other content, by what its comparer reports.
+pub fn changed<T, U>(content: T) -> EntryStatus<T, U> {
+    EntryStatus::Change(Change::Modification {
+        executable_bit_changed: false,
+        content_change: Some(content),
+        set_entry_stat_size_zero: false,
+    })
+}
+
+/// A record of a file that isn't there.
+pub fn removed<T, U>() -> EntryStatus<T, U> {
+    EntryStatus::Change(Change::Removed)
+}
+
+/// What a status reported: the records, and what it took or why it failed.
+#[derive(Drop)]
+pub struct Report<'index, T, U> {
+    pub records: Vec<Record<'index, T, U>>,
+    pub answer: Result<Outcome, Error>,
+}
+
+/// The status of an index against a worktree.
+pub fn status_of<
+    'index,
+    R: AllocGlobal + Threads + Wait,
+    W: Worktree + Sync,
+    C: CompareBlobs + Send,
+    P: Pathspec + Send,
+    T: ToGit + Send,
+>(
+    rt: &R,
+    index: &'index State,
+    worktree: &W,
+    compare: C,
+    request: FileRequest<P, T>,
+) -> Report<'index, C::Output, ()>
+where
+    W::File: Send,
+    C::Output: Send + 'index,
+{
+    status_until(rt, index, worktree, compare, request, None)
+}
+
+/// The same, with an interrupt flag.
+pub fn status_until<
+    'index,
+    R: AllocGlobal + Threads + Wait,
+    W: Worktree + Sync,
+    C: CompareBlobs + Send,
+    P: Pathspec + Send,
+    T: ToGit + Send,
+>(
+    rt: &R,
+    index: &'index State,
+    worktree: &W,
+    compare: C,
+    request: FileRequest<P, T>,
+    interrupt: Option<&AtomicBool>,
+) -> Report<'index, C::Output, ()>
+where
+    W::File: Send,
+    C::Output: Send + 'index,
+{
+    status_with(rt, index, worktree, compare, request, interrupt)
+}
+
+/// The status with any submodules and any blobs.
+pub fn status_with<
+    'index,
+    R: AllocGlobal + Threads + Wait,
+    W: Worktree + Sync,
+    C: CompareBlobs + Send,
+    S: SubmoduleStatus + Send,
+    O: Find + Send,
+    P: Pathspec + Send,
+    T: ToGit + Send,
+>(
+    rt: &R,
+    index: &'index State,
+    worktree: &W,
+    compare: C,
+    request: Request<S, O, P, T>,
+    interrupt: Option<&AtomicBool>,
+) -> Report<'index, C::Output, S::Output>
+where
+    W::File: Send,
+    C::Output: Send + 'index,
+    S::Output: Send + 'index,
+{
+    let alloc = rt.alloc();
+    let mut recorder = Recorder::new(alloc);
+    let answer = report_to(
+        rt,
+        alloc,
+        index,
+        worktree,
+        &mut recorder,
+        compare,
+        request,
+        interrupt,
+    );
+    Report {
+        records: recorder.records,
+        answer,
+    }
+}
+
+/// The status by ids, with submodules.
+pub fn status_of_submodules<
+    'index,
+    R: AllocGlobal + Threads + Wait,
+    W: Worktree + Sync,
+    S: SubmoduleStatus + Send,
+>(
+    rt: &R,
+    index: &'index State,
+    worktree: &W,
+    submodule: S,
+    options: Options,
+) -> Report<'index, ObjectId, S::Output>
+where
+    W::File: Send,
+    S::Output: Send + 'index,
+{
+    let objects = MemoryObjects::new(rt.alloc());
+    let request = Request::new(submodule, objects, AllPaths, NoFilter, options);
+    status_with(rt, index, worktree, HashEq, request, None)
+}
+
+/// The status by the lengths of files and blobs.
+pub fn status_by_lengths<
+    'index,
+    R: AllocGlobal + Threads + Wait,
+    W: Worktree + Sync,
+    O: Find + Send,
+>(rt: &R, index: &'index State, worktree: &W, objects: O) -> Report<'index, u64, ()>
+where
+    W::File: Send,
+{
+    let request = Request::new(NoSubmodules, objects, AllPaths, NoFilter, options());
+    status_with(rt, index, worktree, BlobLength, request, None)
+}
+
+/// How many entries a status skips, where it succeeds.
+pub fn skipped<
+    R: AllocGlobal + Threads + Wait,
+    W: Worktree + Sync,
+    C: CompareBlobs + Send,
+    P: Pathspec + Send,
+    T: ToGit + Send,
+>(rt: &R, index: &State, worktree: &W, compare: C, request: FileRequest<P, T>) -> Option<usize>
+where
+    W::File: Send,
+    C::Output: Send,
+{
+    let alloc = rt.alloc();
+    let mut recorder = Recorder::new(alloc);
+    match report_to(
+        rt,
+        alloc,
+        index,
+        worktree,
+        &mut recorder,
+        compare,
+        request,
+        None,
+    ) {
+        Ok(outcome) => Some(outcome.skipped()),
+        Err(_) => None,
+    }
+}
+
+/// The status by a collector that sets a flag at each record. Beside the report stands how long the list was that came
+/// along with each.
+pub fn status_noting<
+    'index,
+    R: AllocGlobal + Threads + Wait,
+    W: Worktree + Sync,
+    C: CompareBlobs + Send,
+    P: Pathspec + Send,
+    T: ToGit + Send,
+>(
+    rt: &R,
+    index: &'index State,
+    worktree: &W,
+    compare: C,
+    request: FileRequest<P, T>,
+    flag: &AtomicBool,
+    interrupt: Option<&AtomicBool>,
+) -> (Report<'index, C::Output, ()>, Vec<usize>)
+where
+    W::File: Send,
+    C::Output: Send,
+{
+    let alloc = rt.alloc();
+    let mut noting = Noting {
+        collector: Recorder::new(alloc),
+        flag,
+        lengths: Vec::new(alloc),
+    };
+    let answer = report_to(
+        rt,
+        alloc,
+        index,
+        worktree,
+        &mut noting,
+        compare,
+        request,
+        interrupt,
+    );
+    let report = Report {
+        records: noting.collector.records,
+        answer,
+    };
+    (report, noting.lengths)
+}
+
+/// Reports to `collector` the status of an index against a worktree.
+pub fn report_to<
+    'index,
+    R: Threads + Wait,
+    W: Worktree + Sync,
+    V: VisitEntry<'index, ContentChange = C::Output, SubmoduleStatus = S::Output>,
+    C: CompareBlobs + Send,
+    S: SubmoduleStatus + Send,
+    O: Find + Send,
+    P: Pathspec + Send,
+    T: ToGit + Send,
+>(
+    rt: &R,
+    alloc: Global,
+    index: &'index State,
+    worktree: &W,
+    collector: &mut V,
+    compare: C,
+    request: Request<S, O, P, T>,
+    interrupt: Option<&AtomicBool>,
+) -> Result<Outcome, Error>
+where
+    W::File: Send,
+    C::Output: Send,
+    S::Output: Send,
+    ensures { IfOk result (λ o. skipped_of o < 2 ^ 64) }
+{
+    let Request {
+        submodule,
+        objects,
+        pathspec,
+        filter,
+        options,
+    } = request;
+    let context = Context {
+        pathspec,
+        filter,
+        lister: NoLister,
+        should_interrupt: interrupt,
+    };
+    index_as_worktree(
+        rt, alloc, index, worktree, collector, compare, submodule, objects, context, options,
+    )
+}
+
+impl<'index, T, U> Report<'index, T, U> {
+    /// Whether the status succeeded and took just this.
+    pub fn took(&self, wanted: &Outcome) -> bool {
+        match &self.answer {
+            Ok(outcome) => *outcome == *wanted,
+            Err(_) => false,
+        }
+    }
+
+    /// Whether the status failed by this fault of the worktree.
+    pub fn failed_by(&self, wanted: Fault) -> bool {
+        match &self.answer {
+            Err(Error::Io(fault)) => *fault == wanted,
+            _ => false,
+        }
+    }
+
+    /// Whether each record has the entry that stands at its place of this index, and that entry's path.
+    pub fn is_of(&self, index: &State) -> bool {
+        for record in &self.records {
+            let Some(entry) = index.entries().get(record.entry_index) else {
+                return false;
+            };
+            let path = entry.path_in(index.path_backing());
+            if record.relative_path != path || !is_same(record.entry, entry, index) {
+                return false;
+            }
+        }
+        true
+    }
+}
+
+// Whether two entries of an index are the same one.
+fn is_same(entry: &Entry, other: &Entry, index: &State) -> bool {
+    let backing = index.path_backing();
+    entry.path_in(backing) == other.path_in(backing)
+        && entry.stat == other.stat
+        && entry.id == other.id
+        && entry.flags == other.flags
+        && entry.mode == other.mode
+}
+
+impl<'index, T: PartialEq, U: PartialEq> Report<'index, T, U> {
+    /// Whether these are all the records: each by its entry's place and path, and its status.
+    pub fn is_all(&self, wanted: &[(usize, &str, EntryStatus<T, U>)]) -> bool {
+        if self.records.len() != wanted.len() {
+            return false;
+        }
+        for (record, (at, path, status)) in self.records.iter().zip(wanted) {
+            if !is_record(record, *at, *path, status) {
+                return false;
+            }
+        }
+        true
+    }
+
+    /// Whether there is one record for each of the first entries, which have these paths, all with the same status.
+    pub fn is_each(&self, paths: &[&str], status: &EntryStatus<T, U>) -> bool {
+        if self.records.len() != paths.len() {
+            return false;
+        }
+        for (at, (record, path)) in self.records.iter().zip(paths).enumerate() {
+            if !is_record(record, at, *path, status) {
+                return false;
+            }
+        }
+        true
+    }
+}
+
+// Whether a record is of the entry at this place and path, with this status.
+fn is_record<T: PartialEq, U: PartialEq>(
+    record: &Record<'_, T, U>,
+    at: usize,
+    path: &str,
+    status: &EntryStatus<T, U>,
+) -> bool {
+    record.entry_index == at
+        && record.relative_path.as_bytes() == path.as_bytes()
+        && record.status == *status
+}
