@@ -6,7 +6,6 @@ mod tests;
 use crate::lines::path_value;
 use crate::profile::ProfileError;
 use bstr::BStr;
-use gix_status::index::IndexError;
 use gix_status::index_as_worktree::Error;
 use gix_status::worktree::{Fault, FindError, TreeError};
 use std::alloc::{AllocError, Global};
@@ -19,8 +18,6 @@ pub enum Failure {
     Unreadable,
     /// The profile isn't one.
     Profile(ProfileError),
-    /// The entries of the profile are no index.
-    Index(IndexError),
     /// A node of the profile can't be put into the worktree.
     Worktree {
         /// Why it can't.
@@ -70,7 +67,6 @@ impl Failure {
         match self {
             Failure::Unreadable => writeln!(faults, "cannot read {name}"),
             Failure::Profile(error) => writeln!(faults, "{error}"),
-            Failure::Index(error) => writeln!(faults, "bad index: {error}"),
             Failure::Worktree { error, at } => writeln!(faults, "bad worktree: {error} at {at}"),
             Failure::Status(error) => write_status_line(alloc, error, faults),
             Failure::Output => Ok(()),
@@ -111,15 +107,6 @@ impl From<AllocError> for Failure {
 impl From<ProfileError> for Failure {
     fn from(error: ProfileError) -> Failure {
         Failure::Profile(error)
-    }
-}
-
-impl From<IndexError> for Failure {
-    fn from(error: IndexError) -> Failure {
-        match error {
-            IndexError::Memory => Failure::Memory,
-            error => Failure::Index(error),
-        }
     }
 }
 

@@ -60,13 +60,11 @@ where
 {
     let alloc = rt.alloc();
     let Profile {
-        timestamp,
         options,
-        entries,
+        index,
         place,
         ..
     } = read_profile(alloc, profile)?;
-    let index = State::from_entries(alloc, entries, timestamp)?;
     match place {
         Place::Nodes(nodes) => {
             let worktree = plant(alloc, nodes)?;

@@ -71,7 +71,7 @@ fn want_of_memory_has_one_line_wherever_it_is_met(rt: HostRuntime) {
         Failure::Memory,
         Failure::of_reading(unread),
         Failure::from(ProfileError::Memory),
-        Failure::from(IndexError::Memory),
+        Failure::from(ProfileError::from(IndexError::Memory)),
         Failure::of_node(TreeError::Memory, 3),
         Failure::from(Error::Memory),
         Failure::from(Error::Io(Fault::Memory)),
@@ -92,7 +92,7 @@ fn what_comes_before_a_status_has_its_line(rt: HostRuntime) {
             "bad profile: timestamp\n",
         ),
         (
-            Failure::from(IndexError::EmptyPath { at: 12 }),
+            Failure::from(ProfileError::from(IndexError::EmptyPath { at: 12 })),
             "bad index: empty path at 12\n",
         ),
         (

@@ -1,65 +1,170 @@
 //! The index of a profile.
 
 use crate::profile::error::FieldError;
-use crate::profile::field::{Fields, text_of};
-use crate::profile::members::Item;
-use bstr::BString;
-use gix_status::index::{Flags, Mode, NewEntry, ObjectId};
-use serde_json::Value;
+use crate::profile::key::ItemKey;
+use crate::profile::list::Items;
+use crate::profile::stat::StatFields;
+use crate::profile::value::{FieldValue, Word};
+use bstr::BStr;
+use gix_status::index::{Flags, IndexError, Mode, Moment, ObjectId, State};
+use hex::FromHex;
 use std::alloc::Global;
+use std::mem;
 
-impl Item for NewEntry {
-    fn of_fields(alloc: Global, fields: Fields<'_>) -> Result<NewEntry, FieldError> {
-        let size = fields.number("size")?;
-        Ok(NewEntry {
-            path: BString::from_slice(alloc, fields.text("path")?.as_bytes())?,
-            stat: fields.stat(size)?,
-            id: read_id(alloc, fields)?,
-            flags: read_flags(fields)?,
-            mode: read_mode(fields)?,
-        })
-    }
+/// The entries of a profile, put into an index one by one.
+#[derive(Drop)]
+pub struct Entries {
+    /// The entries up to the first that can't stand there.
+    index: State,
+    fault: Option<IndexError>,
+    /// The path of the entry that is read, in a buffer that all of them use.
+    path: Vec<u8>,
+    /// Its other fields.
+    fields: EntryFields,
 }
 
-/// The number of digits says how the id was made.
-fn read_id(alloc: Global, fields: Fields<'_>) -> Result<ObjectId, FieldError> {
-    let bytes = hex::decode(alloc, fields.text("id")?)?;
-    ObjectId::from_bytes(bytes.as_slice()).ok_or(FieldError::Form)
+/// What is known of an entry beside its path.
+#[derive(Clone, Copy)]
+struct EntryFields {
+    has_path: bool,
+    id: Option<ObjectId>,
+    mode: Mode,
+    stage: u32,
+    flags: Flags,
+    size: u32,
+    stat: StatFields,
 }
 
-fn read_mode(fields: Fields<'_>) -> Result<Mode, FieldError> {
-    match fields.text_or("mode", "100644")? {
-        "040000" => Ok(Mode::Dir),
-        "100644" => Ok(Mode::File),
-        "100755" => Ok(Mode::FileExecutable),
-        "120000" => Ok(Mode::Symlink),
-        "160000" => Ok(Mode::Commit),
-        _ => Err(FieldError::Form),
-    }
-}
-
-/// The stage is one of an entry's flags.
-fn read_flags(fields: Fields<'_>) -> Result<Flags, FieldError> {
-    let stage = fields.number("stage")?;
-    if stage > 3 {
-        return Err(FieldError::Form);
-    }
-    let mut flags = Flags::from_stage(stage);
-    if fields.get("flags").is_some() {
-        for value in fields.list("flags")? {
-            flags |= flag_of(value)?;
+impl EntryFields {
+    /// An entry of which no field is known.
+    fn none() -> EntryFields {
+        EntryFields {
+            has_path: false,
+            id: None,
+            mode: Mode::File,
+            stage: 0,
+            flags: Flags::default(),
+            size: 0,
+            stat: StatFields::default(),
         }
     }
-    Ok(flags)
 }
 
-fn flag_of(value: &Value) -> Result<Flags, FieldError> {
-    match text_of(value)? {
-        "uptodate" => Ok(Flags::UPTODATE),
-        "skip-worktree" => Ok(Flags::SKIP_WORKTREE),
-        "assume-valid" => Ok(Flags::ASSUME_VALID),
-        "fsmonitor-valid" => Ok(Flags::FSMONITOR_VALID),
-        "intent-to-add" => Ok(Flags::INTENT_TO_ADD),
-        _ => Err(FieldError::Form),
+impl Entries {
+    /// The index of these entries, which was written at this moment.
+    ///
+    /// # Errors
+    /// The first entry that can't stand where it is.
+    pub fn index(self, timestamp: Moment) -> Result<State, IndexError> {
+        let Entries {
+            mut index,
+            fault,
+            ..
+        } = self;
+        if let Some(fault) = fault {
+            return Err(fault);
+        }
+        index.set_timestamp(timestamp);
+        Ok(index)
+    }
+}
+
+impl Items for Entries {
+    fn none(alloc: Global) -> Entries {
+        Entries {
+            index: State::new(alloc, Moment::default()),
+            fault: None,
+            path: Vec::new(alloc),
+            fields: EntryFields::none(),
+        }
+    }
+
+    fn set<V: FieldValue>(
+        &mut self,
+        alloc: Global,
+        key: ItemKey,
+        value: &mut V,
+    ) -> Result<(), FieldError> {
+        match key {
+            ItemKey::Path => {
+                value.text_into(alloc, &mut self.path)?;
+                self.fields.has_path = true;
+            }
+            ItemKey::Id => self.fields.id = Some(value.word()?),
+            ItemKey::Mode => self.fields.mode = value.word()?,
+            ItemKey::Stage => self.fields.stage = stage_of(value.number()?)?,
+            ItemKey::Flags => self.fields.flags = value.flags()?,
+            ItemKey::Size => self.fields.size = value.number()?,
+            _ => self.fields.stat.set(alloc, key, value)?,
+        }
+        Ok(())
+    }
+
+    /// Behind an entry that can't stand where it is the others are only read.
+    fn end(&mut self, _alloc: Global) -> Result<(), FieldError> {
+        let fields = mem::replace(&mut self.fields, EntryFields::none());
+        let id = fields.id.ok_or(FieldError::Form)?;
+        if !fields.has_path {
+            return Err(FieldError::Form);
+        }
+        if self.fault.is_some() {
+            return Ok(());
+        }
+        let stat = fields.stat.of_size(fields.size);
+        let flags = fields.flags | Flags::from_stage(fields.stage);
+        let path = BStr::new(self.path.as_slice());
+        match self.index.push_entry(stat, id, flags, fields.mode, path) {
+            Ok(()) => Ok(()),
+            Err(IndexError::Memory) => Err(FieldError::Memory),
+            Err(fault) => {
+                self.fault = Some(fault);
+                Ok(())
+            }
+        }
+    }
+}
+
+fn stage_of(number: u32) -> Result<u32, FieldError> {
+    if number > 3 {
+        return Err(FieldError::Form);
+    }
+    Ok(number)
+}
+
+/// The number of hexadecimal digits says how the id was made.
+impl Word for ObjectId {
+    fn of_word(digits: &str) -> Option<ObjectId> {
+        match digits.len() {
+            40 => <[u8; 20]>::from_hex(digits).ok().map(ObjectId::Sha1),
+            64 => <[u8; 32]>::from_hex(digits).ok().map(ObjectId::Sha256),
+            _ => None,
+        }
+    }
+}
+
+impl Word for Mode {
+    fn of_word(word: &str) -> Option<Mode> {
+        match word {
+            "040000" => Some(Mode::Dir),
+            "100644" => Some(Mode::File),
+            "100755" => Some(Mode::FileExecutable),
+            "120000" => Some(Mode::Symlink),
+            "160000" => Some(Mode::Commit),
+            _ => None,
+        }
+    }
+}
+
+/// One flag.
+impl Word for Flags {
+    fn of_word(word: &str) -> Option<Flags> {
+        match word {
+            "uptodate" => Some(Flags::UPTODATE),
+            "skip-worktree" => Some(Flags::SKIP_WORKTREE),
+            "assume-valid" => Some(Flags::ASSUME_VALID),
+            "fsmonitor-valid" => Some(Flags::FSMONITOR_VALID),
+            "intent-to-add" => Some(Flags::INTENT_TO_ADD),
+            _ => None,
+        }
     }
 }

@@ -1,5 +1,6 @@
 //! Why a profile isn't read.
 
+use gix_status::index::IndexError;
 use hex::FromHexError;
 use std::alloc::{AllocError, AllocFailed};
 use std::fmt;
@@ -41,6 +42,9 @@ pub enum ProfileError {
     /// The key is missing or has a wrong form, and those before it are as they should be.
     #[error("bad profile: {0}")]
     Bad(Key),
+    /// The profile's entries are no index.
+    #[error("bad index: {0}")]
+    Index(IndexError),
     /// Memory ran out.
     #[error("out of memory")]
     Memory,
@@ -52,6 +56,15 @@ impl From<serde_json::Error> for ProfileError {
             ProfileError::Memory
         } else {
             ProfileError::NotJson
+        }
+    }
+}
+
+impl From<IndexError> for ProfileError {
+    fn from(error: IndexError) -> ProfileError {
+        match error {
+            IndexError::Memory => ProfileError::Memory,
+            error => ProfileError::Index(error),
         }
     }
 }

@@ -1,7 +1,8 @@
-//! The fields of a profile's objects, by their forms. A field with a default may be missing, but not have a wrong form.
+//! The fields of a profile and of its options, by their forms. A field with a default may be
+//! missing, but not have a wrong form.
 
 use crate::profile::error::FieldError;
-use gix_status::index::{Stat, Time};
+use gix_status::index::Time;
 use serde_json::{Map, Value};
 
 /// The fields of an object. Of equal keys the last counts.
@@ -29,19 +30,6 @@ impl<'a> Fields<'a> {
         self.members.get(key)
     }
 
-    /// A list.
-    pub fn list(self, key: &str) -> Result<&'a [Value], FieldError> {
-        match self.get(key).and_then(Value::as_array) {
-            Some(items) => Ok(items.as_slice()),
-            None => Err(FieldError::Form),
-        }
-    }
-
-    /// A text.
-    pub fn text(self, key: &str) -> Result<&'a str, FieldError> {
-        self.get(key).ok_or(FieldError::Form).and_then(text_of)
-    }
-
     /// A text, or `default` where it is missing.
     pub fn text_or(self, key: &str, default: &'a str) -> Result<&'a str, FieldError> {
         self.get(key).map_or(Ok(default), text_of)
@@ -49,10 +37,7 @@ impl<'a> Fields<'a> {
 
     /// A truth value, or `default` where it is missing.
     pub fn bool_or(self, key: &str, default: bool) -> Result<bool, FieldError> {
-        match self.get(key) {
-            Some(value) => value.as_bool().ok_or(FieldError::Form),
-            None => Ok(default),
-        }
+        self.get(key).map_or(Ok(default), truth_of)
     }
 
     /// A whole number below 2^32, or 0 where it is missing.
@@ -63,25 +48,6 @@ impl<'a> Fields<'a> {
     /// A list of seconds and nanoseconds.
     pub fn stamp(self, key: &str) -> Result<Time, FieldError> {
         self.get(key).ok_or(FieldError::Form).and_then(stamp_of)
-    }
-
-    /// A list of seconds and nanoseconds, or `default` where it is missing.
-    pub fn stamp_or(self, key: &str, default: Time) -> Result<Time, FieldError> {
-        self.get(key).map_or(Ok(default), stamp_of)
-    }
-
-    /// The stamps and the owner of a file of this size, in the fields of an entry or of a node.
-    pub fn stat(self, size: u32) -> Result<Stat, FieldError> {
-        let mtime = self.stamp_or("mtime", Time::default())?;
-        Ok(Stat {
-            mtime,
-            ctime: self.stamp_or("ctime", mtime)?,
-            dev: self.number("dev")?,
-            ino: self.number("ino")?,
-            uid: self.number("uid")?,
-            gid: self.number("gid")?,
-            size,
-        })
     }
 }
 
@@ -96,9 +62,22 @@ pub fn number_of(value: &Value) -> Result<u32, FieldError> {
     u32::try_from(number).map_err(|_| FieldError::Form)
 }
 
-fn stamp_of(value: &Value) -> Result<Time, FieldError> {
-    let items = value.as_array().ok_or(FieldError::Form)?;
-    let [secs, nsecs] = items.as_slice() else {
+/// A truth value.
+pub fn truth_of(value: &Value) -> Result<bool, FieldError> {
+    value.as_bool().ok_or(FieldError::Form)
+}
+
+/// A list.
+pub fn list_of(value: &Value) -> Result<&[Value], FieldError> {
+    match value.as_array() {
+        Some(items) => Ok(items.as_slice()),
+        None => Err(FieldError::Form),
+    }
+}
+
+/// A list of seconds and nanoseconds.
+pub fn stamp_of(value: &Value) -> Result<Time, FieldError> {
+    let [secs, nsecs] = list_of(value)? else {
         return Err(FieldError::Form);
     };
     Ok(Time {

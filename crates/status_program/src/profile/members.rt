@@ -1,54 +1,85 @@
 //! The members of a profile, as its text gives them.
 
+use crate::profile::entry::Entries;
 use crate::profile::error::FieldError;
-use crate::profile::field::Fields;
-use bstr::BString;
-use gix_status::index::NewEntry;
-use gix_status::worktree::Node;
+use crate::profile::list::{List, Way};
+use crate::profile::node::Nodes;
 use serde::{Deserialize, DeserializeOwned, Deserializer, Format, Kind};
 use serde_json::{Map, Value};
 use std::alloc::Global;
 
-/// What stands in a list of a profile: made from the fields of an object.
-pub trait Item: Sized + Drop {
-    /// Reads one.
-    fn of_fields(alloc: Global, fields: Fields<'_>) -> Result<Self, FieldError>;
-}
-
-/// A list of a profile, or why it isn't one. A list that is missing has a wrong form.
-pub type List<T> = Result<Vec<T>, FieldError>;
-
-/// The members of a profile. Of equal keys the last counts. The long lists are read item by item, so that the JSON value
-/// of no more than one item stands in memory; all else is kept as it is.
+/// The members of a profile. Of equal keys the last counts. A list that is missing has a wrong
+/// form.
 #[derive(Drop)]
 pub struct Members {
     /// The entries of the index.
-    pub entries: List<NewEntry>,
+    pub entries: List<Entries>,
     /// The nodes of the worktree with their paths.
-    pub nodes: List<(BString, Node)>,
+    pub nodes: List<Nodes>,
     /// All other members.
     pub others: Map<String, Value>,
 }
 
-/// A JSON text: the members of a profile where it is an object.
-#[derive(Drop)]
-pub struct Document(pub Option<Members>);
+impl Members {
+    /// Reads the members of the profile that a JSON text is. No more than one entry or node stands
+    /// in memory as a JSON value. None where the text is no object.
+    ///
+    /// # Errors
+    /// Text that isn't JSON, or want of memory.
+    pub fn from_json(alloc: Global, text: &[u8]) -> Result<Option<Members>, serde_json::Error> {
+        match Members::quickly(alloc, text) {
+            Ok(members) => Ok(Some(members)),
+            // Only the careful way says what is wrong.
+            Err(_) => Members::carefully(alloc, text),
+        }
+    }
 
-impl<'de> Deserialize<'de> for Document {
+    /// The same in the quick way alone. Where the text is no profile there are no members.
+    pub fn quickly(alloc: Global, text: &[u8]) -> Result<Members, serde_json::Error> {
+        let Quick(members) = serde_json::from_slice(alloc, text)?;
+        Ok(members)
+    }
+
+    /// The same in the careful way alone.
+    pub fn carefully(alloc: Global, text: &[u8]) -> Result<Option<Members>, serde_json::Error> {
+        let Careful(members) = serde_json::from_slice(alloc, text)?;
+        Ok(members)
+    }
+}
+
+/// The members of a profile, to be read in the quick way.
+#[derive(Drop)]
+struct Quick(Members);
+
+impl<'de> Deserialize<'de> for Quick {
     fn deserialize<F: Format>(
         alloc: Global,
         from: &mut Deserializer<'de, '_, F>,
-    ) -> Result<Document, F::Error> {
+    ) -> Result<Quick, F::Error> {
+        Ok(Quick(read_members(alloc, Way::Quick, from)?))
+    }
+}
+
+/// The same, to be read in the careful way. None where the text is no object.
+#[derive(Drop)]
+struct Careful(Option<Members>);
+
+impl<'de> Deserialize<'de> for Careful {
+    fn deserialize<F: Format>(
+        alloc: Global,
+        from: &mut Deserializer<'de, '_, F>,
+    ) -> Result<Careful, F::Error> {
         if from.peek()? == Kind::Map {
-            return Ok(Document(Some(read_members(alloc, from)?)));
+            return Ok(Careful(Some(read_members(alloc, Way::Careful, from)?)));
         }
-        pass_value(alloc, from)?;
-        Ok(Document(None))
+        drop(Value::deserialize_owned(alloc, from)?);
+        Ok(Careful(None))
     }
 }
 
 fn read_members<F: Format>(
     alloc: Global,
+    way: Way,
     from: &mut Deserializer<'_, '_, F>,
 ) -> Result<Members, F::Error> {
     let mut members = Members {
@@ -61,20 +92,21 @@ fn read_members<F: Format>(
         if !from.next_entry()? {
             break;
         }
-        read_member(alloc, from, &mut members)?;
+        read_member(alloc, way, from, &mut members)?;
     }
     Ok(members)
 }
 
 fn read_member<F: Format>(
     alloc: Global,
+    way: Way,
     from: &mut Deserializer<'_, '_, F>,
     members: &mut Members,
 ) -> Result<(), F::Error> {
     let key = from.string(alloc)?;
     match key.as_str() {
-        "index" => members.entries = read_list(alloc, from)?,
-        "worktree" => members.nodes = read_list(alloc, from)?,
+        "index" => members.entries = way.read_list(alloc, from)?,
+        "worktree" => members.nodes = way.read_list(alloc, from)?,
         _ => {
             let value = Value::deserialize_owned(alloc, from)?;
             if members.others.insert(key, value).is_err() {
@@ -82,44 +114,5 @@ fn read_member<F: Format>(
             }
         }
     }
-    Ok(())
-}
-
-/// Reads a list to its end, since all of the text has to be JSON, also behind an item that isn't as it should be.
-fn read_list<T: Item, F: Format>(
-    alloc: Global,
-    from: &mut Deserializer<'_, '_, F>,
-) -> Result<List<T>, F::Error> {
-    if from.peek()? != Kind::Seq {
-        pass_value(alloc, from)?;
-        return Ok(Err(FieldError::Form));
-    }
-    let mut list = Ok(Vec::new(alloc));
-    from.begin_seq()?;
-    for _ in 0..u64::MAX {
-        if !from.next_item()? {
-            break;
-        }
-        let value = Value::deserialize_owned(alloc, from)?;
-        list = with_item(alloc, list, &value);
-        if let Err(FieldError::Memory) = list {
-            return Err(from.no_memory());
-        }
-    }
-    Ok(list)
-}
-
-/// The list with one more item.
-fn with_item<T: Item>(alloc: Global, list: List<T>, value: &Value) -> List<T> {
-    let mut list = list?;
-    list.push(T::of_fields(alloc, Fields::of(value)?)?)?;
-    Ok(list)
-}
-
-fn pass_value<F: Format>(
-    alloc: Global,
-    from: &mut Deserializer<'_, '_, F>,
-) -> Result<(), F::Error> {
-    drop(Value::deserialize_owned(alloc, from)?);
     Ok(())
 }

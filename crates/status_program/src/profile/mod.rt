@@ -1,35 +1,41 @@
 //! A profile: an index and a worktree as JSON, with the options of a status.
 
+mod ahead;
 mod entry;
 mod error;
 mod field;
+mod held;
+mod key;
+mod list;
 mod members;
 mod node;
 mod options;
+mod stat;
 #[cfg(test)]
 mod tests;
+mod value;
+#[cfg(test)]
+mod way_tests;
 
 use crate::profile::field::Fields;
-use crate::profile::members::{Document, Members};
+use crate::profile::members::Members;
 use crate::profile::node::read_place;
 use crate::profile::options::read_options;
 pub use error::{FieldError, Key, ProfileError};
-use gix_status::index::{HashKind, Moment, NewEntry};
+use gix_status::index::{HashKind, Moment, State};
 pub use node::Place;
 pub use options::{Comparer, ProfileOptions};
 use std::alloc::Global;
 
 /// What a profile says.
-#[derive(Debug, Drop)]
+#[derive(Drop)]
 pub struct Profile {
     /// How ids of untracked files are made. An entry's id says itself of which kind it is.
     pub hash: HashKind,
-    /// When the index was written.
-    pub timestamp: Moment,
     /// How the status is computed, and what is printed.
     pub options: ProfileOptions,
-    /// The entries of the index, in the order of the profile.
-    pub entries: Vec<NewEntry>,
+    /// The index.
+    pub index: State,
     /// Where the worktree is.
     pub place: Place,
 }
@@ -38,11 +44,12 @@ impl Profile {
     /// Reads a profile from JSON text.
     ///
     /// # Errors
-    /// Text that isn't JSON, the first key that is missing or has a wrong form, or want of memory.
+    /// Text that isn't JSON, else the first key that is missing or has a wrong form, else the first
+    /// entry that can't stand where it is. Or want of memory.
     pub fn from_json(alloc: Global, text: &[u8]) -> Result<Profile, ProfileError> {
-        match serde_json::from_slice(alloc, text)? {
-            Document(Some(members)) => profile_of(alloc, members),
-            Document(None) => Err(ProfileError::Bad(Key::Hash)),
+        match Members::from_json(alloc, text)? {
+            Some(members) => profile_of(alloc, members),
+            None => Err(ProfileError::Bad(Key::Hash)),
         }
     }
 }
@@ -61,9 +68,8 @@ fn profile_of(alloc: Global, members: Members) -> Result<Profile, ProfileError> 
     let place = read_place(alloc, fields, nodes).map_err(|error| error.under(Key::Worktree))?;
     Ok(Profile {
         hash,
-        timestamp,
         options,
-        entries,
+        index: entries.index(timestamp)?,
         place,
     })
 }

@@ -2,10 +2,14 @@
 
 use crate::profile::error::FieldError;
 use crate::profile::field::{Fields, text_of};
-use crate::profile::members::{Item, List};
+use crate::profile::key::ItemKey;
+use crate::profile::list::{Items, List};
+use crate::profile::stat::StatFields;
+use crate::profile::value::{FieldValue, Word};
 use bstr::BString;
 use gix_status::worktree::{Node, NodeKind};
 use std::alloc::Global;
+use std::mem;
 
 /// Where a profile's worktree is.
 #[derive(Debug, Drop)]
@@ -20,56 +24,112 @@ pub enum Place {
 pub fn read_place(
     alloc: Global,
     profile: Fields<'_>,
-    nodes: List<(BString, Node)>,
+    nodes: List<Nodes>,
 ) -> Result<Place, FieldError> {
     match profile.get("folder") {
         Some(folder) => Ok(Place::Folder(String::from_str(alloc, text_of(folder)?)?)),
-        None => Ok(Place::Nodes(nodes?)),
+        None => Ok(Place::Nodes(nodes?.nodes)),
     }
 }
 
-/// A node with its path.
-impl Item for (BString, Node) {
-    fn of_fields(alloc: Global, fields: Fields<'_>) -> Result<(BString, Node), FieldError> {
-        let path = BString::from_slice(alloc, fields.text("path")?.as_bytes())?;
-        let node = read_node(alloc, fields)?;
+/// The nodes of a profile with their paths.
+#[derive(Drop)]
+pub struct Nodes {
+    nodes: Vec<(BString, Node)>,
+    /// The node that is read.
+    fields: NodeFields,
+}
+
+/// What is known of a node.
+#[derive(Drop)]
+struct NodeFields {
+    path: Option<BString>,
+    kind: NodeKind,
+    bytes: Vec<u8>,
+    has_hex: bool,
+    executable: bool,
+    stat: StatFields,
+}
+
+impl NodeFields {
+    /// A node of which no field is known.
+    fn none(alloc: Global) -> NodeFields {
+        NodeFields {
+            path: None,
+            kind: NodeKind::File,
+            bytes: Vec::new(alloc),
+            has_hex: false,
+            executable: false,
+            stat: StatFields::default(),
+        }
+    }
+
+    /// The node with its path.
+    fn node(self) -> Result<(BString, Node), FieldError> {
+        let path = self.path.ok_or(FieldError::Form)?;
+        let stat = self.stat.of_size(0);
+        let node = Node {
+            kind: self.kind,
+            len: self.bytes.len() as u64,
+            bytes: self.bytes,
+            executable: self.executable,
+            mtime: Some(stat.mtime),
+            ctime: Some(stat.ctime),
+            dev: stat.dev,
+            ino: stat.ino,
+            uid: stat.uid,
+            gid: stat.gid,
+        };
         Ok((path, node))
     }
 }
 
-fn read_node(alloc: Global, fields: Fields<'_>) -> Result<Node, FieldError> {
-    let kind = read_kind(fields)?;
-    let bytes = read_content(alloc, fields)?;
-    let stat = fields.stat(0)?;
-    Ok(Node {
-        kind,
-        len: bytes.len() as u64,
-        bytes,
-        executable: fields.bool_or("executable", false)?,
-        mtime: Some(stat.mtime),
-        ctime: Some(stat.ctime),
-        dev: stat.dev,
-        ino: stat.ino,
-        uid: stat.uid,
-        gid: stat.gid,
-    })
-}
+impl Items for Nodes {
+    fn none(alloc: Global) -> Nodes {
+        Nodes {
+            nodes: Vec::new(alloc),
+            fields: NodeFields::none(alloc),
+        }
+    }
 
-fn read_kind(fields: Fields<'_>) -> Result<NodeKind, FieldError> {
-    match fields.text_or("kind", "file")? {
-        "file" => Ok(NodeKind::File),
-        "link" => Ok(NodeKind::Link),
-        "directory" => Ok(NodeKind::Directory),
-        "other" => Ok(NodeKind::Other),
-        _ => Err(FieldError::Form),
+    fn set<V: FieldValue>(
+        &mut self,
+        alloc: Global,
+        key: ItemKey,
+        value: &mut V,
+    ) -> Result<(), FieldError> {
+        let fields = &mut self.fields;
+        match key {
+            ItemKey::Path => fields.path = Some(BString::from(value.text(alloc)?)),
+            ItemKey::Kind => fields.kind = value.word()?,
+            ItemKey::Hex => {
+                fields.bytes = hex::decode(alloc, value.text(alloc)?)?;
+                fields.has_hex = true;
+            }
+            // With digits a text isn't looked at. Of a JSON value's members they come first.
+            ItemKey::Text if fields.has_hex => value.pass(alloc)?,
+            ItemKey::Text => fields.bytes = value.text(alloc)?.into_bytes(),
+            ItemKey::Executable => fields.executable = value.truth()?,
+            _ => fields.stat.set(alloc, key, value)?,
+        }
+        Ok(())
+    }
+
+    fn end(&mut self, alloc: Global) -> Result<(), FieldError> {
+        let fields = mem::replace(&mut self.fields, NodeFields::none(alloc));
+        self.nodes.push(fields.node()?)?;
+        Ok(())
     }
 }
 
-/// The bytes as hexadecimal digits, which come before a text.
-fn read_content(alloc: Global, fields: Fields<'_>) -> Result<Vec<u8>, FieldError> {
-    if let Some(digits) = fields.get("hex") {
-        return Ok(hex::decode(alloc, text_of(digits)?)?);
+impl Word for NodeKind {
+    fn of_word(word: &str) -> Option<NodeKind> {
+        match word {
+            "file" => Some(NodeKind::File),
+            "link" => Some(NodeKind::Link),
+            "directory" => Some(NodeKind::Directory),
+            "other" => Some(NodeKind::Other),
+            _ => None,
+        }
     }
-    let text = fields.text_or("text", "")?;
-    Ok(Vec::from_slice(alloc, text.as_bytes())?)
 }

@@ -1,6 +1,8 @@
-use crate::profile::{Comparer, Key, Place, Profile, ProfileError};
+use crate::profile::list::Way;
+use crate::profile::members::Members;
+use crate::profile::{Comparer, Key, Place, Profile, ProfileError, profile_of};
 use bstr::BString;
-use gix_status::index::{Flags, HashKind, Mode, Moment, NewEntry, ObjectId, Stat, Time, stat};
+use gix_status::index::{Entry, Flags, HashKind, Mode, Moment, ObjectId, Stat, Time, stat};
 use gix_status::index_as_worktree::{Capabilities, Options};
 use gix_status::worktree::{Metadata, Node, NodeKind};
 use std::alloc::{AllocError, Global};
@@ -16,18 +18,21 @@ const ROW: &str = r#"{"hash":"sha1","timestamp":[9,0],
 {"path":"a","text":"bars","mtime":[7,0]},
 {"path":"b","text":"bar","mtime":[5,0]}]}"#;
 
-// The id of `foo` by SHA-1, as digits and as bytes.
-const SHA1: &str = "19102815663d23f8b75a47e7a01965dcdc96468c";
+// The ways to read a profile.
+pub const WAYS: [Way; 2] = [Way::Quick, Way::Careful];
 
-const FOO: ObjectId = ObjectId::Sha1([
+// The id of `foo` by SHA-1, as digits and as bytes.
+pub const SHA1: &str = "19102815663d23f8b75a47e7a01965dcdc96468c";
+
+pub const FOO: ObjectId = ObjectId::Sha1([
     0x19, 0x10, 0x28, 0x15, 0x66, 0x3d, 0x23, 0xf8, 0xb7, 0x5a, 0x47, 0xe7, 0xa0, 0x19, 0x65, 0xdc,
     0xdc, 0x96, 0x46, 0x8c,
 ]);
 
 // The id of no bytes by SHA-256, as digits and as bytes.
-const SHA256: &str = "473a0f4c3be8a93681a267e3b1e9a7dcda1185436fe141f7749120a303721813";
+pub const SHA256: &str = "473a0f4c3be8a93681a267e3b1e9a7dcda1185436fe141f7749120a303721813";
 
-const EMPTY: ObjectId = ObjectId::Sha256([
+pub const EMPTY: ObjectId = ObjectId::Sha256([
     0x47, 0x3a, 0x0f, 0x4c, 0x3b, 0xe8, 0xa9, 0x36, 0x81, 0xa2, 0x67, 0xe3, 0xb1, 0xe9, 0xa7, 0xdc,
     0xda, 0x11, 0x85, 0x43, 0x6f, 0xe1, 0x41, 0xf7, 0x74, 0x91, 0x20, 0xa3, 0x03, 0x72, 0x18, 0x13,
 ]);
@@ -113,20 +118,42 @@ const BAD_NODES: [&str; 12] = [
     r#""path":"a","gid":1e0"#,
 ];
 
-fn refusal(alloc: Global, text: &str) -> Option<ProfileError> {
-    Profile::from_json(alloc, text.as_bytes()).err()
+// What a text is as a profile, where only this way is tried.
+pub fn read_in(alloc: Global, way: Way, text: &str) -> Result<Profile, ProfileError> {
+    let members = match way {
+        Way::Quick => Some(Members::quickly(alloc, text.as_bytes())?),
+        Way::Careful => Members::carefully(alloc, text.as_bytes())?,
+    };
+    match members {
+        Some(members) => profile_of(alloc, members),
+        None => Err(ProfileError::Bad(Key::Hash)),
+    }
 }
 
-// The only entry of a profile.
-fn only_entry(profile: &Profile) -> Result<&NewEntry, Fail> {
-    match profile.entries.as_slice() {
-        [entry] => Ok(entry),
+// Asserts that a text is refused by this error, and in the quick way by any.
+pub fn assert_refused<R: AllocGlobal + Abort>(rt: &R, text: &str, error: ProfileError) {
+    let alloc = rt.alloc();
+    let whole = Profile::from_json(alloc, text.as_bytes()).err();
+    assert_eq!(rt; whole, Some(error), "at {text}");
+    let careful = read_in(alloc, Way::Careful, text).err();
+    assert_eq!(rt; careful, Some(error), "at {text}");
+    let quick = read_in(alloc, Way::Quick, text).err();
+    assert!(rt; quick.is_some(), "at {text}");
+}
+
+// The only entry of a profile, with its path.
+pub fn only_entry(profile: &Profile) -> Result<(&[u8], &Entry), Fail> {
+    match profile.index.entries() {
+        [entry] => Ok((
+            entry.path_in(profile.index.path_backing()).as_bytes(),
+            entry,
+        )),
         _ => Err(Fail::new("not one entry")),
     }
 }
 
 // The nodes of a profile.
-fn nodes_of(profile: &Profile) -> Result<&[(BString, Node)], Fail> {
+pub fn nodes_of(profile: &Profile) -> Result<&[(BString, Node)], Fail> {
     match &profile.place {
         Place::Nodes(nodes) => Ok(nodes.as_slice()),
         Place::Folder(_) => Err(Fail::new("a folder")),
@@ -134,7 +161,7 @@ fn nodes_of(profile: &Profile) -> Result<&[(BString, Node)], Fail> {
 }
 
 // The only node of a profile, with its path.
-fn only_node(profile: &Profile) -> Result<(&[u8], &Node), Fail> {
+pub fn only_node(profile: &Profile) -> Result<(&[u8], &Node), Fail> {
     match nodes_of(profile)? {
         [(path, node)] => Ok((path.as_bytes(), node)),
         _ => Err(Fail::new("not one node")),
@@ -142,8 +169,9 @@ fn only_node(profile: &Profile) -> Result<(&[u8], &Node), Fail> {
 }
 
 // Asserts that an entry is `a` with the id of `foo`, and that all but its mode and its flags is as it is by default.
-fn assert_plain<R: Abort>(rt: &R, entry: &NewEntry, mode: Mode, flags: Flags) {
-    assert_eq!(rt; entry.path.as_bytes(), b"a".as_slice());
+fn assert_plain<R: Abort>(rt: &R, found: (&[u8], &Entry), mode: Mode, flags: Flags) {
+    let (path, entry) = found;
+    assert_eq!(rt; path, b"a".as_slice());
     assert_eq!(rt; entry.id, FOO);
     assert_eq!(rt; entry.stat, Stat::default());
     assert_eq!(rt; entry.mode, mode);
@@ -189,27 +217,36 @@ fn with_options(alloc: Global, options: &str) -> Result<String, AllocError> {
 }
 
 // A profile with an entry of these fields.
-fn with_entry(alloc: Global, fields: &str) -> Result<String, AllocError> {
+pub fn with_entry(alloc: Global, fields: &str) -> Result<String, AllocError> {
     format!(in alloc; r#"{{"timestamp":[9,0],"index":[{{{fields}}}],"worktree":[]}}"#)
 }
 
 // A profile with a node of these fields.
-fn with_node(alloc: Global, fields: &str) -> Result<String, AllocError> {
+pub fn with_node(alloc: Global, fields: &str) -> Result<String, AllocError> {
     format!(in alloc; r#"{{"timestamp":[9,0],"index":[],"worktree":[{{{fields}}}]}}"#)
 }
 
 #[test]
 fn reads_a_whole_profile(rt: HostRuntime) -> Result<(), Fail> {
-    let profile = Profile::from_json(rt.alloc(), ROW.as_bytes())?;
+    for way in WAYS {
+        assert_row(&rt, &read_in(rt.alloc(), way, ROW)?)?;
+    }
+    Ok(())
+}
+
+// Asserts that a profile is the one that `ROW` is.
+fn assert_row<R: Abort>(rt: &R, profile: &Profile) -> Result<(), Fail> {
     assert_eq!(rt; profile.hash, HashKind::Sha1);
-    assert_eq!(rt; profile.timestamp, Moment { secs: 9, nsecs: 0 });
+    let written = Moment { secs: 9, nsecs: 0 };
+    assert_eq!(rt; profile.index.timestamp(), written);
     assert_eq!(rt; profile.options.comparer, Comparer::Hash);
     assert_eq!(rt; profile.options.status.chunk_size, 1);
     assert_eq!(rt; profile.options.status.thread_limit, Some(2));
-    assert_eq!(rt; profile.entries.len(), 2);
+    let backing = profile.index.path_backing();
     let paths = [b"a", b"b"];
-    for (entry, path) in profile.entries.iter().zip(paths) {
-        assert_eq!(rt; entry.path.as_bytes(), path.as_slice());
+    assert_eq!(rt; profile.index.entries().len(), 2);
+    for (entry, path) in profile.index.entries().iter().zip(paths) {
+        assert_eq!(rt; entry.path_in(backing).as_bytes(), path.as_slice());
         assert_eq!(rt; entry.stat.size, 3);
         assert_eq!(rt; entry.stat.mtime, Time { secs: 5, nsecs: 0 });
         assert_eq!(rt; entry.stat.ctime, Time { secs: 5, nsecs: 0 });
@@ -217,7 +254,7 @@ fn reads_a_whole_profile(rt: HostRuntime) -> Result<(), Fail> {
         assert_eq!(rt; entry.flags, Flags::default());
         assert_eq!(rt; entry.id.kind(), HashKind::Sha1);
     }
-    let nodes = nodes_of(&profile)?;
+    let nodes = nodes_of(profile)?;
     assert_eq!(rt; nodes.len(), 2);
     let contents = [("a", "bars"), ("b", "bar")];
     for ((path, node), (name, content)) in nodes.iter().zip(contents) {
@@ -239,13 +276,13 @@ fn what_is_missing_has_its_default(rt: HostRuntime) -> Result<(), Fail> {
         secs: 4294967295,
         nsecs: 1,
     };
-    assert_eq!(rt; profile.timestamp, written);
+    assert_eq!(rt; profile.index.timestamp(), written);
     let options = &profile.options;
     assert_eq!(rt; options.status, no_options());
     assert_eq!(rt; options.comparer, Comparer::Hash);
     assert!(rt; options.prefix.as_bytes().is_empty());
     assert!(rt; !options.untracked && !options.renames && !options.sort && !options.counts);
-    assert!(rt; profile.entries.is_empty());
+    assert!(rt; profile.index.entries().is_empty());
     assert!(rt; nodes_of(&profile)?.is_empty());
     Ok(())
 }
@@ -253,22 +290,24 @@ fn what_is_missing_has_its_default(rt: HostRuntime) -> Result<(), Fail> {
 #[test]
 fn fields_of_a_node_have_defaults(rt: HostRuntime) -> Result<(), Fail> {
     let text = with_node(rt.alloc(), r#""path":"d/e""#)?;
-    let profile = Profile::from_json(rt.alloc(), text.as_bytes())?;
-    let (path, node) = only_node(&profile)?;
-    assert_eq!(rt; path, b"d/e".as_slice());
-    assert!(rt; node.bytes.is_empty());
-    let wanted = Metadata {
-        kind: NodeKind::File,
-        len: 0,
-        executable: false,
-        mtime: Some(Time::default()),
-        ctime: Some(Time::default()),
-        dev: 0,
-        ino: 0,
-        uid: 0,
-        gid: 0,
-    };
-    assert_eq!(rt; node.metadata(), wanted);
+    for way in WAYS {
+        let profile = read_in(rt.alloc(), way, text.as_str())?;
+        let (path, node) = only_node(&profile)?;
+        assert_eq!(rt; path, b"d/e".as_slice());
+        assert!(rt; node.bytes.is_empty());
+        let wanted = Metadata {
+            kind: NodeKind::File,
+            len: 0,
+            executable: false,
+            mtime: Some(Time::default()),
+            ctime: Some(Time::default()),
+            dev: 0,
+            ino: 0,
+            uid: 0,
+            gid: 0,
+        };
+        assert_eq!(rt; node.metadata(), wanted);
+    }
     Ok(())
 }
 
@@ -383,11 +422,7 @@ fn text_that_is_no_json(rt: HostRuntime) {
         r#"{"index":[1]} 2"#,
         "[",
     ] {
-        assert_eq!(rt;
-            refusal(alloc, text),
-            Some(ProfileError::NotJson),
-            "at {text}"
-        );
+        assert_refused(&rt, text, ProfileError::NotJson);
     }
     let bytes = b"{\"hash\":\"\xff\"}".as_slice();
     let error = Profile::from_json(alloc, bytes).err();
@@ -419,11 +454,9 @@ fn more_than_127_levels_are_no_json(rt: HostRuntime) -> Result<(), Fail> {
     for (front, levels, back, key) in cases {
         let most = lists(alloc, levels)?;
         let text = format!(in alloc; "{front}{most}{back}")?;
-        let error = refusal(alloc, text.as_str());
-        assert_eq!(rt; error, Some(ProfileError::Bad(key)), "at {front}");
+        assert_refused(&rt, text.as_str(), ProfileError::Bad(key));
         let text = format!(in alloc; "{front}[{most}]{back}")?;
-        let error = refusal(alloc, text.as_str());
-        assert_eq!(rt; error, Some(ProfileError::NotJson), "at {front}");
+        assert_refused(&rt, text.as_str(), ProfileError::NotJson);
     }
     Ok(())
 }
@@ -476,11 +509,7 @@ fn the_first_bad_key_is_reported(rt: HostRuntime) {
         (r#"{"timestamp":[9,0],"index":[],"index":null}"#, Key::Index),
     ];
     for (text, key) in cases {
-        assert_eq!(rt;
-            refusal(alloc, text),
-            Some(ProfileError::Bad(key)),
-            "at {text}"
-        );
+        assert_refused(&rt, text, ProfileError::Bad(key));
     }
 }
 
@@ -491,27 +520,29 @@ fn entries_are_read(rt: HostRuntime) -> Result<(), Fail> {
         r#""path":"a\u00e9","id":"{SHA256}","stage":2,"mode":"100755","size":1,"mtime":[2,3],"ctime":[4,5],"dev":6,"ino":7,"uid":8,"gid":9,"flags":["uptodate","skip-worktree","assume-valid","fsmonitor-valid","intent-to-add"],"more":null"#
     )?;
     let text = with_entry(alloc, fields.as_str())?;
-    let profile = Profile::from_json(alloc, text.as_bytes())?;
-    let entry = only_entry(&profile)?;
-    assert_eq!(rt; entry.path.as_bytes(), "aé".as_bytes());
-    assert_eq!(rt; entry.id, EMPTY);
-    let flags = Flags::UPTODATE
-        | Flags::SKIP_WORKTREE
-        | Flags::ASSUME_VALID
-        | Flags::FSMONITOR_VALID
-        | Flags::INTENT_TO_ADD;
-    assert_eq!(rt; entry.flags, flags | Flags::from_stage(2));
-    assert_eq!(rt; entry.mode, Mode::FileExecutable);
-    let wanted = Stat {
-        mtime: Time { secs: 2, nsecs: 3 },
-        ctime: Time { secs: 4, nsecs: 5 },
-        dev: 6,
-        ino: 7,
-        uid: 8,
-        gid: 9,
-        size: 1,
-    };
-    assert_eq!(rt; entry.stat, wanted);
+    for way in WAYS {
+        let profile = read_in(alloc, way, text.as_str())?;
+        let (path, entry) = only_entry(&profile)?;
+        assert_eq!(rt; path, "aé".as_bytes());
+        assert_eq!(rt; entry.id, EMPTY);
+        let flags = Flags::UPTODATE
+            | Flags::SKIP_WORKTREE
+            | Flags::ASSUME_VALID
+            | Flags::FSMONITOR_VALID
+            | Flags::INTENT_TO_ADD;
+        assert_eq!(rt; entry.flags, flags | Flags::from_stage(2));
+        assert_eq!(rt; entry.mode, Mode::FileExecutable);
+        let wanted = Stat {
+            mtime: Time { secs: 2, nsecs: 3 },
+            ctime: Time { secs: 4, nsecs: 5 },
+            dev: 6,
+            ino: 7,
+            uid: 8,
+            gid: 9,
+            size: 1,
+        };
+        assert_eq!(rt; entry.stat, wanted);
+    }
     Ok(())
 }
 
@@ -528,8 +559,10 @@ fn modes_are_read(rt: HostRuntime) -> Result<(), Fail> {
     for (digits, mode) in cases {
         let fields = format!(in alloc; r#""path":"a","id":"{SHA1}","mode":"{digits}""#)?;
         let text = with_entry(alloc, fields.as_str())?;
-        let profile = Profile::from_json(alloc, text.as_bytes())?;
-        assert_plain(&rt, only_entry(&profile)?, mode, Flags::default());
+        for way in WAYS {
+            let profile = read_in(alloc, way, text.as_str())?;
+            assert_plain(&rt, only_entry(&profile)?, mode, Flags::default());
+        }
     }
     Ok(())
 }
@@ -547,8 +580,10 @@ fn flags_are_read(rt: HostRuntime) -> Result<(), Fail> {
     for (name, flag) in cases {
         let fields = format!(in alloc; r#""path":"a","id":"{SHA1}","flags":["{name}"]"#)?;
         let text = with_entry(alloc, fields.as_str())?;
-        let profile = Profile::from_json(alloc, text.as_bytes())?;
-        assert_plain(&rt, only_entry(&profile)?, Mode::File, flag);
+        for way in WAYS {
+            let profile = read_in(alloc, way, text.as_str())?;
+            assert_plain(&rt, only_entry(&profile)?, Mode::File, flag);
+        }
     }
     Ok(())
 }
@@ -575,22 +610,24 @@ fn nodes_are_read(rt: HostRuntime) -> Result<(), Fail> {
             r#""path":"d/e",{case},"executable":true,"mtime":[2,3],"ctime":[4,5],"dev":6,"ino":7,"uid":8,"gid":9,"more":null"#
         )?;
         let text = with_node(alloc, fields.as_str())?;
-        let profile = Profile::from_json(alloc, text.as_bytes())?;
-        let (path, node) = only_node(&profile)?;
-        assert_eq!(rt; path, b"d/e".as_slice());
-        assert_eq!(rt; node.bytes.as_slice(), bytes, "at {case}");
-        let wanted = Metadata {
-            kind,
-            len: bytes.len() as u64,
-            executable: true,
-            mtime: Some(Time { secs: 2, nsecs: 3 }),
-            ctime: Some(Time { secs: 4, nsecs: 5 }),
-            dev: 6,
-            ino: 7,
-            uid: 8,
-            gid: 9,
-        };
-        assert_eq!(rt; node.metadata(), wanted, "at {case}");
+        for way in WAYS {
+            let profile = read_in(alloc, way, text.as_str())?;
+            let (path, node) = only_node(&profile)?;
+            assert_eq!(rt; path, b"d/e".as_slice());
+            assert_eq!(rt; node.bytes.as_slice(), bytes, "at {case}");
+            let wanted = Metadata {
+                kind,
+                len: bytes.len() as u64,
+                executable: true,
+                mtime: Some(Time { secs: 2, nsecs: 3 }),
+                ctime: Some(Time { secs: 4, nsecs: 5 }),
+                dev: 6,
+                ino: 7,
+                uid: 8,
+                gid: 9,
+            };
+            assert_eq!(rt; node.metadata(), wanted, "at {case}");
+        }
     }
     Ok(())
 }
@@ -600,16 +637,18 @@ fn a_ctime_that_is_missing_is_the_mtime(rt: HostRuntime) -> Result<(), Fail> {
     let alloc = rt.alloc();
     let mtime = Time { secs: 2, nsecs: 3 };
     let fields = format!(in alloc; r#""path":"a","id":"{SHA1}","mtime":[2,3]"#)?;
-    let text = with_entry(alloc, fields.as_str())?;
-    let profile = Profile::from_json(alloc, text.as_bytes())?;
-    let entry = only_entry(&profile)?;
-    assert_eq!(rt; entry.stat.mtime, mtime);
-    assert_eq!(rt; entry.stat.ctime, mtime);
-    let text = with_node(alloc, r#""path":"a","mtime":[2,3]"#)?;
-    let profile = Profile::from_json(alloc, text.as_bytes())?;
-    let (_, node) = only_node(&profile)?;
-    assert_eq!(rt; node.mtime, Some(mtime));
-    assert_eq!(rt; node.ctime, Some(mtime));
+    let entries = with_entry(alloc, fields.as_str())?;
+    let nodes = with_node(alloc, r#""path":"a","mtime":[2,3]"#)?;
+    for way in WAYS {
+        let profile = read_in(alloc, way, entries.as_str())?;
+        let (_, entry) = only_entry(&profile)?;
+        assert_eq!(rt; entry.stat.mtime, mtime);
+        assert_eq!(rt; entry.stat.ctime, mtime);
+        let profile = read_in(alloc, way, nodes.as_str())?;
+        let (_, node) = only_node(&profile)?;
+        assert_eq!(rt; node.mtime, Some(mtime));
+        assert_eq!(rt; node.ctime, Some(mtime));
+    }
     Ok(())
 }
 
@@ -627,12 +666,7 @@ fn a_folder_stands_in_place_of_nodes(rt: HostRuntime) -> Result<(), Fail> {
 fn wrong_options_are_reported(rt: HostRuntime) -> Result<(), Fail> {
     for options in BAD_OPTIONS {
         let text = with_options(rt.alloc(), options)?;
-        let error = refusal(rt.alloc(), text.as_str());
-        assert_eq!(rt;
-            error,
-            Some(ProfileError::Bad(Key::Options)),
-            "at {options}"
-        );
+        assert_refused(&rt, text.as_str(), ProfileError::Bad(Key::Options));
     }
     Ok(())
 }
@@ -640,17 +674,15 @@ fn wrong_options_are_reported(rt: HostRuntime) -> Result<(), Fail> {
 #[test]
 fn wrong_entries_are_reported(rt: HostRuntime) -> Result<(), Fail> {
     let alloc = rt.alloc();
-    let wanted = Some(ProfileError::Bad(Key::Index));
+    let wanted = ProfileError::Bad(Key::Index);
     for fields in INCOMPLETE_ENTRIES {
         let text = with_entry(alloc, fields)?;
-        let error = refusal(alloc, text.as_str());
-        assert_eq!(rt; error, wanted, "at {fields}");
+        assert_refused(&rt, text.as_str(), wanted);
     }
     for field in BAD_ENTRIES {
         let fields = format!(in alloc; r#""path":"a","id":"{SHA1}",{field}"#)?;
         let text = with_entry(alloc, fields.as_str())?;
-        let error = refusal(alloc, text.as_str());
-        assert_eq!(rt; error, wanted, "at {field}");
+        assert_refused(&rt, text.as_str(), wanted);
     }
     Ok(())
 }
@@ -659,12 +691,7 @@ fn wrong_entries_are_reported(rt: HostRuntime) -> Result<(), Fail> {
 fn wrong_nodes_are_reported(rt: HostRuntime) -> Result<(), Fail> {
     for fields in BAD_NODES {
         let text = with_node(rt.alloc(), fields)?;
-        let error = refusal(rt.alloc(), text.as_str());
-        assert_eq!(rt;
-            error,
-            Some(ProfileError::Bad(Key::Worktree)),
-            "at {fields}"
-        );
+        assert_refused(&rt, text.as_str(), ProfileError::Bad(Key::Worktree));
     }
     Ok(())
 }
