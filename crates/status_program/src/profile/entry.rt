@@ -55,7 +55,7 @@ impl Entries {
     ///
     /// # Errors
     /// The first entry that can't stand where it is.
-    pub fn index(self, timestamp: Moment) -> Result<State, IndexError> {
+    pub fn into_index(self, timestamp: Moment) -> Result<State, IndexError> {
         let Entries {
             mut index,
             fault,

@@ -69,7 +69,7 @@ fn profile_of(alloc: Global, members: Members) -> Result<Profile, ProfileError> 
     Ok(Profile {
         hash,
         options,
-        index: entries.index(timestamp)?,
+        index: entries.into_index(timestamp)?,
         place,
     })
 }

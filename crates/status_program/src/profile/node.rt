@@ -65,7 +65,7 @@ impl NodeFields {
     }
 
     /// The node with its path.
-    fn node(self) -> Result<(BString, Node), FieldError> {
+    fn into_node(self) -> Result<(BString, Node), FieldError> {
         let path = self.path.ok_or(FieldError::Form)?;
         let stat = self.stat.of_size(0);
         let node = Node {
@@ -117,7 +117,7 @@ impl Items for Nodes {
 
     fn end(&mut self, alloc: Global) -> Result<(), FieldError> {
         let fields = mem::replace(&mut self.fields, NodeFields::none(alloc));
-        self.nodes.push(fields.node()?)?;
+        self.nodes.push(fields.into_node()?)?;
         Ok(())
     }
 }

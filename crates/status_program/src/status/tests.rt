@@ -334,34 +334,45 @@ fn a_full_output_is_a_failure_with_no_line(rt: HostRuntime) {
     }
 }
 
+// Asserts that an output that can't be flushed once it has these lines is a failure with no line. The
+// worktree has `a`, which was changed.
+fn assert_unflushed<R: AllocGlobal + Abort + Files + Sync + Threads + Wait>(
+    rt: &R,
+    options: &str,
+    entries: &[Entry<'_>],
+    lines: &str,
+) -> Result<(), Fail>
+where
+    R::File: Send,
+    R::Dir: Send,
+{
+    let text = profile(rt.alloc(), options, entries, &[("a", LONGER)])?;
+    let mut faults = Vec::new(rt.alloc());
+    let mut output = Unflushed {
+        bytes: Vec::new(rt.alloc()),
+        most: lines.len(),
+    };
+    let mut profile = text.as_str().as_bytes();
+    let status = run_status(rt, "f", &mut profile, &mut output, &mut faults);
+    assert_eq!(rt; status, 1, "at {text}");
+    assert_eq!(rt; output.bytes.as_slice(), lines.as_bytes(), "at {text}");
+    assert!(rt; faults.is_empty(), "at {text}");
+    Ok(())
+}
+
 #[test]
 fn an_output_that_is_not_flushed_is_a_failure_with_no_line(rt: HostRuntime) -> Result<(), Fail> {
     let changed = [("a", FOO, STAGED)];
-    let faulty = [("a", FOO, STAGED), ("a//b", FOO, STAGED)];
     let line = "0 modified -c- \"a\"\n";
+    // After the records.
+    assert_unflushed(&rt, "", &changed, line)?;
+    // After the records before a fault, which isn't printed then.
+    let faulty = [("a", FOO, STAGED), ("a//b", FOO, STAGED)];
+    assert_unflushed(&rt, "", &faulty, line)?;
+    // After the line of totals.
     let lines =
         "0 modified -c- \"a\"\ntotal: to process 1, processed 1, skipped 0, lstat 1, to update 0, racy 0, read 1, bytes 4\n";
-    let cases = [
-        // After the records.
-        ("", changed.as_slice(), line),
-        // After the records before a fault, which isn't printed then.
-        ("", faulty.as_slice(), line),
-        // After the line of totals.
-        (COUNTS, changed.as_slice(), lines),
-    ];
-    for (options, entries, wanted) in cases {
-        let text = profile(rt.alloc(), options, entries, &[("a", LONGER)])?;
-        let mut faults = Vec::new(rt.alloc());
-        let mut output = Unflushed {
-            bytes: Vec::new(rt.alloc()),
-            most: wanted.len(),
-        };
-        let mut profile = text.as_str().as_bytes();
-        let status = run_status(&rt, "f", &mut profile, &mut output, &mut faults);
-        assert_eq!(rt; status, 1, "at {text}");
-        assert_eq!(rt; output.bytes.as_slice(), wanted.as_bytes(), "at {text}");
-        assert!(rt; faults.is_empty(), "at {text}");
-    }
+    assert_unflushed(&rt, COUNTS, &changed, lines)?;
     Ok(())
 }
 
