@@ -159,6 +159,34 @@ fn finds_the_stretch_below_a_prefix(rt: HostRuntime) -> Result<(), Fail> {
     Ok(())
 }
 
+// An index of a million paths of six digits, in order.
+fn large_index(alloc: Global) -> Result<State, IndexError> {
+    let mut state = State::new(alloc, Moment::default());
+    for first in 0..1000u32 {
+        for second in 0..1000u32 {
+            let path = format!(in alloc; "{first:03}{second:03}")?;
+            push(&mut state, path.as_str(), HashKind::Sha1)?;
+        }
+    }
+    Ok(state)
+}
+
+#[test]
+fn a_stretch_of_a_million_entries_takes_forty_comparisons(rt: HostRuntime) -> Result<(), Fail> {
+    let index = large_index(rt.alloc())?;
+    assert_eq!(rt; index.entries().len(), 1_000_000);
+    for (prefix, range) in [
+        ("012", Some(12_000..13_000)),
+        ("999999", Some(999_999..1_000_000)),
+        ("x", None),
+    ] {
+        let (found, compared) = index.prefixed_entries_range_counted(BStr::from(prefix));
+        assert_eq!(rt; found, range);
+        assert!(rt; compared <= 40);
+    }
+    Ok(())
+}
+
 #[test]
 fn changes_one_entry_or_the_timestamp(rt: HostRuntime) -> Result<(), Fail> {
     let mut state = index(rt.alloc())?;
