@@ -97,15 +97,18 @@ def measure(rows, runs):
 
 def report(times):
     """Prints a line for each thing that is compared."""
-    differences = {"the loop": ("loop", "no loop"), "the status alone": ("program", "no status")}
-    lines = {name: [a - b for a, b in zip(times[x], times[y])] for name, (x, y) in differences.items()}
-    lines["the whole program"] = times["program"]
-    lines.update({name: times[name] for name in ("git status", "git diff-files", "libgit2") if name in times})
+    spans = {name: (min(all_times), statistics.median(all_times)) for name, all_times in times.items()}
+
+    def without(whole, rest):
+        return tuple(a - b for a, b in zip(spans[whole], spans[rest]))
+
+    lines = {"the loop": without("loop", "no loop"), "the status alone": without("program", "no status")}
+    lines["the whole program"] = spans["program"]
+    lines.update({name: spans[name] for name in ("git status", "git diff-files", "libgit2") if name in spans})
     print(f"{'':18} {'least':>7} {'middle':>7} {'loops':>6} {'gits':>6}")
-    for name, spans in lines.items():
-        least = min(spans)
-        loops, gits = least / min(lines["the loop"]), least / min(lines["git status"])
-        print(f"{name:18} {least:7.1f} {statistics.median(spans):7.1f} {loops:6.2f} {gits:6.2f}")
+    for name, (least, middle) in lines.items():
+        loops, gits = least / lines["the loop"][0], least / lines["git status"][0]
+        print(f"{name:18} {least:7.1f} {middle:7.1f} {loops:6.2f} {gits:6.2f}")
 
 
 def touch(top):
