@@ -4,3 +4,4 @@
 pub mod index_as_worktree;
 
 pub use status_base::{board, fscache, index, stack, worktree};
+pub use status_world::world;

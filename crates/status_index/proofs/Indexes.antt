@@ -45,7 +45,7 @@ IsIndex-set xs i y l same h =
     IsIndex-alike xs (slice_set xs i y) (length-set xs i y) (alike_at_set xs i y l same) h
 
 -- what a storage has for an entry that is read from the list
-index_entry_read : (b : PathStorage) (es : List Entry) (i : ℕ) (x : Entry) → i < length es → x ≡ slice_index_or es i x → (d : IndexEntry) → slice_index_or (index_entries b es) i d ≡ index_entry b x
+pub index_entry_read : (b : PathStorage) (es : List Entry) (i : ℕ) (x : Entry) → i < length es → x ≡ slice_index_or es i x → (d : IndexEntry) → slice_index_or (index_entries b es) i d ≡ index_entry b x
 index_entry_read b es i x l e d = get_or-map (index_entry b) es i x d l ∙ ap (index_entry b) (sym e)
 
 -- another entry of the same path, by a function of what stood there

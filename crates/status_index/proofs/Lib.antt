@@ -2,7 +2,9 @@ pub mod Absences
 pub mod EmptyBlob
 pub mod Halvings
 pub mod Indexes
+pub mod Places
 pub mod ReaderPlace
 pub mod Refusals
+pub mod Staging
 pub mod Storages
 pub mod Stretches

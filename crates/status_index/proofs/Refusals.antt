@@ -145,7 +145,7 @@ IsRefusal-more es rest (MixedHash at) h =
     (IsFirstAt-more es rest at l h.0, λ u. h.1 (IsUnnamed-less es rest at l u), λ u. h.2 (IsOutOfOrder-less es rest at l u), IsOfOtherKind-more es rest at l h.3)
 IsRefusal-more es rest Memory h = tt
 
-listed_in : (es : List IndexEntry) (k : ℕ) → k < length es → IndexEntry
+pub listed_in : (es : List IndexEntry) (k : ℕ) → k < length es → IndexEntry
 listed_in [] k h = absurd (omega arith)
 listed_in (e ∷ es) k h = e
 

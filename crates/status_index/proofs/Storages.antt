@@ -1,14 +1,14 @@
 -- What a storage has for an entry once more bytes stand behind its own.
-use Rattle.std.proofs.Common.{◌≡◌, refl, sym, ap, ◌∙◌, ℕ, ◌+◌, ◌-◌, ◌<◌, ◌≤◌, ◌⊎◌, inl, inr, Bool, true, false, cond, List, [], ◌∷◌, ◌++◌, length, take, drop, All, arith}
-use Rattle.std.specs.List.{slice_range}
+use Rattle.std.proofs.Common.{◌≡◌, refl, sym, ap, ◌∙◌, ℕ, ◌+◌, ◌-◌, ◌<◌, ◌≤◌, ◌⊎◌, inl, inr, Bool, true, false, cond, List, [], ◌∷◌, ◌++◌, length, take, drop, slice_set, All, arith}
+use Rattle.std.specs.List.{insert, remove_range, slice_range}
 use Rattle.std.proofs.lemmas.Bool.{cases_lt}
 use Rattle.std.proofs.lemmas.Bool.Decides.{nat_tests}
-use Rattle.std.proofs.lemmas.List.{append-nil, map_push, take-append-le, drop-append-le, length-drop, length-append, take_all}
+use Rattle.std.proofs.lemmas.List.{append-nil, append_assoc, map-append, map_push, take-map, drop-map, take_more_set, drop-set-lt, take-append-le, drop-append-le, length-drop, length-append, take_all}
 use Rattle.std.proofs.Math.Seq.{drop-append_seam}
 use Rattle.std.proofs.lemmas.List.Elements.{All-head, All-tail}
 use Rattle.status_index.specs.declared.entry.Entry.{Entry}
 use Rattle.status_index.specs.declared.entry.PathStorage.{PathStorage}
-use Rattle.status_index.specs.Entries.{IndexEntry, IsIndex, bytes_within, path_in, index_entry, index_entries}
+use Rattle.status_index.specs.Entries.{IndexEntry, IsIndex, bytes_within, path_in, entry_at, index_entry, index_entries}
 
 pub within-part : (xs : List ℕ) (a b : ℕ) → a ≤ b → b ≤ length xs → bytes_within xs a b ≡ slice_range xs a b
 unfolding bytes_within
@@ -69,9 +69,31 @@ pub index_entries-kept : (old new : PathStorage) (es : List Entry) → Extends o
 index_entries-kept old new es h index = entries_kept old new es h index.named
 
 -- an entry whose path is what was put behind
-pub index-push : (old new : PathStorage) (es : List Entry) (e : Entry) (path : List ℕ) (x : IndexEntry) → new.bytes.items ≡ old.bytes.items ++ path → e.path.start ≡ length old.bytes.items → e.path.end ≡ length new.bytes.items → x ≡ record { path = path; stat = e.stat; id = e.id; flags = e.flags; mode = e.mode } → IsIndex (index_entries old es) → index_entries new (es ++ e ∷ []) ≡ index_entries old es ++ x ∷ []
-index-push old new es e path x grown start stop is index =
+stored-push : (old new : PathStorage) (e : Entry) (path : List ℕ) (x : IndexEntry) → new.bytes.items ≡ old.bytes.items ++ path → e.path.start ≡ length old.bytes.items → e.path.end ≡ length new.bytes.items → x ≡ entry_at path e → index_entry new e ≡ x
+stored-push old new e path x grown start stop is =
     let long : e.path.end ≡ length old.bytes.items + length path = omega (arith, stop, ap length grown, length-append old.bytes.items path) in
     let stored : path_in new e ≡ path = rw (grown, start, long) (within-behind old.bytes.items path) in
-    let kept = index_entries-kept old new es (record { rest = path; same = grown }) index in
-    rw (map_push (index_entry new) es e, kept, stored, is)
+    rw (stored, is)
+
+-- such an entry behind the others, and at a place among them
+module _ (old new : PathStorage) (es : List Entry) (e : Entry) (path : List ℕ) (x : IndexEntry) (grown : new.bytes.items ≡ old.bytes.items ++ path) (start : e.path.start ≡ length old.bytes.items) (stop : e.path.end ≡ length new.bytes.items) (is : x ≡ entry_at path e) (index : IsIndex (index_entries old es)) where
+  kept-push : index_entries new es ≡ index_entries old es
+  kept-push = index_entries-kept old new es (record { rest = path; same = grown }) index
+
+  pub index-push : index_entries new (es ++ e ∷ []) ≡ index_entries old es ++ x ∷ []
+  index-push = rw (map_push (index_entry new) es e, kept-push, stored-push old new e path x grown start stop is)
+
+  pub index-insert : (i : ℕ) → index_entries new (insert es i e) ≡ take i (index_entries old es) ++ x ∷ [] ++ drop i (index_entries old es)
+  index-insert i =
+      rw (map-append (index_entry new) (take i es) (e ∷ drop i es), ← take-map (index_entry new) i es, ← drop-map (index_entry new) i es, kept-push, stored-push old new e path x grown start stop is)
+      (sym (append_assoc (take i (index_entries old es)) (x ∷ []) (drop i (index_entries old es))))
+
+-- entries from a place up to another are gone, or one stands in their stead
+module _ (b : PathStorage) (es : List Entry) (i j : ℕ) where
+  pub index-remove : index_entries b (remove_range es i j) ≡ take i (index_entries b es) ++ [] ++ drop j (index_entries b es)
+  index-remove =
+      rw (map-append (index_entry b) (take i es) (drop j es), ← take-map (index_entry b) i es, ← drop-map (index_entry b) j es, append-nil (take i (index_entries b es)))
+
+  pub index-replace : (e : Entry) (x : IndexEntry) → i < j → i < length es → index_entry b e ≡ x → index_entries b (remove_range (slice_set es i e) (i + 1) j) ≡ take i (index_entries b es) ++ x ∷ [] ++ drop j (index_entries b es)
+  index-replace e x some inside is =
+      rw (take_more_set es i e inside, drop-set-lt j es i e some, map-append (index_entry b) (take i es ++ e ∷ []) (drop j es), map_push (index_entry b) (take i es) e, ← take-map (index_entry b) i es, ← drop-map (index_entry b) j es, is)

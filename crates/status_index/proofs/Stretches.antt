@@ -1,6 +1,6 @@
 -- In an index, what begins with a prefix stands together, behind what is below it.
-use Rattle.std.proofs.Common.{◌≡◌, refl, sym, ap, subst, ◌∙◌, ℕ, ◌+◌, ◌-◌, ◌<◌, ◌≤◌, min, ◌⊎◌, ◌↔◌, inl, inr, Bool, true, false, List, [], ◌∷◌, length, map, take, drop, slice_index_or, nat_eq, All, arith}
-use Rattle.std.specs.List.{AllWithin, starts_with, prefix_len}
+use Rattle.std.proofs.Common.{◌≡◌, refl, sym, ap, subst, ◌∙◌, ℕ, ◌+◌, ◌-◌, ◌<◌, ◌≤◌, min, ◌⊎◌, ◌↔◌, inl, inr, Bool, true, false, List, [], ◌∷◌, length, take, drop, slice_index_or, nat_eq, All, arith}
+use Rattle.std.specs.List.{starts_with, prefix_len}
 use Rattle.std.specs.Ordering.{nat_cmp, ordering_then, ordering_reverse, is_lt, is_gt}
 use Rattle.std.specs.Cmp.Lexicographic.{slice_cmp}
 use Rattle.std.specs.declared.cmp.Ordering.{Ordering}
@@ -69,7 +69,7 @@ not_begun (c ∷ p) (a ∷ x) low begun =
       | inr l ↦ not_begun p x l.1 s.1
     ]
 
-Less-from_lt : (o : Ordering) → is_lt o ≡ true → o ≡ Less
+pub Less-from_lt : (o : Ordering) → is_lt o ≡ true → o ≡ Less
 Less-from_lt Less h = refl
 Less-from_lt Equal h = cc
 Less-from_lt Greater h = cc
@@ -88,7 +88,7 @@ lower Equal x y p e h low = ap is_lt (nat_list_cmp_total.congr x y p e) ∙ low
 lower Greater x y p e h low = cc
 
 -- the paths of an index ascend
-ascends : (es : List IndexEntry) → IsIndex es → (i j : ℕ) (d : IndexEntry) → i < j → j < length es → is_gt (slice_cmp nat_cmp (slice_index_or es i d).path (slice_index_or es j d).path) ≡ false
+pub ascends : (es : List IndexEntry) → IsIndex es → (i j : ℕ) (d : IndexEntry) → i < j → j < length es → is_gt (slice_cmp nat_cmp (slice_index_or es i d).path (slice_index_or es j d).path) ≡ false
 ascends es h i j d l m = not_above _ _ (h.ascending i j d l m)
 
 pub IsFront-below : (es : List IndexEntry) (p : List ℕ) → IsIndex es → IsFront (is_below p) es

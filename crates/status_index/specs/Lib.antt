@@ -11,6 +11,7 @@ pub mod NodeStat
 pub mod Orders
 pub mod Probes
 pub mod ReadAll
+pub mod Staging
 pub mod Stat
 pub mod States
 pub mod StreamId

@@ -1,11 +1,11 @@
 -- The stretch of an index whose paths begin with a prefix.
 use Rattle.std.specs.Prelude.{◌≡◌, ℕ, ◌<◌, ◌≤◌, ◌-◌, nat_eq, Bool, true, false, List, length, take, drop, Option, Some, None, All, AllPairs}
 use Rattle.std.specs.List.{starts_with}
-use Rattle.std.specs.Ordering.{nat_cmp, is_lt}
+use Rattle.std.specs.Ordering.{nat_cmp, is_lt, is_le}
 use Rattle.std.specs.Cmp.Lexicographic.{slice_cmp}
 use Rattle.std.specs.declared.ops.Range.{Range}
 use Rattle.status_index.specs.declared.path_probe.Question.{Question}
-use Rattle.status_index.specs.declared.path_probe.Question.TheVariants.{Below, Under}
+use Rattle.status_index.specs.declared.path_probe.Question.TheVariants.{Below, Under, UpTo}
 use Rattle.status_index.specs.Entries.{IndexEntry}
 
 -- whether an entry's path begins with the prefix
@@ -33,10 +33,15 @@ IsPrefixed es prefix (Some r) = IsStretch es prefix r.start r.end × (0 < length
 abbrev pub is_below : List ℕ → IndexEntry → Bool
 is_below prefix e = is_lt (slice_cmp nat_cmp e.path prefix)
 
--- what is asked of an entry: whether its path is below the prefix, or begins with it
+-- whether an entry's path is the prefix or below it
+abbrev pub is_up_to : List ℕ → IndexEntry → Bool
+is_up_to prefix e = is_le (slice_cmp nat_cmp e.path prefix)
+
+-- what is asked of an entry: whether its path is below the prefix, begins with it, or is it or below it
 abbrev pub meets : Question → List ℕ → IndexEntry → Bool
 meets Below prefix = is_below prefix
 meets Under prefix = is_under prefix
+meets UpTo prefix = is_up_to prefix
 
 -- the entries that pass a test stand before those that don't
 abbrev pub IsFront : (IndexEntry → Bool) → List IndexEntry → Type 0

@@ -29,7 +29,7 @@ pub struct Entry {
 /// The paths of an index's entries, in one buffer.
 #[derive(Drop)]
 pub struct PathStorage {
-    /// The bytes of all paths, in the order of the entries.
+    /// The bytes of all paths, in the order in which they came.
     pub(crate) bytes: Vec<u8>,
 }
 

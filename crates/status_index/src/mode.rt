@@ -48,7 +48,7 @@ pub enum Change {
 }
 
 /// The mode that an entry for this node has.
-fn mode_of_node(node: &Metadata, executable_bit: bool) -> Mode
+pub fn mode_of_node(node: &Metadata, executable_bit: bool) -> Mode
     ensures { result ≡ new_mode executable_bit node.now.kind node.now.executable }
 {
     match node.kind {

@@ -15,6 +15,8 @@ pub(crate) enum Question {
     Below,
     /// Whether it begins with the prefix.
     Under,
+    /// Whether it is the prefix or below it.
+    UpTo,
 }
 
 /// Entries of which those that meet a question stand in front.
@@ -50,6 +52,7 @@ fn is_met(question: Question, entry: &Entry, backing: &PathStorage, prefix: &[u8
     match question {
         Question::Below => path.cmp(prefix).is_lt(),
         Question::Under => path.starts_with(prefix),
+        Question::UpTo => path.cmp(prefix).is_le(),
     }
 }
 

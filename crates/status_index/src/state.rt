@@ -3,6 +3,8 @@
 ghost use Rattle.std.specs.Prelude.{map};
 ghost use Rattle.status_index.specs.Entries.{IsIndex, index_entries};
 
+mod staging;
+
 use crate::entry::{Entry, NewEntry, PathStorage};
 use crate::flags::Flags;
 use crate::id::ObjectId;

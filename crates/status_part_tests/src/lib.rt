@@ -25,6 +25,8 @@ mod search;
 #[cfg(test)]
 mod stack;
 #[cfg(test)]
+mod staging;
+#[cfg(test)]
 mod state;
 #[cfg(test)]
 mod words;

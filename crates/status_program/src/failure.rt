@@ -8,6 +8,7 @@ use crate::profile::ProfileError;
 use bstr::BStr;
 use gix_status::index_as_worktree::Error;
 use gix_status::worktree::{Fault, FindError, TreeError};
+use gix_status::world::Refusal;
 use std::alloc::{AllocError, Global};
 use std::io;
 
@@ -27,6 +28,15 @@ pub enum Failure {
     },
     /// The status fails.
     Status(Error),
+    /// The beginning of a world is refused.
+    Start(Refusal),
+    /// An event is refused.
+    Event {
+        /// Why it is.
+        refusal: Refusal,
+        /// The event's place in the profile.
+        at: usize,
+    },
     /// The output can't be written.
     Output,
     /// Memory ran out.
@@ -50,6 +60,22 @@ impl Failure {
         }
     }
 
+    /// The failure of a world's beginning.
+    pub fn of_start(refusal: Refusal) -> Failure {
+        if is_refused_memory(&refusal) {
+            return Failure::Memory;
+        }
+        Failure::Start(refusal)
+    }
+
+    /// The failure of the event at this place of the profile.
+    pub fn of_event(refusal: Refusal, at: usize) -> Failure {
+        if is_refused_memory(&refusal) {
+            return Failure::Memory;
+        }
+        Failure::Event { refusal, at }
+    }
+
     /// Writes the failure in one line, and gives the exit status. `name` is the name of the profile's file.
     pub fn report<E: io::Write>(&self, alloc: Global, name: &str, faults: &mut E) -> u8 {
         // Where the line can't be written there is nowhere left to say that.
@@ -69,6 +95,14 @@ impl Failure {
             Failure::Profile(error) => writeln!(faults, "{error}"),
             Failure::Worktree { error, at } => writeln!(faults, "bad worktree: {error} at {at}"),
             Failure::Status(error) => write_status_line(alloc, error, faults),
+            Failure::Start(refusal) => {
+                let words = refusal_words(refusal);
+                writeln!(faults, "refused start: {words}")
+            }
+            Failure::Event { refusal, at } => {
+                let words = refusal_words(refusal);
+                writeln!(faults, "refused {at}: {words}")
+            }
             Failure::Output => Ok(()),
             Failure::Memory => writeln!(faults, "out of memory"),
         }
@@ -98,6 +132,39 @@ fn status_words(alloc: Global, error: &Error) -> Result<String, AllocError> {
     }
 }
 
+/// The words for a refusal.
+fn refusal_words(refusal: &Refusal) -> &'static str {
+    match refusal {
+        Refusal::ClockEnd => "clock end",
+        Refusal::BadPath => "bad path",
+        Refusal::InTheWay => "in the way",
+        Refusal::TooLarge => "too large",
+        Refusal::NotAFile => "not a file",
+        Refusal::StampLater => "stamp later",
+        Refusal::Interrupted => "interrupted",
+        Refusal::Run(_) => "run failed",
+        Refusal::Memory => "out of memory",
+        Refusal::BadMoment => "bad moment",
+    }
+}
+
+/// Whether a refusal is want of memory, within a run too.
+fn is_refused_memory(refusal: &Refusal) -> bool {
+    match refusal {
+        Refusal::Memory => true,
+        Refusal::Run(error) => is_memory(error),
+        _ => false,
+    }
+}
+
+/// Whether a status fails for want of memory, wherever it is met.
+fn is_memory(error: &Error) -> bool {
+    matches!(
+        error,
+        Error::Memory | Error::Io(Fault::Memory) | Error::Find(FindError::Memory)
+    )
+}
+
 impl From<AllocError> for Failure {
     fn from(_error: AllocError) -> Failure {
         Failure::Memory
@@ -112,11 +179,9 @@ impl From<ProfileError> for Failure {
 
 impl From<Error> for Failure {
     fn from(error: Error) -> Failure {
-        match error {
-            Error::Memory | Error::Io(Fault::Memory) | Error::Find(FindError::Memory) => {
-                Failure::Memory
-            }
-            error => Failure::Status(error),
+        if is_memory(&error) {
+            return Failure::Memory;
         }
+        Failure::Status(error)
     }
 }

@@ -1,7 +1,4 @@
-//! The lines that a status prints.
-
-ghost use Rattle.std.specs.Prelude.{◌<◌, ◌^◌};
-ghost use Rattle.status_call.specs.Outcomes.{skipped_of};
+//! The lines that a status or a replay prints.
 
 #[cfg(test)]
 mod tests;
@@ -24,11 +21,14 @@ pub fn status_line<T: Drop, U: Drop>(
     format!(in alloc; "{entry_index} {words} {path}\n")
 }
 
+/// The line that a run of a replay begins with, with its line feed. Runs are counted from 1.
+pub fn run_line(alloc: Global, run: u64) -> Result<String, AllocError> {
+    format!(in alloc; "run {run}\n")
+}
+
 /// The line of what a status took, with its line feed.
-pub fn total_line(alloc: Global, outcome: &Outcome) -> Result<String, AllocError>
-    requires { skipped_of outcome.now < 2 ^ 64 }
-{
-    let skipped = outcome.skipped();
+pub fn total_line(alloc: Global, outcome: &Outcome) -> Result<String, AllocError> {
+    let skipped = skipped(outcome);
     let Outcome {
         entries_to_process,
         entries_processed,
@@ -42,6 +42,13 @@ pub fn total_line(alloc: Global, outcome: &Outcome) -> Result<String, AllocError
     format!(in alloc;
         "total: to process {entries_to_process}, processed {entries_processed}, skipped {skipped}, lstat {symlink_metadata_calls}, to update {entries_to_update}, racy {racy_clean}, read {worktree_files_read}, bytes {worktree_bytes}\n"
     )
+}
+
+/// How many entries were skipped. In 128 bits the sum fits whatever the counts are.
+fn skipped(outcome: &Outcome) -> u128 {
+    outcome.entries_skipped_by_common_prefix as u128
+        + outcome.entries_skipped_by_pathspec as u128
+        + outcome.entries_skipped_by_entry_flags as u128
 }
 
 /// A path as a JSON string, which is displayed as its compact text. Bytes that aren't UTF-8 are replaced.

@@ -1,14 +1,20 @@
-//! A command line over the status of an index against a worktree.
+//! A command line over the status of an index against a worktree, and over histories of both.
 #![tactic(auto)]
 
 mod failure;
+#[cfg(test)]
+mod fakes;
+mod input;
 pub mod lines;
+mod output;
 pub mod profile;
+pub mod replay;
 pub mod status;
 #[cfg(test)]
 mod tests;
 
 use crate::failure::Failure;
+use crate::replay::run_replay;
 use crate::status::run_status;
 use std::convert::AsStr;
 use std::io::BufWriter;
@@ -18,7 +24,27 @@ use std::sync::Wait;
 use std::thread::Threads;
 use std::{env, fs, io};
 
-const USAGE: &str = "usage: status_program status FILE";
+const USAGE: &str = "usage: status_program status FILE | replay FILE";
+
+/// What is done with a profile.
+#[derive(Clone, Copy, Debug, PartialEq, Eq)]
+enum Command {
+    /// Its status is printed.
+    Status,
+    /// Its events happen.
+    Replay,
+}
+
+impl Command {
+    /// The command that this word names, if any.
+    fn of_word(word: &str) -> Option<Command> {
+        match word {
+            "status" => Some(Command::Status),
+            "replay" => Some(Command::Replay),
+            _ => None,
+        }
+    }
+}
 
 fn main(rt: HostRuntime) -> ExitCode {
     ExitCode::from(run(&rt, &mut rt.stderr()))
@@ -54,20 +80,19 @@ where
     R::Dir: Send,
     requires { I.can_next words }
 {
-    match file_of(words) {
-        Some(file) => run_on_file(rt, file.as_str(), faults),
+    match command_of(words) {
+        Some((command, file)) => run_on_file(rt, command, file.as_str(), faults),
         None => print_usage(faults),
     }
 }
 
-/// The name of the file whose status these words want. None where they aren't `status FILE`.
-fn file_of<W: AsStr + Drop, I: Iterator<Item = W>>(mut words: I) -> Option<W>
+/// The command that these words are, and the name of its profile's file. None where they are no command and one name.
+fn command_of<W: AsStr + Drop, I: Iterator<Item = W>>(mut words: I) -> Option<(Command, W)>
     requires { I.can_next words }
 {
-    let command = words.next()?;
+    let command = Command::of_word(words.next()?.as_str())?;
     let file = words.next()?;
-    let is_status = command.as_str() == "status" && words.next().is_none();
-    is_status.then_some(file)
+    words.next().is_none().then_some((command, file))
 }
 
 /// Prints how the program is called, and gives the exit status.
@@ -79,6 +104,7 @@ fn print_usage<E: io::Write>(faults: &mut E) -> u8 {
 
 fn run_on_file<R: AllocGlobal + Files + Print + Sync + Threads + Wait, E: io::Write>(
     rt: &R,
+    command: Command,
     file: &str,
     faults: &mut E,
 ) -> u8
@@ -91,7 +117,10 @@ where
         Err(error) => return Failure::of_reading(error).report(rt.alloc(), file, faults),
     };
     match BufWriter::new(rt.alloc(), io::writer(rt)) {
-        Ok(mut output) => run_status(rt, file, &mut profile, &mut output, faults),
+        Ok(mut output) => match command {
+            Command::Status => run_status(rt, file, &mut profile, &mut output, faults),
+            Command::Replay => run_replay(rt, file, &mut profile, &mut output, faults),
+        },
         Err(_) => Failure::Memory.report(rt.alloc(), file, faults),
     }
 }

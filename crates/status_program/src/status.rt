@@ -1,16 +1,14 @@
 //! The status of a profile's index against its worktree.
 
-ghost use Rattle.std.specs.Prelude.{◌<◌, ◌^◌, IfOk};
-ghost use Rattle.status_call.specs.Outcomes.{skipped_of};
-
 #[cfg(test)]
 mod folder_tests;
 #[cfg(test)]
 mod tests;
 
 use crate::failure::Failure;
-use crate::lines::{status_line, total_line};
-use crate::profile::{Comparer, Place, Profile, ProfileOptions};
+use crate::input::read_all;
+use crate::output::{flush, print_record, print_totals};
+use crate::profile::{Place, Profile, ProfileOptions};
 use bstr::BString;
 use gix_status::index::State;
 use gix_status::index_as_worktree::traits::{CompareBlobs, FastEq, HashEq};
@@ -21,6 +19,7 @@ use gix_status::worktree::{
     AllPaths, DiskWorktree, MemoryObjects, MemoryWorktree, NoFilter, NoLister, NoSubmodules, Node,
     Pathspec, Prefix, Worktree,
 };
+use gix_status::world::Comparer;
 use std::alloc::Global;
 use std::io;
 use std::path::Path;
@@ -78,8 +77,7 @@ where
 }
 
 fn read_profile<I: io::Read>(alloc: Global, profile: &mut I) -> Result<Profile, Failure> {
-    let mut text = Vec::new(alloc);
-    profile.read_to_end(&mut text).map_err(Failure::of_reading)?;
+    let text = read_all(alloc, profile)?;
     Ok(Profile::from_json(alloc, text.as_slice())?)
 }
 
@@ -197,7 +195,6 @@ fn report_status<
 where
     W::File: Send,
     C::Output: Send,
-    ensures { IfOk result (λ o. skipped_of o < 2 ^ 64) }
 {
     let context = Context {
         pathspec,
@@ -227,38 +224,13 @@ fn print_records<T: Drop, U: Drop, O: io::Write>(
     output: &mut O,
 ) -> Result<(), Failure> {
     for record in records {
-        let line = status_line(
+        print_record(
             alloc,
             record.entry_index,
             record.relative_path,
             &record.status,
+            output,
         )?;
-        print(line.as_str(), output)?;
     }
     flush(output)
-}
-
-/// Prints the line of totals where the profile wants it.
-fn print_totals<O: io::Write>(
-    alloc: Global,
-    outcome: &Outcome,
-    counts: bool,
-    output: &mut O,
-) -> Result<(), Failure>
-    requires { skipped_of outcome.now < 2 ^ 64 }
-{
-    if counts {
-        print(total_line(alloc, outcome)?.as_str(), output)?;
-    }
-    flush(output)
-}
-
-fn print<O: io::Write>(line: &str, output: &mut O) -> Result<(), Failure> {
-    output
-        .write_all(line.as_bytes())
-        .map_err(|_| Failure::Output)
-}
-
-fn flush<O: io::Write>(output: &mut O) -> Result<(), Failure> {
-    output.flush().map_err(|_| Failure::Output)
 }

@@ -1,12 +1,12 @@
 //! A worktree in memory.
 
-ghost use Rattle.std.specs.Prelude.{◌≡◌, [], IfOk, MatchOption, is_some};
+ghost use Rattle.std.specs.Prelude.{◌≡◌, ◌⊎◌, [], None, Some, IfOk, IfErr, OnOk, MatchOption, is_some};
 ghost use Rattle.std.specs.Option.{option_map};
 ghost use Rattle.std.specs.FinMap as paths;
 ghost use Rattle.bstr.specs.BStr.{bstr_bytes};
 ghost use Rattle.status_base.specs.Paths.{is_odd, odd_component};
 ghost use Rattle.status_base.specs.MemoryTree.{is_no_directory, has_below, has_file_above, absence, bare_directory, planted_at, no_faults};
-ghost use Rattle.status_base.specs.Nodes.{placed_of, put_fault, fault_without_node, IsPut};
+ghost use Rattle.status_base.specs.Nodes.{placed_of, is_bad_path, put_fault, fault_without_node, IsPut};
 ghost use Rattle.status_base.specs.Trees.{empty_tree};
 
 use crate::worktree::Worktree;
@@ -142,6 +142,20 @@ impl MemoryWorktree {
         }
     }
 
+    /// Whether a node of a kind could be put at a path now.
+    ///
+    /// # Errors
+    /// What `put` would answer, or want of memory.
+    pub fn check_put(&self, path: BStr<'_>, kind: NodeKind) -> Result<(), TreeError>
+        ensures ok { OnOk result (put_fault self.now (bstr_bytes path.entry) kind ≡ None) }
+        ensures err { IfErr result (λ e. (e ≡ TreeError.Memory) ⊎ (put_fault self.now (bstr_bytes path.entry) kind ≡ Some e)) }
+    {
+        match self.fault_of_put(path.as_bytes(), kind)? {
+            Some(fault) => Err(fault),
+            None => Ok(()),
+        }
+    }
+
     /// Takes the node at a path out.
     pub fn remove(&mut self, path: BStr<'_>) -> Option<Node>
         ensures value { option_map placed_of result ≡ paths.get self.old.nodes (bstr_bytes path.entry) }
@@ -229,6 +243,14 @@ impl MemoryWorktree {
             Ok(self.absence(path))
         }
     }
+}
+
+/// Whether nothing can be put at a path: it is empty, or a component is empty, `.` or `..`.
+pub fn is_bad_path(path: BStr<'_>) -> bool
+    ensures { result ≡ is_bad_path (bstr_bytes path.entry) }
+{
+    let path = path.as_bytes();
+    path.is_empty() || has_odd_component(path)
 }
 
 /// Whether a component of a path is empty, `.` or `..`.

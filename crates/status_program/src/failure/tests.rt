@@ -3,6 +3,7 @@ use crate::profile::{Key, ProfileError};
 use gix_status::index::IndexError;
 use gix_status::index_as_worktree::Error;
 use gix_status::worktree::{ByteText, Fault, FindError, TreeError};
+use gix_status::world::Refusal;
 use std::io;
 use std::process::Abort;
 use std::test::Fail;
@@ -65,6 +66,24 @@ fn each_error_of_a_status_has_its_words(rt: HostRuntime) -> Result<(), Fail> {
 }
 
 #[test]
+fn each_refusal_has_its_words(rt: HostRuntime) {
+    let cases = [
+        (Refusal::ClockEnd, "refused 3: clock end\n"),
+        (Refusal::BadPath, "refused 3: bad path\n"),
+        (Refusal::InTheWay, "refused 3: in the way\n"),
+        (Refusal::TooLarge, "refused 3: too large\n"),
+        (Refusal::NotAFile, "refused 3: not a file\n"),
+        (Refusal::StampLater, "refused 3: stamp later\n"),
+        (Refusal::Interrupted, "refused 3: interrupted\n"),
+        (Refusal::Run(Error::SpawnThread), "refused 3: run failed\n"),
+        (Refusal::BadMoment, "refused 3: bad moment\n"),
+    ];
+    for (refusal, line) in cases {
+        assert_reported(&rt, Failure::of_event(refusal, 3), line);
+    }
+}
+
+#[test]
 fn want_of_memory_has_one_line_wherever_it_is_met(rt: HostRuntime) {
     let unread = io::Error::from(io::ErrorKind::OutOfMemory);
     let cases = [
@@ -76,6 +95,10 @@ fn want_of_memory_has_one_line_wherever_it_is_met(rt: HostRuntime) {
         Failure::from(Error::Memory),
         Failure::from(Error::Io(Fault::Memory)),
         Failure::from(Error::Find(FindError::Memory)),
+        Failure::of_start(Refusal::Memory),
+        Failure::of_event(Refusal::Memory, 3),
+        Failure::of_event(Refusal::Run(Error::Memory), 3),
+        Failure::of_event(Refusal::Run(Error::Io(Fault::Memory)), 3),
     ];
     for failure in cases {
         assert_reported(&rt, failure, "out of memory\n");

@@ -11,6 +11,8 @@ use thiserror::Error;
 pub enum Key {
     /// How ids are made. A profile that is no object is reported as this key.
     Hash,
+    /// What a world's clock shows first.
+    Clock,
     /// When the index was written.
     Timestamp,
     /// How the status is computed.
@@ -19,16 +21,20 @@ pub enum Key {
     Index,
     /// The nodes of the worktree.
     Worktree,
+    /// What happens in a world.
+    Events,
 }
 
 impl fmt::Display for Key {
     fn fmt<W: fmt::Write>(&self, f: &mut fmt::Formatter<W>) -> fmt::Result {
         f.write_str(match self {
             Key::Hash => "hash",
+            Key::Clock => "clock",
             Key::Timestamp => "timestamp",
             Key::Options => "options",
             Key::Index => "index",
             Key::Worktree => "worktree",
+            Key::Events => "events",
         })
     }
 }

@@ -1,7 +1,7 @@
 //! A field's value that stands in memory as a JSON value.
 
 use crate::profile::error::FieldError;
-use crate::profile::field::{list_of, number_of, stamp_of, text_of, truth_of};
+use crate::profile::field::{list_of, number_of, stamp_of, text_of, truth_of, word_of};
 use crate::profile::value::{FieldValue, Word};
 use gix_status::index::{Flags, Time};
 use serde_json::Value;
@@ -24,7 +24,7 @@ impl FieldValue for Held<'_> {
     }
 
     fn word<T: Word>(&mut self) -> Result<T, FieldError> {
-        T::of_word(text_of(self.0)?).ok_or(FieldError::Form)
+        word_of(self.0)
     }
 
     fn number(&mut self) -> Result<u32, FieldError> {
@@ -42,7 +42,7 @@ impl FieldValue for Held<'_> {
     fn flags(&mut self) -> Result<Flags, FieldError> {
         let mut flags = Flags::default();
         for value in list_of(self.0)? {
-            flags |= Held(value).word::<Flags>()?;
+            flags |= word_of::<Flags>(value)?;
         }
         Ok(flags)
     }

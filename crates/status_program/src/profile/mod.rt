@@ -1,10 +1,13 @@
-//! A profile: an index and a worktree as JSON, with the options of a status.
+//! Profiles, as JSON: of a status, an index and a worktree with options; of a replay, a history.
 
 mod ahead;
 mod entry;
 mod error;
+mod event;
 mod field;
+mod hash;
 mod held;
+mod history;
 mod key;
 mod list;
 mod members;
@@ -17,17 +20,19 @@ mod value;
 #[cfg(test)]
 mod way_tests;
 
-use crate::profile::field::Fields;
+use crate::profile::field::{Fields, stamped_moment_of};
+use crate::profile::hash::read_hash;
 use crate::profile::members::Members;
 use crate::profile::node::read_place;
 use crate::profile::options::read_options;
 pub use error::{FieldError, Key, ProfileError};
 use gix_status::index::{HashKind, Moment, State};
+pub use history::History;
 pub use node::Place;
-pub use options::{Comparer, ProfileOptions};
+pub use options::{HistoryOptions, ProfileOptions};
 use std::alloc::Global;
 
-/// What a profile says.
+/// What the profile of a status says.
 #[derive(Drop)]
 pub struct Profile {
     /// How ids of untracked files are made. An entry's id says itself of which kind it is.
@@ -74,18 +79,6 @@ fn profile_of(alloc: Global, members: Members) -> Result<Profile, ProfileError> 
     })
 }
 
-fn read_hash(fields: Fields<'_>) -> Result<HashKind, FieldError> {
-    match fields.text_or("hash", "sha1")? {
-        "sha1" => Ok(HashKind::Sha1),
-        "sha256" => Ok(HashKind::Sha256),
-        _ => Err(FieldError::Form),
-    }
-}
-
 fn read_timestamp(fields: Fields<'_>) -> Result<Moment, FieldError> {
-    let stamp = fields.stamp("timestamp")?;
-    Ok(Moment {
-        secs: stamp.secs,
-        nsecs: stamp.nsecs,
-    })
+    fields.required("timestamp").and_then(stamped_moment_of)
 }

@@ -1,23 +1,26 @@
 //! The options of a profile.
 
 use crate::profile::error::FieldError;
-use crate::profile::field::{Fields, number_of};
+use crate::profile::field::{Fields, thread_limit_of};
+use crate::profile::value::Word;
 use bstr::BString;
 use gix_status::index::stat;
 use gix_status::index_as_worktree::{Capabilities, Options};
-use serde_json::{Map, Value};
+use gix_status::world::Comparer;
 use std::alloc::Global;
 
-/// How a file is compared with what an entry names.
-#[derive(Clone, Copy, Debug, PartialEq, Eq)]
-pub enum Comparer {
-    /// By its id: each file that has to be compared is read.
-    Hash,
-    /// By its length where that shows a change, and else by its id.
-    Fast,
+/// The options of a history, which a status has too.
+#[derive(Clone, Copy, Debug)]
+pub struct HistoryOptions {
+    /// Which parts of stats have to be equal.
+    pub stat: stat::Options,
+    /// Whether executability counts.
+    pub executable_bit: bool,
+    /// Whether the counts are printed in a last line.
+    pub counts: bool,
 }
 
-/// The options of a profile.
+/// The options of a status.
 #[derive(Debug, Drop)]
 pub struct ProfileOptions {
     /// How the status is computed.
@@ -46,19 +49,16 @@ impl ProfileOptions {
 /// Reads the options, which may be missing as a whole. Over a folder no file is executable, so that the executable bit
 /// doesn't count there.
 pub fn read_options(alloc: Global, profile: Fields<'_>) -> Result<ProfileOptions, FieldError> {
-    let none = Map::new(alloc);
-    let fields = match profile.get("options") {
-        Some(value) => Fields::of(value)?,
-        None => Fields::new(&none),
-    };
+    let fields = profile.object("options")?;
+    let common = read_history_options(fields)?;
     let mut options = ProfileOptions {
-        status: read_status(fields)?,
-        comparer: read_comparer(fields)?,
+        status: read_status(fields, common)?,
+        comparer: fields.word_or("comparer", Comparer::Hash)?,
         prefix: BString::from_slice(alloc, fields.text_or("prefix", "")?.as_bytes())?,
         untracked: fields.bool_or("untracked", false)?,
         renames: fields.bool_or("renames", false)?,
         sort: fields.bool_or("sort", false)?,
-        counts: fields.bool_or("counts", false)?,
+        counts: common.counts,
     };
     if !options.is_supported() {
         return Err(FieldError::Form);
@@ -69,14 +69,25 @@ pub fn read_options(alloc: Global, profile: Fields<'_>) -> Result<ProfileOptions
     Ok(options)
 }
 
-fn read_status(fields: Fields<'_>) -> Result<Options, FieldError> {
+/// Reads the options of a history, each of which may be missing.
+pub fn read_history_options(fields: Fields<'_>) -> Result<HistoryOptions, FieldError> {
+    Ok(HistoryOptions {
+        stat: read_stat_options(fields)?,
+        executable_bit: fields.bool_or("executable_bit", true)?,
+        counts: fields.bool_or("counts", false)?,
+    })
+}
+
+fn read_status(fields: Fields<'_>, common: HistoryOptions) -> Result<Options, FieldError> {
     Ok(Options {
         fs: Capabilities {
             symlink: fields.bool_or("symlink", true)?,
-            executable_bit: fields.bool_or("executable_bit", true)?,
+            executable_bit: common.executable_bit,
         },
-        thread_limit: read_thread_limit(fields)?,
-        stat: read_stat_options(fields)?,
+        thread_limit: fields
+            .get("thread_limit")
+            .map_or(Ok(None), thread_limit_of)?,
+        stat: common.stat,
         fscache: false,
         chunk_size: fields.number("chunk_size")? as usize,
     })
@@ -91,18 +102,12 @@ fn read_stat_options(fields: Fields<'_>) -> Result<stat::Options, FieldError> {
     })
 }
 
-/// Null leaves the number of threads open, as a missing limit does.
-fn read_thread_limit(fields: Fields<'_>) -> Result<Option<usize>, FieldError> {
-    match fields.get("thread_limit") {
-        None | Some(Value::Null) => Ok(None),
-        Some(limit) => Ok(Some(number_of(limit)? as usize)),
-    }
-}
-
-fn read_comparer(fields: Fields<'_>) -> Result<Comparer, FieldError> {
-    match fields.text_or("comparer", "hash")? {
-        "hash" => Ok(Comparer::Hash),
-        "fast" => Ok(Comparer::Fast),
-        _ => Err(FieldError::Form),
+impl Word for Comparer {
+    fn of_word(word: &str) -> Option<Comparer> {
+        match word {
+            "hash" => Some(Comparer::Hash),
+            "fast" => Some(Comparer::Fast),
+            _ => None,
+        }
     }
 }

@@ -1,10 +1,11 @@
 use crate::profile::list::Way;
 use crate::profile::members::Members;
-use crate::profile::{Comparer, Key, Place, Profile, ProfileError, profile_of};
+use crate::profile::{Key, Place, Profile, ProfileError, profile_of};
 use bstr::BString;
 use gix_status::index::{Entry, Flags, HashKind, Mode, Moment, ObjectId, Stat, Time, stat};
 use gix_status::index_as_worktree::{Capabilities, Options};
 use gix_status::worktree::{Metadata, Node, NodeKind};
+use gix_status::world::Comparer;
 use std::alloc::{AllocError, Global};
 use std::process::Abort;
 use std::test::Fail;

@@ -1,3 +1,4 @@
+use crate::fakes::Full;
 use crate::status::run_status;
 use std::alloc::{AllocError, Global};
 use std::io;
@@ -34,24 +35,6 @@ type Entry<'a> = (&'a str, &'a str, &'a str);
 
 // A node, by its path and further members.
 type Node<'a> = (&'a str, &'a str);
-
-// A writer with room for so many bytes.
-#[derive(Drop)]
-struct Full {
-    room: usize,
-}
-
-impl io::Write for Full {
-    fn write(&mut self, buf: &[u8]) -> io::Result<usize> {
-        let written = buf.len().min(self.room);
-        self.room -= written;
-        Ok(written)
-    }
-
-    fn flush(&mut self) -> io::Result<()> {
-        Ok(())
-    }
-}
 
 // A writer that keeps what it gets, and can't be flushed any more once that is so many bytes.
 #[derive(Drop)]

@@ -1,4 +1,4 @@
-use Rattle.std.proofs.Common.{◌≡◌, ◌∙◌, ◌-◌, ◌<◌, arith}
+use Rattle.std.proofs.Common.{◌∙◌, ◌-◌, ◌<◌, arith}
 use Rattle.status_index.proofs.Halvings.{IsHalved-next}
 use Rattle.status_index.proofs.search.search.Goals as goal
 

@@ -1,4 +1,4 @@
-use Rattle.std.proofs.Common.{◌≡◌, ℕ, ◌+◌, ◌<◌, length, arith}
+use Rattle.std.proofs.Common.{◌+◌, ◌<◌, length, arith}
 use Rattle.status_index.specs.States.{index_of, entries_of, backing_of}
 use Rattle.status_index.specs.Stretch.{IsStretch}
 use Rattle.status_index.proofs.Stretches.{IsFront-below, IsStretch-from_fronts, stored_under, stored_count, none_under}

@@ -1,0 +1,120 @@
+//! Entries that come to an index and go, a path at a time, as `git add` does it.
+
+use super::{IndexError, State};
+use crate::entry::Entry;
+use crate::flags::Flags;
+use crate::id::ObjectId;
+use crate::mode::Mode;
+use crate::path_probe::{Question, front_len};
+use crate::stat::Stat;
+use bstr::BStr;
+
+impl State {
+    ghost use Rattle.std.specs.Prelude.{◌≡◌, ◌≢◌, ◌≤◌, length, IsOk, IfErr, OnOk, OnErr};
+    ghost use Rattle.std.specs.List.{Any, prefix_len};
+    ghost use Rattle.bstr.specs.BStr.{bstr_bytes};
+    ghost use Rattle.status_index.specs.Entries.{IsIndex, said_of};
+    ghost use Rattle.status_index.specs.States.{entries_of, backing_of, timestamp_of, index_of};
+    ghost use Rattle.status_index.specs.Stretch.{is_below, is_up_to};
+    ghost use Rattle.status_index.specs.Staging.{IsPutRefusal, with_entry};
+
+    /// Puts an entry at its path, in place of all entries that the path had. The entries behind it move where the index
+    /// grows or shrinks, and the path is copied only where it had no entry. Entries of other paths stay, also those that
+    /// a worktree can't have beside this one, as `a` beside `a/b`.
+    ///
+    /// # Errors
+    /// `at` is the place at which the entry would stand: where the path is empty, else where an entry of another path
+    /// has an id of another kind. Or where memory runs out. The index then is as it was.
+    pub fn put_entry(
+        &mut self,
+        stat: Stat,
+        id: ObjectId,
+        flags: Flags,
+        mode: Mode,
+        path: BStr<'_>,
+    ) -> Result<(), IndexError>
+        ensures valid { IsIndex (with_entry (index_of self.old) (bstr_bytes path.entry) (Some (said_of (bstr_bytes path.entry) stat id flags mode))) → IfErr result (λ e. e ≡ IndexError.Memory) }
+        ensures ok { OnOk result ((index_of self.new) ≡ with_entry (index_of self.old) (bstr_bytes path.entry) (Some (said_of (bstr_bytes path.entry) stat id flags mode))) }
+        ensures refused { IfErr result (IsPutRefusal (index_of self.old) (said_of (bstr_bytes path.entry) stat id flags mode)) }
+        ensures replaces { IsIndex (with_entry (index_of self.old) (bstr_bytes path.entry) (Some (said_of (bstr_bytes path.entry) stat id flags mode))) → Any (λ e. e.path ≡ bstr_bytes path.entry) (index_of self.old) → IsOk result }
+        ensures storage { Any (λ e. e.path ≡ bstr_bytes path.entry) (index_of self.old) → backing_of self.new ≡ backing_of self.old }
+        ensures unchanged { OnErr result ((index_of self.new) ≡ index_of self.old) }
+        ensures timestamp { timestamp_of self.new ≡ timestamp_of self.old }
+    {
+        let path = path.as_bytes();
+        let (start, end) = self.places_of(path);
+        self.check_put(start, end, id, path)?;
+        if start == end {
+            self.entries.reserve(1)?;
+            let path = self.backing.push(path)?;
+            let entry = Entry {
+                stat,
+                id,
+                flags,
+                mode,
+                path,
+            };
+            self.entries.insert(start, entry)?;
+            return Ok(());
+        }
+        // The path's first entry stays, and its bytes in the storage with it: else a path that is put again and again
+        // would fill the storage.
+        let entry = &mut self.entries[start];
+        entry.stat = stat;
+        entry.id = id;
+        entry.flags = flags;
+        entry.mode = mode;
+        self.entries.drain(start + 1..end);
+        Ok(())
+    }
+
+    /// Takes all entries of a path out. The entries behind them move. The path's bytes stay in the storage, and serve no
+    /// later entry.
+    pub fn remove_path(&mut self, path: BStr<'_>)
+        ensures index { (index_of self.new) ≡ with_entry (index_of self.old) (bstr_bytes path.entry) None }
+        ensures timestamp { timestamp_of self.new ≡ timestamp_of self.old }
+    {
+        let (start, end) = self.places_of(path.as_bytes());
+        self.entries.drain(start..end);
+    }
+
+    /// From which place up to which the entries of a path stand. Where it has none, both are the place for one.
+    fn places_of(&self, path: &[u8]) -> (usize, usize)
+        ensures start { result.0 ≡ prefix_len (is_below path.now) (index_of self.now) }
+        ensures end { result.1 ≡ prefix_len (is_up_to path.now) (index_of self.now) }
+        ensures order { result.0 ≤ result.1 }
+        ensures inside { result.1 ≤ length (entries_of self.now) }
+    {
+        let (start, _) = front_len(&self.entries, &self.backing, path, Question::Below);
+        let (end, _) = front_len(&self.entries, &self.backing, path, Question::UpTo);
+        (start, end)
+    }
+
+    /// Whether an entry may be put at a path, whose entries stand from `start` up to `end`. Any entry of another path
+    /// decides, since these are of one kind.
+    fn check_put(
+        &self,
+        start: usize,
+        end: usize,
+        id: ObjectId,
+        path: &[u8],
+    ) -> Result<(), IndexError>
+        requires start { start ≡ prefix_len (is_below path.now) (index_of self.now) }
+        requires end { end ≡ prefix_len (is_up_to path.now) (index_of self.now) }
+        ensures ok { (stat : Stat) (flags : Flags) (mode : Mode) → OnOk result (IsIndex (with_entry (index_of self.now) path.now (Some (said_of path.now stat id flags mode)))) }
+        ensures certain { IfErr result (λ e. e ≢ IndexError.Memory) }
+        ensures refused { (stat : Stat) (flags : Flags) (mode : Mode) → IfErr result (IsPutRefusal (index_of self.now) (said_of path.now stat id flags mode)) }
+    {
+        if path.is_empty() {
+            return Err(IndexError::EmptyPath { at: start });
+        }
+        let place = if start > 0 { 0 } else { end };
+        let Some(other) = self.entries.get(place) else {
+            return Ok(());
+        };
+        if other.id.kind() != id.kind() {
+            return Err(IndexError::MixedHash { at: start });
+        }
+        Ok(())
+    }
+}

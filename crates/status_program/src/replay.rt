@@ -1,0 +1,90 @@
+//! The replay of a profile's history.
+
+#[cfg(test)]
+mod tests;
+
+use crate::failure::Failure;
+use crate::input::read_all;
+use crate::lines::run_line;
+use crate::output::{print, print_record, print_totals};
+use crate::profile::History;
+use gix_status::world::{Report, World};
+use std::alloc::Global;
+use std::io;
+use std::sync::Wait;
+use std::thread::Threads;
+
+/// Reads a profile, lets its events happen, and prints for each run to `output` its number, a line a record, and with
+/// `counts` a line of totals. `name` is the name of the profile's file.
+///
+/// Gives the exit status: 0, or 1 after a failure, which is one line on `faults`. What was printed before stays. Where
+/// `output` can't be written nothing more is.
+pub fn run_replay<R: AllocGlobal + Threads + Wait, I: io::Read, O: io::Write, E: io::Write>(
+    rt: &R,
+    name: &str,
+    profile: &mut I,
+    output: &mut O,
+    faults: &mut E,
+) -> u8 {
+    match print_replay(rt, profile, output) {
+        Ok(()) => 0,
+        Err(failure) => failure.report(rt.alloc(), name, faults),
+    }
+}
+
+fn print_replay<R: AllocGlobal + Threads + Wait, I: io::Read, O: io::Write>(
+    rt: &R,
+    profile: &mut I,
+    output: &mut O,
+) -> Result<(), Failure> {
+    let alloc = rt.alloc();
+    let text = read_all(alloc, profile)?;
+    let history = History::from_json(alloc, text.as_slice())?;
+    let mut world = begin(alloc, &history)?;
+    let mut runs: u64 = 0;
+    for (at, event) in history.events.iter().enumerate() {
+        let report = world
+            .apply(rt, event)
+            .map_err(|refusal| Failure::of_event(refusal, at))?;
+        if let Some(report) = report {
+            runs = runs.saturating_add(1);
+            print_report(alloc, runs, &report, history.options.counts, output)?;
+        }
+    }
+    Ok(())
+}
+
+/// The world that a history begins with.
+fn begin(alloc: Global, history: &History) -> Result<World, Failure> {
+    let options = history.options;
+    World::new(
+        alloc,
+        history.hash,
+        history.clock,
+        history.timestamp,
+        options.stat,
+        options.executable_bit,
+    )
+    .map_err(Failure::of_start)
+}
+
+/// Prints what a run reports.
+fn print_report<O: io::Write>(
+    alloc: Global,
+    run: u64,
+    report: &Report,
+    counts: bool,
+    output: &mut O,
+) -> Result<(), Failure> {
+    print(run_line(alloc, run)?.as_str(), output)?;
+    for record in &report.records {
+        print_record(
+            alloc,
+            record.entry_index,
+            record.path.as_bstr(),
+            &record.status,
+            output,
+        )?;
+    }
+    print_totals(alloc, &report.outcome, counts, output)
+}

@@ -1,0 +1,166 @@
+-- An entry and the node at its path: a run's answer is a change exactly where the node differs from what was staged, and
+-- what the run stores can be trusted at any later time.
+use Rattle.std.proofs.Common.{◌≡◌, ◌∙◌, ◌↔◌, inl, inr, refl, sym, ap, subst, ◌&&◌, Bool, true, false, List, [], length, Option, Some, None, Result, Ok, Err, IsTrue}
+use Rattle.status_index.specs.Entries.{IndexEntry}
+use Rattle.std.proofs.lemmas.Bool.{and_parts}
+use Rattle.std.proofs.lemmas.List.{nil_from_length}
+use Rattle.status_index.specs.BlobId.{is_empty_blob}
+use Rattle.status_index.specs.NodeStat.{stat_of}
+use Rattle.status_index.specs.Stat.{stat_agrees}
+use Rattle.status_index.specs.States.{with_stat, smudged}
+use Rattle.status_index.specs.declared.id.ObjectId.{ObjectId}
+use Rattle.status_index.specs.declared.stat.Moment.{Moment}
+use Rattle.status_index.specs.declared.stat.Stat.{Stat}
+use Rattle.status_base.specs.MemoryTree.{Placed}
+use Rattle.status_compare.specs.FastAgrees.{HasOwnId}
+use Rattle.status_compare.specs.declared.error.Error.{Error}
+use Rattle.status_call.specs.declared.index_as_worktree.types.Change.TheVariants as changes
+use Rattle.status_call.specs.declared.index_as_worktree.types.EntryStatus.TheVariants as statuses
+use Rattle.status_call.specs.Status.{same_bool, is_trusted, meaning}
+use Rattle.status_world.specs.declared.world.event.Comparer.{Comparer}
+use Rattle.status_world.specs.declared.world.event.Comparer.TheVariants.{Hash}
+use Rattle.status_world.specs.PlainWorld.{Plain, Differs, IsExecutableChange}
+use Rattle.status_world.specs.Reports.{RunStatus, is_change}
+use Rattle.status_world.specs.Sound.{IsStagedSize, IsTrustworthy}
+use Rattle.status_world.specs.StampedWorld.{StampedWorld, query_of, plain_of, stored_verdict, compared_by}
+use Rattle.status_world.proofs.Answers.{answer_tells, staged_empty}
+use Rattle.status_world.proofs.NodeStats.{KnownStat, stat_known}
+use Rattle.status_world.proofs.StatLaws.{agreed_size}
+use Rattle.status_world.proofs.Verdicts.{IsMet, Told, retyped, unchanged, rewritten, remoded, restamped, verdict_at, comparison_at, trusted_at, racy_at, verdict_told, met_whole}
+
+-- whether an answer is a change
+abbrev pub IsChangeVerdict : Result (Option RunStatus) Error → Type 0
+IsChangeVerdict (Ok (Some status)) = IsTrue (is_change status)
+IsChangeVerdict (Ok None) = ⊥
+IsChangeVerdict (Err e) = ⊥
+
+-- the staged bytes share their id neither with the node's nor with no bytes
+pub record HasOwnIds (w : StampedWorld) (n : Placed) (s : Plain) : Type 0 where
+  pub bytes : HasOwnId w.kind s.bytes n.bytes
+  pub empty : HasOwnId w.kind s.bytes []
+
+-- a world with another timestamp and index
+abbrev pub restored : StampedWorld → Moment → List IndexEntry → StampedWorld
+restored w timestamp entries = record w { timestamp = timestamp; entries = entries }
+
+same_as_true : (b : Bool) → same_bool b true ≡ true → b ≡ true
+same_as_true true e = refl
+same_as_true false e = cc
+
+-- nothing differs
+no_difference : (x : Bool) (now was : Plain) → now.kind ≡ was.kind → now.bytes ≡ was.bytes
+    → (IsTrue x × IsExecutableChange now was → ⊥) → Differs x (Some now) was → ⊥
+no_difference x now was k b none (inl h) = h k
+no_difference x now was k b none (inr (inl h)) = h b
+no_difference x now was k b none (inr (inr h)) = none h
+
+module _ (w : StampedWorld) (c : Comparer) (e : IndexEntry) (n : Placed) (s : Plain) (met : IsMet w e n s) where
+  -- the node's stat
+  abbrev known : KnownStat w.clock n
+  known = stat_known w.clock n met.node
+
+  told : Told w c e n s known.now (verdict_at w c e n)
+  told = verdict_told w c e n s met known.now known.is
+
+  told_ok : (v : Result (Option RunStatus) Error) → Told w c e n s known.now v → (o : Option RunStatus) × (v ≡ Ok o)
+  told_ok v (retyped mode k is) = (_, is)
+  told_ok v (unchanged k b t r is) = (_, is)
+  told_ok v (rewritten x t r id k ht hr a is) = (_, is)
+  told_ok v (remoded k b a is) = (_, is)
+  told_ok v (restamped k b a is) = (_, is)
+
+  -- a run has an answer for each entry
+  pub pair_answered : (o : Option RunStatus) × (verdict_at w c e n ≡ Ok o)
+  pair_answered = told_ok (verdict_at w c e n) told
+
+  pub pair_faultless : (fault : Error) → verdict_at w c e n ≡ Err fault → ⊥
+  pair_faultless fault h = let is : verdict_at w c e n ≡ Ok pair_answered.0 = pair_answered.1 in cc
+
+  told_stat : (v : Result (Option RunStatus) Error) → Told w c e n s known.now v → (t : Stat) → v ≡ Ok (Some (statuses.NeedsUpdate t)) → stat_of n.metadata ≡ Some t
+  told_stat v (retyped mode k is) t h = cc
+  told_stat v (unchanged k b ht hr is) t h = cc
+  told_stat v (rewritten x ht hr id k et er a is) t h = cc
+  told_stat v (remoded k b a is) t h = cc
+  told_stat v (restamped k b a is) t h = let one : known.now ≡ t = cc in known.is ∙ ap Some one
+
+  -- where only the stat needs an update, it is the node's
+  pub pair_stat : (t : Stat) → verdict_at w c e n ≡ Ok (Some (statuses.NeedsUpdate t)) → stat_of n.metadata ≡ Some t
+  pair_stat t h = told_stat (verdict_at w c e n) told t h
+
+  module _ (own : HasOwnIds w n s) (size : IsStagedSize e s) (trust : IsTrustworthy w n e s) where
+    -- the comparer answers none exactly where the bytes are the same
+    same_bytes : n.metadata.kind ≡ s.kind → (found : Option (Option ObjectId)) → comparison_at w c e n ≡ Ok found → (found ≡ None) ↔ (n.bytes ≡ s.bytes)
+    same_bytes k found is =
+        answer_tells c e w.kind s n.bytes (meaning (query_of w c) e n.metadata)
+        (record { id = met.entry.id; small = met.entry.small; size = size; own = own.bytes; own_empty = own.empty })
+        (met_whole w c e n s met k) found
+        (ap (λ len. compared_by c e len (meaning (query_of w c) e n.metadata)) (sym met.node.len) ∙ is)
+
+    abbrev Tells : Result (Option RunStatus) Error → Type 0
+    Tells v = IsChangeVerdict v ↔ Differs w.executable_bit (Some (plain_of n)) s
+
+    trusted_bytes : n.metadata.kind ≡ s.kind → trusted_at w e known.now ≡ true → racy_at w known.now ≡ false → n.bytes ≡ s.bytes
+    trusted_bytes k t r = trust.bytes known.now known.is k t r
+
+    told_change : (v : Result (Option RunStatus) Error) → Told w c e n s known.now v → Tells v
+    told_change v (retyped mode k is) = subst Tells (sym is) (λ _. inl k, λ _. refl)
+    told_change v (unchanged k b t r is) = subst Tells (sym is) (λ h. absurd h, λ d. no_difference w.executable_bit (plain_of n) s k (trusted_bytes k t r) b d)
+    told_change v (rewritten x t r id k ht hr a is) =
+        subst Tells (sym is) (λ _. inr (inl (λ same. let none = (same_bytes k (Some id) a).1 same in cc)), λ _. refl)
+    told_change v (remoded k b a is) = subst Tells (sym is) (λ _. inr (inr b), λ _. refl)
+    told_change v (restamped k b a is) =
+        subst Tells (sym is) (λ h. absurd (cc), λ d. absurd (no_difference w.executable_bit (plain_of n) s k ((same_bytes k None a).0 refl) b d))
+
+    -- a run reports a change exactly where the node differs from what was staged
+    pub pair_change : IsChangeVerdict (verdict_at w c e n) ↔ Differs w.executable_bit (Some (plain_of n)) s
+    pair_change = told_change (verdict_at w c e n) told
+
+    module _ (u : Moment) (es : List IndexEntry) where
+      abbrev Keeps : IndexEntry → Type 0
+      Keeps stored = IsStagedSize stored s × IsTrustworthy (restored w u es) n stored s
+
+      abbrev KeepsOf : Result (Option RunStatus) Error → Type 0
+      KeepsOf v = Keeps (stored_verdict e v)
+
+      -- where the bytes are the same, any entry of their size can be trusted
+      same_kept : (stored : IndexEntry) → IsStagedSize stored s → n.bytes ≡ s.bytes → Keeps stored
+      same_kept stored sized same = (sized, record { bytes = λ _ _ _ _ _. same })
+
+      -- an entry that isn't trusted now won't be
+      untrusted_kept : trusted_at w e known.now ≡ false → Keeps e
+      untrusted_kept t = (
+        size,
+        record {
+          bytes = λ now is _ later _.
+              let one : known.now ≡ now = cc (known.is) in
+              let before : trusted_at w e known.now ≡ true = subst (λ x. trusted_at w e x ≡ true) (sym one) later in
+              absurd (cc);
+        },
+      )
+
+      -- size 0 is trusted only with the id of no bytes, and then the node has none
+      smudged_bytes : (now : Stat) → stat_of n.metadata ≡ Some now → is_trusted (query_of w Hash) (smudged e) now ≡ true → n.bytes ≡ s.bytes
+      smudged_bytes now is t =
+          let parts = and_parts (stat_agrees w.stat_options now (smudged e).stat) (same_bool (is_empty_blob e.id) true) t in
+          let one : known.now ≡ now = cc (known.is) in
+          let none : length n.bytes ≡ 0 = sym known.size ∙ (ap (λ x. x.size) one ∙ agreed_size w.stat_options now (smudged e).stat parts.0) in
+          nil_from_length n.bytes none ∙ sym (staged_empty e.id w.kind s.bytes met.entry.id own.empty (same_as_true (is_empty_blob e.id) parts.1))
+
+      rewritten_kept : (x t r : Bool) (id : Option ObjectId) → n.metadata.kind ≡ s.kind → trusted_at w e known.now ≡ t → racy_at w known.now ≡ r
+          → KeepsOf (Ok (Some (statuses.Change (changes.Modification x (Some id) (t && r)))))
+      rewritten_kept x false r id k ht hr = untrusted_kept ht
+      rewritten_kept x true false id k ht hr = same_kept e size (trusted_bytes k ht hr)
+      rewritten_kept x true true id k ht hr = (inr refl, record { bytes = λ now is _ later _. smudged_bytes now is later })
+
+      told_kept : (v : Result (Option RunStatus) Error) → Told w c e n s known.now v → KeepsOf v
+      told_kept v (retyped mode k is) = subst KeepsOf (sym is) (size, record { bytes = λ _ _ same _ _. absurd (k same) })
+      told_kept v (unchanged k b t r is) = subst KeepsOf (sym is) (same_kept e size (trusted_bytes k t r))
+      told_kept v (rewritten x t r id k ht hr a is) = subst KeepsOf (sym is) (rewritten_kept x t r id k ht hr)
+      told_kept v (remoded k b a is) = subst KeepsOf (sym is) (same_kept e size ((same_bytes k None a).0 refl))
+      told_kept v (restamped k b a is) =
+          let same = (same_bytes k None a).0 refl in
+          subst KeepsOf (sym is) (same_kept (with_stat known.now e) (inl (known.size ∙ ap length same)) same)
+
+      -- what a run stores of an entry can be trusted, whatever the new timestamp
+      pub pair_kept : IsStagedSize (stored_verdict e (verdict_at w c e n)) s × IsTrustworthy (restored w u es) n (stored_verdict e (verdict_at w c e n)) s
+      pair_kept = told_kept (verdict_at w c e n) told

@@ -1,0 +1,122 @@
+-- What a run's answer for an entry tells of the node at its path.
+use Rattle.std.proofs.Common.{◌≡◌, ◌≢◌, ◌∙◌, refl, sym, ap, subst, ◌&&◌, Bool, true, false, Option, Some, None, Result, Ok, IsTrue}
+use Rattle.std.specs.FinMap as paths
+use Rattle.status_index.specs.BlobId.{id_kind}
+use Rattle.status_index.specs.Entries.{IndexEntry}
+use Rattle.status_index.specs.Mode.{mode_change, new_mode}
+use Rattle.status_index.specs.NodeStat.{stat_of}
+use Rattle.status_index.specs.Stat.{is_racy}
+use Rattle.status_index.specs.declared.id.ObjectId.{ObjectId}
+use Rattle.status_index.specs.declared.mode.Change.{Change as ModeChange}
+use Rattle.status_index.specs.declared.mode.Mode.{Mode}
+use Rattle.status_index.specs.declared.stat.Stat.{Stat}
+use Rattle.status_base.specs.MemoryTree.{Placed}
+use Rattle.status_compare.specs.FastAgrees.{IsWholly}
+use Rattle.status_compare.specs.declared.error.Error.{Error}
+use Rattle.status_call.specs.declared.index_as_worktree.types.Change.TheVariants as changes
+use Rattle.status_call.specs.declared.index_as_worktree.types.EntryStatus.TheVariants as statuses
+use Rattle.status_call.specs.Status as status
+use Rattle.status_call.specs.Status.{answer, case_of_stat, case_of_change, case_of_content, is_trusted, meaning, reading}
+use Rattle.status_world.specs.declared.world.event.Comparer.{Comparer}
+use Rattle.status_world.specs.declared.world.event.Comparer.TheVariants.{Hash}
+use Rattle.status_world.specs.PlainWorld.{Plain, IsExecutableChange}
+use Rattle.status_world.specs.Reports.{RunStatus}
+use Rattle.status_world.specs.Sound.{IsFormedNode, IsFormedEntry}
+use Rattle.status_world.specs.StampedWorld.{StampedWorld, node_at, query_of, plain_of, compared_by}
+use Rattle.status_world.proofs.Answers.{Answered, answered, kind_of_blob}
+use Rattle.status_world.proofs.Modes.{ModeTold, other_kind, other_bit, same_mode, mode_told}
+use Rattle.status_world.proofs.Readings.{whole_reading}
+
+-- what a run answers for an entry at whose path this node is
+abbrev pub verdict_at : StampedWorld → Comparer → IndexEntry → Placed → Result (Option RunStatus) Error
+verdict_at w c e n = answer e.path (case_of_stat (query_of w c) e n.metadata (stat_of n.metadata))
+
+-- what its comparer answers
+abbrev pub comparison_at : StampedWorld → Comparer → IndexEntry → Placed → Result (Option (Option ObjectId)) Error
+comparison_at w c e n = compared_by c e n.metadata.len (meaning (query_of w c) e n.metadata)
+
+-- the entry's stat agrees with the node's; a write may hide behind the node's
+abbrev pub trusted_at : StampedWorld → IndexEntry → Stat → Bool
+trusted_at w e now = is_trusted (query_of w Hash) e now
+
+abbrev pub racy_at : StampedWorld → Stat → Bool
+racy_at w now = is_racy w.stat_options w.timestamp now
+
+abbrev pub IsExecutableAsked : StampedWorld → Placed → Plain → Type 0
+IsExecutableAsked w n s = IsTrue w.executable_bit × IsExecutableChange (plain_of n) s
+
+-- a node where an entry is, without a planted fault, and what was staged there
+pub record IsMet (w : StampedWorld) (e : IndexEntry) (n : Placed) (s : Plain) : Type 0 where
+  pub node : IsFormedNode w.clock n
+  pub entry : IsFormedEntry w e s
+  pub there : node_at w e.path ≡ Some n
+  pub unplanted : w.tree.planted ≡ paths.empty
+
+-- the answers, each with what it tells
+pub data Told (w : StampedWorld) (c : Comparer) (e : IndexEntry) (n : Placed) (s : Plain) (now : Stat) (v : Result (Option RunStatus) Error) : Type 0 where
+  retyped : (mode : Mode) → n.metadata.kind ≢ s.kind → v ≡ Ok (Some (statuses.Change (changes.TypeChange mode))) → Told w c e n s now v
+  unchanged : n.metadata.kind ≡ s.kind → (IsExecutableAsked w n s → ⊥) → trusted_at w e now ≡ true → racy_at w now ≡ false → v ≡ Ok None → Told w c e n s now v
+  rewritten : (x t r : Bool) (id : Option ObjectId) → n.metadata.kind ≡ s.kind → trusted_at w e now ≡ t → racy_at w now ≡ r → comparison_at w c e n ≡ Ok (Some id)
+      → v ≡ Ok (Some (statuses.Change (changes.Modification x (Some id) (t && r)))) → Told w c e n s now v
+  remoded : n.metadata.kind ≡ s.kind → IsExecutableAsked w n s → comparison_at w c e n ≡ Ok None
+      → v ≡ Ok (Some (statuses.Change (changes.Modification true None false))) → Told w c e n s now v
+  restamped : n.metadata.kind ≡ s.kind → (IsExecutableAsked w n s → ⊥) → comparison_at w c e n ≡ Ok None
+      → v ≡ Ok (Some (statuses.NeedsUpdate now)) → Told w c e n s now v
+
+-- whether the executable bit changed, where that is asked for
+abbrev IsBit : StampedWorld → Placed → Plain → Bool → Type 0
+IsBit w n s true = IsExecutableAsked w n s
+IsBit w n s false = IsExecutableAsked w n s → ⊥
+
+module _ (w : StampedWorld) (c : Comparer) (e : IndexEntry) (n : Placed) (s : Plain) (now : Stat) where
+  -- the answer of a comparison, by what the comparer answers
+  abbrev shown : Bool → Bool → Bool → Result (Option (Option ObjectId)) Error → Result (Option RunStatus) Error
+  shown x t r a = answer e.path (status.compared x t r now a)
+
+  abbrev ToldOf : Result (Option RunStatus) Error → Type 0
+  ToldOf v = Told w c e n s now v
+
+  told_compared : (x t r : Bool) (found : Option (Option ObjectId)) → n.metadata.kind ≡ s.kind → IsBit w n s x → trusted_at w e now ≡ t → racy_at w now ≡ r
+      → comparison_at w c e n ≡ Ok found → ToldOf (shown x t r (comparison_at w c e n))
+  told_compared x t r (Some id) k b ht hr is = rewritten x t r id k ht hr is (ap (shown x t r) is)
+  told_compared true t r None k b ht hr is = remoded k b is (ap (shown true t r) is)
+  told_compared false t r None k b ht hr is = restamped k b is (ap (shown false t r) is)
+
+  told_content : (x t r : Bool) (found : Option (Option ObjectId)) → n.metadata.kind ≡ s.kind → IsBit w n s x → trusted_at w e now ≡ t → racy_at w now ≡ r
+      → comparison_at w c e n ≡ Ok found → ToldOf (answer e.path (case_of_content (query_of w c) e n.metadata now x t r))
+  told_content false true false found k b ht hr is = unchanged k b ht hr refl
+  told_content true t r found k b ht hr is = told_compared true t r found k b ht hr is
+  told_content false false r found k b ht hr is = told_compared false false r found k b ht hr is
+  told_content false true true found k b ht hr is = told_compared false true true found k b ht hr is
+
+  abbrev by_change : Option ModeChange → Result (Option RunStatus) Error
+  by_change m = answer e.path (case_of_change (query_of w c) e n.metadata now m)
+
+  told_mode : (m : Option ModeChange) → ModeTold w.executable_bit (plain_of n) s m → (n.metadata.kind ≡ s.kind → Answered (comparison_at w c e n)) → ToldOf (by_change m)
+  told_mode m (other_kind mode k is) a = retyped mode k (ap by_change is)
+  told_mode m (other_bit k x b is) a =
+      subst (λ o. ToldOf (by_change o)) (sym is)
+      (told_content true (trusted_at w e now) (racy_at w now) (a k).0 k (x, b) refl refl (a k).1)
+  told_mode m (same_mode k b is) a =
+      subst (λ o. ToldOf (by_change o)) (sym is)
+      (told_content false (trusted_at w e now) (racy_at w now) (a k).0 k (λ h. b h.0 h.1) refl refl (a k).1)
+
+module _ (w : StampedWorld) (c : Comparer) (e : IndexEntry) (n : Placed) (s : Plain) where
+  -- a run reads the whole of a node of the entry's kind
+  pub met_whole : IsMet w e n s → n.metadata.kind ≡ s.kind → IsWholly n.bytes (reading (query_of w c) e n.metadata)
+  met_whole h k =
+      whole_reading w c e n s.executable h.unplanted h.there h.node.kind h.node.len
+      (h.entry.mode ∙ ap (λ kind. new_mode w.executable_bit kind s.executable) (sym k))
+
+  met_answered : IsMet w e n s → n.metadata.kind ≡ s.kind → Answered (comparison_at w c e n)
+  met_answered h k =
+      answered c e w.kind n.bytes n.metadata.len (meaning (query_of w c) e n.metadata)
+      (ap id_kind h.entry.id ∙ kind_of_blob w.kind s.bytes) (met_whole h k)
+
+  -- what a run answers, told by cases
+  pub verdict_told : IsMet w e n s → (now : Stat) → stat_of n.metadata ≡ Some now → Told w c e n s now (verdict_at w c e n)
+  verdict_told h now is =
+      subst (λ o. Told w c e n s now (answer e.path (case_of_stat (query_of w c) e n.metadata o))) (sym is)
+      (subst (λ mode. Told w c e n s now (answer e.path (case_of_change (query_of w c) e n.metadata now (mode_change true w.executable_bit mode n.metadata)))) (sym h.entry.mode)
+      (told_mode w c e n s now (mode_change true w.executable_bit (new_mode w.executable_bit s.kind s.executable) n.metadata)
+      (mode_told w.executable_bit n s h.node.kind h.entry.kind) (met_answered h)))

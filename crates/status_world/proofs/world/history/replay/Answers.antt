@@ -1,0 +1,35 @@
+use Rattle.std.proofs.Common.{map, arith, ap}
+use Rattle.status_world.specs.Reports.{report_value}
+use Rattle.status_world.proofs.Histories.{replay_exact}
+use Rattle.status_world.proofs.Replays.{begun, one_more, stopped_at, ended, replay_formed}
+use Rattle.status_world.proofs.world.history.replay.Goals as goal
+
+pub loop-place-init : goal.loop-place-init
+loop-place-init g c = begun _ _ (ap (map report_value) c.new-reports.ensures.items)
+
+pub returns-in-Err-clause-replay : goal.returns-in-Err-clause-replay
+returns-in-Err-clause-replay g c =
+    stopped_at c.args.events.now c.loop-place.place _ _ _ _ _ _ _
+    c.loop-place-test.true c.index-events-place.is c.loop-place.invariant c.in-Err.ensures
+
+pub returns-in-Err-clause-formed : goal.returns-in-Err-clause-formed
+returns-in-Err-clause-formed g c = λ f. replay_formed _ _ _ _ _ f (returns-in-Err-clause-replay g c)
+
+pub returns-in-Err-clause-exact : goal.returns-in-Err-clause-exact
+returns-in-Err-clause-exact g c = λ f sound distinct. replay_exact _ _ _ _ _ f sound distinct (returns-in-Err-clause-replay g c)
+
+pub loop-place-preserved : goal.loop-place-preserved
+loop-place-preserved g c =
+    one_more c.args.events.now c.loop-place.place _ _ _ _ _ _
+    c.loop-place-test.true c.index-events-place.is c.loop-place.invariant c.in_default.ensures
+
+pub returns-clause-replay : goal.returns-clause-replay
+returns-clause-replay g c =
+    ended c.args.events.now c.loop-place.place _ _ _
+    (omega (arith, c.loop-place-test.false, c.loop-place.auto.place-end)) c.loop-place.invariant
+
+pub returns-clause-formed : goal.returns-clause-formed
+returns-clause-formed g c = λ f. replay_formed _ _ _ _ _ f (returns-clause-replay g c)
+
+pub returns-clause-exact : goal.returns-clause-exact
+returns-clause-exact g c = λ f sound distinct. replay_exact _ _ _ _ _ f sound distinct (returns-clause-replay g c)

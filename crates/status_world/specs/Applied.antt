@@ -1,0 +1,64 @@
+-- What applying an event answers, and what it leaves.
+use Rattle.std.specs.Prelude.{◌≡◌, ◌≢◌, ◌⊎◌, ℕ, List, ◌++◌, Option, Some, None, option_map, Result, Ok, Err, ⊤}
+use Rattle.std.specs.Option.{option_to_list}
+use Rattle.status_base.specs.MemoryTree.{Placed}
+use Rattle.status_base.specs.declared.worktree.memory.TreeError.{TreeError}
+use Rattle.status_base.specs.declared.worktree.memory.TreeError.TheVariants.{BadPath, InTheWay, Memory}
+use Rattle.status_compare.specs.declared.error.Error.TheVariants as errors
+use Rattle.status_call.specs.Records.{first_fault}
+use Rattle.status_world.specs.declared.world.event.Event.{Event}
+use Rattle.status_world.specs.declared.world.event.Event.TheVariants as events
+use Rattle.status_world.specs.declared.world.event.Run.{Run}
+use Rattle.status_world.specs.declared.world.refusal.Refusal.{Refusal}
+use Rattle.status_world.specs.declared.world.refusal.Refusal.TheVariants as refusals
+use Rattle.status_world.specs.declared.world.report.Report.{Report}
+use Rattle.status_world.specs.History.{reports_at}
+use Rattle.status_world.specs.Refusals.{refusal_of, write_refusal, fault_refusal, IsRefused}
+use Rattle.status_world.specs.Reports.{RunReport, report_value}
+use Rattle.status_world.specs.StampedWorld.{StampedWorld, after_event, with_node, query_of, report_of}
+
+-- no refusal is due, and the world is the one after the event; or it is refused, and the world stays
+abbrev pub IsChanged : {A : Type 0} → Event → StampedWorld → Result A Refusal → StampedWorld → Type 0
+IsChanged event old (Ok _) new = (refusal_of event old ≡ None) × (new ≡ after_event event old)
+IsChanged event old (Err r) new = IsRefused r event old × (new ≡ old)
+
+-- the same of a write: a node is put at a path, or the refusal of a write is due, or memory is wanting
+abbrev pub IsWritten : {A : Type 0} → List ℕ → List ℕ → Placed → StampedWorld → Result A Refusal → StampedWorld → Type 0
+IsWritten path bytes node old (Ok _) new = (write_refusal old path bytes ≡ None) × (new ≡ with_node old path (Some node))
+IsWritten path bytes node old (Err r) new = ((r ≡ refusals.Memory) ⊎ (write_refusal old path bytes ≡ Some r)) × (new ≡ old)
+
+-- the refusal of an event whose node isn't put
+abbrev pub tree_refusal : TreeError → Refusal
+tree_refusal BadPath = refusals.BadPath
+tree_refusal InTheWay = refusals.InTheWay
+tree_refusal Memory = refusals.Memory
+
+-- the same, with the report that the event gives
+abbrev pub IsApplied : Event → StampedWorld → Result (Option Report) Refusal → StampedWorld → Type 0
+IsApplied event old (Ok report) new =
+    (refusal_of event old ≡ None)
+    × (option_to_list (option_map report_value report) ≡ reports_at event old)
+    × (new ≡ after_event event old)
+IsApplied event old (Err r) new = IsRefused r event old × (new ≡ old)
+
+-- what a run's status answers: the report of a world without a fault; or memory is wanting, or a thread where there may be
+-- one, or it is the first fault
+abbrev pub IsRunReport : Run → StampedWorld → Result Report Refusal → Type 0
+IsRunReport run w (Ok report) =
+    (first_fault (query_of w run.comparer) w.entries ≡ None) × (report_value report ≡ report_of w run.comparer)
+IsRunReport run w (Err refusals.Memory) = ⊤
+IsRunReport run w (Err (refusals.Run errors.Memory)) = ⊤
+IsRunReport run w (Err (refusals.Run errors.SpawnThread)) = run.thread_limit ≢ Some 1
+IsRunReport run w (Err r) = fault_refusal (first_fault (query_of w run.comparer) w.entries) ≡ Some r
+
+-- a run that is applied gives the report of the world before it
+abbrev pub IsRunApplied : Run → StampedWorld → Result Report Refusal → StampedWorld → Type 0
+IsRunApplied run old (Ok report) new =
+    (refusal_of (events.Run run) old ≡ None) × (report_value report ≡ report_of old run.comparer) × (new ≡ after_event (events.Run run) old)
+IsRunApplied run old (Err r) new = IsRefused r (events.Run run) old × (new ≡ old)
+
+-- the same in a list of events: the reports grow by that of a run
+abbrev pub IsStep : Event → StampedWorld → List RunReport → Result (Unit {0}) Refusal → StampedWorld → List RunReport → Type 0
+IsStep event old told (Ok _) new all =
+    (refusal_of event old ≡ None) × (all ≡ told ++ reports_at event old) × (new ≡ after_event event old)
+IsStep event old told (Err r) new all = IsRefused r event old × (all ≡ told) × (new ≡ old)

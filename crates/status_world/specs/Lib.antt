@@ -1,0 +1,14 @@
+pub mod Applied
+pub mod Events
+pub mod History
+pub mod Laws
+pub mod Moments
+pub mod PlainWorld
+pub mod Refusals
+pub mod Reports
+pub mod RunStatus
+pub mod Sound
+pub mod StagedPaths
+pub mod StampedWorld
+pub mod Stored
+pub mod Worlds

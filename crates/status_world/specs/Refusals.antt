@@ -1,0 +1,99 @@
+-- Which events are refused, and why.
+use Rattle.std.specs.Prelude.{◌≡◌, ◌≢◌, ℕ, nat_lt, nat_le, Bool, true, false, not, ◌&&◌, ◌||◌, List, length, Option, Some, None, is_some, if◌then◌else◌, ⊤}
+use Rattle.bstr.specs.Owned.{bstring_bytes}
+use Rattle.status_index.specs.declared.metadata.NodeKind.{NodeKind}
+use Rattle.status_index.specs.declared.metadata.NodeKind.TheVariants.{File, Link, Directory, Other}
+use Rattle.status_index.specs.declared.stat.Moment.{Moment}
+use Rattle.status_base.specs.MemoryTree.{Placed, has_below, has_file_above}
+use Rattle.status_base.specs.Nodes.{is_bad_path}
+use Rattle.status_compare.specs.declared.error.Error.{Error}
+use Rattle.status_compare.specs.declared.error.Error.TheVariants as errors
+use Rattle.status_call.specs.Records.{first_fault}
+use Rattle.status_world.specs.declared.world.event.Event.{Event}
+use Rattle.status_world.specs.declared.world.event.Event.TheVariants as events
+use Rattle.status_world.specs.declared.world.refusal.Refusal.{Refusal}
+use Rattle.status_world.specs.declared.world.refusal.Refusal.TheVariants as refusals
+use Rattle.status_world.specs.Moments.{is_after, plus_seconds, plus_nanoseconds}
+use Rattle.status_world.specs.StampedWorld.{StampedWorld, node_at, stored_node, query_of}
+
+-- the first of two refusals that applies
+infixr 20 ◌orelse◌
+abbrev pub ◌orelse◌ : Option Refusal → Option Refusal → Option Refusal
+(Some r) orelse others = Some r
+None orelse others = others
+
+abbrev pub refuse_if : Bool → Refusal → Option Refusal
+refuse_if b r = if b then Some r else None
+
+-- the greatest second is 2^32 - 1
+abbrev pub is_past_end : Moment → Bool
+is_past_end m = nat_lt 4294967295 m.secs
+
+abbrev pub is_file_kind : NodeKind → Bool
+is_file_kind File = true
+is_file_kind Link = false
+is_file_kind Directory = false
+is_file_kind Other = false
+
+abbrev pub is_regular_file : Option Placed → Bool
+is_regular_file (Some n) = is_file_kind n.metadata.kind
+is_regular_file None = false
+
+-- what is in the way of a file or link: a file or link above it, or that the path is a directory
+abbrev pub is_blocked : StampedWorld → List ℕ → Bool
+is_blocked w path = has_file_above w.tree path || has_below w.tree path
+
+abbrev pub write_refusal : StampedWorld → List ℕ → List ℕ → Option Refusal
+write_refusal w path bytes =
+    refuse_if (is_bad_path path) refusals.BadPath
+    orelse (refuse_if (is_blocked w path) refusals.InTheWay
+    orelse refuse_if (nat_le 4294967296 (length bytes)) refusals.TooLarge)
+
+-- a stamp that is no moment, or after the clock
+abbrev pub stamp_refusal : Moment → Moment → Option Refusal
+stamp_refusal clock stamp =
+    refuse_if (nat_le 1000000000 stamp.nsecs) refusals.BadMoment orelse refuse_if (is_after stamp clock) refusals.StampLater
+
+abbrev pub fault_refusal : Option Error → Option Refusal
+fault_refusal (Some e) = Some (refusals.Run e)
+fault_refusal None = None
+
+-- the refusal that is due, want of memory and refused threads aside
+abbrev pub refusal_of : Event → StampedWorld → Option Refusal
+refusal_of (events.Tick n) w = refuse_if (is_past_end (plus_seconds w.clock n)) refusals.ClockEnd
+refusal_of (events.TickNanos n) w = refuse_if (is_past_end (plus_nanoseconds w.clock n)) refusals.ClockEnd
+refusal_of (events.Write path bytes) w = write_refusal w (bstring_bytes path) bytes.items
+refusal_of (events.Link path target) w = write_refusal w (bstring_bytes path) target.items
+refusal_of (events.SetExecutable path executable) w =
+    refuse_if (is_bad_path (bstring_bytes path)) refusals.BadPath
+    orelse refuse_if (not (is_regular_file (node_at w (bstring_bytes path)))) refusals.NotAFile
+refusal_of (events.Remove path) w =
+    refuse_if (is_bad_path (bstring_bytes path)) refusals.BadPath
+    orelse refuse_if (not (is_some (stored_node (node_at w (bstring_bytes path))))) refusals.NotAFile
+refusal_of (events.Stage path) w = refuse_if (is_bad_path (bstring_bytes path)) refusals.BadPath
+refusal_of (events.Run run) w =
+    stamp_refusal w.clock run.stamp orelse fault_refusal (first_fault (query_of w run.comparer) w.entries)
+
+-- the refusal of a beginning
+abbrev pub start_refusal : Moment → Moment → Option Refusal
+start_refusal clock timestamp =
+    refuse_if (nat_le 1000000000 clock.nsecs || nat_le 1000000000 timestamp.nsecs) refusals.BadMoment
+    orelse refuse_if (is_after timestamp clock) refusals.StampLater
+
+-- a run whose stamp isn't refused
+abbrev pub IsBegun : Event → StampedWorld → Type 0
+IsBegun (events.Run run) w = stamp_refusal w.clock run.stamp ≡ None
+IsBegun _ w = ⊥
+
+-- one that may have more than one worker
+abbrev pub IsShared : Event → Type 0
+IsShared (events.Run run) = run.thread_limit ≢ Some 1
+IsShared _ = ⊥
+
+-- why an event may be refused: memory ran out, also within a run, a run had no thread, or the refusal is due
+abbrev pub IsRefused : Refusal → Event → StampedWorld → Type 0
+IsRefused refusals.Memory e w = ⊤
+IsRefused refusals.Interrupted e w = ⊥
+IsRefused (refusals.Run errors.Memory) e w = IsBegun e w
+IsRefused (refusals.Run errors.SpawnThread) e w = IsBegun e w × IsShared e
+IsRefused r e w = refusal_of e w ≡ Some r

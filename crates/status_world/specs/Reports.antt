@@ -1,0 +1,45 @@
+-- What a run reports, as plain values.
+use Rattle.std.specs.Prelude.{ℕ, Bool, true, false, List, filter, map, Option}
+use Rattle.bstr.specs.BStr.{bstr_bytes}
+use Rattle.bstr.specs.Owned.{bstring_bytes}
+use Rattle.status_index.specs.declared.id.ObjectId.{ObjectId}
+use Rattle.status_call.specs.declared.index_as_worktree.recorder.Record.{Record}
+use Rattle.status_call.specs.declared.index_as_worktree.types.EntryStatus.{EntryStatus}
+use Rattle.status_call.specs.declared.index_as_worktree.types.EntryStatus.TheVariants as statuses
+use Rattle.status_call.specs.declared.index_as_worktree.types.Outcome.{Outcome}
+use Rattle.status_world.specs.declared.world.report.Report.{Report}
+use Rattle.status_world.specs.declared.world.report.ReportRecord.{ReportRecord}
+
+-- the status of an entry, with the new id of a changed content where entries are compared by ids
+abbrev pub RunStatus : Type 0
+RunStatus = EntryStatus (Option ObjectId) (Unit {0})
+
+pub record Reported : Type 0 where
+  pub entry_index : ℕ
+  pub path : List ℕ
+  pub status : RunStatus
+
+pub record RunReport : Type 0 where
+  pub records : List Reported
+  pub outcome : Outcome
+
+abbrev pub reported_value : ReportRecord → Reported
+reported_value r = record { entry_index = r.entry_index; path = bstring_bytes r.path; status = r.status }
+
+-- what a recorder holds of an entry
+abbrev pub record_value : Record (Option ObjectId) (Unit {0}) → Reported
+record_value r = record { entry_index = r.entry_index; path = bstr_bytes r.relative_path; status = r.status }
+
+abbrev pub report_value : Report → RunReport
+report_value r = record { records = map reported_value r.records.items; outcome = r.outcome }
+
+-- whether a status is a change; that only the stat needs an update is none
+abbrev pub is_change : RunStatus → Bool
+is_change (statuses.Change c) = true
+is_change (statuses.Conflict summary entries) = false
+is_change (statuses.NeedsUpdate stat) = false
+is_change statuses.IntentToAdd = false
+
+-- the paths that a report has a change of
+abbrev pub changed_paths : RunReport → List (List ℕ)
+changed_paths r = map (λ x. x.path) (filter (λ x. is_change x.status) r.records)

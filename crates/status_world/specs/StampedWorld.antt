@@ -1,0 +1,253 @@
+-- The stamped world: a clock, a worktree of nodes with stamps, an index, and what was staged last.
+use Rattle.std.specs.Prelude.{ℕ, Bool, true, false, List, [], ◌∷◌, ◌++◌, length, map, filter, find, Option, Some, None, option_map, unwrap_or, Result, Ok, Err, if◌then◌else◌}
+use Rattle.std.specs.List.{flat_map, enumerate_from}
+use Rattle.std.specs.Option.{option_to_list}
+use Rattle.std.specs.Ordering.{nat_cmp, is_lt}
+use Rattle.std.specs.Cmp.Lexicographic.{slice_cmp}
+use Rattle.std.specs.FinMap as paths
+use Rattle.std.specs.Str.{bytes_eq}
+use Rattle.bstr.specs.Owned.{bstring_bytes}
+use Rattle.status_index.specs.declared.id.HashKind.{HashKind}
+use Rattle.status_index.specs.declared.id.ObjectId.{ObjectId}
+use Rattle.status_index.specs.declared.metadata.NodeKind.{NodeKind}
+use Rattle.status_index.specs.declared.metadata.NodeKind.TheVariants.{File, Link, Directory, Other}
+use Rattle.status_index.specs.declared.stat.Moment.{Moment}
+use Rattle.status_index.specs.declared.stat.Options.{Options}
+use Rattle.status_index.specs.declared.stat.Stat.{Stat}
+use Rattle.status_index.specs.BlobId.{blob_id}
+use Rattle.status_index.specs.Entries.{IndexEntry}
+use Rattle.status_index.specs.FlagBits.{bits_of_stage}
+use Rattle.status_index.specs.Mode.{new_mode}
+use Rattle.status_index.specs.NodeStat.{stat_of}
+use Rattle.status_index.specs.Staging.{with_entry}
+use Rattle.status_index.specs.States.{with_stat, smudged}
+use Rattle.status_base.specs.Converted.{same}
+use Rattle.status_base.specs.MemoryTree.{Placed, PathMap, Tree, lstat_in, open_in, target_in}
+use Rattle.status_base.specs.Trees.{empty_tree}
+use Rattle.status_base.specs.Objects.{Contents, found_in}
+use Rattle.status_compare.specs.declared.error.Error.{Error}
+use Rattle.status_compare.specs.declared.reads.Reads.{Reads}
+use Rattle.status_compare.specs.Comparers.{hash_answer, fast_answer, counts_after_hash, counts_after_fast}
+use Rattle.status_compare.specs.Reading.{Meaning}
+use Rattle.status_call.specs.declared.index_as_worktree.types.Change.TheVariants.{Modification}
+use Rattle.status_call.specs.declared.index_as_worktree.types.EntryStatus.TheVariants as statuses
+use Rattle.status_call.specs.Counts.{counts_in, reads_in}
+use Rattle.status_call.specs.Outcomes.{outcome_of}
+use Rattle.status_call.specs.Query.{Query}
+use Rattle.status_call.specs.Records.{verdict}
+use Rattle.status_world.specs.declared.world.event.Comparer.{Comparer}
+use Rattle.status_world.specs.declared.world.event.Comparer.TheVariants.{Hash, Fast}
+use Rattle.status_world.specs.declared.world.event.Event.{Event}
+use Rattle.status_world.specs.declared.world.event.Event.TheVariants as events
+use Rattle.status_world.specs.Moments.{stamp_of, plus_seconds, plus_nanoseconds}
+use Rattle.status_world.specs.PlainWorld.{Plain, executable_of_kind, with_value}
+use Rattle.status_world.specs.Reports.{RunStatus, Reported, RunReport}
+
+pub record StampedWorld : Type 0 where
+  -- what ids are made by, which parts of stats have to be equal, and whether executability counts
+  pub kind : HashKind
+  pub stat_options : Options
+  pub executable_bit : Bool
+  pub clock : Moment
+  pub tree : Tree
+  -- what the index says, and when it was written
+  pub entries : List IndexEntry
+  pub timestamp : Moment
+  -- what was staged last; no run looks at it
+  pub staged : PathMap Plain
+
+-- the world that nothing was done in
+abbrev pub empty_world : HashKind → Options → Bool → Moment → Moment → StampedWorld
+empty_world kind options executable_bit clock timestamp = record {
+  kind = kind;
+  stat_options = options;
+  executable_bit = executable_bit;
+  clock = clock;
+  tree = empty_tree;
+  entries = [];
+  timestamp = timestamp;
+  staged = paths.empty;
+}
+
+-- the node that was put at a path
+abbrev pub node_at : StampedWorld → List ℕ → Option Placed
+node_at w path = paths.get w.tree.nodes path
+
+abbrev pub with_node : StampedWorld → List ℕ → Option Placed → StampedWorld
+with_node w path node = record w { tree = record w.tree { nodes = with_value w.tree.nodes path node } }
+
+-- a file or link that is written now; its length is the number of its bytes
+abbrev pub written : Moment → NodeKind → Bool → List ℕ → Placed
+written clock kind executable bytes = record {
+  metadata = record {
+    kind = kind;
+    len = length bytes;
+    executable = executable;
+    mtime = Some (stamp_of clock);
+    ctime = Some (stamp_of clock);
+    dev = 0;
+    ino = 0;
+    uid = 0;
+    gid = 0;
+  };
+  bytes = bytes;
+}
+
+-- whether a path has an executable file
+abbrev pub is_executable_at : Option Placed → Bool
+is_executable_at (Some n) = executable_of_kind n.metadata.kind n.metadata.executable
+is_executable_at None = false
+
+-- a node whose executability is set now: its content's stamp stays
+abbrev pub with_executability : Moment → Bool → Placed → Placed
+with_executability clock executable n =
+    record n { metadata = record n.metadata { executable = executable; ctime = Some (stamp_of clock) } }
+
+-- ---- staging
+
+-- whether a node is one that an index stores
+abbrev pub is_stored_kind : NodeKind → Bool
+is_stored_kind File = true
+is_stored_kind Link = true
+is_stored_kind Directory = false
+is_stored_kind Other = false
+
+-- a file or link, or none
+abbrev pub stored_node : Option Placed → Option Placed
+stored_node (Some n) = if is_stored_kind n.metadata.kind then Some n else None
+stored_node None = None
+
+-- what lies there, without its stamps
+abbrev pub plain_of : Placed → Plain
+plain_of n = record {
+  kind = n.metadata.kind;
+  bytes = n.bytes;
+  executable = executable_of_kind n.metadata.kind n.metadata.executable;
+}
+
+-- a stat of zeros, in place of a node's whose stamps aren't known; in a world of events every stamp is known
+abbrev pub zero_stat : Stat
+zero_stat = record {
+  mtime = record { secs = 0; nsecs = 0 };
+  ctime = record { secs = 0; nsecs = 0 };
+  dev = 0;
+  ino = 0;
+  uid = 0;
+  gid = 0;
+  size = 0;
+}
+
+-- the entry of a node that is staged: of stage 0, without flags
+abbrev pub entry_of : StampedWorld → List ℕ → Placed → IndexEntry
+entry_of w path n = record {
+  path = path;
+  stat = unwrap_or (stat_of n.metadata) zero_stat;
+  id = blob_id w.kind n.bytes;
+  flags = record { 0 = bits_of_stage 0 };
+  mode = new_mode w.executable_bit n.metadata.kind n.metadata.executable;
+}
+
+-- the entry of a path
+abbrev pub entry_at : List ℕ → List IndexEntry → Option IndexEntry
+entry_at path es = find (λ e. bytes_eq e.path path) es
+
+-- ---- a run
+
+abbrev pub with_id : Result (Option ObjectId) Error → Result (Option (Option ObjectId)) Error
+with_id (Ok change) = Ok (option_map Some change)
+with_id (Err e) = Err e
+
+abbrev pub without_new_id : Result (Option (Unit {0})) Error → Result (Option (Option ObjectId)) Error
+without_new_id (Ok change) = Ok (option_map (λ _. None) change)
+without_new_id (Err e) = Err e
+
+-- what a run's comparer answers, and what it reads
+abbrev pub compared_by : Comparer → IndexEntry → ℕ → Meaning → Result (Option (Option ObjectId)) Error
+compared_by Hash e len m = with_id (hash_answer e m.file)
+compared_by Fast e len m = without_new_id (fast_answer e len m.file)
+
+abbrev pub counted_by : Comparer → IndexEntry → ℕ → Meaning → Reads → Option Reads
+counted_by Hash e len m k = Some (counts_after_hash m.file k)
+counted_by Fast e len m k = Some (counts_after_fast e len m.file k)
+
+abbrev pub no_blobs : Contents
+no_blobs = paths.empty
+
+-- what a run is computed from: links count, all paths are included, nothing is converted, and there are no listings,
+-- blobs or submodules
+abbrev pub query_of : StampedWorld → Comparer → Query (Option ObjectId) (Unit {0})
+query_of w comparer = record {
+  modelled = true;
+  stat_options = w.stat_options;
+  symlink = true;
+  executable_bit = w.executable_bit;
+  timestamp = w.timestamp;
+  lstat = lstat_in w.tree;
+  opened = open_in w.tree;
+  linked = target_in w.tree;
+  cached = λ _. None;
+  prefix = [];
+  included = λ _ _. true;
+  conversion = λ _ _. same;
+  blob = found_in no_blobs;
+  submodule = λ _. Ok None;
+  compared = compared_by comparer;
+  counted = counted_by comparer;
+}
+
+-- what an entry gives in a run
+abbrev pub verdict_in : StampedWorld → Comparer → IndexEntry → Result (Option RunStatus) Error
+verdict_in w comparer e = verdict (query_of w comparer) w.entries e
+
+abbrev pub reported_by : ℕ → List ℕ → Result (Option RunStatus) Error → List Reported
+reported_by i path (Ok (Some status)) = record { entry_index = i; path = path; status = status } ∷ []
+reported_by i path (Ok None) = []
+reported_by i path (Err e) = []
+
+-- the report of a run without a fault: the records of all entries, and their counts
+abbrev pub report_of : StampedWorld → Comparer → RunReport
+report_of w comparer = record {
+  records = flat_map (λ p. reported_by p.0 p.1.path (verdict_in w comparer p.1)) (enumerate_from 0 w.entries);
+  outcome = outcome_of
+      (record {
+        totals = record {
+          counts = counts_in (query_of w comparer) w.entries w.entries;
+          reads = reads_in (query_of w comparer) w.entries;
+        };
+        interrupted = false;
+      })
+      (length w.entries)
+      (record { start = 0; end = length w.entries });
+}
+
+-- an entry after its status is stored: a new stat, or the size 0 where the status says so
+abbrev pub stored_status : IndexEntry → RunStatus → IndexEntry
+stored_status e (statuses.NeedsUpdate stat) = with_stat stat e
+stored_status e (statuses.Change (Modification x c true)) = smudged e
+stored_status e _ = e
+
+abbrev pub stored_verdict : IndexEntry → Result (Option RunStatus) Error → IndexEntry
+stored_verdict e (Ok (Some status)) = stored_status e status
+stored_verdict e (Ok None) = e
+stored_verdict e (Err fault) = e
+
+-- ---- the events
+
+abbrev pub after_event : Event → StampedWorld → StampedWorld
+after_event (events.Tick n) w = record w { clock = plus_seconds w.clock n }
+after_event (events.TickNanos n) w = record w { clock = plus_nanoseconds w.clock n }
+after_event (events.Write path bytes) w =
+    with_node w (bstring_bytes path) (Some (written w.clock File (is_executable_at (node_at w (bstring_bytes path))) bytes.items))
+after_event (events.Link path target) w =
+    with_node w (bstring_bytes path) (Some (written w.clock Link false target.items))
+after_event (events.SetExecutable path executable) w =
+    with_node w (bstring_bytes path) (option_map (with_executability w.clock executable) (node_at w (bstring_bytes path)))
+after_event (events.Remove path) w = with_node w (bstring_bytes path) None
+after_event (events.Stage path) w = record w {
+  entries = with_entry w.entries (bstring_bytes path) (option_map (entry_of w (bstring_bytes path)) (stored_node (node_at w (bstring_bytes path))));
+  staged = with_value w.staged (bstring_bytes path) (option_map plain_of (stored_node (node_at w (bstring_bytes path))));
+}
+after_event (events.Run run) w = record w {
+  entries = map (λ e. stored_verdict e (verdict_in w run.comparer e)) w.entries;
+  timestamp = run.stamp;
+}

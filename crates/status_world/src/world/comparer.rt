@@ -1,0 +1,42 @@
+//! The comparer of a run.
+
+ghost use Rattle.std.specs.Prelude.{◌≡◌, Some};
+ghost use Rattle.std.proofs.Common.{ap};
+ghost use Rattle.status_world.specs.StampedWorld.{compared_by, counted_by};
+
+use crate::world::event::Comparer;
+use status_base::index::{Entry, ObjectId};
+use status_compare::{CompareBlobs, Error, FastEq, HashEq, ReadData};
+use std::alloc::Global;
+
+impl CompareBlobs for Comparer {
+    type Output = Option<ObjectId>;
+
+    ghost answer = { compared_by };
+
+    ghost counts_after = { counted_by };
+
+    ghost clone_keeps_answer = { λ _ _ same. ap compared_by same };
+
+    ghost clone_keeps_counts = { λ _ _ same. ap counted_by same };
+
+    fn compare_blobs<R: ReadData>(
+        &mut self,
+        alloc: Global,
+        entry: &Entry,
+        size: u64,
+        data: &mut R,
+        buffer: &mut Vec<u8>,
+    ) -> Result<Option<Option<ObjectId>>, Error> {
+        match self {
+            Comparer::Hash => {
+                let change = HashEq.compare_blobs(alloc, entry, size, data, buffer)?;
+                Ok(change.map(Some))
+            }
+            Comparer::Fast => {
+                let change = FastEq.compare_blobs(alloc, entry, size, data, buffer)?;
+                Ok(change.map(|()| None))
+            }
+        }
+    }
+}

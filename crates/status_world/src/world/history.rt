@@ -1,0 +1,41 @@
+//! Replaying a list of events.
+
+ghost use Rattle.std.specs.Prelude.{map};
+ghost use Rattle.status_world.specs.History.{IsReplay, IsExactReplay, HaveDistinctIds, contents_at_hand};
+ghost use Rattle.status_world.specs.Reports.{report_value};
+ghost use Rattle.status_world.specs.Sound.{IsFormed, IsSound};
+
+use crate::world::event::Event;
+use crate::world::outcome::Replay;
+use crate::world::state::World;
+use std::alloc::Global;
+use std::sync::Wait;
+use std::thread::Threads;
+
+/// Lets the events happen in turn, up to the first that is refused.
+///
+/// **No change is missed**: where contents that have one id are one, the paths that a run reports a change of are just
+/// those that were staged and now differ from it, in kind, in bytes or, where that counts, in executability.
+pub fn replay<R: Threads + Wait>(rt: &R, alloc: Global, world: World, events: &[Event]) -> Replay
+    ensures replay { IsReplay world events.now result.world (map report_value result.reports.items) result.stopped }
+    ensures formed { IsFormed world → IsFormed result.world }
+    ensures exact { IsFormed world → IsSound world → HaveDistinctIds world.kind (contents_at_hand world events.now)
+        → IsExactReplay world events.now result.world (map report_value result.reports.items) result.stopped }
+{
+    let mut world = world;
+    let mut reports = Vec::new(alloc);
+    for (place, event) in events.iter().enumerate() {
+        if let Err(refusal) = world.step(rt, &mut reports, event) {
+            return Replay {
+                world,
+                reports,
+                stopped: Some((place, refusal)),
+            };
+        }
+    }
+    Replay {
+        world,
+        reports,
+        stopped: None,
+    }
+}

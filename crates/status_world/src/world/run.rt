@@ -1,0 +1,203 @@
+//! Status runs of a world.
+
+ghost use Rattle.std.specs.Prelude.{◌≡◌, ◌≢◌, ◌<◌, false, All, Err, IfOk, IsTrue, Some, length, map};
+ghost use Rattle.status_index.specs.States.{index_of, timestamp_of};
+ghost use Rattle.status_compare.specs.declared.error.Error.TheVariants.{SpawnThread};
+ghost use Rattle.status_call.specs.StatusTheorem.{IsMet, NeverSpawns};
+ghost use Rattle.status_world.specs.RunStatus.{status_query};
+ghost use Rattle.status_world.specs.Applied.{IsRunReport, IsRunApplied};
+ghost use Rattle.status_world.specs.Stored.{store_record, store_records};
+ghost use Rattle.status_world.specs.Reports.{reported_value, record_value, report_value};
+ghost use Rattle.status_world.specs.StampedWorld.{after_event, report_of};
+ghost use Rattle.status_world.specs.declared.world.event.Event.TheVariants as events;
+
+use crate::world::event::Run;
+use crate::world::refusal::Refusal;
+use crate::world::report::{Report, ReportRecord};
+use crate::world::state::{NANOSECONDS, World};
+use bstr::BString;
+use status_base::index::{ObjectId, State};
+use status_base::worktree::{AllPaths, MemoryObjects, NoFilter, NoLister, NoSubmodules, Worktree};
+use status_call::index_as_worktree::{
+    Capabilities, Change, Context, EntryStatus, Error, Options, Outcome, Record, Recorder,
+    VisitEntry, index_as_worktree,
+};
+use status_compare::CompareBlobs;
+use std::alloc::{AllocError, Global};
+use std::sync::Wait;
+use std::thread::Threads;
+
+impl World {
+    /// Runs a status, and stores its answers in the index.
+    pub(crate) fn run<R: Threads + Wait>(&mut self, rt: &R, run: &Run) -> Result<Report, Refusal>
+        ensures { IsRunApplied run.now self.old result self.new }
+    {
+        if run.stamp.nsecs >= NANOSECONDS {
+            return Err(Refusal::BadMoment);
+        }
+        if run.stamp > self.parts.clock {
+            return Err(Refusal::StampLater);
+        }
+        let report = self.report(rt, run)?;
+        self.store(run, &report);
+        Ok(report)
+    }
+
+    /// Stores what a run reports: the answers in the index, and the index's new timestamp.
+    fn store(&mut self, run: &Run, report: &Report)
+        requires { report_value report.now ≡ report_of self.old run.now.comparer }
+        ensures { self.new ≡ after_event (events.Run run.now) self.old }
+    {
+        let index = &mut self.parts.index;
+        store_records(index, &report.records);
+        index.set_timestamp(run.stamp);
+    }
+
+    /// What a status run reports of the world as it is.
+    ///
+    /// # Errors
+    /// The status's, and want of memory.
+    fn report<R: Threads + Wait>(&self, rt: &R, run: &Run) -> Result<Report, Refusal>
+        ensures { IsRunReport run.now self.now result }
+    {
+        let parts = &self.parts;
+        let options = Options {
+            fs: Capabilities {
+                symlink: true,
+                executable_bit: parts.executable_bit,
+            },
+            thread_limit: run.thread_limit,
+            stat: parts.stat,
+            fscache: false,
+            chunk_size: run.chunk_size,
+        };
+        let mut recorder = Recorder::new(parts.alloc);
+        let status = record_status(
+            rt,
+            parts.alloc,
+            &parts.index,
+            &parts.worktree,
+            &mut recorder,
+            run.comparer,
+            options,
+        );
+        match status {
+            Ok(outcome) => Ok(Report {
+                records: owned_records(parts.alloc, recorder)?,
+                outcome,
+            }),
+            Err(error) => Err(Refusal::Run(error)),
+        }
+    }
+}
+
+/// Records the status of an index against a worktree with no submodule, blob, filter or pathspec.
+fn record_status<
+    'index,
+    R: Threads + Wait,
+    W: Worktree + Sync,
+    V: VisitEntry<'index, ContentChange = C::Output, SubmoduleStatus = ()>,
+    C: CompareBlobs + Send,
+>(
+    rt: &R,
+    alloc: Global,
+    index: &'index State,
+    worktree: &W,
+    collector: &mut V,
+    compare: C,
+    options: Options,
+) -> Result<Outcome, Error>
+where
+    W::File: Send,
+    C::Output: Send,
+    ensures met { IsMet (status_query options (timestamp_of index.now) (W.modelled worktree.now) (W.lstat_of worktree.now)
+        (W.open_of worktree.now) (W.target_of worktree.now) (C.answer compare) (C.counts_after compare))
+        index.now (V.visits collector.old) result (V.visits collector.new) }
+    ensures uninterrupted { IfOk result (λ o. o.interrupted ≡ false) }
+    ensures alone { IsTrue (W.modelled worktree.now) → options.thread_limit ≡ Some 1
+        → NeverSpawns (status_query options (timestamp_of index.now) (W.modelled worktree.now) (W.lstat_of worktree.now)
+        (W.open_of worktree.now) (W.target_of worktree.now) (C.answer compare) (C.counts_after compare))
+        → result ≢ Err SpawnThread }
+{
+    let context = Context {
+        pathspec: AllPaths,
+        filter: NoFilter,
+        lister: NoLister,
+        should_interrupt: None,
+    };
+    let objects = MemoryObjects::new(alloc);
+    index_as_worktree(
+        rt,
+        alloc,
+        index,
+        worktree,
+        collector,
+        compare,
+        NoSubmodules,
+        objects,
+        context,
+        options,
+    )
+}
+
+/// The records of a recorder, with paths of their own.
+fn owned_records(
+    alloc: Global,
+    recorder: Recorder<'_, Option<ObjectId>, ()>,
+) -> Result<Vec<ReportRecord>, AllocError>
+    ensures { IfOk result (λ records. map reported_value records.items ≡ map record_value recorder.entry.records.items) }
+{
+    let mut owned = Vec::with_capacity(alloc, recorder.records.len())?;
+    for record in recorder.records {
+        owned.push(owned_record(alloc, record)?)?;
+    }
+    Ok(owned)
+}
+
+fn owned_record(
+    alloc: Global,
+    record: Record<'_, Option<ObjectId>, ()>,
+) -> Result<ReportRecord, AllocError>
+    ensures { IfOk result (λ owned. reported_value owned ≡ record_value record.entry) }
+{
+    let Record {
+        entry_index,
+        relative_path,
+        status,
+        ..
+    } = record;
+    Ok(ReportRecord {
+        entry_index,
+        path: BString::from_slice(alloc, relative_path.as_bytes())?,
+        status,
+    })
+}
+
+/// Stores what was reported in the index.
+fn store_records(index: &mut State, records: &[ReportRecord])
+    requires { All (λ r. r.entry_index < length (index_of index.old)) (map reported_value records.now) }
+    ensures index { (index_of index.new) ≡ store_records (map reported_value records.now) (index_of index.old) }
+    ensures timestamp { timestamp_of index.new ≡ timestamp_of index.old }
+{
+    for record in records {
+        store_record(index, record);
+    }
+}
+
+/// Stores what was reported of one entry: a new stat, or the size 0.
+fn store_record(index: &mut State, record: &ReportRecord)
+    requires { record.now.entry_index < length (index_of index.old) }
+    ensures index { (index_of index.new) ≡ store_record (index_of index.old) (reported_value record.now) }
+    ensures timestamp { timestamp_of index.new ≡ timestamp_of index.old }
+{
+    match &record.status {
+        EntryStatus::NeedsUpdate(stat) => index.set_stat(record.entry_index, *stat),
+        EntryStatus::Change(
+            Change::Modification {
+                set_entry_stat_size_zero: true,
+                ..
+            },
+        ) => index.smudge(record.entry_index),
+        _ => {}
+    }
+}

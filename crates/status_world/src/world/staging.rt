@@ -1,0 +1,102 @@
+//! Staging.
+
+ghost use Rattle.std.specs.Prelude.{◌≡◌, IfOk, IfErr, OnOk, OnErr, Some, unwrap_or};
+ghost use Rattle.std.specs.FinMap as paths;
+ghost use Rattle.bstr.specs.BStr.{bstr_bytes};
+ghost use Rattle.status_base.specs.Nodes.{placed_of};
+ghost use Rattle.status_index.specs.Entries.{said_of};
+ghost use Rattle.status_index.specs.FlagBits.{bits_of_stage};
+ghost use Rattle.status_index.specs.NodeStat.{stat_of};
+ghost use Rattle.status_index.specs.Staging.{with_entry};
+ghost use Rattle.status_world.specs.Applied.{IsChanged};
+ghost use Rattle.status_world.specs.StampedWorld.{plain_of, zero_stat};
+ghost use Rattle.status_world.specs.StagedPaths.{plain_staged};
+ghost use Rattle.status_world.specs.declared.world.event.Event.TheVariants as events;
+
+use crate::world::refusal::Refusal;
+use crate::world::staged::Staged;
+use crate::world::state::World;
+use bstr::{BStr, BString};
+use status_base::index::mode::mode_of_node;
+use status_base::index::{Flags, Mode, ObjectId, Stat, compute_hash};
+use status_base::worktree::memory::is_bad_path;
+use status_base::worktree::{Node, NodeKind};
+use std::alloc::{AllocError, Global};
+
+impl World {
+    /// Puts what is at a path into the index, or takes the path's entry out where no file or link is.
+    pub(crate) fn stage(&mut self, path: &BString) -> Result<(), Refusal>
+        ensures { IsChanged (events.Stage path.now) self.old result self.new }
+    {
+        let path = path.as_bstr();
+        if is_bad_path(path) {
+            return Err(Refusal::BadPath);
+        }
+        let parts = &self.parts;
+        match parts.worktree.node(path) {
+            Some(node) if matches!(node.kind, NodeKind::File | NodeKind::Link) => {
+                let stat = stat_of(node);
+                let mode = mode_of_node(&node.metadata(), parts.executable_bit);
+                let id = compute_hash(parts.kind, &node.bytes);
+                let staged = staged_of(parts.alloc, node)?;
+                self.put_staged(path, stat, id, mode, staged)
+            }
+            _ => {
+                self.parts.index.remove_path(path);
+                self.parts.staged.remove(path);
+                Ok(())
+            }
+        }
+    }
+}
+
+impl World {
+    /// Puts an entry into the index, and keeps what was staged: both, or neither.
+    fn put_staged(
+        &mut self,
+        path: BStr<'_>,
+        stat: Stat,
+        id: ObjectId,
+        mode: Mode,
+        staged: Staged,
+    ) -> Result<(), Refusal>
+        ensures ok { OnOk result (self.new ≡ record self.old {
+          entries = with_entry self.old.entries (bstr_bytes path.entry) (Some (said_of (bstr_bytes path.entry) stat id (record { 0 = bits_of_stage 0 }) mode));
+          staged = paths.insert self.old.staged (bstr_bytes path.entry) (plain_staged staged);
+        }) }
+        ensures err { IfErr result (λ r. r ≡ Refusal.Memory) }
+        ensures unchanged { OnErr result (self.new ≡ self.old) }
+    {
+        let parts = &mut self.parts;
+        // What was staged first: it can be put back without memory where the index refuses the entry.
+        let replaced = parts.staged.put(path, staged)?;
+        match parts
+            .index
+            .put_entry(stat, id, Flags::from_stage(0), mode, path)
+        {
+            Ok(()) => Ok(()),
+            Err(_refused) => {
+                parts.staged.put_back(path, replaced);
+                Err(Refusal::Memory)
+            }
+        }
+    }
+}
+
+/// The stat of a node that was put, whose stamps are known.
+fn stat_of(node: &Node) -> Stat
+    ensures { result ≡ unwrap_or (stat_of (placed_of node.now).metadata) zero_stat }
+{
+    node.metadata().to_stat().unwrap_or_default()
+}
+
+/// What is staged of a node.
+fn staged_of(alloc: Global, node: &Node) -> Result<Staged, AllocError>
+    ensures { IfOk result (λ s. plain_staged s ≡ plain_of (placed_of node.now)) }
+{
+    Ok(Staged {
+        kind: node.kind,
+        bytes: Vec::from_slice(alloc, &node.bytes)?,
+        executable: node.kind == NodeKind::File && node.executable,
+    })
+}

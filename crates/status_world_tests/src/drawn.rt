@@ -1,0 +1,194 @@
+//! Drawn histories: after each run the reported changes are those of the plain maps.
+
+use crate::given::{Setting, Step, at, start};
+use crate::plain::PlainMaps;
+use gix_status::index::{Moment, stat};
+use gix_status::index_as_worktree::{Change, EntryStatus};
+use gix_status::world::{Comparer, Refusal, Report, Run};
+use std::alloc::{AllocError, Global};
+use std::test::Fail;
+
+/// The paths, of which some are above others.
+const PATHS: [&str; 20] = [
+    "a", "a-", "a/b", "a/b/c", "a/bc", "a0", "b", "c", "c/a", "c/b", "d/a", "d/b/a", "d/b/b", "e",
+    "f", "g", "g/a/b/c", "h", "i", "j",
+];
+
+const CONTENTS: [&str; 9] = ["", "a", "b", "aa", "ab", "ba", "foo", "bar", "baz"];
+
+const NANOS: [u32; 8] = [0, 0, 0, 1, 1, 100, 400_000_000, 999_999_999];
+
+/// A row of numbers that look drawn.
+#[derive(Drop)]
+struct Draws {
+    state: u64,
+}
+
+impl Draws {
+    /// A number below a limit.
+    fn below(&mut self, limit: u64) -> usize {
+        self.state = self
+            .state
+            .wrapping_mul(6364136223846793005)
+            .wrapping_add(1442695040888963407);
+        ((self.state >> 33) % limit.max(1)) as usize
+    }
+
+    fn is_heads(&mut self) -> bool {
+        self.below(2) == 0
+    }
+
+    fn path(&mut self) -> &'static str {
+        PATHS[self.below(1 << 20) % PATHS.len()]
+    }
+
+    fn content(&mut self) -> &'static str {
+        CONTENTS[self.below(1 << 20) % CONTENTS.len()]
+    }
+
+    fn nanoseconds(&mut self) -> u32 {
+        NANOS[self.below(1 << 20) % NANOS.len()]
+    }
+
+    /// A moment that isn't after the clock.
+    fn stamp(&mut self, clock: Moment) -> Moment {
+        match self.below(8) {
+            0 => at(clock.secs.saturating_sub(1), 999_999_999),
+            1 => at(clock.secs, 0),
+            2 => at(clock.secs, clock.nsecs / 2),
+            _ => clock,
+        }
+    }
+
+    fn run(&mut self, clock: Moment) -> Run {
+        let comparer = if self.is_heads() {
+            Comparer::Hash
+        } else {
+            Comparer::Fast
+        };
+        Run {
+            comparer,
+            chunk_size: 1 + self.below(3) % 3,
+            thread_limit: Some(1 + self.below(3) % 3),
+            stamp: self.stamp(clock),
+        }
+    }
+
+    fn step(&mut self, clock: Moment) -> Step {
+        match self.below(16) {
+            0..=3 => Step::Write(self.path(), self.content()),
+            4 => Step::Link(self.path(), self.content()),
+            5 | 6 => Step::Executable(self.path(), self.is_heads()),
+            7 => Step::Remove(self.path()),
+            8..=12 => Step::Stage(self.path()),
+            // Most ticks are 0, so that writes, stagings and runs share a second.
+            13 => Step::Tick(u32::from(self.below(6) == 0)),
+            14 => Step::Nanos(self.nanoseconds()),
+            _ => Step::Run(self.run(clock)),
+        }
+    }
+}
+
+/// Plain maps beside a world, and how much they saw.
+#[derive(Drop)]
+struct Watch {
+    maps: PlainMaps,
+    executable_bit: bool,
+    refused: u32,
+    told: u32,
+    smudged: u32,
+    updates: u32,
+}
+
+impl Watch {
+    fn new(alloc: Global, executable_bit: bool) -> Watch {
+        Watch {
+            maps: PlainMaps::new(alloc),
+            executable_bit,
+            refused: 0,
+            told: 0,
+            smudged: 0,
+            updates: 0,
+        }
+    }
+
+    /// Whether a step's answer is that of the maps, which then follow it where it wasn't refused.
+    fn agrees(
+        &mut self,
+        step: Step,
+        answer: Result<Option<Report>, Refusal>,
+    ) -> Result<bool, AllocError> {
+        let is_allowed = self.maps.allow(step);
+        match answer {
+            Ok(None) => {
+                self.maps.follow(step)?;
+                Ok(is_allowed)
+            }
+            Ok(Some(report)) => {
+                self.count(&report);
+                Ok(is_allowed && self.maps.are_told_by(&report.records, self.executable_bit))
+            }
+            Err(_refused) => {
+                self.refused = self.refused.saturating_add(1);
+                Ok(!is_allowed)
+            }
+        }
+    }
+
+    fn count(&mut self, report: &Report) {
+        for record in &report.records {
+            match &record.status {
+                EntryStatus::NeedsUpdate(_) => self.updates = self.updates.saturating_add(1),
+                EntryStatus::Change(
+                    Change::Modification {
+                        set_entry_stat_size_zero: true,
+                        ..
+                    },
+                ) => self.smudged = self.smudged.saturating_add(1),
+                _ => self.told = self.told.saturating_add(1),
+            }
+        }
+    }
+
+    /// Whether enough was seen to show something.
+    fn is_enough(&self) -> bool {
+        self.refused >= 100 && self.told >= 100 && self.updates >= 1
+    }
+}
+
+/// One setting for each of sixteen numbers.
+fn setting_of(number: u64) -> Setting {
+    Setting {
+        stat: stat::Options {
+            trust_ctime: number % 2 == 1,
+            check_stat: number / 2 % 2 == 1,
+            use_nsec: number / 4 % 2 == 1,
+            use_stdev: false,
+        },
+        executable_bit: number / 8 % 2 == 1,
+    }
+}
+
+#[test]
+fn drawn_histories_miss_no_change(rt: HostRuntime) -> Result<(), Fail> {
+    let alloc = rt.alloc();
+    let mut smudged = 0u32;
+    for seed in 0..16 {
+        let setting = setting_of(seed);
+        let mut draws = Draws { state: seed };
+        let mut watch = Watch::new(alloc, setting.executable_bit);
+        let (mut world, _none) = start(alloc, setting, &[])?;
+        for turn in 0..10_000 {
+            let step = draws.step(world.clock());
+            let answer = world.apply(&rt, &step.event(alloc)?);
+            assert!(rt;
+                watch.agrees(step, answer)?,
+                "{step:?}, turn {turn} of seed {seed}"
+            );
+        }
+        assert!(rt; watch.is_enough(), "seed {seed}");
+        smudged = smudged.saturating_add(watch.smudged);
+    }
+    assert!(rt; smudged >= 100, "{smudged}");
+    Ok(())
+}

@@ -1,0 +1,160 @@
+//! Worlds and events in few words.
+
+use bstr::BString;
+use gix_status::index::{HashKind, Moment, ObjectId, stat};
+use gix_status::world::{Comparer, Event, Refusal, Run, World};
+use std::alloc::{AllocError, Global};
+
+/// The id of `foo`, by git.
+pub const FOO: ObjectId = ObjectId::Sha1([
+    0x19, 0x10, 0x28, 0x15, 0x66, 0x3d, 0x23, 0xf8, 0xb7, 0x5a, 0x47, 0xe7, 0xa0, 0x19, 0x65, 0xdc,
+    0xdc, 0x96, 0x46, 0x8c,
+]);
+
+/// The id of `bar`, by git.
+pub const BAR: ObjectId = ObjectId::Sha1([
+    0xba, 0x0e, 0x16, 0x2e, 0x1c, 0x47, 0x46, 0x9e, 0x3f, 0xe4, 0xb3, 0x93, 0xa8, 0xbf, 0x8c, 0x56,
+    0x9f, 0x30, 0x21, 0x16,
+]);
+
+/// The id of no bytes, by git.
+pub const EMPTY: ObjectId = ObjectId::Sha1([
+    0xe6, 0x9d, 0xe2, 0x9b, 0xb2, 0xd1, 0xd6, 0x43, 0x4b, 0x8b, 0x29, 0xae, 0x77, 0x5a, 0xd8, 0xc2,
+    0xe4, 0x8c, 0x53, 0x91,
+]);
+
+/// An event, before its paths and contents take memory.
+#[derive(Clone, Copy, Debug)]
+pub enum Step {
+    Tick(u32),
+    Nanos(u32),
+    Write(&'static str, &'static str),
+    Link(&'static str, &'static str),
+    Executable(&'static str, bool),
+    Remove(&'static str),
+    Stage(&'static str),
+    Run(Run),
+}
+
+impl Step {
+    /// The event.
+    pub fn event(self, alloc: Global) -> Result<Event, AllocError> {
+        Ok(match self {
+            Step::Tick(seconds) => Event::Tick(seconds),
+            Step::Nanos(nanoseconds) => Event::TickNanos(nanoseconds),
+            Step::Write(path, text) => {
+                Event::Write(path_of(alloc, path)?, bytes_of(alloc, text)?)
+            }
+            Step::Link(path, target) => {
+                Event::Link(path_of(alloc, path)?, bytes_of(alloc, target)?)
+            }
+            Step::Executable(path, executable) => {
+                Event::SetExecutable(path_of(alloc, path)?, executable)
+            }
+            Step::Remove(path) => Event::Remove(path_of(alloc, path)?),
+            Step::Stage(path) => Event::Stage(path_of(alloc, path)?),
+            Step::Run(run) => Event::Run(run),
+        })
+    }
+}
+
+fn path_of(alloc: Global, path: &str) -> Result<BString, AllocError> {
+    BString::from_slice(alloc, path)
+}
+
+fn bytes_of(alloc: Global, text: &str) -> Result<Vec<u8>, AllocError> {
+    Vec::from_slice(alloc, text.as_bytes())
+}
+
+/// The events, in order.
+pub fn events(alloc: Global, steps: &[Step]) -> Result<Vec<Event>, AllocError> {
+    let mut events = Vec::new(alloc);
+    for step in steps {
+        events.push(step.event(alloc)?)?;
+    }
+    Ok(events)
+}
+
+/// A moment.
+pub fn at(secs: u32, nsecs: u32) -> Moment {
+    Moment { secs, nsecs }
+}
+
+/// A run by ids, one entry a piece and two workers at most, whose answers are stored at a moment.
+pub fn run_at(stamp: Moment) -> Step {
+    Step::Run(Run {
+        comparer: Comparer::Hash,
+        chunk_size: 1,
+        thread_limit: Some(2),
+        stamp,
+    })
+}
+
+/// The same, at a whole second.
+pub fn run(second: u32) -> Step {
+    run_at(at(second, 0))
+}
+
+/// What counts in a world.
+#[derive(Clone, Copy, Debug)]
+pub struct Setting {
+    pub stat: stat::Options,
+    pub executable_bit: bool,
+}
+
+/// Seconds count, and neither `ctime` nor executability does.
+pub const SECONDS: Setting = Setting {
+    stat: stat::Options {
+        trust_ctime: false,
+        check_stat: true,
+        use_nsec: false,
+        use_stdev: false,
+    },
+    executable_bit: false,
+};
+
+/// Nanoseconds count, and neither `ctime` nor executability does.
+pub const NANOSECONDS: Setting = Setting {
+    stat: stat::Options {
+        trust_ctime: false,
+        check_stat: true,
+        use_nsec: true,
+        use_stdev: false,
+    },
+    executable_bit: false,
+};
+
+/// Seconds count, and `ctime` and executability do.
+pub const ALL: Setting = Setting {
+    stat: stat::Options {
+        trust_ctime: true,
+        check_stat: true,
+        use_nsec: false,
+        use_stdev: false,
+    },
+    executable_bit: true,
+};
+
+/// An empty world whose index was written at its clock, and events for it.
+pub fn start_at(
+    alloc: Global,
+    clock: Moment,
+    setting: Setting,
+    steps: &[Step],
+) -> Result<(World, Vec<Event>), Refusal> {
+    let Setting {
+        stat,
+        executable_bit,
+    } = setting;
+    let world = World::new(alloc, HashKind::Sha1, clock, clock, stat, executable_bit)?;
+    Ok((world, events(alloc, steps)?))
+}
+
+/// The same, in second 5.
+pub fn start(
+    alloc: Global,
+    setting: Setting,
+    steps: &[Step],
+) -> Result<(World, Vec<Event>), Refusal> {
+    start_at(alloc, at(5, 0), setting, steps)
+}

@@ -1,0 +1,20 @@
+//! Tests of histories: what runs report along events by hand, and along drawn ones beside plain maps that the test keeps.
+//! They name callers' items alone.
+#![tactic(auto)]
+
+#[cfg(test)]
+mod drawn;
+#[cfg(test)]
+mod given;
+#[cfg(test)]
+mod moments;
+#[cfg(test)]
+mod plain;
+#[cfg(test)]
+mod refused;
+#[cfg(test)]
+mod reports;
+#[cfg(test)]
+mod rewrites;
+#[cfg(test)]
+mod staging;
