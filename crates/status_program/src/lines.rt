@@ -1,5 +1,8 @@
 //! The lines that a status or a replay prints.
 
+ghost use Rattle.std.specs.Prelude.{◌<◌, ◌^◌};
+ghost use Rattle.status_call.specs.Outcomes.{skipped_of};
+
 #[cfg(test)]
 mod tests;
 
@@ -22,13 +25,15 @@ pub fn status_line<T: Drop, U: Drop>(
 }
 
 /// The line that a run of a replay begins with, with its line feed. Runs are counted from 1.
-pub fn run_line(alloc: Global, run: u64) -> Result<String, AllocError> {
+pub fn run_line(alloc: Global, run: usize) -> Result<String, AllocError> {
     format!(in alloc; "run {run}\n")
 }
 
 /// The line of what a status took, with its line feed.
-pub fn total_line(alloc: Global, outcome: &Outcome) -> Result<String, AllocError> {
-    let skipped = skipped(outcome);
+pub fn total_line(alloc: Global, outcome: &Outcome) -> Result<String, AllocError>
+    requires { skipped_of outcome.now < 2 ^ 64 }
+{
+    let skipped = outcome.skipped();
     let Outcome {
         entries_to_process,
         entries_processed,
@@ -42,13 +47,6 @@ pub fn total_line(alloc: Global, outcome: &Outcome) -> Result<String, AllocError
     format!(in alloc;
         "total: to process {entries_to_process}, processed {entries_processed}, skipped {skipped}, lstat {symlink_metadata_calls}, to update {entries_to_update}, racy {racy_clean}, read {worktree_files_read}, bytes {worktree_bytes}\n"
     )
-}
-
-/// How many entries were skipped. In 128 bits the sum fits whatever the counts are.
-fn skipped(outcome: &Outcome) -> u128 {
-    outcome.entries_skipped_by_common_prefix as u128
-        + outcome.entries_skipped_by_pathspec as u128
-        + outcome.entries_skipped_by_entry_flags as u128
 }
 
 /// A path as a JSON string, which is displayed as its compact text. Bytes that aren't UTF-8 are replaced.

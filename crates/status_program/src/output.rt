@@ -1,5 +1,8 @@
 //! Writing lines to the output.
 
+ghost use Rattle.std.specs.Prelude.{◌<◌, ◌^◌};
+ghost use Rattle.status_call.specs.Outcomes.{skipped_of};
+
 use crate::failure::Failure;
 use crate::lines::{status_line, total_line};
 use bstr::BStr;
@@ -26,17 +29,19 @@ pub fn print_record<T: Drop, U: Drop, O: io::Write>(
     print(line.as_str(), output)
 }
 
-/// Writes the line of totals where the profile wants it. Then all lines are out.
+/// Writes the line of totals where the profile wants it.
 pub fn print_totals<O: io::Write>(
     alloc: Global,
     outcome: &Outcome,
     counts: bool,
     output: &mut O,
-) -> Result<(), Failure> {
+) -> Result<(), Failure>
+    requires { skipped_of outcome.now < 2 ^ 64 }
+{
     if counts {
         print(total_line(alloc, outcome)?.as_str(), output)?;
     }
-    flush(output)
+    Ok(())
 }
 
 /// Sees to it that all lines are out.

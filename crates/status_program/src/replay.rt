@@ -1,14 +1,17 @@
 //! The replay of a profile's history.
 
+ghost use Rattle.std.specs.Prelude.{All};
+ghost use Rattle.status_world.specs.Reports.{HasSum};
+
 #[cfg(test)]
 mod tests;
 
 use crate::failure::Failure;
 use crate::input::read_all;
 use crate::lines::run_line;
-use crate::output::{print, print_record, print_totals};
+use crate::output::{flush, print, print_record, print_totals};
 use crate::profile::History;
-use gix_status::world::{Report, World};
+use gix_status::world::{Replay, Report, World, replay};
 use std::alloc::Global;
 use std::io;
 use std::sync::Wait;
@@ -40,18 +43,15 @@ fn print_replay<R: AllocGlobal + Threads + Wait, I: io::Read, O: io::Write>(
     let alloc = rt.alloc();
     let text = read_all(alloc, profile)?;
     let history = History::from_json(alloc, text.as_slice())?;
-    let mut world = begin(alloc, &history)?;
-    let mut runs: u64 = 0;
-    for (at, event) in history.events.iter().enumerate() {
-        let report = world
-            .apply(rt, event)
-            .map_err(|refusal| Failure::of_event(refusal, at))?;
-        if let Some(report) = report {
-            runs = runs.saturating_add(1);
-            print_report(alloc, runs, &report, history.options.counts, output)?;
-        }
+    let world = begin(alloc, &history)?;
+    let Replay {
+        reports, stopped, ..
+    } = replay(rt, alloc, world, &history.events);
+    print_reports(alloc, &reports, history.options.counts, output)?;
+    match stopped {
+        Some((at, refusal)) => Err(Failure::of_event(refusal, at)),
+        None => Ok(()),
     }
-    Ok(())
 }
 
 /// The world that a history begins with.
@@ -68,15 +68,31 @@ fn begin(alloc: Global, history: &History) -> Result<World, Failure> {
     .map_err(Failure::of_start)
 }
 
+/// Prints what the runs report, whose numbers begin with 1.
+fn print_reports<O: io::Write>(
+    alloc: Global,
+    reports: &[Report],
+    counts: bool,
+    output: &mut O,
+) -> Result<(), Failure>
+    requires { All HasSum reports.now }
+{
+    for (at, report) in reports.iter().enumerate() {
+        print(run_line(alloc, at + 1)?.as_str(), output)?;
+        print_report(alloc, report, counts, output)?;
+    }
+    flush(output)
+}
+
 /// Prints what a run reports.
 fn print_report<O: io::Write>(
     alloc: Global,
-    run: u64,
     report: &Report,
     counts: bool,
     output: &mut O,
-) -> Result<(), Failure> {
-    print(run_line(alloc, run)?.as_str(), output)?;
+) -> Result<(), Failure>
+    requires { HasSum report.now }
+{
     for record in &report.records {
         print_record(
             alloc,

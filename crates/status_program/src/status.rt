@@ -1,5 +1,8 @@
 //! The status of a profile's index against its worktree.
 
+ghost use Rattle.std.specs.Prelude.{◌<◌, ◌^◌, IfOk};
+ghost use Rattle.status_call.specs.Outcomes.{skipped_of};
+
 #[cfg(test)]
 mod folder_tests;
 #[cfg(test)]
@@ -169,7 +172,10 @@ where
     );
     print_records(alloc, recorder.records.as_slice(), output)?;
     match answer {
-        Ok(outcome) => print_totals(alloc, &outcome, counts, output),
+        Ok(outcome) => {
+            print_totals(alloc, &outcome, counts, output)?;
+            flush(output)
+        }
         Err(error) => Err(Failure::from(error)),
     }
 }
@@ -195,6 +201,7 @@ fn report_status<
 where
     W::File: Send,
     C::Output: Send,
+    ensures { IfOk result (λ o. skipped_of o < 2 ^ 64) }
 {
     let context = Context {
         pathspec,

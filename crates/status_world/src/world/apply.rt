@@ -1,8 +1,8 @@
 //! Applying an event.
 
-ghost use Rattle.std.specs.Prelude.{map};
+ghost use Rattle.std.specs.Prelude.{All, IfOk, IfSome, map};
 ghost use Rattle.status_world.specs.Applied.{IsApplied, IsStep};
-ghost use Rattle.status_world.specs.Reports.{report_value};
+ghost use Rattle.status_world.specs.Reports.{HasSum, report_value};
 
 use crate::world::event::Event;
 use crate::world::refusal::Refusal;
@@ -22,6 +22,7 @@ impl World {
         event: &Event,
     ) -> Result<Option<Report>, Refusal>
         ensures applied { IsApplied event.now self.old result self.new }
+        ensures sum { IfOk result (λ r. IfSome r HasSum) }
     {
         match event {
             Event::Tick(seconds) => self.tick(*seconds)?,
@@ -43,7 +44,8 @@ impl World {
         reports: &mut Vec<Report>,
         event: &Event,
     ) -> Result<(), Refusal>
-        ensures { IsStep event.now self.old (map report_value reports.old.items) result self.new (map report_value reports.new.items) }
+        ensures step { IsStep event.now self.old (map report_value reports.old.items) result self.new (map report_value reports.new.items) }
+        ensures sums { All HasSum reports.old.items → All HasSum reports.new.items }
     {
         reports.reserve(1)?;
         if let Some(report) = self.apply(rt, event)? {

@@ -1,8 +1,8 @@
 //! Replaying a list of events.
 
-ghost use Rattle.std.specs.Prelude.{map};
+ghost use Rattle.std.specs.Prelude.{All, map};
 ghost use Rattle.status_world.specs.History.{IsReplay, IsExactReplay, HaveDistinctIds, contents_at_hand};
-ghost use Rattle.status_world.specs.Reports.{report_value};
+ghost use Rattle.status_world.specs.Reports.{HasSum, report_value};
 ghost use Rattle.status_world.specs.Sound.{IsFormed, IsSound};
 
 use crate::world::event::Event;
@@ -21,6 +21,7 @@ pub fn replay<R: Threads + Wait>(rt: &R, alloc: Global, world: World, events: &[
     ensures formed { IsFormed world → IsFormed result.world }
     ensures exact { IsFormed world → IsSound world → HaveDistinctIds world.kind (contents_at_hand world events.now)
         → IsExactReplay world events.now result.world (map report_value result.reports.items) result.stopped }
+    ensures sums { All HasSum result.reports.items }
 {
     let mut world = world;
     let mut reports = Vec::new(alloc);

@@ -7,7 +7,7 @@ ghost use Rattle.status_call.specs.StatusTheorem.{IsMet, NeverSpawns};
 ghost use Rattle.status_world.specs.RunStatus.{status_query};
 ghost use Rattle.status_world.specs.Applied.{IsRunReport, IsRunApplied};
 ghost use Rattle.status_world.specs.Stored.{store_record, store_records};
-ghost use Rattle.status_world.specs.Reports.{reported_value, record_value, report_value};
+ghost use Rattle.status_world.specs.Reports.{HasSum, reported_value, record_value, report_value};
 ghost use Rattle.status_world.specs.StampedWorld.{after_event, report_of};
 ghost use Rattle.status_world.specs.declared.world.event.Event.TheVariants as events;
 
@@ -30,7 +30,8 @@ use std::thread::Threads;
 impl World {
     /// Runs a status, and stores its answers in the index.
     pub(crate) fn run<R: Threads + Wait>(&mut self, rt: &R, run: &Run) -> Result<Report, Refusal>
-        ensures { IsRunApplied run.now self.old result self.new }
+        ensures applied { IsRunApplied run.now self.old result self.new }
+        ensures sum { IfOk result HasSum }
     {
         if run.stamp.nsecs >= NANOSECONDS {
             return Err(Refusal::BadMoment);
@@ -58,7 +59,8 @@ impl World {
     /// # Errors
     /// The status's, and want of memory.
     fn report<R: Threads + Wait>(&self, rt: &R, run: &Run) -> Result<Report, Refusal>
-        ensures { IsRunReport run.now self.now result }
+        ensures report { IsRunReport run.now self.now result }
+        ensures sum { IfOk result HasSum }
     {
         let parts = &self.parts;
         let options = Options {

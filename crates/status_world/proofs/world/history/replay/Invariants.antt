@@ -1,8 +1,11 @@
-use Rattle.std.proofs.Common.{map, take}
-use Rattle.status_world.specs.Reports.{report_value}
+use Rattle.std.proofs.Common.{All, map, take}
+use Rattle.status_world.specs.Reports.{HasSum, report_value}
 use Rattle.status_world.proofs.Replays.{AreReplayed}
 use Rattle.status_world.proofs.world.history.replay.Given as goal
 
 -- the events so far were accepted, and gave the reports
 abbrev pub invariant-loop-place : goal.invariant-loop-place
-invariant-loop-place g l = AreReplayed (take l.place l.events) l.fn.world l.world (map report_value l.reports.items)
+invariant-loop-place g l = record {
+  replayed : AreReplayed (take l.place l.events) l.fn.world l.world (map report_value l.reports.items);
+  sums : All HasSum l.reports.items;
+}

@@ -10,8 +10,8 @@ use Rattle.status_world.specs.StampedWorld.{StampedWorld, query_of, report_of}
 use Rattle.status_world.proofs.RunAnswers.{answered_report, answered_error, never_spawns}
 use Rattle.status_world.proofs.world.state.World.report.Goals as goal
 
-pub returns-in_ok-owned_records-in-Ok : goal.returns-in_ok-owned_records-in-Ok
-returns-in_ok-owned_records-in-Ok g c =
+pub returns-in_ok-owned_records-in-Ok-clause-report : goal.returns-in_ok-owned_records-in-Ok-clause-report
+returns-in_ok-owned_records-in-Ok-clause-report g c =
     let w = world_of c.self.inside.parts in
     let by = c.args.run.now.comparer in
     let o = c.in-Ok.outcome in
@@ -22,8 +22,8 @@ returns-in_ok-owned_records-in-Ok g c =
     let report : RunReport = report_value (record { records = c.in_ok-owned_records-in-Ok.field-0; outcome = o }) in
     subst (λ (v : StampedWorld). (first_fault (query_of v by) v.entries ≡ None) × (report ≡ report_of v by)) c.self.view_is (answered.0, owned ∙ answered.1)
 
-pub returns-in-Err : goal.returns-in-Err
-returns-in-Err g c =
+pub returns-in-Err-clause-report : goal.returns-in-Err-clause-report
+returns-in-Err-clause-report g c =
     let w = world_of c.self.inside.parts in
     let by = c.args.run.now.comparer in
     let e = c.in-Err.error in
