@@ -152,29 +152,19 @@ formed_events [] w f accepted = f
 formed_events (e ∷ es) w f accepted = formed_events es (after_event e w) (formed_kept e w accepted.0 f) accepted.1
 
 -- one run's report
-pub report_exact : (w : StampedWorld) (c : Comparer) → IsFormed w → IsSound w → HaveDistinctIds w.kind (contents_at_hand w []) → IsExact w.executable_bit (report_of w c) (plain_world_of w)
-report_exact w c f sound distinct =
-    report_shown w c f sound (own_ids (AtHand w []) w distinct (known_at_hand w [])) (plain_world_of w) (shows_plain w)
+pub report_exact : (w : StampedWorld) (es : List Event) (c : Comparer) → IsFormed w → IsSound w → HaveDistinctIds w.kind (contents_at_hand w es) → IsExact w.executable_bit (report_of w c) (plain_world_of w)
+report_exact w es c f sound distinct =
+    report_shown w c f sound (own_ids (AtHand w es) w distinct (known_at_hand w es)) (plain_world_of w) (shows_plain w)
 
 -- ---- a replay
 
--- what the first events bring
-pub in_front : (n : ℕ) (es : List Event) (x : List ℕ) → IsIn x (contents_of_events (take n es)) → IsIn x (contents_of_events es)
-in_front zero es x h = absurd h
-in_front (suc n) [] x h = absurd h
-in_front (suc n) (e ∷ es) x h =
-    elim (in_either x (contents_at e) (contents_of_events (take n es)) h) [
-      | inl k ↦ in_left x (contents_at e) (contents_of_events es) k
-      | inr k ↦ in_right x (contents_at e) (contents_of_events es) (in_front n es x k)
-    ]
-
 -- the reports of a replay are exact, and its index can be trusted again
 pub replay_exact : (w : StampedWorld) (es : List Event) (final : StampedWorld) (reports : List RunReport) (stopped : Option (ℕ × Refusal)) → IsFormed w → IsSound w
-    → HaveDistinctIds w.kind (contents_at_hand w es) → IsReplay w es final reports stopped → IsExactReplay w es final reports stopped
+    → HaveDistinctIds w.kind (contents_at_hand w (take (accepted_count es stopped) es)) → IsReplay w es final reports stopped → IsExactReplay w es final reports stopped
 replay_exact w es final reports stopped f sound distinct replay =
     let n : ℕ = accepted_count es stopped in
     let all : IsTrueHistory (take n es) w (plain_world_of w) =
-    history_over (AtHand w es) (take n es) w (plain_world_of w) distinct (known_at_hand w es) (λ x h. event_at_hand w es x (in_front n es x h)) f sound (shows_plain w) replay.accepted in
+    history_over (AtHand w (take n es)) (take n es) w (plain_world_of w) distinct (known_at_hand w (take n es)) (event_at_hand w (take n es)) f sound (shows_plain w) replay.accepted in
     record {
       exact = subst (λ (rs : List RunReport). AreExact w.executable_bit rs (plains_of (take n es) (plain_world_of w))) (sym replay.reported) all.exact;
       sound = subst IsSound (sym replay.world) all.sound;

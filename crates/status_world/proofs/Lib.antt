@@ -1,4 +1,5 @@
 pub mod Answers
+pub mod Causes
 pub mod ChangedPaths
 pub mod EntryLists
 pub mod EntryVerdicts

@@ -22,7 +22,7 @@ use Rattle.status_world.specs.Sound.{IsFormed, IsSound}
 use Rattle.status_world.specs.StampedWorld.{StampedWorld, empty_world, plain_of, after_event}
 use Rattle.status_world.proofs.ChangedPaths.{in_left, in_right}
 use Rattle.status_world.proofs.FormedWorlds.{formed_new}
-use Rattle.status_world.proofs.Histories.{IsTrueHistory, history_over, formed_events, in_front}
+use Rattle.status_world.proofs.Histories.{IsTrueHistory, history_over, formed_events}
 use Rattle.status_world.proofs.KnownContents.{KnowsContents}
 use Rattle.status_world.proofs.Shown.{Shows}
 use Rattle.status_world.proofs.SoundWorlds.{sound_new}
@@ -117,8 +117,8 @@ replay_law kind o x clock timestamp due es final reports stopped replay distinct
     let w : StampedWorld = empty_world kind o x clock timestamp in
     let n : ℕ = accepted_count es stopped in
     let all : IsTrueHistory (take n es) w empty_plain =
-    history_over (Brought kind o x clock timestamp es) (take n es) w empty_plain distinct (known_new kind o x clock timestamp es)
-    (λ c h. in_left c (contents_of_events es) ([] ∷ []) (in_front n es c h))
+    history_over (Brought kind o x clock timestamp (take n es)) (take n es) w empty_plain distinct (known_new kind o x clock timestamp (take n es))
+    (λ c h. in_left c (contents_of_events (take n es)) ([] ∷ []) h)
     (formed_new kind o x clock timestamp due) (sound_new kind o x clock timestamp) (shows_new kind o x clock timestamp) replay.accepted in
     record {
       exact = subst (λ (rs : List RunReport). AreExact x rs (plains_of (take n es) empty_plain)) (sym replay.reported) all.exact;

@@ -1,7 +1,8 @@
 -- What applying an event answers, and what it leaves.
-use Rattle.std.specs.Prelude.{◌≡◌, ◌≢◌, ◌⊎◌, ℕ, List, ◌++◌, Option, Some, None, option_map, Result, Ok, Err, ⊤}
+use Rattle.std.specs.Prelude.{◌≡◌, ◌≢◌, ◌⊎◌, ℕ, false, List, ◌++◌, Option, Some, None, option_map, Result, Ok, Err, ⊤}
 use Rattle.std.specs.Option.{option_to_list}
 use Rattle.status_base.specs.MemoryTree.{Placed}
+use Rattle.status_base.specs.Nodes.{is_bad_path}
 use Rattle.status_base.specs.declared.worktree.memory.TreeError.{TreeError}
 use Rattle.status_base.specs.declared.worktree.memory.TreeError.TheVariants.{BadPath, InTheWay, Memory}
 use Rattle.status_compare.specs.declared.error.Error.TheVariants as errors
@@ -12,9 +13,10 @@ use Rattle.status_world.specs.declared.world.event.Run.{Run}
 use Rattle.status_world.specs.declared.world.refusal.Refusal.{Refusal}
 use Rattle.status_world.specs.declared.world.refusal.Refusal.TheVariants as refusals
 use Rattle.status_world.specs.declared.world.report.Report.{Report}
-use Rattle.status_world.specs.History.{reports_at}
+use Rattle.status_world.specs.History.{reports_at, IsExact, plain_world_of}
 use Rattle.status_world.specs.Refusals.{refusal_of, write_refusal, fault_refusal, IsRefused}
 use Rattle.status_world.specs.Reports.{RunReport, report_value}
+use Rattle.status_world.specs.Sound.{IsSound}
 use Rattle.status_world.specs.StampedWorld.{StampedWorld, after_event, with_node, query_of, report_of}
 
 -- no refusal is due, and the world is the one after the event; or it is refused, and the world stays
@@ -25,7 +27,8 @@ IsChanged event old (Err r) new = IsRefused r event old × (new ≡ old)
 -- the same of a write: a node is put at a path, or the refusal of a write is due, or memory is wanting
 abbrev pub IsWritten : {A : Type 0} → List ℕ → List ℕ → Placed → StampedWorld → Result A Refusal → StampedWorld → Type 0
 IsWritten path bytes node old (Ok _) new = (write_refusal old path bytes ≡ None) × (new ≡ with_node old path (Some node))
-IsWritten path bytes node old (Err r) new = ((r ≡ refusals.Memory) ⊎ (write_refusal old path bytes ≡ Some r)) × (new ≡ old)
+IsWritten path bytes node old (Err r) new =
+    (((r ≡ refusals.Memory) × (is_bad_path path ≡ false)) ⊎ (write_refusal old path bytes ≡ Some r)) × (new ≡ old)
 
 -- the refusal of an event whose node isn't put
 abbrev pub tree_refusal : TreeError → Refusal
@@ -40,6 +43,12 @@ IsApplied event old (Ok report) new =
     × (option_to_list (option_map report_value report) ≡ reports_at event old)
     × (new ≡ after_event event old)
 IsApplied event old (Err r) new = IsRefused r event old × (new ≡ old)
+
+-- the index can be trusted again, and a run's report has changes of just the staged paths that differ
+abbrev pub IsExactEvent : StampedWorld → Result (Option Report) Refusal → StampedWorld → Type 0
+IsExactEvent old (Ok (Some report)) new = IsExact old.executable_bit (report_value report) (plain_world_of old) × IsSound new
+IsExactEvent old (Ok None) new = IsSound new
+IsExactEvent old (Err r) new = IsSound new
 
 -- what a run's status answers: the report of a world without a fault; or memory is wanting, or a thread where there may be
 -- one, or it is the first fault

@@ -20,10 +20,10 @@ pub record MissesNoChange (executable_bit : Bool) (accepted : List Event) (repor
   pub sound : IsSound final
 
 -- a replay from a world with nothing in it misses no change, where contents that have one id are one: those that the
--- events bring, and the empty one
+-- accepted events bring, and the empty one
 abbrev pub ReplayLaw : HashKind → Options → Bool → Moment → Moment → Type 0
 ReplayLaw kind options executable_bit clock timestamp =
     (es : List Event) (final : StampedWorld) (reports : List RunReport) (stopped : Option (ℕ × Refusal))
     → IsReplay (empty_world kind options executable_bit clock timestamp) es final reports stopped
-    → HaveDistinctIds kind (contents_of_events es ++ [] ∷ [])
+    → HaveDistinctIds kind (contents_of_events (take (accepted_count es stopped) es) ++ [] ∷ [])
     → MissesNoChange executable_bit (take (accepted_count es stopped) es) reports final

@@ -1,5 +1,5 @@
 -- Which events are refused, and why.
-use Rattle.std.specs.Prelude.{◌≡◌, ◌≢◌, ℕ, nat_lt, nat_le, Bool, true, false, not, ◌&&◌, ◌||◌, List, length, Option, Some, None, is_some, if◌then◌else◌, ⊤}
+use Rattle.std.specs.Prelude.{◌≡◌, ◌≢◌, ℕ, nat_lt, nat_le, Bool, true, false, not, ◌||◌, List, length, Option, Some, None, is_some, if◌then◌else◌, ⊤}
 use Rattle.bstr.specs.Owned.{bstring_bytes}
 use Rattle.status_index.specs.declared.metadata.NodeKind.{NodeKind}
 use Rattle.status_index.specs.declared.metadata.NodeKind.TheVariants.{File, Link, Directory, Other}
@@ -90,10 +90,29 @@ abbrev pub IsShared : Event → Type 0
 IsShared (events.Run run) = run.thread_limit ≢ Some 1
 IsShared _ = ⊥
 
--- why an event may be refused: memory ran out, also within a run, a run had no thread, or the refusal is due
+-- an event that takes memory, where its path isn't refused before; room for a run's report is made before all else
+abbrev pub TakesMemory : Event → Type 0
+TakesMemory (events.Tick n) = ⊥
+TakesMemory (events.TickNanos n) = ⊥
+TakesMemory (events.Write path bytes) = is_bad_path (bstring_bytes path) ≡ false
+TakesMemory (events.Link path target) = is_bad_path (bstring_bytes path) ≡ false
+TakesMemory (events.SetExecutable path executable) = is_bad_path (bstring_bytes path) ≡ false
+TakesMemory (events.Remove path) = ⊥
+TakesMemory (events.Stage path) = is_bad_path (bstring_bytes path) ≡ false
+TakesMemory (events.Run run) = ⊤
+
+-- why an event may be refused: an event that takes memory by want of it, a run that has begun also by a want of memory or
+-- of a thread in its status; else the refusal is the one that is due
 abbrev pub IsRefused : Refusal → Event → StampedWorld → Type 0
-IsRefused refusals.Memory e w = ⊤
+IsRefused refusals.Memory e w = TakesMemory e
 IsRefused refusals.Interrupted e w = ⊥
 IsRefused (refusals.Run errors.Memory) e w = IsBegun e w
 IsRefused (refusals.Run errors.SpawnThread) e w = IsBegun e w × IsShared e
 IsRefused r e w = refusal_of e w ≡ Some r
+
+-- a run isn't refused for a fault of its own, only for want of memory or of a thread
+abbrev pub HasOutsideCause : Refusal → Type 0
+HasOutsideCause (refusals.Run errors.Memory) = ⊤
+HasOutsideCause (refusals.Run errors.SpawnThread) = ⊤
+HasOutsideCause (refusals.Run _) = ⊥
+HasOutsideCause _ = ⊤

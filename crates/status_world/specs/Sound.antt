@@ -1,4 +1,5 @@
--- When the index of a world can be trusted, as it can in every world that begins empty.
+-- When the index of a world can be trusted, as it can in every world that began with nothing, where contents that have one
+-- id are one.
 use Rattle.std.specs.Prelude.{◌≡◌, ◌⊎◌, ℕ, ◌<◌, true, false, List, length, All, AllPairs, Option, Some, None, IsTrue, IfSome, ⊤, is_some}
 use Rattle.std.specs.Ordering.{nat_cmp}
 use Rattle.std.specs.declared.cmp.Ordering.TheVariants.{Less}
@@ -72,12 +73,13 @@ pub record IsFormed (w : StampedWorld) : Type 0 where
   pub leaves : (p d : List ℕ) → IsTrue (is_some (node_at w p)) → IsTrue (lies_above d p) → node_at w d ≡ None
   pub unplanted : w.tree.planted ≡ paths.empty
 
--- where an entry's stat agrees with that of a node of its kind and isn't racy, the node has the bytes that were staged;
--- and the entry's size is that of those bytes, or 0
+-- where an entry is of its node's kind, its stat agrees with the node's and isn't racy, and its id is the empty blob's
+-- exactly where its size is 0, the node has the bytes that were staged
 pub record IsTrustworthy (w : StampedWorld) (n : Placed) (e : IndexEntry) (s : Plain) : Type 0 where
   pub bytes : (now : Stat) → stat_of n.metadata ≡ Some now → n.metadata.kind ≡ s.kind
       → is_trusted (query_of w Hash) e now ≡ true → is_racy w.stat_options w.timestamp now ≡ false → n.bytes ≡ s.bytes
 
+-- an entry's size is that of the bytes that were staged, or 0
 abbrev pub IsStagedSize : IndexEntry → Plain → Type 0
 IsStagedSize e s = (e.stat.size ≡ length s.bytes) ⊎ (e.stat.size ≡ 0)
 

@@ -1,8 +1,11 @@
 //! Applying an event.
 
-ghost use Rattle.std.specs.Prelude.{All, IfOk, IfSome, map};
-ghost use Rattle.status_world.specs.Applied.{IsApplied, IsStep};
+ghost use Rattle.std.specs.Prelude.{All, IfErr, IfOk, IfSome, [], ◌∷◌, map};
+ghost use Rattle.status_world.specs.Applied.{IsApplied, IsExactEvent, IsStep};
+ghost use Rattle.status_world.specs.History.{HaveDistinctIds, contents_at_hand};
+ghost use Rattle.status_world.specs.Refusals.{HasOutsideCause};
 ghost use Rattle.status_world.specs.Reports.{HasSum, report_value};
+ghost use Rattle.status_world.specs.Sound.{IsFormed, IsSound};
 
 use crate::world::event::Event;
 use crate::world::refusal::Refusal;
@@ -12,11 +15,28 @@ use std::sync::Wait;
 use std::thread::Threads;
 
 impl World {
-    /// Lets an event happen. A run gives a report.
+    /// Lets an event happen. A run gives a report: where contents that have one id are one, the paths that it reports a
+    /// change of are just those that were staged and now differ.
     ///
     /// # Errors
     /// Why the event is refused, which [`Refusal`] says. The world is then as it was.
     pub fn apply<R: Threads + Wait>(
+        &mut self,
+        rt: &R,
+        event: &Event,
+    ) -> Result<Option<Report>, Refusal>
+        ensures applied { IsApplied event.now self.old result self.new }
+        ensures sum { IfOk result (λ r. IfSome r HasSum) }
+        ensures formed { IsFormed self.old → IsFormed self.new }
+        ensures causes { IsFormed self.old → IfErr result HasOutsideCause }
+        ensures exact { IsFormed self.old → IsSound self.old
+            → HaveDistinctIds self.old.kind (contents_at_hand self.old (event.now ∷ [])) → IsExactEvent self.old result self.new }
+    {
+        self.happen(rt, event)
+    }
+
+    /// Lets an event happen, by its kind.
+    fn happen<R: Threads + Wait>(
         &mut self,
         rt: &R,
         event: &Event,
@@ -37,7 +57,7 @@ impl World {
         Ok(None)
     }
 
-    /// The same for one event of a list. Room for a report is made before the event.
+    /// The same for one event of a list. Room for a report is made before its run.
     pub(crate) fn step<R: Threads + Wait>(
         &mut self,
         rt: &R,
@@ -47,10 +67,13 @@ impl World {
         ensures step { IsStep event.now self.old (map report_value reports.old.items) result self.new (map report_value reports.new.items) }
         ensures sums { All HasSum reports.old.items → All HasSum reports.new.items }
     {
-        reports.reserve(1)?;
-        if let Some(report) = self.apply(rt, event)? {
+        if let Event::Run(run) = event {
+            reports.reserve(1)?;
+            let report = self.run(rt, run)?;
             reports.push_reserved(report);
+            return Ok(());
         }
+        self.happen(rt, event)?;
         Ok(())
     }
 }

@@ -1,7 +1,8 @@
 //! Replaying a list of events.
 
-ghost use Rattle.std.specs.Prelude.{All, map};
-ghost use Rattle.status_world.specs.History.{IsReplay, IsExactReplay, HaveDistinctIds, contents_at_hand};
+ghost use Rattle.std.specs.Prelude.{All, IfSome, map, take};
+ghost use Rattle.status_world.specs.History.{IsReplay, IsExactReplay, HaveDistinctIds, accepted_count, contents_at_hand};
+ghost use Rattle.status_world.specs.Refusals.{HasOutsideCause};
 ghost use Rattle.status_world.specs.Reports.{HasSum, report_value};
 ghost use Rattle.status_world.specs.Sound.{IsFormed, IsSound};
 
@@ -19,7 +20,9 @@ use std::thread::Threads;
 pub fn replay<R: Threads + Wait>(rt: &R, alloc: Global, world: World, events: &[Event]) -> Replay
     ensures replay { IsReplay world events.now result.world (map report_value result.reports.items) result.stopped }
     ensures formed { IsFormed world → IsFormed result.world }
-    ensures exact { IsFormed world → IsSound world → HaveDistinctIds world.kind (contents_at_hand world events.now)
+    ensures causes { IsFormed world → IfSome result.stopped (λ stop. HasOutsideCause stop.1) }
+    ensures exact { IsFormed world → IsSound world → HaveDistinctIds world.kind
+        (contents_at_hand world (take (accepted_count events.now result.stopped) events.now))
         → IsExactReplay world events.now result.world (map report_value result.reports.items) result.stopped }
     ensures sums { All HasSum result.reports.items }
 {

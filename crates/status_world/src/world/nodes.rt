@@ -104,14 +104,15 @@ impl World {
         requires { is_no_directory_kind kind ≡ true }
         ensures { IsWritten (bstr_bytes path.entry) bytes.now (written self.old.clock kind executable bytes.now) self.old result self.new }
     {
-        if bytes.len() as u64 >= TOO_MANY_BYTES {
-            self.parts
-                .worktree
-                .check_put(path, kind)
-                .map_err(refusal_of)?;
-            return Err(Refusal::TooLarge);
+        if is_bad_path(path) {
+            return Err(Refusal::BadPath);
         }
         let parts = &mut self.parts;
+        // Before the bytes are copied, so that a write that is refused takes no memory for them.
+        parts.worktree.check_put(path, kind).map_err(refusal_of)?;
+        if bytes.len() as u64 >= TOO_MANY_BYTES {
+            return Err(Refusal::TooLarge);
+        }
         let node = written_node(parts.alloc, parts.clock, kind, executable, bytes)?;
         parts.worktree.put(path, node).map_err(refusal_of)
     }

@@ -1,6 +1,7 @@
 use Rattle.std.proofs.Common.{All, map, arith, ap, subst, sym}
 use Rattle.std.proofs.lemmas.List.Elements.{All-nil}
 use Rattle.status_world.specs.Reports.{HasSum, report_value}
+use Rattle.status_world.proofs.Causes.{replay_causes}
 use Rattle.status_world.proofs.Histories.{replay_exact}
 use Rattle.status_world.proofs.Replays.{begun, one_more, stopped_at, ended, replay_formed}
 use Rattle.status_world.proofs.world.history.replay.Goals as goal
@@ -19,6 +20,9 @@ returns-in-Err-clause-replay g c =
 pub returns-in-Err-clause-formed : goal.returns-in-Err-clause-formed
 returns-in-Err-clause-formed g c = λ f. replay_formed _ _ _ _ _ f (returns-in-Err-clause-replay g c)
 
+pub returns-in-Err-clause-causes : goal.returns-in-Err-clause-causes
+returns-in-Err-clause-causes g c = λ f. replay_causes _ _ _ _ _ f (returns-in-Err-clause-replay g c)
+
 pub returns-in-Err-clause-exact : goal.returns-in-Err-clause-exact
 returns-in-Err-clause-exact g c = λ f sound distinct. replay_exact _ _ _ _ _ f sound distinct (returns-in-Err-clause-replay g c)
 
@@ -36,6 +40,9 @@ returns-clause-replay g c =
 
 pub returns-clause-formed : goal.returns-clause-formed
 returns-clause-formed g c = λ f. replay_formed _ _ _ _ _ f (returns-clause-replay g c)
+
+pub returns-clause-causes : goal.returns-clause-causes
+returns-clause-causes g c = λ f. replay_causes _ _ _ _ _ f (returns-clause-replay g c)
 
 pub returns-clause-exact : goal.returns-clause-exact
 returns-clause-exact g c = λ f sound distinct. replay_exact _ _ _ _ _ f sound distinct (returns-clause-replay g c)
