@@ -1,12 +1,16 @@
 //! Drawn histories: after each run the reported changes are those of the plain maps.
 
-use crate::given::{Setting, Step, at, start};
+use crate::given::{Setting, Step, at, new_world};
 use crate::plain::PlainMaps;
 use gix_status::index::{Moment, stat};
 use gix_status::index_as_worktree::{Change, EntryStatus};
 use gix_status::world::{Comparer, Refusal, Report, Run};
 use std::alloc::{AllocError, Global};
+use std::ops::Range;
+use std::process::Abort;
+use std::sync::Wait;
 use std::test::Fail;
+use std::thread::Threads;
 
 /// The paths, of which some are above others.
 const PATHS: [&str; 20] = [
@@ -66,10 +70,14 @@ impl Draws {
         } else {
             Comparer::Fast
         };
+        let thread_limit = match self.below(4) {
+            0 => None,
+            limit => Some(limit),
+        };
         Run {
             comparer,
-            chunk_size: 1 + self.below(3) % 3,
-            thread_limit: Some(1 + self.below(3) % 3),
+            chunk_size: self.below(4),
+            thread_limit,
             stamp: self.stamp(clock),
         }
     }
@@ -169,26 +177,47 @@ fn setting_of(number: u64) -> Setting {
     }
 }
 
-#[test]
-fn drawn_histories_miss_no_change(rt: HostRuntime) -> Result<(), Fail> {
+/// Draws a history in the setting of this number, and asserts that each run reports the changes that the maps have. Gives
+/// how many entries got the size 0.
+fn follow_history<R: Abort + AllocGlobal + Threads + Wait>(rt: &R, seed: u64) -> Result<u32, Fail> {
     let alloc = rt.alloc();
+    let setting = setting_of(seed);
+    let mut draws = Draws { state: seed };
+    let mut watch = Watch::new(alloc, setting.executable_bit);
+    let mut world = new_world(alloc, at(5, 0), setting)?;
+    for turn in 0..10_000 {
+        let step = draws.step(world.clock());
+        let answer = world.apply(rt, &step.event(alloc)?);
+        assert!(rt;
+            watch.agrees(step, answer)?,
+            "{step:?}, turn {turn} of seed {seed}"
+        );
+    }
+    assert!(rt; watch.is_enough(), "seed {seed}");
+    Ok(watch.smudged)
+}
+
+/// The same in turn for the settings of these numbers.
+fn follow_histories<R: Abort + AllocGlobal + Threads + Wait>(
+    rt: &R,
+    seeds: Range<u64>,
+) -> Result<(), Fail> {
     let mut smudged = 0u32;
-    for seed in 0..16 {
-        let setting = setting_of(seed);
-        let mut draws = Draws { state: seed };
-        let mut watch = Watch::new(alloc, setting.executable_bit);
-        let (mut world, _none) = start(alloc, setting, &[])?;
-        for turn in 0..10_000 {
-            let step = draws.step(world.clock());
-            let answer = world.apply(&rt, &step.event(alloc)?);
-            assert!(rt;
-                watch.agrees(step, answer)?,
-                "{step:?}, turn {turn} of seed {seed}"
-            );
-        }
-        assert!(rt; watch.is_enough(), "seed {seed}");
-        smudged = smudged.saturating_add(watch.smudged);
+    for seed in seeds {
+        smudged = smudged.saturating_add(follow_history(rt, seed)?);
     }
     assert!(rt; smudged >= 100, "{smudged}");
     Ok(())
+}
+
+#[test]
+fn drawn_histories_miss_no_change_where_executability_does_not_count(
+    rt: HostRuntime,
+) -> Result<(), Fail> {
+    follow_histories(&rt, 0..8)
+}
+
+#[test]
+fn drawn_histories_miss_no_change_where_executability_counts(rt: HostRuntime) -> Result<(), Fail> {
+    follow_histories(&rt, 8..16)
 }

@@ -2,8 +2,10 @@
 
 use bstr::BString;
 use gix_status::index::{HashKind, Moment, ObjectId, stat};
-use gix_status::world::{Comparer, Event, Refusal, Run, World};
+use gix_status::world::{Comparer, Event, Refusal, Replay, Run, World, replay};
 use std::alloc::{AllocError, Global};
+use std::sync::Wait;
+use std::thread::Threads;
 
 /// The id of `foo`, by git.
 pub const FOO: ObjectId = ObjectId::Sha1([
@@ -135,26 +137,41 @@ pub const ALL: Setting = Setting {
     executable_bit: true,
 };
 
-/// An empty world whose index was written at its clock, and events for it.
-pub fn start_at(
-    alloc: Global,
-    clock: Moment,
-    setting: Setting,
-    steps: &[Step],
-) -> Result<(World, Vec<Event>), Refusal> {
+/// An empty world whose index was written at its clock.
+pub fn new_world(alloc: Global, clock: Moment, setting: Setting) -> Result<World, Refusal> {
     let Setting {
         stat,
         executable_bit,
     } = setting;
-    let world = World::new(alloc, HashKind::Sha1, clock, clock, stat, executable_bit)?;
-    Ok((world, events(alloc, steps)?))
+    World::new(alloc, HashKind::Sha1, clock, clock, stat, executable_bit)
+}
+
+/// What comes of steps in an empty world whose index was written at its clock.
+pub fn history_at<R: AllocGlobal + Threads + Wait>(
+    rt: &R,
+    clock: Moment,
+    setting: Setting,
+    steps: &[Step],
+) -> Result<Replay, Refusal> {
+    let world = new_world(rt.alloc(), clock, setting)?;
+    Ok(go_on(rt, world, steps)?)
 }
 
 /// The same, in second 5.
-pub fn start(
-    alloc: Global,
+pub fn history<R: AllocGlobal + Threads + Wait>(
+    rt: &R,
     setting: Setting,
     steps: &[Step],
-) -> Result<(World, Vec<Event>), Refusal> {
-    start_at(alloc, at(5, 0), setting, steps)
+) -> Result<Replay, Refusal> {
+    history_at(rt, at(5, 0), setting, steps)
+}
+
+/// What comes of further steps in a world.
+pub fn go_on<R: AllocGlobal + Threads + Wait>(
+    rt: &R,
+    world: World,
+    steps: &[Step],
+) -> Result<Replay, AllocError> {
+    let events = events(rt.alloc(), steps)?;
+    Ok(replay(rt, rt.alloc(), world, &events))
 }

@@ -7,6 +7,8 @@ mod drawn;
 #[cfg(test)]
 mod given;
 #[cfg(test)]
+mod memory;
+#[cfg(test)]
 mod moments;
 #[cfg(test)]
 mod plain;

@@ -1,16 +1,15 @@
 //! Nanoseconds: what counts as racy, and how the clock carries.
 
-use crate::given::{BAR, NANOSECONDS, SECONDS, Step, at, run_at, start, start_at};
+use crate::given::{BAR, NANOSECONDS, SECONDS, Step, at, history, history_at, run_at};
 use crate::reports::{changed, is_told, one_read, one_stat, racy, to_update, updated};
 use gix_status::index::Moment;
-use gix_status::world::{Refusal, Replay, replay};
+use gix_status::world::{Refusal, Replay};
 use std::test::Fail;
 
 #[test]
 fn rewrite_in_the_same_second_is_racy_where_nanoseconds_do_not_count(
     rt: HostRuntime,
 ) -> Result<(), Fail> {
-    let alloc = rt.alloc();
     let steps = [
         Step::Write("a", "foo"),
         Step::Stage("a"),
@@ -18,22 +17,19 @@ fn rewrite_in_the_same_second_is_racy_where_nanoseconds_do_not_count(
         Step::Write("a", "bar"),
         run_at(at(5, 100)),
     ];
-    let plain = [(0, "a", changed(BAR, false))];
-    let smudged = [(0, "a", changed(BAR, true))];
-    for (setting, wanted) in [
-        (NANOSECONDS, (&plain[..], one_read(3))),
-        (SECONDS, (&smudged, racy(one_read(3)))),
+    for (setting, to_zero, counts) in [
+        (NANOSECONDS, false, one_read(3)),
+        (SECONDS, true, racy(one_read(3))),
     ] {
-        let (world, events) = start(alloc, setting, &steps)?;
-        let told = replay(&rt, alloc, world, &events);
-        assert!(rt; is_told(told, &[wanted]), "{setting:?}");
+        let told = history(&rt, setting, &steps)?;
+        let first = [(0, "a", changed(BAR, to_zero))];
+        assert!(rt; is_told(told, &[(&first, counts)]), "{setting:?}");
     }
     Ok(())
 }
 
 #[test]
 fn later_nanosecond_of_the_timestamp_ends_a_race(rt: HostRuntime) -> Result<(), Fail> {
-    let alloc = rt.alloc();
     let steps = [
         Step::Write("a", "foo"),
         Step::Stage("a"),
@@ -41,8 +37,7 @@ fn later_nanosecond_of_the_timestamp_ends_a_race(rt: HostRuntime) -> Result<(), 
         run_at(at(5, 100)),
         run_at(at(5, 100)),
     ];
-    let (world, events) = start(alloc, NANOSECONDS, &steps)?;
-    let told = replay(&rt, alloc, world, &events);
+    let told = history(&rt, NANOSECONDS, &steps)?;
     let first = [(0, "a", updated(5, 5))];
     let wanted = [
         (&first[..], to_update(racy(one_read(3)))),
@@ -77,10 +72,8 @@ fn is_clock(told: Replay, clock: Moment, wanted: Option<Moment>) -> bool {
 
 #[test]
 fn clock_carries_nanoseconds_and_ends_at_its_last_second(rt: HostRuntime) -> Result<(), Fail> {
-    let alloc = rt.alloc();
     for (clock, step, wanted) in clock_steps() {
-        let (world, events) = start_at(alloc, clock, SECONDS, &[step])?;
-        let told = replay(&rt, alloc, world, &events);
+        let told = history_at(&rt, clock, SECONDS, &[step])?;
         assert!(rt; is_clock(told, clock, wanted), "{step:?} at {clock:?}");
     }
     Ok(())

@@ -1,9 +1,9 @@
 //! Refused events, which leave the world as it was.
 
-use crate::given::{BAR, FOO, SECONDS, Step, at, events, run_at, start_at};
+use crate::given::{BAR, FOO, SECONDS, Step, at, go_on, history_at, run_at};
 use crate::reports::{changed, is_told, one_read, racy};
 use gix_status::index::{Flags, HashKind, Mode, Moment, Stat, State, Time};
-use gix_status::world::{Replay, World, replay};
+use gix_status::world::{Replay, World};
 use std::alloc::{AllocError, Global};
 use std::test::Fail;
 
@@ -112,11 +112,9 @@ fn is_rewrite_told(told: Replay) -> bool {
 fn refused_event_ends_a_replay_and_leaves_the_world_as_it_was(rt: HostRuntime) -> Result<(), Fail> {
     let alloc = rt.alloc();
     for (clock, step, reason) in refusals() {
-        let (world, before) = start_at(alloc, clock, SECONDS, &steps_with(step))?;
-        let told = replay(&rt, alloc, world, &before);
+        let told = history_at(&rt, clock, SECONDS, &steps_with(step))?;
         assert!(rt; is_refused(alloc, &told, clock, reason)?, "{step:?}");
-        let after = events(alloc, &steps_after(clock))?;
-        let told = replay(&rt, alloc, told.world, &after);
+        let told = go_on(&rt, told.world, &steps_after(clock))?;
         assert!(rt; is_rewrite_told(told), "{step:?}");
     }
     Ok(())

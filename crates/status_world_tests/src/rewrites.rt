@@ -1,13 +1,11 @@
 //! Files that are written again in the second in which they were staged.
 
-use crate::given::{ALL, BAR, EMPTY, SECONDS, Setting, Step, run, start};
+use crate::given::{ALL, BAR, EMPTY, SECONDS, Setting, Step, history, run};
 use crate::reports::{changed, is_told, modified, one_read, one_stat, racy, to_update, updated};
-use gix_status::world::replay;
 use std::test::Fail;
 
 #[test]
 fn racy_rewrite_is_reported_and_smudged(rt: HostRuntime) -> Result<(), Fail> {
-    let alloc = rt.alloc();
     let steps = [
         Step::Write("f", "foo"),
         Step::Stage("f"),
@@ -17,8 +15,7 @@ fn racy_rewrite_is_reported_and_smudged(rt: HostRuntime) -> Result<(), Fail> {
         Step::Tick(1),
         run(7),
     ];
-    let (world, events) = start(alloc, SECONDS, &steps)?;
-    let told = replay(&rt, alloc, world, &events);
+    let told = history(&rt, SECONDS, &steps)?;
     let first = [(0, "f", changed(BAR, true))];
     // The size is 0 now, so that the stat agrees no more, and the change is seen whatever the timestamp.
     let second = [(0, "f", changed(BAR, false))];
@@ -29,7 +26,6 @@ fn racy_rewrite_is_reported_and_smudged(rt: HostRuntime) -> Result<(), Fail> {
 
 #[test]
 fn racy_file_that_did_not_change_is_read_once(rt: HostRuntime) -> Result<(), Fail> {
-    let alloc = rt.alloc();
     let steps = [
         Step::Write("f", "foo"),
         Step::Stage("f"),
@@ -38,8 +34,7 @@ fn racy_file_that_did_not_change_is_read_once(rt: HostRuntime) -> Result<(), Fai
         Step::Tick(1),
         run(7),
     ];
-    let (world, events) = start(alloc, SECONDS, &steps)?;
-    let told = replay(&rt, alloc, world, &events);
+    let told = history(&rt, SECONDS, &steps)?;
     let first = [(0, "f", updated(5, 5))];
     let wanted = [
         (&first[..], to_update(racy(one_read(3)))),
@@ -51,7 +46,6 @@ fn racy_file_that_did_not_change_is_read_once(rt: HostRuntime) -> Result<(), Fai
 
 #[test]
 fn size_zero_of_a_smudged_entry_hides_no_empty_file(rt: HostRuntime) -> Result<(), Fail> {
-    let alloc = rt.alloc();
     let steps = [
         Step::Write("f", "foo"),
         Step::Stage("f"),
@@ -64,8 +58,7 @@ fn size_zero_of_a_smudged_entry_hides_no_empty_file(rt: HostRuntime) -> Result<(
         Step::Tick(1),
         run(7),
     ];
-    let (world, events) = start(alloc, SECONDS, &steps)?;
-    let told = replay(&rt, alloc, world, &events);
+    let told = history(&rt, SECONDS, &steps)?;
     let first = [(0, "f", changed(BAR, true))];
     let later = [(0, "f", changed(EMPTY, false))];
     let wanted = [
@@ -79,7 +72,6 @@ fn size_zero_of_a_smudged_entry_hides_no_empty_file(rt: HostRuntime) -> Result<(
 
 #[test]
 fn executable_change_hides_no_racy_rewrite(rt: HostRuntime) -> Result<(), Fail> {
-    let alloc = rt.alloc();
     let steps = [
         Step::Write("f", "foo"),
         Step::Stage("f"),
@@ -95,8 +87,7 @@ fn executable_change_hides_no_racy_rewrite(rt: HostRuntime) -> Result<(), Fail> 
         executable_bit: true,
         ..SECONDS
     };
-    let (world, events) = start(alloc, setting, &steps)?;
-    let told = replay(&rt, alloc, world, &events);
+    let told = history(&rt, setting, &steps)?;
     let first = [(0, "f", modified(true, Some(BAR), true))];
     let second = [(0, "f", changed(BAR, false))];
     let wanted = [(&first[..], one_read(3)), (&second, one_read(3))];
@@ -106,7 +97,6 @@ fn executable_change_hides_no_racy_rewrite(rt: HostRuntime) -> Result<(), Fail> 
 
 #[test]
 fn racy_link_is_reported_and_smudged(rt: HostRuntime) -> Result<(), Fail> {
-    let alloc = rt.alloc();
     let steps = [
         Step::Link("l", "foo"),
         Step::Stage("l"),
@@ -118,17 +108,14 @@ fn racy_link_is_reported_and_smudged(rt: HostRuntime) -> Result<(), Fail> {
         executable_bit: true,
         ..SECONDS
     };
-    let (world, events) = start(alloc, setting, &steps)?;
-    let told = replay(&rt, alloc, world, &events);
+    let told = history(&rt, setting, &steps)?;
     let first = [(0, "l", changed(BAR, true))];
     assert!(rt; is_told(told, &[(&first, racy(one_read(3)))]));
     Ok(())
 }
 
-// The setting in which executability doesn't count, and that in which it does.
 #[test]
 fn permission_change_is_an_update_where_it_does_not_count(rt: HostRuntime) -> Result<(), Fail> {
-    let alloc = rt.alloc();
     let steps = [
         Step::Write("a", "foo"),
         Step::Stage("a"),
@@ -137,19 +124,18 @@ fn permission_change_is_an_update_where_it_does_not_count(rt: HostRuntime) -> Re
         run(6),
         run(6),
     ];
+    let setting = Setting {
+        executable_bit: false,
+        ..ALL
+    };
+    let told = history(&rt, setting, &steps)?;
     // The `ctime` is another, and the content is the same; with the new stat stored nothing is read.
     let first = [(0, "a", updated(5, 6))];
-    let uncounted = [(&first[..], to_update(one_read(3))), (&[], one_stat())];
+    let wanted = [(&first[..], to_update(one_read(3))), (&[], one_stat())];
+    assert!(rt; is_told(told, &wanted));
+    let told = history(&rt, ALL, &steps)?;
     let each = [(0, "a", modified(true, None, false))];
-    let counted = [(&each[..], one_read(3)), (&each, one_read(3))];
-    for (executable_bit, wanted) in [(false, &uncounted), (true, &counted)] {
-        let setting = Setting {
-            executable_bit,
-            ..ALL
-        };
-        let (world, events) = start(alloc, setting, &steps)?;
-        let told = replay(&rt, alloc, world, &events);
-        assert!(rt; is_told(told, wanted), "{executable_bit}");
-    }
+    let wanted = [(&each[..], one_read(3)), (&each, one_read(3))];
+    assert!(rt; is_told(told, &wanted));
     Ok(())
 }

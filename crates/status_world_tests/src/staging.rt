@@ -1,17 +1,15 @@
 //! Files that go or become links, and paths that are staged when nothing is there.
 
-use crate::given::{ALL, SECONDS, Step, run, start};
+use crate::given::{ALL, SECONDS, Step, history, run};
 use crate::reports::{are, is_told, one_entry, one_stat};
 use bstr::{BStr, BString};
 use gix_status::index::Mode;
 use gix_status::index_as_worktree::{Change, EntryStatus, Outcome};
 use gix_status::stack::{StackError, SymlinkCheck};
-use gix_status::world::replay;
 use std::test::Fail;
 
 #[test]
 fn file_below_a_link_is_removed(rt: HostRuntime) -> Result<(), Fail> {
-    let alloc = rt.alloc();
     let steps = [
         Step::Write("d/x", "foo"),
         Step::Stage("d/x"),
@@ -19,11 +17,11 @@ fn file_below_a_link_is_removed(rt: HostRuntime) -> Result<(), Fail> {
         Step::Link("d", "e"),
         run(5),
     ];
-    let (world, events) = start(alloc, SECONDS, &steps)?;
-    let told = replay(&rt, alloc, world, &events);
+    let told = history(&rt, SECONDS, &steps)?;
     // The way there is looked at, and the file itself isn't.
     let first = [(0, "d/x", EntryStatus::Change(Change::Removed))];
     assert!(rt; told.stopped.is_none() && are(&told.reports, &[(&first, one_entry())]));
+    let alloc = rt.alloc();
     let mut check = SymlinkCheck::new(alloc, BString::new(Vec::new(alloc)));
     let answer = check.verified_path(told.world.worktree(), BStr::from("d/x"));
     assert!(rt;
@@ -35,7 +33,6 @@ fn file_below_a_link_is_removed(rt: HostRuntime) -> Result<(), Fail> {
 
 #[test]
 fn link_with_the_bytes_of_a_file_is_another_type(rt: HostRuntime) -> Result<(), Fail> {
-    let alloc = rt.alloc();
     let steps = [
         Step::Write("a", "foo"),
         Step::Stage("a"),
@@ -44,8 +41,7 @@ fn link_with_the_bytes_of_a_file_is_another_type(rt: HostRuntime) -> Result<(), 
         Step::Tick(1),
         run(6),
     ];
-    let (world, events) = start(alloc, ALL, &steps)?;
-    let told = replay(&rt, alloc, world, &events);
+    let told = history(&rt, ALL, &steps)?;
     let change = Change::TypeChange {
         worktree_mode: Mode::Symlink,
     };
@@ -56,7 +52,6 @@ fn link_with_the_bytes_of_a_file_is_another_type(rt: HostRuntime) -> Result<(), 
 
 #[test]
 fn staging_a_removed_file_takes_its_entry_out(rt: HostRuntime) -> Result<(), Fail> {
-    let alloc = rt.alloc();
     let steps = [
         Step::Write("a", "foo"),
         Step::Stage("a"),
@@ -64,8 +59,7 @@ fn staging_a_removed_file_takes_its_entry_out(rt: HostRuntime) -> Result<(), Fai
         Step::Stage("a"),
         run(5),
     ];
-    let (world, events) = start(alloc, ALL, &steps)?;
-    let told = replay(&rt, alloc, world, &events);
+    let told = history(&rt, ALL, &steps)?;
     assert!(rt; told.stopped.is_none() && are(&told.reports, &[(&[], Outcome::default())]));
     assert!(rt; told.world.index().entries().is_empty());
     Ok(())

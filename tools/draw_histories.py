@@ -1,0 +1,252 @@
+#!/usr/bin/env python3
+"""Runs drawn histories through the program, and compares what its runs report with a plain comparison of bytes.
+
+    python3 tools/draw_histories.py --seeds 1000 --events 2000
+
+Seed N draws the profile of a replay: options (of four of them all sixteen settings in turn), events, and for half of
+the seeds a last event that can't happen. `Plain` keeps what is there and what was staged, in two dicts: it knows no
+clock, no stat and no timestamp. Each run has to print just the changes that the dicts have. Beside them it may print
+what a stat needs: `s` behind the `c` of a change of content, and `update` where nothing changed. And standard error has
+to say `refused N: WORDS` where the last event can't happen, and else nothing.
+
+STATUS_PROGRAM names the built program; without it crates/status_program/out/status_program is run. Where a history
+differs its profile stays, in the folder --keep, and the exit status is 1.
+"""
+
+import argparse
+import json
+import os
+import random
+import subprocess
+import sys
+import tempfile
+
+TOP = os.path.dirname(os.path.dirname(os.path.abspath(__file__)))
+BUILT = os.path.join(TOP, "crates", "status_program", "out", "status_program")
+
+# Some paths are above others, or sort otherwise by bytes than by components.
+PATHS = ["a", "a-", "a/b", "a/b/c", "a/bc", "a0", "b", "c", "c/a", "c/b", "d/a", "d/b/a", "d/b/b", "e", "f", "g"]
+PATHS += ["g/a/b/c", "h i", "j\"\\", "k\n\x01", "é", "\uffff", "\U00010000"]
+BAD_PATHS = ["", ".", "..", "/a", "a/", "a//b", "a/./b", "a/../b"]
+CONTENTS = ["", "a", "b", "aa", "ab", "ba", "foo", "bar", "baz", "é", "longer"]
+NANOS = [0, 0, 0, 1, 1, 100, 400_000_000, 999_999_999]
+SECOND, LAST = 10**9, 2**32 - 1
+SETTINGS = ["trust_ctime", "check_stat", "use_nsec", "executable_bit"]
+
+
+class Plain:
+    """What is there and what was staged, by path: the kind, the content, and whether it is executable."""
+
+    def __init__(self, executable_bit):
+        self.executable_bit = executable_bit
+        self.files, self.staged = {}, {}
+
+    def refusal(self, event):
+        """Why the event can't happen, as far as paths say."""
+        word, path = event[:2]
+        if word not in ("write", "link", "chmod", "remove", "stage"):
+            return None
+        if any(part in ("", ".", "..") for part in path.split("/")):
+            return "bad path"
+        if word in ("write", "link") and any(is_below(path, it) or is_below(it, path) for it in self.files):
+            return "in the way"
+        if word == "chmod" and self.files.get(path, ("none",))[0] != "file":
+            return "not a file"
+        return "not a file" if word == "remove" and path not in self.files else None
+
+    def follow(self, event):
+        """Lets an event happen."""
+        word, path = event[:2]
+        if word == "write":
+            self.files[path] = ("file", event[2], self.files.get(path, (None, None, False))[2])
+        elif word == "link":
+            self.files[path] = ("link", event[2], False)
+        elif word == "chmod":
+            self.files[path] = (*self.files[path][:2], event[2])
+        elif word == "remove":
+            del self.files[path]
+        elif word == "stage":
+            self.staged.pop(path, None)
+            self.staged |= {path: self.files[path]} if path in self.files else {}
+
+    def changes(self):
+        """What each staged path's line has to say, in the order of the index: None where nothing changed."""
+        paths = sorted(self.staged, key=str.encode)
+        return [(text_of(path), self.change(self.files.get(path), self.staged[path])) for path in paths]
+
+    def change(self, now, staged):
+        if now is None:
+            return "removed"
+        counts = self.executable_bit and now[2]
+        if now[0] != staged[0]:
+            return "type " + ("120000" if now[0] == "link" else "100755" if counts else "100644")
+        executable = "x" if self.executable_bit and now[2] != staged[2] else "-"
+        content = "c" if now[1] != staged[1] else "-"
+        return None if executable + content == "--" else f"modified {executable}{content}"
+
+
+def is_below(path, folder):
+    return path.startswith(folder + "/")
+
+
+def text_of(path):
+    """A path as a compact JSON text."""
+    return json.dumps(path, ensure_ascii=False)
+
+
+class Drawn:
+    """A history of a seed: the program's profile, the plain changes of each run, and the line of the refusal."""
+
+    def __init__(self, seed, events):
+        self.draw = random.Random(seed)
+        options = {name: bool(seed >> bit & 1) for bit, name in enumerate(SETTINGS)}
+        self.clock = [self.draw.randrange(1, 10), self.draw.choice(NANOS)]
+        self.plain, self.runs, self.fault = Plain(options["executable_bit"]), [], ""
+        options["use_stdev"] = self.draw.random() < 0.5
+        kind = self.draw.choice(["sha1", "sha256"])
+        self.profile = {"hash": kind, "clock": self.clock, "timestamp": self.stamp(), "options": options, "events": []}
+        for _ in range(events):
+            event = self.event()
+            while self.plain.refusal(event):
+                event = self.event()
+            self.happen(event)
+        if seed % 32 < 16:
+            event, words = self.refused()
+            self.fault = f"refused {len(self.profile['events'])}: {words}\n"
+            self.profile["events"].append(event)
+
+    def happen(self, event):
+        self.profile["events"].append(event)
+        self.plain.follow(event)
+        if event[0] == "run":
+            self.runs.append(self.plain.changes())
+        elif event[0] in ("tick", "nanos"):
+            nanos = self.clock[1] + (event[1] if event[0] == "nanos" else 0)
+            self.clock = [self.clock[0] + (event[1] if event[0] == "tick" else nanos // SECOND), nanos % SECOND]
+
+    def stamp(self):
+        """A moment that isn't after the clock: mostly the clock."""
+        seconds, nanos = self.clock
+        earlier = [[seconds - 1, SECOND - 1], [seconds, 0], [seconds, nanos // 2]]
+        return self.draw.choice(earlier + 5 * [[seconds, nanos]])
+
+    def run(self, stamp):
+        chunk, limit = self.draw.choice([0, 1, 1, 2, 3, 7]), self.draw.choice([None, 0, 1, 2, 3, 8])
+        return ["run", self.draw.choice(["hash", "fast"]), chunk, limit, stamp]
+
+    def event(self):
+        """An event that the clock allows. Most ticks are 0, so that writes, stagings and runs share a second."""
+        choose, path = self.draw.choice, self.draw.choice(PATHS)
+        words = ["write"] * 4 + ["link", "chmod", "chmod", "remove"] + ["stage"] * 5 + ["tick", "nanos", "run"]
+        word = choose(words)
+        if word in ("write", "link"):
+            return [word, path, choose(CONTENTS)]
+        if word == "chmod":
+            return [word, path, choose([True, False])]
+        if word in ("remove", "stage"):
+            return [word, path]
+        if word == "run":
+            return self.run(self.stamp())
+        return [word, choose([0, 0, 0, 0, 0, 1]) if word == "tick" else choose(NANOS)]
+
+    def refused(self):
+        """An event that can't happen, and why."""
+        draw, (seconds, nanos) = self.draw, self.clock
+        later = draw.choice([[seconds + 1, 0], [LAST, 0]] + [[seconds, nanos + 1]] * (nanos + 1 < SECOND))
+        no_moment = [draw.choice([seconds, LAST]), draw.choice([SECOND, LAST])]
+        wrong = {"clock end": [["tick", LAST - seconds + 1]]}
+        wrong |= {"stamp later": [self.run(later)], "bad moment": [self.run(no_moment)]}
+        bad = draw.choice(BAD_PATHS)
+        drawn = [["write", bad, "a"], ["link", bad, "a"], ["chmod", bad, True], ["remove", bad], ["stage", bad]]
+        for event in drawn + [self.event() for _ in range(500)]:
+            wrong.setdefault(self.plain.refusal(event), []).append(event)
+        words = draw.choice(sorted(filter(None, wrong)))
+        return draw.choice(wrong[words]), words
+
+
+def told_runs(output):
+    """The lines of each run: place, status and the path's text."""
+    runs, lines = [], output.split("\n")
+    if lines.pop() != "":
+        raise ValueError("a line has no end")
+    for line in lines:
+        if line == f"run {len(runs) + 1}":
+            runs.append([])
+            continue
+        place, rest = line.split(" ", 1)
+        at = rest.index(' "')
+        runs[-1].append((int(place), rest[:at], rest[at + 1 :]))
+    return runs
+
+
+def difference(drawn, status, output, fault):
+    """What differs between a history and what the program said. None where nothing does."""
+    if (status, fault) != (int(drawn.fault != ""), drawn.fault):
+        return f"exit status {status} and {fault!r}, and not {drawn.fault!r}"
+    try:
+        runs = told_runs(output)
+    except (IndexError, ValueError) as error:
+        return f"a line has another form: {error}"
+    if len(runs) != len(drawn.runs):
+        return f"{len(runs)} runs, and not {len(drawn.runs)}"
+    for number, (told, changes) in enumerate(zip(runs, drawn.runs), 1):
+        wanted = [(place, change, path) for place, (path, change) in enumerate(changes) if change]
+        seen = [(place, plain_words(words), path) for place, words, path in told if words != "update"]
+        if seen != wanted:
+            return f"run {number}: {sorted(set(seen) ^ set(wanted)) or 'the order differs'}"
+        updates = [(place, path) for place, words, path in told if words == "update"]
+        clean = [(place, path) for place, (path, change) in enumerate(changes) if not change]
+        places = [place for place, _, _ in told]
+        if not set(updates) <= set(clean) or places != sorted(set(places)):
+            return f"run {number}: an update of what isn't staged or changed, or lines out of order"
+    return None
+
+
+def plain_words(words):
+    """The words without the letter that says what a stat needs, which stands behind a change of content alone."""
+    if words.startswith("modified ") and (words.endswith("-") or words.endswith("cs")):
+        return words[:-1]
+    return words
+
+
+def run_program(program, file):
+    """The exit status, the output and the error output of a replay."""
+    ran = subprocess.run([program, "replay", file], stdin=subprocess.DEVNULL, capture_output=True, timeout=100)
+    return ran.returncode, ran.stdout.decode(), ran.stderr.decode()
+
+
+def compare(program, seed, events, keep):
+    """What differs in a seed's history, whose profile then stays in a folder. None where nothing does."""
+    drawn = Drawn(seed, events)
+    name = os.path.join(keep, f"history-{seed}.json")
+    with open(name, "w", encoding="utf-8") as file:
+        json.dump(drawn.profile, file)
+    found = difference(drawn, *run_program(program, name))
+    if found is None:
+        os.remove(name)
+        return None
+    return f"seed {seed}: {found} ({name})"
+
+
+def main():
+    parser = argparse.ArgumentParser()
+    parser.add_argument("--seeds", type=int, default=1000, help="how many seeds (1000)")
+    parser.add_argument("--first", type=int, default=0, help="the first seed (0)")
+    parser.add_argument("--events", type=int, default=2000, help="the events of a history (2000)")
+    parser.add_argument("--keep", help="where profiles of differing histories stay (a new folder)")
+    options = parser.parse_args()
+    program = os.path.abspath(os.environ.get("STATUS_PROGRAM") or BUILT)
+    if not os.path.isfile(program):
+        parser.error(f"{program} isn't there: build the program, or name it by STATUS_PROGRAM")
+    keep = options.keep or tempfile.mkdtemp(prefix="histories-")
+    os.makedirs(keep, exist_ok=True)
+    seeds = range(options.first, options.first + options.seeds)
+    found = [it for it in (compare(program, seed, options.events, keep) for seed in seeds) if it]
+    print(*found, f"{options.seeds} histories of {options.events} events, {len(found)} differ", sep="\n")
+    if not found and not options.keep:
+        os.rmdir(keep)
+    return int(bool(found))
+
+
+if __name__ == "__main__":
+    sys.exit(main())
