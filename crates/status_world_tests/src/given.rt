@@ -2,6 +2,7 @@
 
 use bstr::BString;
 use gix_status::index::{HashKind, Moment, ObjectId, stat};
+use gix_status::index_as_worktree::Error;
 use gix_status::world::{Comparer, Event, Refusal, Replay, Run, World, replay};
 use std::alloc::{AllocError, Global};
 use std::sync::Wait;
@@ -154,7 +155,7 @@ pub fn history_at<R: AllocGlobal + Threads + Wait>(
     steps: &[Step],
 ) -> Result<Replay, Refusal> {
     let world = new_world(rt.alloc(), clock, setting)?;
-    Ok(go_on(rt, world, steps)?)
+    go_on(rt, world, steps)
 }
 
 /// The same, in second 5.
@@ -167,11 +168,18 @@ pub fn history<R: AllocGlobal + Threads + Wait>(
 }
 
 /// What comes of further steps in a world.
+///
+/// # Errors
+/// Want of memory, in an event too: that says nothing of what the steps are.
 pub fn go_on<R: AllocGlobal + Threads + Wait>(
     rt: &R,
     world: World,
     steps: &[Step],
-) -> Result<Replay, AllocError> {
+) -> Result<Replay, Refusal> {
     let events = events(rt.alloc(), steps)?;
-    Ok(replay(rt, rt.alloc(), world, &events))
+    let told = replay(rt, rt.alloc(), world, &events);
+    match told.stopped {
+        Some((_, Refusal::Memory | Refusal::Run(Error::Memory))) => Err(Refusal::Memory),
+        _ => Ok(told),
+    }
 }
