@@ -16,32 +16,29 @@ fn assert_reported<R: AllocGlobal + Abort>(rt: &R, failure: Failure, line: &str)
     assert_eq!(rt; faults.as_slice(), line.as_bytes(), "at {line}");
 }
 
-#[test]
-fn each_fault_of_a_status_has_its_words(rt: HostRuntime) {
-    let cases = [
-        (Fault::NotFound, "status failed: not found\n"),
-        (Fault::NotADirectory, "status failed: not a directory\n"),
-        (
-            Fault::PermissionDenied,
-            "status failed: permission denied\n",
-        ),
-        (Fault::Interrupted, "status failed: interrupted\n"),
-        (Fault::IllformedUtf8, "status failed: ill-formed UTF-8\n"),
-        (Fault::UnexpectedEnd, "status failed: unexpected end\n"),
-        (Fault::NotNormal, "status failed: not normal\n"),
-        (Fault::Other(0), "status failed: other 0\n"),
-        (
-            Fault::Other(4294967295),
-            "status failed: other 4294967295\n",
-        ),
-    ];
-    for (fault, line) in cases {
-        assert_reported(&rt, Failure::from(Error::Io(fault)), line);
-    }
-}
+static FAULTS: [(Fault, &str); 9] = [
+    (Fault::NotFound, "status failed: not found\n"),
+    (Fault::NotADirectory, "status failed: not a directory\n"),
+    (
+        Fault::PermissionDenied,
+        "status failed: permission denied\n",
+    ),
+    (Fault::Interrupted, "status failed: interrupted\n"),
+    (Fault::IllformedUtf8, "status failed: ill-formed UTF-8\n"),
+    (Fault::UnexpectedEnd, "status failed: unexpected end\n"),
+    (Fault::NotNormal, "status failed: not normal\n"),
+    (Fault::Other(0), "status failed: other 0\n"),
+    (
+        Fault::Other(4294967295),
+        "status failed: other 4294967295\n",
+    ),
+];
 
 #[test]
 fn each_error_of_a_status_has_its_words(rt: HostRuntime) -> Result<(), Fail> {
+    for (fault, line) in &FAULTS {
+        assert_reported(&rt, Failure::from(Error::Io(*fault)), line);
+    }
     let submodule = Error::SubmoduleStatus {
         rela_path: ByteText::from_slice(rt.alloc(), b"d/\"s\"\n\xff")?,
         text: ByteText::from_slice(rt.alloc(), b"no words of its own")?,

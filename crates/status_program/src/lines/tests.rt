@@ -83,24 +83,23 @@ fn each_record_has_its_line(rt: HostRuntime) -> Result<(), Fail> {
     Ok(())
 }
 
+static PATHS: [(&[u8], &str); 6] = [
+    (b"d/x y", r#""d/x y""#),
+    (b"a\"b\\c", r#""a\"b\\c""#),
+    (b"\x08\x0c\n\r\t", r#""\b\f\n\r\t""#),
+    (b"\0\x1f\x0b", r#""\u0000\u001f\u000b""#),
+    (b"\xc3\xa9\x7f\xe2\x80\xa8", "\"é\u{7f}\u{2028}\""),
+    // Bytes that aren't UTF-8 are replaced.
+    (b"a\xff", "\"a\u{fffd}\""),
+];
+
 #[test]
 fn paths_are_json_texts(rt: HostRuntime) -> Result<(), Fail> {
-    let alloc = rt.alloc();
-    let cases = [
-        ("d/x y", r#""d/x y""#),
-        ("a\"b\\c", r#""a\"b\\c""#),
-        ("\u{8}\u{c}\n\r\t", r#""\b\f\n\r\t""#),
-        ("\u{0}\u{1f}\u{b}", r#""\u0000\u001f\u000b""#),
-        ("é\u{7f}\u{2028}", "\"é\u{7f}\u{2028}\""),
-    ];
-    for (path, wanted) in cases {
-        let value = path_value(alloc, BStr::new(path.as_bytes()))?;
-        let text = format!(in alloc; "{value}")?;
+    for (path, wanted) in PATHS {
+        let value = path_value(rt.alloc(), BStr::new(path))?;
+        let text = format!(in rt.alloc(); "{value}")?;
         assert_eq!(rt; text.as_str(), wanted);
     }
-    let value = path_value(alloc, BStr::new(b"a\xff"))?;
-    let text = format!(in alloc; "{value}")?;
-    assert_eq!(rt; text.as_str(), "\"a\u{fffd}\"");
     Ok(())
 }
 

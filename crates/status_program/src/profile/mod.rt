@@ -8,6 +8,8 @@ mod field;
 mod hash;
 mod held;
 mod history;
+#[cfg(test)]
+mod item_tests;
 mod key;
 mod list;
 mod members;
@@ -17,8 +19,6 @@ mod stat;
 #[cfg(test)]
 mod tests;
 mod value;
-#[cfg(test)]
-mod way_tests;
 
 use crate::profile::field::{Fields, stamped_moment_of};
 use crate::profile::hash::read_hash;

@@ -1,8 +1,10 @@
+use crate::profile::ProfileError::{self, Bad, Index, NotJson};
 use crate::profile::list::Way;
 use crate::profile::members::Members;
-use crate::profile::{Key, Place, Profile, ProfileError, profile_of};
-use bstr::BString;
-use gix_status::index::{Entry, Flags, HashKind, Mode, Moment, ObjectId, Stat, Time, stat};
+use crate::profile::{Key, Place, Profile, profile_of};
+use gix_status::index::{
+    Entry, Flags, HashKind, IndexError, Mode, Moment, ObjectId, Stat, Time, stat,
+};
 use gix_status::index_as_worktree::{Capabilities, Options};
 use gix_status::worktree::{Metadata, Node, NodeKind};
 use gix_status::world::Comparer;
@@ -10,33 +12,117 @@ use std::alloc::{AllocError, Global};
 use std::process::Abort;
 use std::test::Fail;
 
-const ROW: &str = r#"{"hash":"sha1","timestamp":[9,0],
-"options":{"comparer":"hash","chunk_size":1,"thread_limit":2},
-"index":[
-{"path":"a","id":"19102815663d23f8b75a47e7a01965dcdc96468c","size":3,"mtime":[5,0]},
-{"path":"b","id":"ba0e162e1c47469e3fe4b393a8bf8c569f302116","size":3,"mtime":[5,0]}],
-"worktree":[
-{"path":"a","text":"bars","mtime":[7,0]},
-{"path":"b","text":"bar","mtime":[5,0]}]}"#;
+// What stands before a part of a profile, and behind it.
+pub type Frame = (&'static str, &'static str);
 
-// The ways to read a profile.
-pub const WAYS: [Way; 2] = [Way::Quick, Way::Careful];
+const WHOLE: Frame = ("", "");
 
-// The id of `foo` by SHA-1, as digits and as bytes.
-pub const SHA1: &str = "19102815663d23f8b75a47e7a01965dcdc96468c";
+const OPTIONS: Frame = (
+    r#"{"timestamp":[9,0],"options":{"#,
+    r#"},"index":[],"worktree":[]}"#,
+);
 
+const INDEX: Frame = (r#"{"timestamp":[9,0],"index":["#, r#"],"worktree":[]}"#);
+
+const WORKTREE: Frame = (r#"{"timestamp":[9,0],"index":[],"worktree":["#, "]}");
+
+// The fields of an entry.
+pub const ENTRY: Frame = (r#"{"timestamp":[9,0],"index":[{"#, r#"}],"worktree":[]}"#);
+
+// Further fields of an entry at `a` with the id of `foo`.
+pub const FIELD: Frame = (
+    r#"{"timestamp":[9,0],"index":[{"path":"a","id":"19102815663d23f8b75a47e7a01965dcdc96468c","#,
+    r#"}],"worktree":[]}"#,
+);
+
+// The fields of a node.
+pub const NODE: Frame = (r#"{"timestamp":[9,0],"index":[],"worktree":[{"#, "}]}");
+
+// The nanoseconds of a node's stamps.
+const MTIME: Frame = (
+    r#"{"timestamp":[9,0],"index":[],"worktree":[{"path":"a","mtime":[0,"#,
+    "]}]}",
+);
+
+const CTIME: Frame = (
+    r#"{"timestamp":[9,0],"index":[],"worktree":[{"path":"a","ctime":[0,"#,
+    "]}]}",
+);
+
+// What an entry is read as.
+#[derive(Drop)]
+pub struct WantedEntry {
+    pub path: &'static str,
+    pub id: ObjectId,
+    pub mode: Mode,
+    pub stage: u32,
+    pub flags: &'static [Flags],
+    pub stat: Stat,
+}
+
+// What a node is read as. The size of its stat is not looked at.
+#[derive(Drop)]
+pub struct WantedNode {
+    pub path: &'static str,
+    pub kind: NodeKind,
+    pub bytes: &'static [u8],
+    pub executable: bool,
+    pub stat: Stat,
+}
+
+// What a profile is read as.
+#[derive(Drop)]
+pub struct Wanted<'a> {
+    pub hash: HashKind,
+    pub timestamp: Moment,
+    pub status: &'a Options,
+    pub comparer: Comparer,
+    pub prefix: &'a str,
+    pub counts: bool,
+    pub folder: Option<&'a str>,
+    pub entries: &'a [WantedEntry],
+    pub nodes: &'a [WantedNode],
+}
+
+// The id of `foo` by SHA-1.
 pub const FOO: ObjectId = ObjectId::Sha1([
     0x19, 0x10, 0x28, 0x15, 0x66, 0x3d, 0x23, 0xf8, 0xb7, 0x5a, 0x47, 0xe7, 0xa0, 0x19, 0x65, 0xdc,
     0xdc, 0x96, 0x46, 0x8c,
 ]);
 
-// The id of no bytes by SHA-256, as digits and as bytes.
-pub const SHA256: &str = "473a0f4c3be8a93681a267e3b1e9a7dcda1185436fe141f7749120a303721813";
-
-pub const EMPTY: ObjectId = ObjectId::Sha256([
-    0x47, 0x3a, 0x0f, 0x4c, 0x3b, 0xe8, 0xa9, 0x36, 0x81, 0xa2, 0x67, 0xe3, 0xb1, 0xe9, 0xa7, 0xdc,
-    0xda, 0x11, 0x85, 0x43, 0x6f, 0xe1, 0x41, 0xf7, 0x74, 0x91, 0x20, 0xa3, 0x03, 0x72, 0x18, 0x13,
+// The id of `bar` by SHA-1.
+const BAR: ObjectId = ObjectId::Sha1([
+    0xba, 0x0e, 0x16, 0x2e, 0x1c, 0x47, 0x46, 0x9e, 0x3f, 0xe4, 0xb3, 0x93, 0xa8, 0xbf, 0x8c, 0x56,
+    0x9f, 0x30, 0x21, 0x16,
 ]);
+
+pub const NO_STAT: Stat = Stat {
+    mtime: Time { secs: 0, nsecs: 0 },
+    ctime: Time { secs: 0, nsecs: 0 },
+    dev: 0,
+    ino: 0,
+    uid: 0,
+    gid: 0,
+    size: 0,
+};
+
+// What is not said is so.
+pub const PLAIN_ENTRY: WantedEntry = WantedEntry {
+    path: "a",
+    id: FOO,
+    mode: Mode::File,
+    stage: 0,
+    flags: &[],
+    stat: NO_STAT,
+};
+
+pub const PLAIN_NODE: WantedNode = WantedNode {
+    path: "a",
+    kind: NodeKind::File,
+    bytes: &[],
+    executable: false,
+    stat: NO_STAT,
+};
 
 // By default a stat's ctime counts, and its inode, group and owner, but neither nanoseconds nor the device.
 const STAT: stat::Options = stat::Options {
@@ -46,8 +132,329 @@ const STAT: stat::Options = stat::Options {
     use_stdev: false,
 };
 
+const STATUS: Options = Options {
+    fs: Capabilities {
+        symlink: true,
+        executable_bit: true,
+    },
+    thread_limit: None,
+    stat: STAT,
+    fscache: false,
+    chunk_size: 0,
+};
+
+const NO_EXECUTABLE: Options = Options {
+    fs: Capabilities {
+        symlink: true,
+        executable_bit: false,
+    },
+    ..STATUS
+};
+
+pub const PLAIN: Wanted<'static> = Wanted {
+    hash: HashKind::Sha1,
+    timestamp: Moment { secs: 9, nsecs: 0 },
+    status: &STATUS,
+    comparer: Comparer::Hash,
+    prefix: "",
+    counts: false,
+    folder: None,
+    entries: &[],
+    nodes: &[],
+};
+
+const MTIME_5: Stat = Stat {
+    mtime: Time { secs: 5, nsecs: 0 },
+    ctime: Time { secs: 5, nsecs: 0 },
+    ..NO_STAT
+};
+
+const SIZE_3: Stat = Stat { size: 3, ..MTIME_5 };
+
+// Profiles, and the way that reads them first.
+static PROFILES: [(&str, Way, Wanted<'static>); 11] = [
+    (
+        r#"{"hash":"sha1","timestamp":[9,0],
+"options":{"comparer":"hash","chunk_size":1,"thread_limit":2},
+"index":[
+{"path":"a","id":"19102815663d23f8b75a47e7a01965dcdc96468c","size":3,"mtime":[5,0]},
+{"path":"b","id":"ba0e162e1c47469e3fe4b393a8bf8c569f302116","size":3,"mtime":[5,0]}],
+"worktree":[
+{"path":"a","text":"bars","mtime":[7,0]},
+{"path":"b","text":"bar","mtime":[5,0]}]}"#,
+        Way::Quick,
+        Wanted {
+            status: &Options {
+                chunk_size: 1,
+                thread_limit: Some(2),
+                ..STATUS
+            },
+            entries: &[
+                WantedEntry {
+                    stat: SIZE_3,
+                    ..PLAIN_ENTRY
+                },
+                WantedEntry {
+                    path: "b",
+                    id: BAR,
+                    stat: SIZE_3,
+                    ..PLAIN_ENTRY
+                },
+            ],
+            nodes: &[
+                WantedNode {
+                    bytes: b"bars",
+                    stat: Stat {
+                        mtime: Time { secs: 7, nsecs: 0 },
+                        ctime: Time { secs: 7, nsecs: 0 },
+                        ..NO_STAT
+                    },
+                    ..PLAIN_NODE
+                },
+                WantedNode {
+                    path: "b",
+                    bytes: b"bar",
+                    stat: MTIME_5,
+                    ..PLAIN_NODE
+                },
+            ],
+            ..PLAIN
+        },
+    ),
+    (
+        r#"{"timestamp":[4294967295,1],"index":[],"worktree":[],"clock":null,"events":0}"#,
+        Way::Quick,
+        Wanted {
+            timestamp: Moment {
+                secs: 4294967295,
+                nsecs: 1,
+            },
+            ..PLAIN
+        },
+    ),
+    (
+        r#"{"hash":"sha256","timestamp":[9,0],"index":[],"worktree":[]}"#,
+        Way::Quick,
+        Wanted {
+            hash: HashKind::Sha256,
+            ..PLAIN
+        },
+    ),
+    // Members come in any order.
+    (
+        r#"{"worktree":[],"index":[],"options":{"counts":true},"timestamp":[9,8],"hash":"sha256"}"#,
+        Way::Quick,
+        Wanted {
+            hash: HashKind::Sha256,
+            timestamp: Moment { secs: 9, nsecs: 8 },
+            counts: true,
+            ..PLAIN
+        },
+    ),
+    // Of equal lists the last counts.
+    (
+        r#"{"worktree":[{"path":"b"}],"index":[{"path":"","id":"19102815663d23f8b75a47e7a01965dcdc96468c"}],"timestamp":[9,0],"worktree":[{"path":"a"}],"index":[{"path":"a","id":"19102815663d23f8b75a47e7a01965dcdc96468c"}]}"#,
+        Way::Quick,
+        Wanted {
+            entries: &[PLAIN_ENTRY],
+            nodes: &[PLAIN_NODE],
+            ..PLAIN
+        },
+    ),
+    // Fields of an item before are not kept.
+    (
+        r#"{"index":[{"path":"long/path","id":"19102815663d23f8b75a47e7a01965dcdc96468c","mode":"120000","stage":1,"flags":["uptodate"],"size":1,"mtime":[1,2],"ctime":[3,4],"dev":5,"ino":6,"uid":7,"gid":8},{"path":"p","id":"19102815663d23f8b75a47e7a01965dcdc96468c"}],"timestamp":[9,0],"worktree":[{"path":"a","kind":"link","hex":"00","executable":true,"dev":1},{"path":"b","text":"x"}]}"#,
+        Way::Quick,
+        Wanted {
+            entries: &[
+                WantedEntry {
+                    path: "long/path",
+                    id: FOO,
+                    mode: Mode::Symlink,
+                    stage: 1,
+                    flags: &[Flags::UPTODATE],
+                    stat: Stat {
+                        mtime: Time { secs: 1, nsecs: 2 },
+                        ctime: Time { secs: 3, nsecs: 4 },
+                        dev: 5,
+                        ino: 6,
+                        uid: 7,
+                        gid: 8,
+                        size: 1,
+                    },
+                },
+                WantedEntry {
+                    path: "p",
+                    ..PLAIN_ENTRY
+                },
+            ],
+            nodes: &[
+                WantedNode {
+                    path: "a",
+                    kind: NodeKind::Link,
+                    bytes: &[0],
+                    executable: true,
+                    stat: Stat { dev: 1, ..NO_STAT },
+                },
+                WantedNode {
+                    path: "b",
+                    bytes: b"x",
+                    ..PLAIN_NODE
+                },
+            ],
+            ..PLAIN
+        },
+    ),
+    // Other options.
+    (
+        r#"{"timestamp":[9,0],"options":{"comparer":"fast","prefix":"d/\u00e9","counts":true,"untracked":false,"renames":false,"sort":false,"more":[]},"index":[],"worktree":[]}"#,
+        Way::Quick,
+        Wanted {
+            comparer: Comparer::Fast,
+            prefix: "d/é",
+            counts: true,
+            ..PLAIN
+        },
+    ),
+    (
+        r#"{"timestamp":[9,0],"options":{"comparer":"hash","prefix":"","counts":false},"index":[],"worktree":[]}"#,
+        Way::Quick,
+        PLAIN,
+    ),
+    // Lists that don't count may have any form.
+    (
+        r#"{"index":[1],"worktree":"x","timestamp":[9,0],"worktree":[],"index":[]}"#,
+        Way::Careful,
+        PLAIN,
+    ),
+    // A folder stands in place of nodes. No file is executable in it.
+    (
+        r#"{"timestamp":[9,0],"index":[],"folder":"d"}"#,
+        Way::Quick,
+        Wanted {
+            status: &NO_EXECUTABLE,
+            folder: Some("d"),
+            ..PLAIN
+        },
+    ),
+    (
+        r#"{"timestamp":[9,0],"options":{"executable_bit":true},"index":[],"worktree":1,"folder":"d/e"}"#,
+        Way::Careful,
+        Wanted {
+            status: &NO_EXECUTABLE,
+            folder: Some("d/e"),
+            ..PLAIN
+        },
+    ),
+];
+
+// An option of the status changes only itself.
+static STATUS_OPTIONS: [(&str, Options); 10] = [
+    (
+        r#""symlink":false"#,
+        Options {
+            fs: Capabilities {
+                symlink: false,
+                executable_bit: true,
+            },
+            ..STATUS
+        },
+    ),
+    (r#""executable_bit":false"#, NO_EXECUTABLE),
+    (
+        r#""trust_ctime":false"#,
+        Options {
+            stat: stat::Options {
+                trust_ctime: false,
+                ..STAT
+            },
+            ..STATUS
+        },
+    ),
+    (
+        r#""check_stat":false"#,
+        Options {
+            stat: stat::Options {
+                check_stat: false,
+                ..STAT
+            },
+            ..STATUS
+        },
+    ),
+    (
+        r#""use_nsec":true"#,
+        Options {
+            stat: stat::Options {
+                use_nsec: true,
+                ..STAT
+            },
+            ..STATUS
+        },
+    ),
+    (
+        r#""use_stdev":true"#,
+        Options {
+            stat: stat::Options {
+                use_stdev: true,
+                ..STAT
+            },
+            ..STATUS
+        },
+    ),
+    (
+        r#""chunk_size":4294967295"#,
+        Options {
+            chunk_size: 4294967295,
+            ..STATUS
+        },
+    ),
+    (r#""thread_limit":null"#, STATUS),
+    (
+        r#""thread_limit":0"#,
+        Options {
+            thread_limit: Some(0),
+            ..STATUS
+        },
+    ),
+    (
+        r#""thread_limit":4294967295"#,
+        Options {
+            thread_limit: Some(4294967295),
+            ..STATUS
+        },
+    ),
+];
+
+// Text that is no JSON.
+const NO_JSON: &[&str] = &[
+    "",
+    "{",
+    "{} {}",
+    "{'hash':1}",
+    "\u{feff}{}",
+    "[1,]",
+    r#"{"a":"\ud800"}"#,
+    r#"{"a":1e999}"#,
+    r#"{"timestamp":[9,0],"index":[1],"worktree":[}"#,
+    r#"{"index":[{"a":1e999}]}"#,
+    r#"{"index":[1]} 2"#,
+    "[",
+];
+
+// The same, as the value of a key that is unknown.
+const NO_VALUES: &[&str] = &[
+    "1e999",
+    r#""\ud800""#,
+    "01",
+    "[1,]",
+    "{1:2}",
+    "tru",
+    "",
+    "\"\t\"",
+];
+
 // Options that are wrong, or not supported.
-const BAD_OPTIONS: [&str; 18] = [
+const BAD_OPTIONS: &[&str] = &[
     r#""symlink":1"#,
     r#""executable_bit":null"#,
     r#""trust_ctime":"true""#,
@@ -69,14 +476,14 @@ const BAD_OPTIONS: [&str; 18] = [
 ];
 
 // Fields of entries that lack one.
-const INCOMPLETE_ENTRIES: [&str; 3] = [
+const INCOMPLETE_ENTRIES: &[&str] = &[
     "",
     r#""path":"a""#,
     r#""id":"19102815663d23f8b75a47e7a01965dcdc96468c""#,
 ];
 
 // What makes a good entry a bad one.
-const BAD_ENTRIES: [&str; 24] = [
+const BAD_FIELDS: &[&str] = &[
     r#""path":"b","id":"00""#,
     r#""path":"b","id":"0""#,
     r#""path":"b","id":"19102815663d23f8b75a47e7a01965dcdc96468g""#,
@@ -104,7 +511,7 @@ const BAD_ENTRIES: [&str; 24] = [
 ];
 
 // Fields of nodes.
-const BAD_NODES: [&str; 12] = [
+const BAD_NODES: &[&str] = &[
     "",
     r#""text":"x""#,
     r#""path":7"#,
@@ -119,580 +526,383 @@ const BAD_NODES: [&str; 12] = [
     r#""path":"a","gid":1e0"#,
 ];
 
+// The last two have forty bytes, and no digits.
+const BAD_IDS: &[&str] = &[
+    r#""""#,
+    r#""1910""#,
+    r#""19102815663d23f8b75a47e7a01965dcdc96468""#,
+    r#""19102815663d23f8b75a47e7a01965dcdc96468c0""#,
+    r#""19102815663d23f8b75a47e7a01965dcdc96468c00""#,
+    r#""473a0f4c3be8a93681a267e3b1e9a7dcda1185436fe141f7749120a30372181""#,
+    r#""473a0f4c3be8a93681a267e3b1e9a7dcda1185436fe141f7749120a30372181300""#,
+    r#""éééééééééééééééééééé""#,
+    r#"" 9102815663d23f8b75a47e7a01965dcdc96468c""#,
+];
+
+// Numbers go up to 32 bits, and have neither sign, point nor exponent.
+const BAD_NUMBERS: &[&str] = &[
+    "4294967296",
+    "18446744073709551615",
+    "18446744073709551616",
+    "99999999999999999999999999",
+    "1.0",
+    "1e2",
+    "1E+2",
+    "0e0",
+    "-0",
+    "-1",
+    "null",
+    "\"1\"",
+    "[]",
+    "{}",
+];
+
+// Items of lists that are no objects.
+const NO_OBJECTS: &[&str] = &[
+    "1",
+    "null",
+    "\"a\"",
+    "[]",
+    r#"["a","0"]"#,
+    r#"[["path","a"]]"#,
+];
+
+// Where values that have a wrong form stand, and how they are refused.
+static WRONG_FORMS: [(Frame, &str, &[&str], ProfileError); 18] = [
+    (WHOLE, "", NO_JSON, NotJson),
+    (OPTIONS, "", BAD_OPTIONS, Bad(Key::Options)),
+    (INDEX, "", NO_OBJECTS, Bad(Key::Index)),
+    (WORKTREE, "", NO_OBJECTS, Bad(Key::Worktree)),
+    (ENTRY, "", INCOMPLETE_ENTRIES, Bad(Key::Index)),
+    (ENTRY, r#""path":"a","id":"#, BAD_IDS, Bad(Key::Index)),
+    (FIELD, "", BAD_FIELDS, Bad(Key::Index)),
+    (FIELD, r#""stage":"#, BAD_NUMBERS, Bad(Key::Index)),
+    (FIELD, r#""size":"#, BAD_NUMBERS, Bad(Key::Index)),
+    (FIELD, r#""dev":"#, BAD_NUMBERS, Bad(Key::Index)),
+    (FIELD, r#""ino":"#, BAD_NUMBERS, Bad(Key::Index)),
+    (FIELD, r#""uid":"#, BAD_NUMBERS, Bad(Key::Index)),
+    (FIELD, r#""gid":"#, BAD_NUMBERS, Bad(Key::Index)),
+    (FIELD, r#""more":"#, NO_VALUES, NotJson),
+    (NODE, "", BAD_NODES, Bad(Key::Worktree)),
+    (
+        NODE,
+        r#""path":"a","id":"19102815663d23f8b75a47e7a01965dcdc96468c","more":"#,
+        NO_VALUES,
+        NotJson,
+    ),
+    (MTIME, "", BAD_NUMBERS, Bad(Key::Worktree)),
+    (CTIME, "", BAD_NUMBERS, Bad(Key::Worktree)),
+];
+
+// Profiles in which several things are wrong, and the first of them, in the order in which keys are read.
+static FIRST_ERRORS: [(&str, ProfileError); 36] = [
+    ("[]", Bad(Key::Hash)),
+    ("null", Bad(Key::Hash)),
+    ("\"sha1\"", Bad(Key::Hash)),
+    (r#"{"hash":"md5"}"#, Bad(Key::Hash)),
+    (r#"{"hash":null}"#, Bad(Key::Hash)),
+    ("{}", Bad(Key::Timestamp)),
+    (r#"{"timestamp":9}"#, Bad(Key::Timestamp)),
+    (r#"{"timestamp":[9]}"#, Bad(Key::Timestamp)),
+    (r#"{"timestamp":[9,0,0]}"#, Bad(Key::Timestamp)),
+    (r#"{"timestamp":[9,-1]}"#, Bad(Key::Timestamp)),
+    (r#"{"timestamp":[9,0],"options":null}"#, Bad(Key::Options)),
+    (r#"{"timestamp":[9,0],"options":[]}"#, Bad(Key::Options)),
+    (r#"{"timestamp":[9,0]}"#, Bad(Key::Index)),
+    (r#"{"timestamp":[9,0],"index":{}}"#, Bad(Key::Index)),
+    (r#"{"timestamp":[9,0],"index":[]}"#, Bad(Key::Worktree)),
+    (
+        r#"{"timestamp":[9,0],"index":[],"worktree":null}"#,
+        Bad(Key::Worktree),
+    ),
+    (
+        r#"{"timestamp":[9,0],"index":[],"worktree":[],"folder":null}"#,
+        Bad(Key::Worktree),
+    ),
+    (
+        r#"{"timestamp":[9,0],"options":{"untracked":true},"index":1,"folder":1}"#,
+        Bad(Key::Options),
+    ),
+    (
+        r#"{"timestamp":[9,0],"index":[1],"worktree":1}"#,
+        Bad(Key::Index),
+    ),
+    (r#"{"timestamp":1,"timestamp":[9,0]}"#, Bad(Key::Index)),
+    (r#"{"timestamp":[9,0],"timestamp":1}"#, Bad(Key::Timestamp)),
+    (
+        r#"{"index":[1],"worktree":[1],"timestamp":1}"#,
+        Bad(Key::Timestamp),
+    ),
+    (
+        r#"{"timestamp":[9,0],"index":[1],"index":[]}"#,
+        Bad(Key::Worktree),
+    ),
+    (
+        r#"{"timestamp":[9,0],"index":[],"index":null}"#,
+        Bad(Key::Index),
+    ),
+    // The first entry that can not stand.
+    (
+        r#"{"index":[{"path":"","id":"19102815663d23f8b75a47e7a01965dcdc96468c"},{"path":"a","id":"19102815663d23f8b75a47e7a01965dcdc96468c"},{"path":"a","id":"19102815663d23f8b75a47e7a01965dcdc96468c"}],"worktree":[],"timestamp":[9,0]}"#,
+        Index(IndexError::EmptyPath { at: 0 }),
+    ),
+    (
+        r#"{"index":[{"path":"a","id":"19102815663d23f8b75a47e7a01965dcdc96468c"},{"path":"a","id":"19102815663d23f8b75a47e7a01965dcdc96468c"},{"path":"b","id":"473a0f4c3be8a93681a267e3b1e9a7dcda1185436fe141f7749120a303721813"}],"worktree":[],"timestamp":[9,0]}"#,
+        Index(IndexError::NotAscending { at: 1 }),
+    ),
+    (
+        r#"{"index":[{"path":"a","id":"19102815663d23f8b75a47e7a01965dcdc96468c"},{"path":"b","id":"473a0f4c3be8a93681a267e3b1e9a7dcda1185436fe141f7749120a303721813"},{"path":"","id":"19102815663d23f8b75a47e7a01965dcdc96468c"}],"worktree":[],"timestamp":[9,0]}"#,
+        Index(IndexError::MixedHash { at: 1 }),
+    ),
+    // Whether the entries are an index is asked last, and the form of all of them before.
+    (
+        r#"{"index":[{"path":"","id":"19102815663d23f8b75a47e7a01965dcdc96468c"}],"worktree":[]}"#,
+        Bad(Key::Timestamp),
+    ),
+    (
+        r#"{"index":[{"path":"","id":"19102815663d23f8b75a47e7a01965dcdc96468c"}],"timestamp":[9,0],"worktree":[],"hash":0}"#,
+        Bad(Key::Hash),
+    ),
+    (
+        r#"{"index":[{"path":"","id":"19102815663d23f8b75a47e7a01965dcdc96468c"}],"timestamp":[9,0],"worktree":[],"options":0}"#,
+        Bad(Key::Options),
+    ),
+    (
+        r#"{"index":[{"path":"","id":"19102815663d23f8b75a47e7a01965dcdc96468c"},{}],"timestamp":[9,0],"worktree":[]}"#,
+        Bad(Key::Index),
+    ),
+    (
+        r#"{"index":[{"path":"","id":"19102815663d23f8b75a47e7a01965dcdc96468c"}],"timestamp":[9,0]}"#,
+        Bad(Key::Worktree),
+    ),
+    (
+        r#"{"index":[{"path":"","id":"19102815663d23f8b75a47e7a01965dcdc96468c"}],"timestamp":[9,0],"worktree":[{}]}"#,
+        Bad(Key::Worktree),
+    ),
+    (
+        r#"{"index":[{"path":"","id":"19102815663d23f8b75a47e7a01965dcdc96468c"}],"timestamp":[9,0],"worktree":[]} 1}"#,
+        NotJson,
+    ),
+    // A path of an item before is not kept.
+    (
+        r#"{"index":[{"path":"a","id":"19102815663d23f8b75a47e7a01965dcdc96468c"},{"id":"19102815663d23f8b75a47e7a01965dcdc96468c"}],"timestamp":[9,0],"worktree":[]}"#,
+        Bad(Key::Index),
+    ),
+    (
+        r#"{"index":[],"timestamp":[9,0],"worktree":[{"path":"a"},{"text":"x"}]}"#,
+        Bad(Key::Worktree),
+    ),
+];
+
+// Lists in one another, so many levels, within a profile. A profile is itself the first level, and its index the second.
+static LEVELS: [(&str, usize, &str, ProfileError); 8] = [
+    ("", 127, "", Bad(Key::Hash)),
+    ("", 128, "", NotJson),
+    (r#"{"more":"#, 126, "}", Bad(Key::Timestamp)),
+    (r#"{"more":"#, 127, "}", NotJson),
+    (r#"{"index":["#, 125, "]}", Bad(Key::Timestamp)),
+    (r#"{"index":["#, 126, "]}", NotJson),
+    (r#"{"worktree":"#, 126, "}", Bad(Key::Timestamp)),
+    (r#"{"worktree":"#, 127, "}", NotJson),
+];
+
 // What a text is as a profile, where only this way is tried.
-pub fn read_in(alloc: Global, way: Way, text: &str) -> Result<Profile, ProfileError> {
+fn read_in(alloc: Global, way: Way, text: &[u8]) -> Result<Profile, ProfileError> {
     let members = match way {
-        Way::Quick => Some(Members::quickly(alloc, text.as_bytes())?),
-        Way::Careful => Members::carefully(alloc, text.as_bytes())?,
+        Way::Quick => Some(Members::quickly(alloc, text)?),
+        Way::Careful => Members::carefully(alloc, text)?,
     };
     match members {
         Some(members) => profile_of(alloc, members),
-        None => Err(ProfileError::Bad(Key::Hash)),
+        None => Err(Bad(Key::Hash)),
     }
 }
 
-// Asserts that a text is refused by this error, and in the quick way by any.
-pub fn assert_refused<R: AllocGlobal + Abort>(rt: &R, text: &str, error: ProfileError) {
+// The text of a part of a profile in its frame.
+pub fn framed(alloc: Global, frame: Frame, part: &str) -> Result<String, AllocError> {
+    let (front, back) = frame;
+    format!(in alloc; "{front}{part}{back}")
+}
+
+// Asserts that a text is read as this profile, by this way and those after it alone and as the program does, and by no
+// way before.
+pub fn assert_read<R: AllocGlobal + Abort>(rt: &R, text: &str, first: Way, wanted: &Wanted<'_>) {
+    let bytes = text.as_bytes();
     let alloc = rt.alloc();
-    let whole = Profile::from_json(alloc, text.as_bytes()).err();
-    assert_eq!(rt; whole, Some(error), "at {text}");
-    let careful = read_in(alloc, Way::Careful, text).err();
-    assert_eq!(rt; careful, Some(error), "at {text}");
-    let quick = read_in(alloc, Way::Quick, text).err();
-    assert!(rt; quick.is_some(), "at {text}");
-}
-
-// The only entry of a profile, with its path.
-pub fn only_entry(profile: &Profile) -> Result<(&[u8], &Entry), Fail> {
-    match profile.index.entries() {
-        [entry] => Ok((
-            entry.path_in(profile.index.path_backing()).as_bytes(),
-            entry,
-        )),
-        _ => Err(Fail::new("not one entry")),
+    assert_said(rt, text, Profile::from_json(alloc, bytes), wanted);
+    assert_said(rt, text, read_in(alloc, Way::Careful, bytes), wanted);
+    let quick = read_in(alloc, Way::Quick, bytes);
+    match first {
+        Way::Quick => assert_said(rt, text, quick, wanted),
+        Way::Careful => assert!(rt; quick.is_err(), "at {text}"),
     }
 }
 
-// The nodes of a profile.
-pub fn nodes_of(profile: &Profile) -> Result<&[(BString, Node)], Fail> {
-    match &profile.place {
-        Place::Nodes(nodes) => Ok(nodes.as_slice()),
-        Place::Folder(_) => Err(Fail::new("a folder")),
+// Asserts that what was read is this profile.
+fn assert_said<R: Abort>(
+    rt: &R,
+    text: &str,
+    profile: Result<Profile, ProfileError>,
+    wanted: &Wanted<'_>,
+) {
+    match profile {
+        Ok(profile) => assert_profile(rt, text, &profile, wanted),
+        Err(error) => panic!(rt; "{error} at {text}"),
     }
 }
 
-// The only node of a profile, with its path.
-pub fn only_node(profile: &Profile) -> Result<(&[u8], &Node), Fail> {
-    match nodes_of(profile)? {
-        [(path, node)] => Ok((path.as_bytes(), node)),
-        _ => Err(Fail::new("not one node")),
-    }
-}
-
-// Asserts that an entry is `a` with the id of `foo`, and that all but its mode and its flags is as it is by default.
-fn assert_plain<R: Abort>(rt: &R, found: (&[u8], &Entry), mode: Mode, flags: Flags) {
-    let (path, entry) = found;
-    assert_eq!(rt; path, b"a".as_slice());
-    assert_eq!(rt; entry.id, FOO);
-    assert_eq!(rt; entry.stat, Stat::default());
-    assert_eq!(rt; entry.mode, mode);
-    assert_eq!(rt; entry.flags, flags);
-}
-
-// The options of a status where a profile names none.
-fn no_options() -> Options {
-    Options {
-        fs: Capabilities {
-            symlink: true,
-            executable_bit: true,
-        },
-        thread_limit: None,
-        stat: STAT,
-        fscache: false,
-        chunk_size: 0,
-    }
-}
-
-// The same, but for what the file system can keep.
-fn with_capabilities(symlink: bool, executable_bit: bool) -> Options {
-    Options {
-        fs: Capabilities {
-            symlink,
-            executable_bit,
-        },
-        ..no_options()
-    }
-}
-
-// The same, but for the parts of stats that have to be equal.
-fn with_stat(stat: stat::Options) -> Options {
-    Options {
-        stat,
-        ..no_options()
-    }
-}
-
-// A profile with these options.
-fn with_options(alloc: Global, options: &str) -> Result<String, AllocError> {
-    format!(in alloc; r#"{{"timestamp":[9,0],"options":{{{options}}},"index":[],"worktree":[]}}"#)
-}
-
-// A profile with an entry of these fields.
-pub fn with_entry(alloc: Global, fields: &str) -> Result<String, AllocError> {
-    format!(in alloc; r#"{{"timestamp":[9,0],"index":[{{{fields}}}],"worktree":[]}}"#)
-}
-
-// A profile with a node of these fields.
-pub fn with_node(alloc: Global, fields: &str) -> Result<String, AllocError> {
-    format!(in alloc; r#"{{"timestamp":[9,0],"index":[],"worktree":[{{{fields}}}]}}"#)
-}
-
-#[test]
-fn reads_a_whole_profile(rt: HostRuntime) -> Result<(), Fail> {
-    for way in WAYS {
-        assert_row(&rt, &read_in(rt.alloc(), way, ROW)?)?;
-    }
-    Ok(())
-}
-
-// Asserts that a profile is the one that `ROW` is.
-fn assert_row<R: Abort>(rt: &R, profile: &Profile) -> Result<(), Fail> {
-    assert_eq!(rt; profile.hash, HashKind::Sha1);
-    let written = Moment { secs: 9, nsecs: 0 };
-    assert_eq!(rt; profile.index.timestamp(), written);
-    assert_eq!(rt; profile.options.comparer, Comparer::Hash);
-    assert_eq!(rt; profile.options.status.chunk_size, 1);
-    assert_eq!(rt; profile.options.status.thread_limit, Some(2));
-    let backing = profile.index.path_backing();
-    let paths = [b"a", b"b"];
-    assert_eq!(rt; profile.index.entries().len(), 2);
-    for (entry, path) in profile.index.entries().iter().zip(paths) {
-        assert_eq!(rt; entry.path_in(backing).as_bytes(), path.as_slice());
-        assert_eq!(rt; entry.stat.size, 3);
-        assert_eq!(rt; entry.stat.mtime, Time { secs: 5, nsecs: 0 });
-        assert_eq!(rt; entry.stat.ctime, Time { secs: 5, nsecs: 0 });
-        assert_eq!(rt; entry.mode, Mode::File);
-        assert_eq!(rt; entry.flags, Flags::default());
-        assert_eq!(rt; entry.id.kind(), HashKind::Sha1);
-    }
-    let nodes = nodes_of(profile)?;
-    assert_eq!(rt; nodes.len(), 2);
-    let contents = [("a", "bars"), ("b", "bar")];
-    for ((path, node), (name, content)) in nodes.iter().zip(contents) {
-        assert_eq!(rt; path.as_bytes(), name.as_bytes());
-        assert_eq!(rt; node.kind, NodeKind::File);
-        assert_eq!(rt; node.bytes.as_slice(), content.as_bytes());
-        assert_eq!(rt; node.len, content.len() as u64);
-        assert_eq!(rt; node.mtime, node.ctime);
-    }
-    Ok(())
-}
-
-#[test]
-fn what_is_missing_has_its_default(rt: HostRuntime) -> Result<(), Fail> {
-    let text = r#"{"timestamp":[4294967295,1],"index":[],"worktree":[],"clock":null,"events":0}"#;
-    let profile = Profile::from_json(rt.alloc(), text.as_bytes())?;
-    assert_eq!(rt; profile.hash, HashKind::Sha1);
-    let written = Moment {
-        secs: 4294967295,
-        nsecs: 1,
-    };
-    assert_eq!(rt; profile.index.timestamp(), written);
+fn assert_profile<R: Abort>(rt: &R, text: &str, profile: &Profile, wanted: &Wanted<'_>) {
+    assert_eq!(rt; profile.hash, wanted.hash, "at {text}");
+    assert_eq!(rt; profile.index.timestamp(), wanted.timestamp, "at {text}");
     let options = &profile.options;
-    assert_eq!(rt; options.status, no_options());
-    assert_eq!(rt; options.comparer, Comparer::Hash);
-    assert!(rt; options.prefix.as_bytes().is_empty());
-    assert!(rt; !options.untracked && !options.renames && !options.sort && !options.counts);
-    assert!(rt; profile.index.entries().is_empty());
-    assert!(rt; nodes_of(&profile)?.is_empty());
-    Ok(())
+    assert_eq!(rt; options.status, *wanted.status, "at {text}");
+    assert_eq!(rt; options.comparer, wanted.comparer, "at {text}");
+    assert_eq!(rt;
+        options.prefix.as_bytes(),
+        wanted.prefix.as_bytes(),
+        "at {text}"
+    );
+    assert_eq!(rt; options.counts, wanted.counts, "at {text}");
+    let is_unsupported = options.untracked || options.renames || options.sort;
+    assert!(rt; !is_unsupported, "at {text}");
+    let entries = profile.index.entries();
+    assert_eq!(rt; entries.len(), wanted.entries.len(), "at {text}");
+    for (entry, wanted) in entries.iter().zip(wanted.entries) {
+        let path = entry.path_in(profile.index.path_backing());
+        assert_entry(rt, text, path.as_bytes(), entry, wanted);
+    }
+    assert_place(rt, text, &profile.place, wanted);
 }
 
-#[test]
-fn fields_of_a_node_have_defaults(rt: HostRuntime) -> Result<(), Fail> {
-    let text = with_node(rt.alloc(), r#""path":"d/e""#)?;
-    for way in WAYS {
-        let profile = read_in(rt.alloc(), way, text.as_str())?;
-        let (path, node) = only_node(&profile)?;
-        assert_eq!(rt; path, b"d/e".as_slice());
-        assert!(rt; node.bytes.is_empty());
-        let wanted = Metadata {
-            kind: NodeKind::File,
-            len: 0,
-            executable: false,
-            mtime: Some(Time::default()),
-            ctime: Some(Time::default()),
-            dev: 0,
-            ino: 0,
-            uid: 0,
-            gid: 0,
-        };
-        assert_eq!(rt; node.metadata(), wanted);
+fn assert_entry<R: Abort>(rt: &R, text: &str, path: &[u8], entry: &Entry, wanted: &WantedEntry) {
+    assert_eq!(rt; path, wanted.path.as_bytes(), "at {text}");
+    assert_eq!(rt; entry.id, wanted.id, "at {text}");
+    assert_eq!(rt; entry.mode, wanted.mode, "at {text}");
+    let mut flags = Flags::from_stage(wanted.stage);
+    for flag in wanted.flags {
+        flags = flags | *flag;
+    }
+    assert_eq!(rt; entry.flags, flags, "at {text}");
+    assert_eq!(rt; entry.stat, wanted.stat, "at {text}");
+}
+
+fn assert_place<R: Abort>(rt: &R, text: &str, place: &Place, wanted: &Wanted<'_>) {
+    match place {
+        Place::Folder(folder) => {
+            assert_eq!(rt; Some(folder.as_str()), wanted.folder, "at {text}");
+        }
+        Place::Nodes(nodes) => {
+            assert_eq!(rt; None, wanted.folder, "at {text}");
+            assert_eq!(rt; nodes.len(), wanted.nodes.len(), "at {text}");
+            for ((path, node), wanted) in nodes.iter().zip(wanted.nodes) {
+                assert_node(rt, text, path.as_bytes(), node, wanted);
+            }
+        }
+    }
+}
+
+fn assert_node<R: Abort>(rt: &R, text: &str, path: &[u8], node: &Node, wanted: &WantedNode) {
+    assert_eq!(rt; path, wanted.path.as_bytes(), "at {text}");
+    assert_eq!(rt; node.bytes.as_slice(), wanted.bytes, "at {text}");
+    let metadata = Metadata {
+        kind: wanted.kind,
+        len: wanted.bytes.len() as u64,
+        executable: wanted.executable,
+        mtime: Some(wanted.stat.mtime),
+        ctime: Some(wanted.stat.ctime),
+        dev: wanted.stat.dev,
+        ino: wanted.stat.ino,
+        uid: wanted.stat.uid,
+        gid: wanted.stat.gid,
+    };
+    assert_eq!(rt; node.metadata(), metadata, "at {text}");
+}
+
+// Asserts that a text is refused by this error, and in the quick way by any: by the same where the entries are no index.
+fn assert_refused<R: AllocGlobal + Abort>(rt: &R, text: &str, error: ProfileError) {
+    let alloc = rt.alloc();
+    let bytes = text.as_bytes();
+    let whole = Profile::from_json(alloc, bytes).err();
+    assert_eq!(rt; whole, Some(error), "at {text}");
+    let careful = read_in(alloc, Way::Careful, bytes).err();
+    assert_eq!(rt; careful, Some(error), "at {text}");
+    let quick = read_in(alloc, Way::Quick, bytes).err();
+    assert!(rt; quick.is_some(), "at {text}");
+    if let Index(_) = error {
+        assert_eq!(rt; quick, Some(error), "at {text}");
+    }
+}
+
+// Asserts that each of these values is refused in a frame behind this front.
+fn assert_all_refused<R: AllocGlobal + Abort>(
+    rt: &R,
+    frame: Frame,
+    front: &str,
+    values: &[&str],
+    error: ProfileError,
+) -> Result<(), AllocError> {
+    for value in values {
+        let part = format!(in rt.alloc(); "{front}{value}")?;
+        let text = framed(rt.alloc(), frame, part.as_str())?;
+        assert_refused(rt, text.as_str(), error);
     }
     Ok(())
 }
 
-#[test]
-fn the_kind_of_ids_is_read(rt: HostRuntime) -> Result<(), Fail> {
-    let text = r#"{"hash":"sha256","timestamp":[9,0],"index":[],"worktree":[]}"#;
-    let profile = Profile::from_json(rt.alloc(), text.as_bytes())?;
-    assert_eq!(rt; profile.hash, HashKind::Sha256);
+// Asserts that these lists in one another are refused within a profile.
+fn assert_lists_refused<R: AllocGlobal + Abort>(
+    rt: &R,
+    front: &str,
+    levels: usize,
+    back: &str,
+    error: ProfileError,
+) -> Result<(), AllocError> {
+    let begins = "[".repeat(rt.alloc(), levels)?;
+    let ends = "]".repeat(rt.alloc(), levels)?;
+    let text = format!(in rt.alloc(); "{front}{begins}{ends}{back}")?;
+    assert_refused(rt, text.as_str(), error);
     Ok(())
+}
+
+#[test]
+fn whole_profiles_are_read(rt: HostRuntime) {
+    for (text, first, wanted) in &PROFILES {
+        assert_read(&rt, text, *first, wanted);
+    }
 }
 
 #[test]
 fn an_option_of_the_status_changes_only_itself(rt: HostRuntime) -> Result<(), Fail> {
-    let cases = [
-        (r#""symlink":false"#, with_capabilities(false, true)),
-        (r#""executable_bit":false"#, with_capabilities(true, false)),
-        (
-            r#""trust_ctime":false"#,
-            with_stat(stat::Options {
-                trust_ctime: false,
-                ..STAT
-            }),
-        ),
-        (
-            r#""check_stat":false"#,
-            with_stat(stat::Options {
-                check_stat: false,
-                ..STAT
-            }),
-        ),
-        (
-            r#""use_nsec":true"#,
-            with_stat(stat::Options {
-                use_nsec: true,
-                ..STAT
-            }),
-        ),
-        (
-            r#""use_stdev":true"#,
-            with_stat(stat::Options {
-                use_stdev: true,
-                ..STAT
-            }),
-        ),
-    ];
-    for (option, wanted) in cases {
-        let text = with_options(rt.alloc(), option)?;
-        let options = Profile::from_json(rt.alloc(), text.as_bytes())?.options;
-        assert_eq!(rt; options.status, wanted, "at {option}");
+    for (option, status) in &STATUS_OPTIONS {
+        let text = framed(rt.alloc(), OPTIONS, option)?;
+        let wanted = Wanted { status, ..PLAIN };
+        assert_read(&rt, text.as_str(), Way::Quick, &wanted);
     }
     Ok(())
 }
 
 #[test]
-fn pieces_and_threads_are_read(rt: HostRuntime) -> Result<(), Fail> {
-    let cases = [
-        (r#""chunk_size":4294967295"#, 4294967295, None),
-        (r#""thread_limit":null"#, 0, None),
-        (r#""thread_limit":0"#, 0, Some(0)),
-        (r#""thread_limit":4294967295"#, 0, Some(4294967295)),
-    ];
-    for (option, chunk_size, thread_limit) in cases {
-        let text = with_options(rt.alloc(), option)?;
-        let options = Profile::from_json(rt.alloc(), text.as_bytes())?.options;
-        let wanted = Options {
-            chunk_size,
-            thread_limit,
-            ..no_options()
-        };
-        assert_eq!(rt; options.status, wanted, "at {option}");
-    }
-    Ok(())
-}
-
-#[test]
-fn other_options_are_read(rt: HostRuntime) -> Result<(), Fail> {
-    let text = with_options(
-        rt.alloc(),
-        r#""comparer":"fast","prefix":"d/\u00e9","counts":true,"untracked":false,"renames":false,"sort":false,"more":[]"#,
-    )?;
-    let options = Profile::from_json(rt.alloc(), text.as_bytes())?.options;
-    assert_eq!(rt; options.comparer, Comparer::Fast);
-    assert_eq!(rt; options.prefix.as_bytes(), "d/é".as_bytes());
-    assert!(rt; options.counts);
-    assert!(rt; !options.untracked && !options.renames && !options.sort);
-    assert_eq!(rt; options.status, no_options());
-    let text = with_options(
-        rt.alloc(),
-        r#""comparer":"hash","prefix":"","counts":false"#,
-    )?;
-    let options = Profile::from_json(rt.alloc(), text.as_bytes())?.options;
-    assert_eq!(rt; options.comparer, Comparer::Hash);
-    assert!(rt; options.prefix.as_bytes().is_empty());
-    assert!(rt; !options.counts);
-    Ok(())
-}
-
-#[test]
-fn text_that_is_no_json(rt: HostRuntime) {
-    let alloc = rt.alloc();
-    for text in [
-        "",
-        "{",
-        "{} {}",
-        "{'hash':1}",
-        "\u{feff}{}",
-        "[1,]",
-        r#"{"a":"\ud800"}"#,
-        r#"{"a":1e999}"#,
-        r#"{"timestamp":[9,0],"index":[1],"worktree":[}"#,
-        r#"{"index":[{"a":1e999}]}"#,
-        r#"{"index":[1]} 2"#,
-        "[",
-    ] {
-        assert_refused(&rt, text, ProfileError::NotJson);
+fn values_of_a_wrong_form_are_refused(rt: HostRuntime) -> Result<(), Fail> {
+    for (frame, front, values, error) in &WRONG_FORMS {
+        assert_all_refused(&rt, *frame, front, values, *error)?;
     }
     let bytes = b"{\"hash\":\"\xff\"}".as_slice();
-    let error = Profile::from_json(alloc, bytes).err();
-    assert_eq!(rt; error, Some(ProfileError::NotJson));
+    let error = Profile::from_json(rt.alloc(), bytes).err();
+    assert_eq!(rt; error, Some(NotJson), "where a byte is no UTF-8");
+    Ok(())
 }
 
-// Lists in one another, so many levels.
-fn lists(alloc: Global, levels: usize) -> Result<String, AllocError> {
-    let mut text = String::new(alloc);
-    for _ in 0..levels {
-        text.push('[')?;
+#[test]
+fn the_first_error_is_reported(rt: HostRuntime) {
+    for (text, error) in &FIRST_ERRORS {
+        assert_refused(&rt, text, *error);
     }
-    for _ in 0..levels {
-        text.push(']')?;
-    }
-    Ok(text)
 }
 
-// A profile is itself the first level, and its index the second.
 #[test]
 fn more_than_127_levels_are_no_json(rt: HostRuntime) -> Result<(), Fail> {
-    let alloc = rt.alloc();
-    let cases = [
-        ("", 127, "", Key::Hash),
-        (r#"{"more":"#, 126, "}", Key::Timestamp),
-        (r#"{"index":["#, 125, "]}", Key::Timestamp),
-        (r#"{"worktree":"#, 126, "}", Key::Timestamp),
-    ];
-    for (front, levels, back, key) in cases {
-        let most = lists(alloc, levels)?;
-        let text = format!(in alloc; "{front}{most}{back}")?;
-        assert_refused(&rt, text.as_str(), ProfileError::Bad(key));
-        let text = format!(in alloc; "{front}[{most}]{back}")?;
-        assert_refused(&rt, text.as_str(), ProfileError::NotJson);
-    }
-    Ok(())
-}
-
-#[test]
-fn the_first_bad_key_is_reported(rt: HostRuntime) {
-    let alloc = rt.alloc();
-    let cases = [
-        ("[]", Key::Hash),
-        ("null", Key::Hash),
-        ("\"sha1\"", Key::Hash),
-        (r#"{"hash":"md5"}"#, Key::Hash),
-        (r#"{"hash":null}"#, Key::Hash),
-        ("{}", Key::Timestamp),
-        (r#"{"timestamp":9}"#, Key::Timestamp),
-        (r#"{"timestamp":[9]}"#, Key::Timestamp),
-        (r#"{"timestamp":[9,0,0]}"#, Key::Timestamp),
-        (r#"{"timestamp":[9,-1]}"#, Key::Timestamp),
-        (r#"{"timestamp":[9,0],"options":null}"#, Key::Options),
-        (r#"{"timestamp":[9,0],"options":[]}"#, Key::Options),
-        (r#"{"timestamp":[9,0]}"#, Key::Index),
-        (r#"{"timestamp":[9,0],"index":{}}"#, Key::Index),
-        (r#"{"timestamp":[9,0],"index":[]}"#, Key::Worktree),
-        (
-            r#"{"timestamp":[9,0],"index":[],"worktree":null}"#,
-            Key::Worktree,
-        ),
-        (
-            r#"{"timestamp":[9,0],"index":[],"worktree":[],"folder":null}"#,
-            Key::Worktree,
-        ),
-        (
-            r#"{"timestamp":[9,0],"options":{"untracked":true},"index":1,"folder":1}"#,
-            Key::Options,
-        ),
-        (
-            r#"{"timestamp":[9,0],"index":[1],"worktree":1}"#,
-            Key::Index,
-        ),
-        (r#"{"timestamp":1,"timestamp":[9,0]}"#, Key::Index),
-        (r#"{"timestamp":[9,0],"timestamp":1}"#, Key::Timestamp),
-        (
-            r#"{"index":[1],"worktree":[1],"timestamp":1}"#,
-            Key::Timestamp,
-        ),
-        (
-            r#"{"timestamp":[9,0],"index":[1],"index":[]}"#,
-            Key::Worktree,
-        ),
-        (r#"{"timestamp":[9,0],"index":[],"index":null}"#, Key::Index),
-    ];
-    for (text, key) in cases {
-        assert_refused(&rt, text, ProfileError::Bad(key));
-    }
-}
-
-#[test]
-fn entries_are_read(rt: HostRuntime) -> Result<(), Fail> {
-    let alloc = rt.alloc();
-    let fields = format!(in alloc;
-        r#""path":"a\u00e9","id":"{SHA256}","stage":2,"mode":"100755","size":1,"mtime":[2,3],"ctime":[4,5],"dev":6,"ino":7,"uid":8,"gid":9,"flags":["uptodate","skip-worktree","assume-valid","fsmonitor-valid","intent-to-add"],"more":null"#
-    )?;
-    let text = with_entry(alloc, fields.as_str())?;
-    for way in WAYS {
-        let profile = read_in(alloc, way, text.as_str())?;
-        let (path, entry) = only_entry(&profile)?;
-        assert_eq!(rt; path, "aé".as_bytes());
-        assert_eq!(rt; entry.id, EMPTY);
-        let flags = Flags::UPTODATE
-            | Flags::SKIP_WORKTREE
-            | Flags::ASSUME_VALID
-            | Flags::FSMONITOR_VALID
-            | Flags::INTENT_TO_ADD;
-        assert_eq!(rt; entry.flags, flags | Flags::from_stage(2));
-        assert_eq!(rt; entry.mode, Mode::FileExecutable);
-        let wanted = Stat {
-            mtime: Time { secs: 2, nsecs: 3 },
-            ctime: Time { secs: 4, nsecs: 5 },
-            dev: 6,
-            ino: 7,
-            uid: 8,
-            gid: 9,
-            size: 1,
-        };
-        assert_eq!(rt; entry.stat, wanted);
-    }
-    Ok(())
-}
-
-#[test]
-fn modes_are_read(rt: HostRuntime) -> Result<(), Fail> {
-    let alloc = rt.alloc();
-    let cases = [
-        ("040000", Mode::Dir),
-        ("100644", Mode::File),
-        ("100755", Mode::FileExecutable),
-        ("120000", Mode::Symlink),
-        ("160000", Mode::Commit),
-    ];
-    for (digits, mode) in cases {
-        let fields = format!(in alloc; r#""path":"a","id":"{SHA1}","mode":"{digits}""#)?;
-        let text = with_entry(alloc, fields.as_str())?;
-        for way in WAYS {
-            let profile = read_in(alloc, way, text.as_str())?;
-            assert_plain(&rt, only_entry(&profile)?, mode, Flags::default());
-        }
-    }
-    Ok(())
-}
-
-#[test]
-fn flags_are_read(rt: HostRuntime) -> Result<(), Fail> {
-    let alloc = rt.alloc();
-    let cases = [
-        ("uptodate", Flags::UPTODATE),
-        ("skip-worktree", Flags::SKIP_WORKTREE),
-        ("assume-valid", Flags::ASSUME_VALID),
-        ("fsmonitor-valid", Flags::FSMONITOR_VALID),
-        ("intent-to-add", Flags::INTENT_TO_ADD),
-    ];
-    for (name, flag) in cases {
-        let fields = format!(in alloc; r#""path":"a","id":"{SHA1}","flags":["{name}"]"#)?;
-        let text = with_entry(alloc, fields.as_str())?;
-        for way in WAYS {
-            let profile = read_in(alloc, way, text.as_str())?;
-            assert_plain(&rt, only_entry(&profile)?, Mode::File, flag);
-        }
-    }
-    Ok(())
-}
-
-#[test]
-fn nodes_are_read(rt: HostRuntime) -> Result<(), Fail> {
-    let alloc = rt.alloc();
-    let cases = [
-        (
-            r#""kind":"file","text":"x\u00e9""#,
-            NodeKind::File,
-            b"x\xc3\xa9".as_slice(),
-        ),
-        (
-            r#""kind":"link","hex":"FF00","text":3"#,
-            NodeKind::Link,
-            b"\xff\x00",
-        ),
-        (r#""kind":"directory""#, NodeKind::Directory, b""),
-        (r#""kind":"other""#, NodeKind::Other, b""),
-    ];
-    for (case, kind, bytes) in cases {
-        let fields = format!(in alloc;
-            r#""path":"d/e",{case},"executable":true,"mtime":[2,3],"ctime":[4,5],"dev":6,"ino":7,"uid":8,"gid":9,"more":null"#
-        )?;
-        let text = with_node(alloc, fields.as_str())?;
-        for way in WAYS {
-            let profile = read_in(alloc, way, text.as_str())?;
-            let (path, node) = only_node(&profile)?;
-            assert_eq!(rt; path, b"d/e".as_slice());
-            assert_eq!(rt; node.bytes.as_slice(), bytes, "at {case}");
-            let wanted = Metadata {
-                kind,
-                len: bytes.len() as u64,
-                executable: true,
-                mtime: Some(Time { secs: 2, nsecs: 3 }),
-                ctime: Some(Time { secs: 4, nsecs: 5 }),
-                dev: 6,
-                ino: 7,
-                uid: 8,
-                gid: 9,
-            };
-            assert_eq!(rt; node.metadata(), wanted, "at {case}");
-        }
-    }
-    Ok(())
-}
-
-#[test]
-fn a_ctime_that_is_missing_is_the_mtime(rt: HostRuntime) -> Result<(), Fail> {
-    let alloc = rt.alloc();
-    let mtime = Time { secs: 2, nsecs: 3 };
-    let fields = format!(in alloc; r#""path":"a","id":"{SHA1}","mtime":[2,3]"#)?;
-    let entries = with_entry(alloc, fields.as_str())?;
-    let nodes = with_node(alloc, r#""path":"a","mtime":[2,3]"#)?;
-    for way in WAYS {
-        let profile = read_in(alloc, way, entries.as_str())?;
-        let (_, entry) = only_entry(&profile)?;
-        assert_eq!(rt; entry.stat.mtime, mtime);
-        assert_eq!(rt; entry.stat.ctime, mtime);
-        let profile = read_in(alloc, way, nodes.as_str())?;
-        let (_, node) = only_node(&profile)?;
-        assert_eq!(rt; node.mtime, Some(mtime));
-        assert_eq!(rt; node.ctime, Some(mtime));
-    }
-    Ok(())
-}
-
-#[test]
-fn a_folder_stands_in_place_of_nodes(rt: HostRuntime) -> Result<(), Fail> {
-    let text =
-        r#"{"timestamp":[9,0],"options":{"executable_bit":true},"index":[],"worktree":1,"folder":"d/e"}"#;
-    let profile = Profile::from_json(rt.alloc(), text.as_bytes())?;
-    assert!(rt; matches!(&profile.place, Place::Folder(folder) if folder.as_str() == "d/e"));
-    assert!(rt; !profile.options.status.fs.executable_bit);
-    Ok(())
-}
-
-#[test]
-fn wrong_options_are_reported(rt: HostRuntime) -> Result<(), Fail> {
-    for options in BAD_OPTIONS {
-        let text = with_options(rt.alloc(), options)?;
-        assert_refused(&rt, text.as_str(), ProfileError::Bad(Key::Options));
-    }
-    Ok(())
-}
-
-#[test]
-fn wrong_entries_are_reported(rt: HostRuntime) -> Result<(), Fail> {
-    let alloc = rt.alloc();
-    let wanted = ProfileError::Bad(Key::Index);
-    for fields in INCOMPLETE_ENTRIES {
-        let text = with_entry(alloc, fields)?;
-        assert_refused(&rt, text.as_str(), wanted);
-    }
-    for field in BAD_ENTRIES {
-        let fields = format!(in alloc; r#""path":"a","id":"{SHA1}",{field}"#)?;
-        let text = with_entry(alloc, fields.as_str())?;
-        assert_refused(&rt, text.as_str(), wanted);
-    }
-    Ok(())
-}
-
-#[test]
-fn wrong_nodes_are_reported(rt: HostRuntime) -> Result<(), Fail> {
-    for fields in BAD_NODES {
-        let text = with_node(rt.alloc(), fields)?;
-        assert_refused(&rt, text.as_str(), ProfileError::Bad(Key::Worktree));
+    for (front, levels, back, error) in &LEVELS {
+        assert_lists_refused(&rt, front, *levels, back, *error)?;
     }
     Ok(())
 }
