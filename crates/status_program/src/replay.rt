@@ -45,7 +45,9 @@ fn print_replay<R: AllocGlobal + Threads + Wait, I: io::Read, O: io::Write>(
     let history = History::from_json(alloc, text.as_slice())?;
     let world = begin(alloc, &history)?;
     let Replay {
-        reports, stopped, ..
+        reports,
+        stopped,
+        ..
     } = replay(rt, alloc, world, &history.events);
     print_reports(alloc, &reports, history.options.counts, output)?;
     match stopped {
