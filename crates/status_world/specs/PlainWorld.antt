@@ -1,4 +1,4 @@
--- The plain world: the files and links that are there, and what was staged last. It has no clock, stat or timestamp.
+-- The plain world: which files and links there are, and what was staged last. It has no clock, stat or timestamp.
 use Rattle.std.specs.Prelude.{◌≡◌, ◌≢◌, ◌⊎◌, ℕ, Bool, false, List, Option, Some, None, IsTrue, ⊤}
 use Rattle.std.specs.FinMap as paths
 use Rattle.bstr.specs.Owned.{bstring_bytes}

@@ -10,7 +10,7 @@ pub enum Refusal {
     ClockEnd,
     /// The path is empty, or a component is empty, `.` or `..`.
     BadPath,
-    /// Something above the path is a file or link, or the path is a directory.
+    /// A file or link stands above the path, or the path is a directory's.
     InTheWay,
     /// The content has 2^32 bytes or more.
     TooLarge,
