@@ -4,6 +4,7 @@ pub mod Contents
 pub mod FileReads
 pub mod LinkLemmas
 pub mod ListedOnce
+pub mod ListingTables
 pub mod LooksLemmas
 pub mod PathFronts
 pub mod Placed

@@ -1,0 +1,63 @@
+-- What listings of directories say of a path.
+use Rattle.std.specs.Prelude.{ℕ, Bool, true, false, List, [], ◌∷◌, Option, Some, None, option_map, if◌then◌else◌}
+use Rattle.std.specs.List.{before_last, after_last}
+use Rattle.std.specs.Str.{bytes_eq}
+use Rattle.status_index.specs.declared.metadata.Metadata.{Metadata}
+use Rattle.status_index.specs.declared.metadata.NodeKind.{NodeKind}
+use Rattle.status_index.specs.declared.metadata.NodeKind.TheVariants.{File, Link, Directory}
+use Rattle.status_base.specs.Paths.{is_slash}
+use Rattle.status_base.specs.declared.fscache.Stat.{Stat}
+
+-- what a directory's listing says, or None where the directory can't be listed
+abbrev pub Listing : Type 0
+Listing = Option (List (List ℕ × Stat))
+
+-- a path is split at its last slash; one without a slash is a file name in the root, whose path is empty
+abbrev pub file_name_of : List ℕ → List ℕ
+file_name_of path = after_last is_slash path
+
+abbrev pub directory_of : List ℕ → List ℕ
+directory_of path = before_last is_slash path
+
+abbrev pub later_or : Option Stat → Option Stat → Option Stat
+later_or (Some later) earlier = Some later
+later_or None earlier = earlier
+
+-- the stat that stands at a name; of equal names the later counts
+abbrev pub stat_named : List ℕ → List (List ℕ × Stat) → Option Stat
+stat_named name [] = None
+stat_named name (e ∷ es) = later_or (stat_named name es) (if bytes_eq e.0 name then Some e.1 else None)
+
+-- an empty file name isn't looked up
+abbrev pub named_in : Listing → List ℕ → Option Stat
+named_in None name = None
+named_in (Some entries) [] = None
+named_in (Some entries) (b ∷ name) = stat_named (b ∷ name) entries
+
+-- what the listings of directories say of a path: its file name in its directory's listing
+abbrev pub listed : (List ℕ → Listing) → List ℕ → Option Stat
+listed listing path = named_in (listing (directory_of path)) (file_name_of path)
+
+-- a listed stat as a node: a directory, else a link, else a file, which is never executable
+abbrev pub listed_kind : Bool → Bool → NodeKind
+listed_kind true is_symlink = Directory
+listed_kind false true = Link
+listed_kind false false = File
+
+abbrev pub listed_node : Stat → Metadata
+listed_node s = record {
+  kind = listed_kind s.is_dir s.is_symlink;
+  len = s.size;
+  executable = false;
+  mtime = Some (record { secs = s.mtime_secs; nsecs = s.mtime_nsecs });
+  ctime = Some (record { secs = s.ctime_secs; nsecs = s.ctime_nsecs });
+  dev = 0;
+  ino = 0;
+  uid = 0;
+  gid = 0;
+}
+
+-- the node that listings know at a path, where they are asked
+abbrev pub known_node : Bool → (List ℕ → Listing) → List ℕ → Option Metadata
+known_node true listing path = option_map listed_node (listed listing path)
+known_node false listing path = None

@@ -1,0 +1,49 @@
+-- A table of the directories that were listed.
+use Rattle.std.specs.Prelude.{◌≡◌, ℕ, Bool, true, false, ◌||◌, List, [], ◌∷◌, Option, Some, None, IfSome, is_some}
+use Rattle.std.specs.FinMap as paths
+use Rattle.status_base.specs.Listed.{Listing, directory_of, file_name_of, named_in}
+use Rattle.status_base.specs.MemoryTree.{PathMap}
+use Rattle.status_base.specs.declared.fscache.Stat.{Stat}
+
+-- the names in a directory; none where it can't be listed
+abbrev pub Names : Type 0
+Names = PathMap Stat
+
+-- the names in each directory that was listed
+abbrev pub Table : Type 0
+Table = PathMap Names
+
+-- what is at a name; an empty name isn't looked up
+abbrev pub named : List ℕ → Option Names → Option Stat
+named [] names = None
+named (b ∷ name) None = None
+named (b ∷ name) (Some names) = paths.get names (b ∷ name)
+
+-- what a table knows of a path
+abbrev pub known : Table → List ℕ → Option Stat
+known table path = named (file_name_of path) (paths.get table (directory_of path))
+
+abbrev pub is_empty : List ℕ → Bool
+is_empty [] = true
+is_empty (b ∷ name) = false
+
+-- whether a look-up needs no listing: the file name is empty, or the directory was listed
+abbrev pub needs_none : Table → List ℕ → Bool
+needs_none table path = is_empty (file_name_of path) || is_some (paths.get table (directory_of path))
+
+-- a table stays, or else a directory's names were put into it
+abbrev pub IsPutUnless : Bool → List ℕ → Table → Table → Type 0
+IsPutUnless true directory old new = new ≡ old
+IsPutUnless false directory old new = (names : Names) × (new ≡ paths.insert old directory names)
+
+-- a look-up lists the directory of its path where that is needed, and no other
+abbrev pub IsGrown : List ℕ → Table → Table → Type 0
+IsGrown path old new = IsPutUnless (needs_none old path) (directory_of path) old new
+
+-- the names of a listing
+abbrev pub AreNamesOf : Listing → Names → Type 0
+AreNamesOf listing names = (name : List ℕ) → named name (Some names) ≡ named_in listing name
+
+-- what a table keeps of each directory is what was listed
+abbrev pub IsOf : (List ℕ → Listing) → Table → Type 0
+IsOf listing table = (directory : List ℕ) → IfSome (paths.get table directory) (AreNamesOf (listing directory))
