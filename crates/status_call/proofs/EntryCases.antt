@@ -1,8 +1,9 @@
 -- The cases of an entry's decision.
-use Rattle.std.proofs.Common.{◌≡◌, ◌⊎◌, inl, inr, refl, sym, ap, ◌∙◌, subst, Bool, true, false, not, ◌&&◌, ◌||◌, Option, Some, None, is_some, unwrap_or, Result, Ok, Err, IfSome, IsTrue, if◌then◌else◌}
+use Rattle.std.proofs.Common.{◌≡◌, ◌⊎◌, inl, inr, refl, sym, ap, ◌∙◌, subst, ℕ, List, Bool, true, false, not, ◌&&◌, ◌||◌, Option, Some, None, is_some, unwrap_or, Result, Ok, Err, IfSome, IsTrue, if◌then◌else◌}
 use Rattle.status_index.specs.declared.fault.Fault.{Fault}
 use Rattle.status_index.specs.declared.fault.Fault.TheVariants as faults
 use Rattle.status_index.specs.declared.metadata.Metadata.{Metadata}
+use Rattle.status_index.specs.Answer.{IsAnswer}
 use Rattle.status_index.specs.Entries.{IndexEntry}
 use Rattle.status_index.specs.Stat.{is_racy}
 use Rattle.status_index.specs.declared.stat.Stat.{Stat}
@@ -10,75 +11,102 @@ use Rattle.bstr.specs.declared.bstr.BStr.{BStr}
 use Rattle.bstr.specs.BStr.{bstr_bytes}
 use Rattle.status_base.specs.declared.stack.error.StackError.{StackError}
 use Rattle.status_base.specs.declared.stack.error.StackError.TheVariants as stacks
-use Rattle.status_base.specs.LinkCheck.{LinkCheck, empty_path, not_normal}
+use Rattle.status_base.specs.LinkCheck.{LinkCheck, accepted, empty_path, not_normal}
 use Rattle.status_base.specs.Verified.{IsRefused}
 use Rattle.status_compare.specs.declared.error.Error.{Error}
 use Rattle.status_compare.specs.declared.error.Error.TheVariants as errors
 use Rattle.status_compare.specs.EntryMeaning.{both_modelled}
 use Rattle.status_compare.specs.declared.reads.Reads.{Reads}
 use Rattle.status_compare.specs.Reads.{no_reads}
-use Rattle.status_call.specs.declared.index_as_worktree.site.Site.{Site}
+use Rattle.status_call.specs.declared.index_as_worktree.site.Look.{Look}
 use Rattle.status_call.specs.declared.index_as_worktree.site.Site.TheVariants as sites
 use Rattle.status_call.specs.declared.index_as_worktree.decide.Decided.{Decided}
 use Rattle.status_call.specs.Counts.{is_accepted, is_racy_case, is_compared_case, calls_lstat, reads_of_found, ModelsReads}
 use Rattle.status_call.specs.Decisions.{IsDecided}
-use Rattle.status_call.specs.EntryParts.{IsSite, IsOfCase, IsCaseDecided}
+use Rattle.status_call.specs.EntryParts.{IsSite, found_site, IsOfCase, IsCaseDecided}
 use Rattle.status_call.specs.Modelled.{all_modelled}
 use Rattle.status_call.specs.Query.{Query}
-use Rattle.status_call.specs.Status.{Found, found_by, refused, present, Case, compared, answer, found, meaning, is_trusted, case_of_found, case_of_content}
+use Rattle.status_call.specs.Status.{Found, cached_or, found_by, found_node, refused, present, Case, compared, answer, found, meaning, is_trusted, case_of_found, case_of_content}
 
 -- where all is modelled, each is
-pub all_worktree : (a b c : Bool) → IsTrue (all_modelled a b c) → IsTrue a
-all_worktree true b c t = refl
-all_worktree false b c t = absurd (cc)
+pub all_worktree : (a b c d : Bool) → IsTrue (all_modelled a b c d) → IsTrue a
+all_worktree true b c d t = refl
+all_worktree false b c d t = absurd (cc)
 
-pub all_both : (a b c : Bool) → IsTrue (all_modelled a b c) → IsTrue (both_modelled a b)
-all_both true true c t = refl
-all_both true false c t = absurd (cc)
-all_both false b c t = absurd (cc)
+pub all_both : (a b c d : Bool) → IsTrue (all_modelled a b c d) → IsTrue (both_modelled a b)
+all_both true true c d t = refl
+all_both true false c d t = absurd (cc)
+all_both false b c d t = absurd (cc)
 
-pub all_submodule : (a b c : Bool) → IsTrue (all_modelled a b c) → IsTrue c
-all_submodule true true true t = refl
-all_submodule true true false t = absurd (cc)
-all_submodule true false c t = absurd (cc)
-all_submodule false b c t = absurd (cc)
+pub all_submodule : (a b c d : Bool) → IsTrue (all_modelled a b c d) → IsTrue c
+all_submodule true true true d t = refl
+all_submodule true true false d t = absurd (cc)
+all_submodule true false c d t = absurd (cc)
+all_submodule false b c d t = absurd (cc)
+
+pub all_listings : (a b c d : Bool) → IsTrue (all_modelled a b c d) → IsTrue d
+all_listings true true true d t = t
+all_listings true true false d t = absurd (cc)
+all_listings true false c d t = absurd (cc)
+all_listings false b c d t = absurd (cc)
 
 -- a site that was found by an equal check
-pub site_at : (meant check : LinkCheck) (node : Result Metadata Fault) (r : Result Site Error) → check ≡ meant → IsSite (found_by meant node) (is_accepted meant) r → IsSite (found_by check node) (is_accepted check) r
-site_at meant check node r same h =
-    let P : LinkCheck → Type 0 = λ k. IsSite (found_by k node) (is_accepted k) r in subst P (sym same) h
+pub site_at : (meant check : LinkCheck) (node : Result Metadata Fault) (unknown : Bool) (r : Result Look Error) → check ≡ meant
+    → IsSite (found_by meant node) (is_accepted meant && unknown) r → IsSite (found_by check node) (is_accepted check && unknown) r
+site_at meant check node unknown r same h =
+    let P : LinkCheck → Type 0 = λ k. IsSite (found_by k node) (is_accepted k && unknown) r in subst P (sym same) h
 
 -- a node that was found
-pub site_node : (found : Found) (lstat_called : Bool) (site : Site) (n : Metadata) → site ≡ sites.Node n → IsSite found lstat_called (Ok site) → (found ≡ present n) × (lstat_called ≡ true)
-site_node found lstat_called site n same h =
-    let P : Site → Type 0 = λ s. IsSite found lstat_called (Ok s) in subst P same h
+pub site_node : (found : Found) (called : Bool) (look : Look) (n : Metadata) → look.site ≡ sites.Node n → IsSite found called (Ok look) → (found ≡ present n) × (look.lstat_called ≡ called)
+site_node found called look n same h = (h.0 ∙ ap found_site same, h.1)
+
+-- an answer that is no want of memory is the one that is meant
+pub live_answer : (meant : Result Metadata Fault) (n : Metadata) → IsAnswer meant (Ok n) → meant ≡ Ok n
+live_answer meant n (inl h) = sym h
+live_answer meant n (inr h) = absurd (cc)
+
+-- a node that listings know, and one that `lstat` finds
+pub site_known : (check : LinkCheck) (known : Option Metadata) (answered : Result Metadata Fault) (n : Metadata) (look : Look) → check ≡ accepted → known ≡ Some n
+    → IsSite (found_node (Ok n)) false (Ok look) → IsSite (found_by check (cached_or known answered)) (is_accepted check && not (is_some known)) (Ok look)
+site_known check known answered n look verified is h =
+    let P : LinkCheck → Type 0 = λ k. IsSite (found_by k (cached_or known answered)) (is_accepted k && not (is_some known)) (Ok look) in
+    let Q : Option Metadata → Type 0 = λ o. IsSite (found_by accepted (cached_or o answered)) (is_accepted accepted && not (is_some o)) (Ok look) in
+    subst P (sym verified) (subst Q (sym is) h)
+
+pub site_live : (check : LinkCheck) (known : Option Metadata) (answered : Result Metadata Fault) (n : Metadata) (look : Look) → check ≡ accepted → known ≡ None → answered ≡ Ok n
+    → IsSite (found_node (Ok n)) true (Ok look) → IsSite (found_by check (cached_or known answered)) (is_accepted check && not (is_some known)) (Ok look)
+site_live check known answered n look verified is live h =
+    let P : LinkCheck → Type 0 = λ k. IsSite (found_by k (cached_or known answered)) (is_accepted k && not (is_some known)) (Ok look) in
+    let Q : Option Metadata → Type 0 = λ o. IsSite (found_by accepted (cached_or o answered)) (is_accepted accepted && not (is_some o)) (Ok look) in
+    let R : Result Metadata Fault → Type 0 = λ r. IsSite (found_node r) true (Ok look) in
+    subst P (sym verified) (subst Q (sym is) (subst R (sym live) h))
 
 -- a path that isn't normal
-pub site_odd : (error : StackError) (check : LinkCheck) (node : Result Metadata Fault)
+pub site_odd : (error : StackError) (check : LinkCheck) (node : Result Metadata Fault) (unknown : Bool)
     → (error ≡ stacks.EmptyPath) ⊎ ((component : BStr) × (error ≡ stacks.NotNormal component)) → IsRefused check error
-    → IsSite (found_by check node) (is_accepted check) (Err (errors.Io faults.NotNormal))
-site_odd stacks.EmptyPath check node odd same =
+    → IsSite (found_by check node) (is_accepted check && unknown) (Err (errors.Io faults.NotNormal))
+site_odd stacks.EmptyPath check node unknown odd same =
     let found : IsSite (refused faults.NotNormal) false (Err (errors.Io faults.NotNormal)) = inl (faults.NotNormal, refl, refl) in
-    site_at empty_path check node (Err (errors.Io faults.NotNormal)) same found
-site_odd (stacks.NotNormal component) check node odd same =
+    site_at empty_path check node unknown (Err (errors.Io faults.NotNormal)) same found
+site_odd (stacks.NotNormal component) check node unknown odd same =
     let found : IsSite (refused faults.NotNormal) false (Err (errors.Io faults.NotNormal)) = inl (faults.NotNormal, refl, refl) in
-    site_at (not_normal (bstr_bytes component)) check node (Err (errors.Io faults.NotNormal)) same found
-site_odd (stacks.ThroughLink prefix) check node (inl e) same = absurd (cc)
-site_odd (stacks.ThroughLink prefix) check node (inr e) same = let f = e.1 in absurd (cc)
-site_odd (stacks.Fault fault) check node (inl e) same = absurd (cc)
-site_odd (stacks.Fault fault) check node (inr e) same = let f = e.1 in absurd (cc)
-site_odd stacks.Memory check node (inl e) same = absurd (cc)
-site_odd stacks.Memory check node (inr e) same = let f = e.1 in absurd (cc)
+    site_at (not_normal (bstr_bytes component)) check node unknown (Err (errors.Io faults.NotNormal)) same found
+site_odd (stacks.ThroughLink prefix) check node unknown (inl e) same = absurd (cc)
+site_odd (stacks.ThroughLink prefix) check node unknown (inr e) same = let f = e.1 in absurd (cc)
+site_odd (stacks.Fault fault) check node unknown (inl e) same = absurd (cc)
+site_odd (stacks.Fault fault) check node unknown (inr e) same = let f = e.1 in absurd (cc)
+site_odd stacks.Memory check node unknown (inl e) same = absurd (cc)
+site_odd stacks.Memory check node unknown (inr e) same = let f = e.1 in absurd (cc)
+
+-- a decision of a case, with the look at its path counted
+pub counted_look : {T U : Type 0} (path : List ℕ) (case : Case T U) (called : Bool) (counted : Option Reads) (d : Decided T U)
+    → IsOfCase path case false counted d → IsOfCase path case called counted (record d { lstat_called = called })
+counted_look path case called counted d h = record { status = h.status; lstat_called = refl; racy = h.racy; reads = h.reads }
 
 -- what the comparer says it reads, where it says that
 pub reported_counts : (counted : Option Reads) → IsTrue (is_some counted) → counted ≡ Some (unwrap_or counted no_reads)
 reported_counts (Some k) reported = refl
 reported_counts None reported = absurd (cc)
-
--- a test beside one that passes
-pub and_true : (b : Bool) → (b && true) ≡ b
-and_true true = refl
-and_true false = refl
 
 module _ {T U : Type 0} (q : Query T U) (e : IndexEntry) where
   -- the comparer is called, but for entries that are trusted and not racy
@@ -92,10 +120,10 @@ module _ {T U : Type 0} (q : Query T U) (e : IndexEntry) where
   -- the comparer's change decides
   pub compared_of_case : (n : Metadata) (s : Stat) (x trusted racy compares : Bool) (change : Option T) (counted : Option Reads) (d : Decided T U)
       → trusted ≡ is_trusted q e s → racy ≡ is_racy q.stat_options q.timestamp s → compares ≡ (x || not trusted || racy) → compares ≡ true
-      → q.compared e n.len (meaning q e n) ≡ Ok change → IsOfCase e.path (compared x trusted racy s (Ok change)) true counted d
-      → IsOfCase e.path (case_of_content q e n s x (is_trusted q e s) (is_racy q.stat_options q.timestamp s)) true counted d
+      → q.compared e n.len (meaning q e n) ≡ Ok change → IsOfCase e.path (compared x trusted racy s (Ok change)) false counted d
+      → IsOfCase e.path (case_of_content q e n s x (is_trusted q e s) (is_racy q.stat_options q.timestamp s)) false counted d
   compared_of_case n s x trusted racy compares change counted d same_trusted same_racy by_test needed answers h =
-      let P : Case T U → Type 0 = λ k. IsOfCase e.path k true counted d in
+      let P : Case T U → Type 0 = λ k. IsOfCase e.path k false counted d in
       let lstat_called : case_of_content q e n s x trusted racy ≡ compared x trusted racy s (Ok change) = calls_comparer n s x trusted racy (sym by_test ∙ needed) ∙ ap (λ (r : Result (Option T) Error). compared x trusted racy s r) answers in
       let Q : Bool → Type 0 = λ t. P (case_of_content q e n s x t (is_racy q.stat_options q.timestamp s)) in
       let R : Bool → Type 0 = λ r. P (case_of_content q e n s x trusted r) in

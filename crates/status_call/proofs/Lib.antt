@@ -7,9 +7,11 @@ pub mod EntryCases
 pub mod Feeding
 pub mod Groups
 pub mod Heads
+pub mod KnownNodes
 pub mod LawChanges
 pub mod LawConflicts
 pub mod LawCuts
+pub mod LawListings
 pub mod LawRecords
 pub mod LawRows
 pub mod LawTable
@@ -20,5 +22,6 @@ pub mod Parts
 pub mod RunLemmas
 pub mod RunLists
 pub mod Runs
+pub mod Sent
 pub mod StatusProof
 pub mod Working

@@ -1,5 +1,5 @@
 -- The parts of an entry's decision.
-use Rattle.std.specs.Prelude.{◌≡◌, ◌⊎◌, ℕ, Bool, true, List, Option, IfSome, Result, Ok, Err, IsTrue, if◌then◌else◌}
+use Rattle.std.specs.Prelude.{◌≡◌, ◌⊎◌, ℕ, Bool, false, not, ◌&&◌, List, Option, IfSome, is_some, Result, Ok, Err, IsTrue, if◌then◌else◌}
 use Rattle.status_index.specs.Entries.{IndexEntry}
 use Rattle.status_index.specs.Stat.{is_racy}
 use Rattle.status_index.specs.declared.fault.Fault.{Fault}
@@ -11,6 +11,7 @@ use Rattle.status_compare.specs.declared.reads.Reads.{Reads}
 use Rattle.status_compare.specs.Errors.{error_of}
 use Rattle.status_compare.specs.Reads.{no_reads}
 use Rattle.status_call.specs.declared.index_as_worktree.decide.Decided.{Decided}
+use Rattle.status_call.specs.declared.index_as_worktree.site.Look.{Look}
 use Rattle.status_call.specs.declared.index_as_worktree.site.Site.{Site}
 use Rattle.status_call.specs.declared.index_as_worktree.site.Site.TheVariants as sites
 use Rattle.status_compare.specs.declared.comparison.Comparison.{Comparison}
@@ -18,18 +19,24 @@ use Rattle.status_compare.specs.Comparisons.{IsComparison}
 use Rattle.status_base.specs.LinkCheck.{link_check}
 use Rattle.status_call.specs.Counts.{is_accepted, is_racy_case, is_compared_case}
 use Rattle.status_call.specs.Query.{Query}
-use Rattle.status_call.specs.Status.{Found, nothing, refused, directory, present, Case, compared, answer, found_at, case_of_found, case_of_content, is_trusted, meaning}
+use Rattle.status_call.specs.Status.{Found, nothing, refused, directory, present, Case, compared, answer, found_by, cached_or, case_of_found, case_of_content, is_trusted, meaning}
+
+-- what a site shows
+abbrev pub found_site : Site → Found
+found_site sites.Nothing = nothing
+found_site sites.Directory = directory
+found_site (sites.Node n) = present n
 
 -- what is found, and whether `lstat` was called; the fault that is found, or want of memory
-abbrev pub IsSite : Found → Bool → Result Site Error → Type 0
-IsSite found called (Ok (sites.Nothing a)) = (found ≡ nothing) × (a ≡ called)
-IsSite found called (Ok sites.Directory) = (found ≡ directory) × (called ≡ true)
-IsSite found called (Ok (sites.Node n)) = (found ≡ present n) × (called ≡ true)
+abbrev pub IsSite : Found → Bool → Result Look Error → Type 0
+IsSite found called (Ok look) = (found ≡ found_site look.site) × (look.lstat_called ≡ called)
 IsSite found called (Err e) = ((f : Fault) × (found ≡ refused f) × (e ≡ error_of f)) ⊎ (e ≡ Memory)
 
--- what is found at a path without listings, by lstat's answers
-abbrev pub IsSiteAt : (List ℕ → Result Metadata Fault) → List ℕ → Result Site Error → Type 0
-IsSiteAt lstat path result = IsSite (found_at lstat path) (is_accepted (link_check lstat path)) result
+-- what is found at a path, by lstat's answers and by what listings know of it
+abbrev pub IsSiteAt : (List ℕ → Result Metadata Fault) → Option Metadata → List ℕ → Result Look Error → Type 0
+IsSiteAt lstat known path result =
+    IsSite (found_by (link_check lstat path) (cached_or known (lstat path)))
+    (is_accepted (link_check lstat path) && not (is_some known)) result
 
 -- the answer of a case, and what that took: whether `lstat` was called, and what the comparer reads where it is called
 pub record IsOfCase {T U : Type 0} (path : List ℕ) (case : Case T U) (called : Bool) (counted : Option Reads) (d : Decided T U) : Type 0 where
@@ -47,23 +54,27 @@ IsCaseDecided path case called counted (Err x) = (answer path case ≡ Err x) �
 abbrev pub IsDecisionOf : {T U : Type 0} → Comparison T → Stat → Bool → Bool → Bool → Decided T U → Type 0
 IsDecisionOf c stat executable_changed trusted racy d =
     (path : List ℕ) (counted : Option Reads) → IfSome counted (λ k. c.reads ≡ k)
-    → IsOfCase path (compared executable_changed trusted racy stat (Ok c.change)) true counted d
+    → IsOfCase path (compared executable_changed trusted racy stat (Ok c.change)) false counted d
+
+-- what was found at a path is what a query says
+abbrev pub IsLooked : {T U : Type 0} → Query T U → List ℕ → Result Look Error → Type 0
+IsLooked q path result = IsTrue q.modelled → IsSiteAt q.lstat (q.cached path) path result
 
 module _ {T U : Type 0} (q : Query T U) (e : IndexEntry) (n : Metadata) where
   -- what the comparer reads of an entry and its node
   abbrev pub counted_of : Option Reads
   counted_of = q.counted e n.len (meaning q e n) no_reads
 
-  -- the decision of an entry at whose path a node was found
+  -- the decision of an entry at whose path a node was found; it calls no more `lstat`
   abbrev pub IsNodeDecided : Result (Decided T U) Error → Type 0
-  IsNodeDecided result = IsTrue q.modelled → IsCaseDecided e.path (case_of_found q e (present n)) true counted_of result
+  IsNodeDecided result = IsTrue q.modelled → IsCaseDecided e.path (case_of_found q e (present n)) false counted_of result
 
   -- the same of one whose node has the entry's type, and this stat
   abbrev pub IsContentDecided : Stat → Bool → Result (Decided T U) Error → Type 0
   IsContentDecided s executable_changed result =
       IsTrue q.modelled → IsCaseDecided e.path
       (case_of_content q e n s executable_changed (is_trusted q e s) (is_racy q.stat_options q.timestamp s))
-      true counted_of result
+      false counted_of result
 
   -- the comparison of an entry's content with its node's
   abbrev pub IsContentCompared : Result (Comparison T) Error → Type 0

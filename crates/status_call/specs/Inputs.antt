@@ -7,7 +7,7 @@ use Rattle.status_call.specs.declared.index_as_worktree.inputs.Settings.{Setting
 use Rattle.status_call.specs.declared.index_as_worktree.types.Context.{Context}
 use Rattle.status_call.specs.declared.index_as_worktree.types.Options.{Options}
 
-abbrev pub inputs : {W C S O P T L : Type 0} → Bor W → C → S → O → Context P T L → Inputs W C S O P T
+abbrev pub inputs : {W C S O P T L : Type 0} → Bor W → C → S → O → Context P T L → Inputs W C S O P T L
 inputs worktree compare submodule objects context = record {
   worktree = worktree;
   compare = compare;
@@ -15,8 +15,9 @@ inputs worktree compare submodule objects context = record {
   objects = objects;
   pathspec = context.pathspec;
   filter = context.filter;
+  lister = context.lister;
 }
 
 -- the part of the options that decides entries, with the index's timestamp
 abbrev pub settings : Options → State → Settings
-settings options index = record { timestamp = timestamp_of index; stat = options.stat; fs = options.fs }
+settings options index = record { timestamp = timestamp_of index; stat = options.stat; fs = options.fs; fscache = options.fscache }

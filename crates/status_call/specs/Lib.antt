@@ -8,6 +8,7 @@ pub mod EntryParts
 pub mod Fed
 pub mod Inputs
 pub mod Laws
+pub mod ListedStatus
 pub mod Modelled
 pub mod Outcomes
 pub mod PieceFed

@@ -7,19 +7,20 @@ use Rattle.status_index.specs.declared.fault.Fault.{Fault}
 use Rattle.status_index.specs.declared.metadata.Metadata.{Metadata}
 use Rattle.status_index.specs.declared.stat.Moment.{Moment}
 use Rattle.status_base.specs.Converted.{same}
+use Rattle.status_base.specs.Listed.{known_node}
 use Rattle.status_base.specs.Objects.{found_in}
 use Rattle.status_compare.specs.declared.error.Error.{Error}
 use Rattle.status_compare.specs.declared.reads.Reads.{Reads}
 use Rattle.status_compare.specs.Reading.{Meaning}
 use Rattle.status_call.specs.declared.index_as_worktree.types.Options.{Options}
-use Rattle.status_call.specs.Modelled.{all_modelled}
+use Rattle.status_call.specs.Modelled.{all_modelled, are_modelled}
 use Rattle.status_call.specs.Query.{Query}
 
 module _ {T : Type 0} (options : Options) (timestamp : Moment) where
   abbrev pub status_query : Bool → (List ℕ → Result Metadata Fault) → (List ℕ → Result Content Fault) → (List ℕ → Result (List ℕ) Fault)
       → (IndexEntry → ℕ → Meaning → Result (Option T) Error) → (IndexEntry → ℕ → Meaning → Reads → Option Reads) → Query T (Unit {0})
   status_query modelled lstat opened linked compared counted = record {
-    modelled = all_modelled modelled true true;
+    modelled = all_modelled modelled true true (are_modelled options.fscache true);
     stat_options = options.stat;
     symlink = options.fs.symlink;
     executable_bit = options.fs.executable_bit;
@@ -27,7 +28,7 @@ module _ {T : Type 0} (options : Options) (timestamp : Moment) where
     lstat = lstat;
     opened = opened;
     linked = linked;
-    cached = λ _. None;
+    cached = known_node options.fscache (λ _. None);
     prefix = [];
     included = λ _ _. true;
     conversion = λ _ _. same;

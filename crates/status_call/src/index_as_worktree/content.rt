@@ -12,7 +12,9 @@ use crate::index_as_worktree::decide::Decided;
 use crate::index_as_worktree::inputs::{Inputs, Means, Settings};
 use crate::index_as_worktree::types::{Change, EntryStatus, Error};
 use status_base::index::{Entry, Mode, Stat, stat};
-use status_base::worktree::{Find, Metadata, NodeKind, Pathspec, SubmoduleStatus, ToGit, Worktree};
+use status_base::worktree::{
+    Find, Lister, Metadata, NodeKind, Pathspec, SubmoduleStatus, ToGit, Worktree,
+};
 use status_compare::{CompareBlobs, Comparison, Reads, compare_entry};
 use std::alloc::Global;
 
@@ -28,20 +30,21 @@ pub(crate) fn compare_node<
     O: Find,
     P: Pathspec,
     T: ToGit,
+    L: Lister,
 >(
     alloc: Global,
-    inputs: &mut Inputs<'w, W, C, S, O, P, T>,
+    inputs: &mut Inputs<'w, W, C, S, O, P, T, L>,
     settings: Settings,
     buffer: &mut Vec<u8>,
     entry: &Entry,
     path: &[u8],
     node: &Metadata,
 ) -> Result<Comparison<C::Output>, Error>
-    ensures compared { IsContentCompared (⟦<Inputs<'w, W, C, S, O, P, T> as Means>⟧.query inputs.old settings)
+    ensures compared { IsContentCompared (⟦<Inputs<'w, W, C, S, O, P, T, L> as Means>⟧.query inputs.old settings)
         (entry_at path.now entry.now) node.now result }
     ensures only { inputs.new ≡ record inputs.old { compare = inputs.new.compare } }
-    ensures same { ⟦<Inputs<'w, W, C, S, O, P, T> as Means>⟧.query inputs.new
-        ≡ ⟦<Inputs<'w, W, C, S, O, P, T> as Means>⟧.query inputs.old }
+    ensures same { ⟦<Inputs<'w, W, C, S, O, P, T, L> as Means>⟧.query inputs.new
+        ≡ ⟦<Inputs<'w, W, C, S, O, P, T, L> as Means>⟧.query inputs.old }
 {
     let is_link = reads_link(entry.mode, node.kind, settings.fs.symlink);
     compare_entry(
@@ -121,7 +124,7 @@ pub(crate) fn decision_of<T, U>(
     };
     Decided {
         status: Some(status),
-        lstat_called: true,
+        lstat_called: false,
         racy: !executable_bit_changed && trusted && racy,
         reads,
     }

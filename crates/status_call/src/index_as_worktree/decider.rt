@@ -1,8 +1,10 @@
 //! Who decides entries over a worktree.
 
 ghost use Rattle.std.specs.Prelude.{◌≡◌, List, Option, Result, IsTrue};
+ghost use Rattle.std.proofs.Props.{props};
 ghost use Rattle.bstr.specs.BStr.{bstr_bytes};
 ghost use Rattle.status_base.specs.CheckState.{IsClear};
+ghost use Rattle.status_base.specs.ListingTable.{IsOf};
 ghost use Rattle.status_index.specs.Entries.{entry_at};
 ghost use Rattle.status_compare.specs.Reading.{IsMeant};
 ghost use Rattle.status_call.specs.Status.{answer, in_submodule};
@@ -12,38 +14,43 @@ use crate::index_as_worktree::content::{
 };
 use crate::index_as_worktree::decide::{Decide, Decided};
 use crate::index_as_worktree::inputs::{Inputs, Means, Settings};
-use crate::index_as_worktree::site::{Site, find};
+use crate::index_as_worktree::site::{Look, Site, find};
 use crate::index_as_worktree::types::{Change, EntryStatus, Error};
 use bitflags::Flags as _;
 use bstr::{BStr, BString};
+use status_base::fscache::Listings;
 use status_base::index::{Entry, Flags, Stat, mode};
 use status_base::stack::SymlinkCheck;
 use status_base::worktree::{
-    ByteText, Find, Metadata, Pathspec, SubmoduleFault, SubmoduleStatus, ToGit, Worktree,
+    ByteText, Find, Lister, Metadata, Pathspec, SubmoduleFault, SubmoduleStatus, ToGit, Worktree,
 };
 use status_compare::{CompareBlobs, Comparison};
 use std::alloc::{AllocError, Global};
 
-/// Decides entries over a worktree. It keeps the buffers, so that an entry whose stat decides takes no memory.
+/// Decides entries over a worktree. It keeps the buffers and what was listed, so that an entry whose stat decides takes
+/// no memory, unless its directory is to be listed first.
 #[derive(Drop)]
-pub struct Decider<'w, W: Worktree, C, S, O, P, T> {
+pub struct Decider<'w, W: Worktree, C, S, O, P, T, L: Lister> {
     alloc: Global,
-    inputs: Inputs<'w, W, C, S, O, P, T>,
+    inputs: Inputs<'w, W, C, S, O, P, T, L>,
     settings: Settings,
     check: SymlinkCheck,
+    listings: Listings,
     buffer: Vec<u8>,
     ghost clear: { IsTrue (W.modelled inputs.worktree.now) → IsClear (W.lstat_of inputs.worktree.now) check.path },
+    ghost kept: { IsTrue (L.modelled inputs.lister) → IsOf (L.listing inputs.lister) listings } by { Prim.hlevel props },
 }
 
-impl<'w, W: Worktree, C: CompareBlobs, S: SubmoduleStatus, O: Find, P: Pathspec, T: ToGit> Decider<
+impl<
     'w,
-    W,
-    C,
-    S,
-    O,
-    P,
-    T,
->
+    W: Worktree,
+    C: CompareBlobs,
+    S: SubmoduleStatus,
+    O: Find,
+    P: Pathspec,
+    T: ToGit,
+    L: Lister,
+> Decider<'w, W, C, S, O, P, T, L>
 where
     C::Output: Drop,
     S::Output: Drop,
@@ -51,38 +58,60 @@ where
     /// A decider by these settings.
     pub fn new(
         alloc: Global,
-        inputs: Inputs<'w, W, C, S, O, P, T>,
+        inputs: Inputs<'w, W, C, S, O, P, T, L>,
         settings: Settings,
-    ) -> Decider<'w, W, C, S, O, P, T>
-        ensures { ⟦<Decider<'w, W, C, S, O, P, T> as Decide>⟧.query result
-            ≡ ⟦<Inputs<'w, W, C, S, O, P, T> as Means>⟧.query inputs.entry settings }
+    ) -> Decider<'w, W, C, S, O, P, T, L>
+        ensures { ⟦<Decider<'w, W, C, S, O, P, T, L> as Decide>⟧.query result
+            ≡ ⟦<Inputs<'w, W, C, S, O, P, T, L> as Means>⟧.query inputs.entry settings }
     {
         let root = BString::new(Vec::new(alloc));
         let check = SymlinkCheck::new(alloc, root);
+        let listings = Listings::new(alloc);
         Decider {
             alloc,
             inputs,
             settings,
             check,
+            listings,
             buffer: Vec::new(alloc),
         }
     }
 }
 
-impl<'w, W: Worktree, C: CompareBlobs, S: SubmoduleStatus, O: Find, P: Pathspec, T: ToGit> Decider<
+impl<
     'w,
-    W,
-    C,
-    S,
-    O,
-    P,
-    T,
->
+    W: Worktree,
+    C: CompareBlobs,
+    S: SubmoduleStatus,
+    O: Find,
+    P: Pathspec,
+    T: ToGit,
+    L: Lister,
+> Decider<'w, W, C, S, O, P, T, L>
 where
     C::Output: Drop,
     S::Output: Drop,
 {
-    ghost use Rattle.status_call.specs.EntryParts.{IsNodeDecided, IsContentDecided, IsContentCompared};
+    ghost use Rattle.status_call.specs.EntryParts.{IsNodeDecided, IsContentDecided, IsContentCompared, IsLooked};
+
+    /// What stands at a path.
+    ///
+    /// # Errors
+    /// The path isn't normal, another fault than that nothing is there, or want of memory.
+    fn look(&mut self, path: BStr<'_>) -> Result<Look, Error>
+        ensures site { IsLooked (⟦<Decider<'w, W, C, S, O, P, T, L> as Decide>⟧.query self.old) (bstr_bytes path.entry) result }
+        ensures inputs { self.new.inputs ≡ self.old.inputs }
+        ensures settings { self.new.settings ≡ self.old.settings }
+    {
+        find(
+            self.inputs.worktree,
+            &mut self.check,
+            self.settings.fscache,
+            &self.inputs.lister,
+            &mut self.listings,
+            path,
+        )
+    }
 
     /// Decides an entry at whose path something stands that is no directory.
     ///
@@ -94,13 +123,13 @@ where
         path: BStr<'_>,
         node: &Metadata,
     ) -> Result<Decided<C::Output, S::Output>, Error>
-        ensures decided { IsNodeDecided (⟦<Decider<'w, W, C, S, O, P, T> as Decide>⟧.query self.old)
+        ensures decided { IsNodeDecided (⟦<Decider<'w, W, C, S, O, P, T, L> as Decide>⟧.query self.old)
             (entry_at (bstr_bytes path.entry) entry.now) node.now result }
-        ensures same { ⟦<Decider<'w, W, C, S, O, P, T> as Decide>⟧.query self.new
-            ≡ ⟦<Decider<'w, W, C, S, O, P, T> as Decide>⟧.query self.old }
+        ensures same { ⟦<Decider<'w, W, C, S, O, P, T, L> as Decide>⟧.query self.new
+            ≡ ⟦<Decider<'w, W, C, S, O, P, T, L> as Decide>⟧.query self.old }
     {
         if entry.flags.intersects(Flags::INTENT_TO_ADD) {
-            return Ok(unread(Some(EntryStatus::IntentToAdd), true));
+            return Ok(unread(Some(EntryStatus::IntentToAdd), false));
         }
         let stat = node.to_stat()?;
         let fs = self.settings.fs;
@@ -112,7 +141,7 @@ where
                 let change = Change::TypeChange {
                     worktree_mode: new_mode,
                 };
-                Ok(unread(Some(EntryStatus::Change(change)), true))
+                Ok(unread(Some(EntryStatus::Change(change)), false))
             }
             Some(mode::Change::ExecutableBit) => self.decide_content(entry, path, node, stat, true),
             None => self.decide_content(entry, path, node, stat, false),
@@ -131,20 +160,21 @@ where
         stat: Stat,
         executable_bit_changed: bool,
     ) -> Result<Decided<C::Output, S::Output>, Error>
-        ensures decided { IsContentDecided (⟦<Decider<'w, W, C, S, O, P, T> as Decide>⟧.query self.old)
+        ensures decided { IsContentDecided (⟦<Decider<'w, W, C, S, O, P, T, L> as Decide>⟧.query self.old)
             (entry_at (bstr_bytes path.entry) entry.now) node.now stat executable_bit_changed result }
-        ensures same { ⟦<Decider<'w, W, C, S, O, P, T> as Decide>⟧.query self.new
-            ≡ ⟦<Decider<'w, W, C, S, O, P, T> as Decide>⟧.query self.old }
+        ensures same { ⟦<Decider<'w, W, C, S, O, P, T, L> as Decide>⟧.query self.new
+            ≡ ⟦<Decider<'w, W, C, S, O, P, T, L> as Decide>⟧.query self.old }
     {
         let trusted = is_trusted(entry, &stat, self.settings.stat);
         let racy = stat.is_racy(self.settings.timestamp, self.settings.stat);
         let compares = needs_comparison(executable_bit_changed, trusted, racy);
         if !compares {
-            return Ok(unread(None, true));
+            return Ok(unread(None, false));
         }
         let comparison = self.compare(entry, path, node)?;
         Ok(decision_of(comparison, stat, executable_bit_changed, trusted, racy))
     }
+
     /// Compares an entry's content with its node's.
     ///
     /// # Errors
@@ -155,10 +185,10 @@ where
         path: BStr<'_>,
         node: &Metadata,
     ) -> Result<Comparison<C::Output>, Error>
-        ensures compared { IsContentCompared (⟦<Decider<'w, W, C, S, O, P, T> as Decide>⟧.query self.old)
+        ensures compared { IsContentCompared (⟦<Decider<'w, W, C, S, O, P, T, L> as Decide>⟧.query self.old)
             (entry_at (bstr_bytes path.entry) entry.now) node.now result }
-        ensures same { ⟦<Decider<'w, W, C, S, O, P, T> as Decide>⟧.query self.new
-            ≡ ⟦<Decider<'w, W, C, S, O, P, T> as Decide>⟧.query self.old }
+        ensures same { ⟦<Decider<'w, W, C, S, O, P, T, L> as Decide>⟧.query self.new
+            ≡ ⟦<Decider<'w, W, C, S, O, P, T, L> as Decide>⟧.query self.old }
     {
         let (inputs, settings) = (&mut self.inputs, self.settings);
         let path = path.as_bytes();
@@ -174,8 +204,16 @@ where
     }
 }
 
-impl<'w, W: Worktree, C: CompareBlobs, S: SubmoduleStatus, O: Find, P: Pathspec, T: ToGit> Decide
-    for Decider<'w, W, C, S, O, P, T>
+impl<
+    'w,
+    W: Worktree,
+    C: CompareBlobs,
+    S: SubmoduleStatus,
+    O: Find,
+    P: Pathspec,
+    T: ToGit,
+    L: Lister,
+> Decide for Decider<'w, W, C, S, O, P, T, L>
 where
     C::Output: Drop,
     S::Output: Drop,
@@ -184,7 +222,7 @@ where
 
     type Submodule = S::Output;
 
-    ghost query = { λ d. ⟦<Inputs<'w, W, C, S, O, P, T> as Means>⟧.query d.inputs d.settings };
+    ghost query = { λ d. ⟦<Inputs<'w, W, C, S, O, P, T, L> as Means>⟧.query d.inputs d.settings };
 
     fn includes(&self, entry: &Entry, path: BStr<'_>) -> bool {
         let is_submodule = entry.mode.is_submodule();
@@ -196,22 +234,26 @@ where
         entry: &Entry,
         path: BStr<'_>,
     ) -> Result<Decided<C::Output, S::Output>, Error> {
-        match find(self.inputs.worktree, &mut self.check, path)? {
-            Site::Nothing { lstat_called } => {
-                let removed = EntryStatus::Change(Change::Removed);
-                Ok(unread(Some(removed), lstat_called))
-            }
+        let Look { site, lstat_called } = self.look(path)?;
+        match site {
+            Site::Nothing => Ok(unread(Some(EntryStatus::Change(Change::Removed)), lstat_called)),
             Site::Directory if entry.mode.is_submodule() => {
                 let submodule = &mut self.inputs.submodule;
                 let status = submodule_status(self.alloc, submodule, entry, path)?;
-                Ok(unread(status, true))
+                Ok(unread(status, lstat_called))
             }
-            Site::Directory => Ok(unread(Some(EntryStatus::Change(Change::Removed)), true)),
-            Site::Node(node) => self.decide_node(entry, path, &node),
+            Site::Directory => Ok(unread(Some(EntryStatus::Change(Change::Removed)), lstat_called)),
+            Site::Node(node) => {
+                let decided = self.decide_node(entry, path, &node)?;
+                Ok(Decided {
+                    lstat_called,
+                    ..decided
+                })
+            }
         }
     }
 
-    fn another(&self) -> Result<Decider<'w, W, C, S, O, P, T>, AllocError> {
+    fn another(&self) -> Result<Decider<'w, W, C, S, O, P, T, L>, AllocError> {
         let inputs = self.inputs.another()?;
         Ok(Decider::new(self.alloc, inputs, self.settings))
     }

@@ -111,11 +111,11 @@ where
     W::File: Send,
     C::Output: Send,
     S::Output: Send,
-    ensures all { IsStatus (⟦<Inputs<'w, W, C, S, O, P, T> as Means>⟧.query
+    ensures all { IsStatus (⟦<Inputs<'w, W, C, S, O, P, T, L> as Means>⟧.query
         (inputs worktree.entry compare submodule objects context.entry))
         options index.now V.visits collector.old result collector.new }
     ensures uninterrupted { context.entry.should_interrupt ≡ None → IfOk result (λ o. o.interrupted ≡ false) }
-    ensures alone { IsAlone (⟦<Inputs<'w, W, C, S, O, P, T> as Means>⟧.query
+    ensures alone { IsAlone (⟦<Inputs<'w, W, C, S, O, P, T, L> as Means>⟧.query
         (inputs worktree.entry compare submodule objects context.entry)) options index.now result }
 {
     let Context {
@@ -124,12 +124,12 @@ where
         lister,
         should_interrupt,
     } = context;
-    drop(lister);
     let considered = considered_entries(index, pathspec.common_prefix());
     let settings = Settings {
         timestamp: index.timestamp(),
         stat: options.stat,
         fs: options.fs,
+        fscache: options.fscache,
     };
     let inputs = Inputs {
         worktree,
@@ -138,6 +138,7 @@ where
         objects,
         pathspec,
         filter,
+        lister,
     };
     let decider = Decider::new(alloc, inputs, settings);
     let workers = Workers::by_limit(options.thread_limit, should_interrupt);

@@ -1,13 +1,14 @@
 //! What a caller hands in, and what it means.
 
-ghost use Rattle.std.specs.Prelude.{◌≡◌, None, IfOk};
-ghost use Rattle.status_call.specs.Modelled.{all_modelled};
+ghost use Rattle.std.specs.Prelude.{◌≡◌, IfOk};
+ghost use Rattle.status_base.specs.Listed.{known_node};
+ghost use Rattle.status_call.specs.Modelled.{all_modelled, are_modelled};
 ghost use Rattle.status_call.specs.Query.{Query};
 ghost use Rattle.status_call.specs.declared.index_as_worktree.inputs.Settings.{Settings as StatusSettings};
 
 use crate::index_as_worktree::types::Capabilities;
 use status_base::index::{Moment, stat};
-use status_base::worktree::{Find, Pathspec, SubmoduleStatus, ToGit, Worktree};
+use status_base::worktree::{Find, Lister, Pathspec, SubmoduleStatus, ToGit, Worktree};
 use status_compare::CompareBlobs;
 use std::alloc::AllocError;
 
@@ -20,11 +21,13 @@ pub struct Settings {
     pub stat: stat::Options,
     /// What the file system can keep.
     pub fs: Capabilities,
+    /// Whether listings of directories are asked before `lstat`.
+    pub fscache: bool,
 }
 
 /// The worktree and the interfaces that a caller hands in.
 #[derive(Drop)]
-pub struct Inputs<'w, W, C, S, O, P, T> {
+pub struct Inputs<'w, W, C, S, O, P, T, L> {
     /// The worktree.
     pub worktree: &'w W,
     /// Compares a file with a blob.
@@ -37,6 +40,8 @@ pub struct Inputs<'w, W, C, S, O, P, T> {
     pub pathspec: P,
     /// Converts a file to what git would store.
     pub filter: T,
+    /// Lists directories, where the settings have it.
+    pub lister: L,
 }
 
 /// What a status is computed from, whoever hands it in.
@@ -57,15 +62,23 @@ pub trait Means {
         ensures { IfOk result (λ other. query other ≡ query self.now) };
 }
 
-impl<'w, W: Worktree, C: CompareBlobs, S: SubmoduleStatus, O: Find, P: Pathspec, T: ToGit> Means
-    for Inputs<'w, W, C, S, O, P, T> {
+impl<
+    'w,
+    W: Worktree,
+    C: CompareBlobs,
+    S: SubmoduleStatus,
+    O: Find,
+    P: Pathspec,
+    T: ToGit,
+    L: Lister,
+> Means for Inputs<'w, W, C, S, O, P, T, L> {
     type Content = C::Output;
 
     type Submodule = S::Output;
 
-    // Listings of directories aren't used.
     ghost query = { λ i settings. record {
-      modelled = all_modelled (W.modelled i.worktree.now) (O.modelled i.objects) (S.modelled i.submodule);
+      modelled = all_modelled (W.modelled i.worktree.now) (O.modelled i.objects) (S.modelled i.submodule)
+          (are_modelled settings.fscache (L.modelled i.lister));
       stat_options = settings.stat;
       symlink = settings.fs.symlink;
       executable_bit = settings.fs.executable_bit;
@@ -73,7 +86,7 @@ impl<'w, W: Worktree, C: CompareBlobs, S: SubmoduleStatus, O: Find, P: Pathspec,
       lstat = W.lstat_of i.worktree.now;
       opened = W.open_of i.worktree.now;
       linked = W.target_of i.worktree.now;
-      cached = λ _. None;
+      cached = known_node settings.fscache (L.listing i.lister);
       prefix = P.prefix i.pathspec;
       included = P.included i.pathspec;
       conversion = λ content path. T.conversion i.filter content path;
@@ -83,7 +96,7 @@ impl<'w, W: Worktree, C: CompareBlobs, S: SubmoduleStatus, O: Find, P: Pathspec,
       counted = C.counts_after i.compare;
     } };
 
-    fn another(&self) -> Result<Inputs<'w, W, C, S, O, P, T>, AllocError> {
+    fn another(&self) -> Result<Inputs<'w, W, C, S, O, P, T, L>, AllocError> {
         Ok(Inputs {
             worktree: self.worktree,
             compare: self.compare.clone()?,
@@ -91,6 +104,7 @@ impl<'w, W: Worktree, C: CompareBlobs, S: SubmoduleStatus, O: Find, P: Pathspec,
             objects: self.objects.clone()?,
             pathspec: self.pathspec.clone()?,
             filter: self.filter.clone()?,
+            lister: self.lister.clone()?,
         })
     }
 }

@@ -5,6 +5,7 @@ ghost use Rattle.status_index.specs.Entries.{IndexEntry};
 ghost use Rattle.status_index.specs.declared.id.ObjectId.{ObjectId as BlobId};
 ghost use Rattle.status_compare.specs.FastAgrees.{FastAgrees};
 ghost use Rattle.status_call.specs.Laws.{ModificationLaw, UnreadLaw, ExecutableLaw, AscendLaw, CutLaw, FaultLaw, OneConflictLaw, HeadLaw, IdsLaw, SizesLaw, IdReadsLaw, SizeReadsLaw};
+ghost use Rattle.status_call.specs.ListedStatus.{ListingsLaw};
 ghost use Rattle.status_call.specs.Query.{Query};
 ghost use Rattle.status_call.specs.StatusTable.{Row, IsInRow, StatusTable};
 
@@ -91,4 +92,11 @@ pub fn sizes_read_no_blob<U: Drop>()
 /// keeps its content's size or 0.
 pub fn fast_agrees_with_hash()
     ensures { (e : IndexEntry) → FastAgrees e }
+{}
+
+/// Listings of directories change no record and no fault, where what they know of a path that isn't below a link is as
+/// `lstat` has it: the kind, the length and both stamps. Device, inode and owners have to be 0 there, and executability
+/// mustn't count, since listings say nothing of these.
+pub fn listings_change_nothing<T: Drop, U: Drop>()
+    ensures { (q : Query T U) → ListingsLaw q }
 {}

@@ -1,72 +1,130 @@
 //! What stands at an entry's path.
 
-ghost use Rattle.std.specs.Prelude.{◌≡◌, Result, IsTrue};
+ghost use Rattle.std.specs.Prelude.{◌≡◌, ◌&&◌, Bool, IfOk, IsTrue, Ok, Result};
 ghost use Rattle.bstr.specs.BStr.{bstr_bytes};
 ghost use Rattle.status_base.specs.CheckState.{IsClear};
 ghost use Rattle.status_base.specs.LinkCheck.{LinkCheck};
+ghost use Rattle.status_base.specs.Listed.{known_node};
+ghost use Rattle.status_base.specs.ListingTable.{IsOf};
 ghost use Rattle.status_base.specs.Verified.{IsRefused};
 ghost use Rattle.status_index.specs.declared.metadata.Metadata.{Metadata as NodeMetadata};
 ghost use Rattle.status_index.specs.declared.fault.Fault.{Fault as WorktreeFault};
 ghost use Rattle.status_call.specs.EntryParts.{IsSite, IsSiteAt};
 ghost use Rattle.status_call.specs.Counts.{is_accepted};
-ghost use Rattle.status_call.specs.Status.{found_by, found_fault};
+ghost use Rattle.status_call.specs.Modelled.{are_modelled};
+ghost use Rattle.status_call.specs.Status.{found_by, found_fault, found_node};
 
 use crate::index_as_worktree::types::Error;
 use bstr::BStr;
+use status_base::fscache::Listings;
 use status_base::stack::{StackError, SymlinkCheck};
-use status_base::worktree::{Fault, Metadata, NodeKind, Worktree};
+use status_base::worktree::{Fault, Lister, Metadata, NodeKind, Worktree};
+use std::alloc::AllocError;
 
 /// What stands at an entry's path.
 #[derive(Clone, Copy)]
 pub(crate) enum Site {
     /// Nothing: it, or a directory above it, is missing, or it leads through a link.
-    Nothing {
-        /// Whether `lstat` was called on the path itself.
-        lstat_called: bool,
-    },
+    Nothing,
     /// A directory.
     Directory,
     /// Anything else.
     Node(Metadata),
 }
 
-/// What stands at a path. `lstat` is called on the path itself only where each directory above it may be stepped through.
+/// What was found at an entry's path.
+#[derive(Clone, Copy)]
+pub(crate) struct Look {
+    /// What stands there.
+    pub(crate) site: Site,
+    /// Whether `lstat` was called on the path itself.
+    pub(crate) lstat_called: bool,
+}
+
+/// What stands at a path. The path itself is looked at only where each directory above it may be stepped through, and
+/// `lstat` is called on it only where no listing knows it.
 ///
 /// # Errors
-/// The path isn't normal, or another fault than that nothing is there.
-pub(crate) fn find<W: Worktree>(
+/// The path isn't normal, another fault than that nothing is there, or want of memory.
+pub(crate) fn find<W: Worktree, L: Lister>(
     worktree: &W,
     check: &mut SymlinkCheck,
+    fscache: bool,
+    lister: &L,
+    listings: &mut Listings,
     path: BStr<'_>,
-) -> Result<Site, Error>
-    ensures site { IsTrue (W.modelled worktree.now) → IsClear (W.lstat_of worktree.now) check.old.path
-        → IsSiteAt (W.lstat_of worktree.now) (bstr_bytes path.entry) result }
+) -> Result<Look, Error>
+    ensures site { IsTrue (W.modelled worktree.now) → IsTrue (are_modelled fscache (L.modelled lister.now))
+        → IsClear (W.lstat_of worktree.now) check.old.path
+        → (IsTrue (L.modelled lister.now) → IsOf (L.listing lister.now) listings.old)
+        → IsSiteAt (W.lstat_of worktree.now) (known_node fscache (L.listing lister.now) (bstr_bytes path.entry)) (bstr_bytes path.entry) result }
     ensures clear { IsTrue (W.modelled worktree.now) → IsClear (W.lstat_of worktree.now) check.old.path
         → IsClear (W.lstat_of worktree.now) check.new.path }
+    ensures kept { IsTrue (L.modelled lister.now) → IsOf (L.listing lister.now) listings.old
+        → IsOf (L.listing lister.now) listings.new }
 {
     if let Err(error) = check.verified_path(worktree, path) {
-        return site_refused(error);
+        return look_refused(error);
+    }
+    if let Some(node) = known_at(fscache, lister, listings, path)? {
+        return Ok(look_at(node, false));
     }
     match worktree.lstat(path) {
-        Ok(node) if node.kind == NodeKind::Directory => Ok(Site::Directory),
-        Ok(node) => Ok(Site::Node(node)),
-        Err(fault) => site_of_fault(fault, true),
+        Ok(node) => Ok(look_at(node, true)),
+        Err(fault) => look_at_fault(fault, true),
     }
+}
+
+/// What listings know of a path, where they are asked.
+///
+/// # Errors
+/// Want of memory.
+fn known_at<L: Lister>(
+    fscache: bool,
+    lister: &L,
+    listings: &mut Listings,
+    path: BStr<'_>,
+) -> Result<Option<Metadata>, AllocError>
+    ensures known { IsTrue (are_modelled fscache (L.modelled lister.now))
+        → (IsTrue (L.modelled lister.now) → IsOf (L.listing lister.now) listings.old)
+        → IfOk result (λ node. node ≡ known_node fscache (L.listing lister.now) (bstr_bytes path.entry)) }
+    ensures kept { IsTrue (L.modelled lister.now) → IsOf (L.listing lister.now) listings.old
+        → IsOf (L.listing lister.now) listings.new }
+{
+    if !fscache {
+        return Ok(None);
+    }
+    match listings.get(lister, path)? {
+        Some(stat) => Ok(Some(stat.to_metadata())),
+        None => Ok(None),
+    }
+}
+
+/// A node that was found.
+fn look_at(node: Metadata, lstat_called: bool) -> Look
+    ensures { IsSite (found_node (Ok node)) lstat_called (Ok result) }
+{
+    let site = match node.kind {
+        NodeKind::Directory => Site::Directory,
+        NodeKind::File | NodeKind::Link | NodeKind::Other => Site::Node(node),
+    };
+    Look { site, lstat_called }
 }
 
 /// What stands at a path that the check for links refuses.
 ///
 /// # Errors
 /// The path isn't normal, or another fault than that nothing is there.
-fn site_refused(error: StackError<'_>) -> Result<Site, Error>
-    ensures { (check : LinkCheck) (node : Result NodeMetadata WorktreeFault)
-        → IsRefused check error.entry → IsSite (found_by check node) (is_accepted check) result }
+fn look_refused(error: StackError<'_>) -> Result<Look, Error>
+    ensures { (check : LinkCheck) (node : Result NodeMetadata WorktreeFault) (unknown : Bool)
+        → IsRefused check error.entry → IsSite (found_by check node) (is_accepted check && unknown) result }
 {
     match error {
-        StackError::ThroughLink { prefix: _ } => Ok(Site::Nothing {
+        StackError::ThroughLink { prefix: _ } => Ok(Look {
+            site: Site::Nothing,
             lstat_called: false,
         }),
-        StackError::Fault(fault) => site_of_fault(fault, false),
+        StackError::Fault(fault) => look_at_fault(fault, false),
         StackError::EmptyPath | StackError::NotNormal { component: _ } => {
             Err(Error::Io(Fault::NotNormal))
         }
@@ -78,11 +136,14 @@ fn site_refused(error: StackError<'_>) -> Result<Site, Error>
 ///
 /// # Errors
 /// Another fault than that nothing is there.
-fn site_of_fault(fault: Fault, lstat_called: bool) -> Result<Site, Error>
+fn look_at_fault(fault: Fault, lstat_called: bool) -> Result<Look, Error>
     ensures { IsSite (found_fault fault) lstat_called result }
 {
     match fault {
-        Fault::NotFound | Fault::NotADirectory => Ok(Site::Nothing { lstat_called }),
+        Fault::NotFound | Fault::NotADirectory => Ok(Look {
+            site: Site::Nothing,
+            lstat_called,
+        }),
         other => Err(Error::from(other)),
     }
 }

@@ -124,7 +124,9 @@ pub struct Options {
     pub thread_limit: Option<usize>,
     /// Which parts of stats have to be equal.
     pub stat: stat::Options,
-    /// Whether listings of directories stand in place of `lstat` where they know a path. Not looked at yet.
+    /// Whether listings of directories stand in place of `lstat` where they know a path. The directories above a path are
+    /// looked at all the same. A listed file isn't executable, so where executability counts each one that the index has as
+    /// executable is reported. Each worker lists a directory at most once a round.
     pub fscache: bool,
     /// How many entries a piece of work has. 0 means 500.
     pub chunk_size: usize,
@@ -154,7 +156,7 @@ pub struct Context<'a, P, T, L> {
     pub pathspec: P,
     /// How files are converted to what git stores.
     pub filter: T,
-    /// Listings of directories. Not used yet.
+    /// Listings of directories, which are asked where the options have `fscache`.
     pub lister: L,
     /// Once it is seen set the status ends early. None is never set.
     pub should_interrupt: Option<&'a AtomicBool>,

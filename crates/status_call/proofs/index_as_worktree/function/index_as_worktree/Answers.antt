@@ -1,3 +1,4 @@
+use Rattle.status_call.proofs.Sent.{decider_crosses}
 use Rattle.std.proofs.Common.{rules, ap, ◌∙◌, ◌<◌, ◌^◌, length}
 use Rattle.std.proofs.lemmas.List.{length-map}
 use Rattle.status_index.specs.Entries.{index_entry}
@@ -5,6 +6,10 @@ use Rattle.status_index.specs.States.{entries_of, backing_of, index_of}
 use Rattle.status_call.proofs.Parts.{map-part}
 use Rattle.status_call.proofs.StatusProof.{status_alone, status_ok, status_err, work_kept, part_len, rest_len, skip_room}
 use Rattle.status_call.proofs.index_as_worktree.function.index_as_worktree.Goals as goal
+
+-- a decider may go to another thread, with its table of listings
+pub run_rounds-requires : goal.run_rounds-requires
+run_rounds-requires g c κs = (search decider_crosses depth 60, search decider_crosses depth 60)
 
 pub returns-in-Ok-clause-all : goal.returns-in-Ok-clause-all
 returns-in-Ok-clause-all g c =

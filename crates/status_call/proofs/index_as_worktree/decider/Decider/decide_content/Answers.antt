@@ -1,9 +1,9 @@
-use Rattle.std.proofs.Common.{None}
 use Rattle.bstr.specs.BStr.{bstr_bytes}
 use Rattle.status_index.specs.Entries.{entry_at}
 use Rattle.status_call.specs.EntryParts.{counted_of}
-use Rattle.status_call.specs.Modelled.{all_modelled}
+use Rattle.status_call.specs.Modelled.{all_modelled, are_modelled}
 use Rattle.status_call.specs.Query.{Query}
+use Rattle.status_base.specs.Listed.{known_node}
 use Rattle.status_call.proofs.EntryCases.{compared_of_case}
 use Rattle.status_call.proofs.index_as_worktree.decider.Decider.decide_content.Goals as goal
 
@@ -12,7 +12,8 @@ returns-clause-decided g c =
     let i = c.args.self.now.inputs in
     let s = c.args.self.now.settings in
     let q : Query g.row.C-Output.Denot g.row.S-Output.Denot = record {
-      modelled = all_modelled (g.W.Worktree.modelled i.worktree.now) (g.O.Find.modelled i.objects) (g.S.SubmoduleStatus.modelled i.submodule);
+      modelled = all_modelled (g.W.Worktree.modelled i.worktree.now) (g.O.Find.modelled i.objects) (g.S.SubmoduleStatus.modelled i.submodule)
+          (are_modelled s.fscache (g.L.Lister.modelled i.lister));
       stat_options = s.stat;
       symlink = s.fs.symlink;
       executable_bit = s.fs.executable_bit;
@@ -20,7 +21,7 @@ returns-clause-decided g c =
       lstat = g.W.Worktree.lstat_of i.worktree.now;
       opened = g.W.Worktree.open_of i.worktree.now;
       linked = g.W.Worktree.target_of i.worktree.now;
-      cached = λ _. None;
+      cached = known_node s.fscache (g.L.Lister.listing i.lister);
       prefix = g.P.Pathspec.prefix i.pathspec;
       included = g.P.Pathspec.included i.pathspec;
       conversion = λ content path. g.T.ToGit.conversion i.filter content path;

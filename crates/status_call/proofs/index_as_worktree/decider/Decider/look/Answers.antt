@@ -1,0 +1,20 @@
+use Rattle.status_call.specs.Modelled.{are_modelled}
+use Rattle.status_call.proofs.EntryCases.{all_worktree, all_listings}
+use Rattle.status_call.proofs.index_as_worktree.decider.Decider.look.Goals as goal
+
+pub invariant_of-self : goal.invariant_of-self
+invariant_of-self g c = record {
+  clear = λ modelled. c.find.ensures.clear modelled (c.args.self.now.clear modelled);
+  kept = λ modelled. c.find.ensures.kept modelled (c.args.self.now.kept modelled);
+}
+
+pub returns-clause-site : goal.returns-clause-site
+returns-clause-site g c =
+    let i = c.args.self.now.inputs in
+    let a = g.W.Worktree.modelled i.worktree.now in
+    let b = g.O.Find.modelled i.objects in
+    let d = g.S.SubmoduleStatus.modelled i.submodule in
+    let l = are_modelled c.args.self.now.settings.fscache (g.L.Lister.modelled i.lister) in
+    λ modelled.
+    let worktree = all_worktree a b d l modelled in
+    c.find.ensures.site worktree (all_listings a b d l modelled) (c.args.self.now.clear worktree) c.args.self.now.kept
