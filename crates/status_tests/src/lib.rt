@@ -15,6 +15,8 @@ mod folders;
 #[cfg(test)]
 mod given;
 #[cfg(test)]
+mod listers;
+#[cfg(test)]
 mod objects;
 #[cfg(test)]
 mod pieces;

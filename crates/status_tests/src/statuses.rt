@@ -12,7 +12,7 @@ use gix_status::index_as_worktree::{
     VisitEntry, index_as_worktree,
 };
 use gix_status::worktree::{
-    AllPaths, Fault, Find, MemoryObjects, NoFilter, NoLister, NoSubmodules, Pathspec,
+    AllPaths, Fault, Find, Lister, MemoryObjects, NoFilter, NoLister, NoSubmodules, Pathspec,
     SubmoduleStatus, ToGit, Worktree,
 };
 use std::alloc::Global;
@@ -246,6 +246,43 @@ where
     let objects = MemoryObjects::new(rt.alloc());
     let request = Request::new(submodule, objects, AllPaths, NoFilter, options);
     status_with(rt, index, worktree, HashEq, request, None)
+}
+
+/// The status by ids with a lister, which is asked where the options have it.
+pub fn status_listed<'index, R: AllocGlobal + Threads + Wait, W: Worktree + Sync, L: Lister + Send>(
+    rt: &R,
+    index: &'index State,
+    worktree: &W,
+    lister: L,
+    options: Options,
+) -> Report<'index, ObjectId, ()>
+where
+    W::File: Send,
+{
+    let alloc = rt.alloc();
+    let mut recorder = Recorder::new(alloc);
+    let context = Context {
+        pathspec: AllPaths,
+        filter: NoFilter,
+        lister,
+        should_interrupt: None,
+    };
+    let answer = index_as_worktree(
+        rt,
+        alloc,
+        index,
+        worktree,
+        &mut recorder,
+        HashEq,
+        NoSubmodules,
+        MemoryObjects::new(alloc),
+        context,
+        options,
+    );
+    Report {
+        records: recorder.records,
+        answer,
+    }
 }
 
 /// The status by the lengths of files and blobs.

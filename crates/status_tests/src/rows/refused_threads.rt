@@ -6,7 +6,9 @@ use crate::given::staged_index;
 use gix_status::index::{ObjectId, State, stat};
 use gix_status::index_as_worktree::traits::HashEq;
 use gix_status::index_as_worktree::{Capabilities, Change, EntryStatus, Error, Recorder};
-use gix_status::worktree::{AllPaths, MemoryObjects, MemoryWorktree, NoFilter, NoSubmodules};
+use gix_status::worktree::{
+    AllPaths, MemoryObjects, MemoryWorktree, NoFilter, NoLister, NoSubmodules,
+};
 use status_call::index_as_worktree::considered::Considered;
 use status_call::index_as_worktree::counts::Progress;
 use status_call::index_as_worktree::decider::Decider;
@@ -39,11 +41,13 @@ fn status_by<'index, R: Threads + Wait>(
         objects: MemoryObjects::new(alloc),
         pathspec: AllPaths,
         filter: NoFilter,
+        lister: NoLister,
     };
     let settings = Settings {
         timestamp: index.timestamp(),
         stat: stat::Options::default(),
         fs: Capabilities::default(),
+        fscache: false,
     };
     let decider = Decider::new(alloc, inputs, settings);
     let entries = index.entries();
