@@ -1,5 +1,5 @@
-//! Tests of what the status call is made of: the board, rounds, the index, the worktree and comparers. They name public
-//! items alone, so those crates are proved without them.
+//! Tests of what the status call is made of, and of trackers: the board, rounds, the index, the worktree and comparers.
+//! They name public items alone, so those crates are proved without them.
 #![tactic(auto)]
 
 #[cfg(test)]
@@ -12,6 +12,8 @@ mod disk;
 mod hash;
 #[cfg(test)]
 mod lister;
+#[cfg(test)]
+mod listings;
 #[cfg(test)]
 mod memory;
 #[cfg(test)]
@@ -28,5 +30,7 @@ mod stack;
 mod staging;
 #[cfg(test)]
 mod state;
+#[cfg(test)]
+mod tracker;
 #[cfg(test)]
 mod words;

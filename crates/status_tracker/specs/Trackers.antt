@@ -1,0 +1,18 @@
+-- What a tracker may answer.
+use Rattle.std.specs.Prelude.{ℕ, List, Result, Ok, Err, ⊤}
+use Rattle.std.specs.Global.{Vec}
+use Rattle.status_tracker.specs.declared.tracker.Pair.{Pair}
+use Rattle.status_tracker.specs.declared.tracker.TrackerError.{TrackerError}
+use Rattle.status_tracker.specs.declared.tracker.TrackerError.TheVariants.{BadPair, Refused, Memory}
+
+-- why a tracker has no pairs, want of memory aside
+pub data TrackerFault : Type 0 where
+  bad_pair : ℕ → TrackerFault
+  refused : ℕ → TrackerFault
+
+-- an answer that is meant, or want of memory
+abbrev pub IsTold : (Result (List Pair) TrackerFault → Type 0) → Result (Vec Pair) TrackerError → Type 0
+IsTold meant (Ok pairs) = meant (Ok pairs.items)
+IsTold meant (Err (BadPair at)) = meant (Err (bad_pair at))
+IsTold meant (Err (Refused code)) = meant (Err (refused code))
+IsTold meant (Err Memory) = ⊤
