@@ -17,7 +17,7 @@ use Rattle.std.proofs.lemmas.Cmp.{nat_list_cmp_total, tied_itself}
 use Rattle.std.proofs.lemmas.Bool.{true≢false, and_parts, and_from, eq-eqb}
 use Rattle.std.proofs.lemmas.Map.Keys.{sorted_head, sorted_tail}
 use Rattle.status_base.specs.MemoryTree.{Placed, Tree, has_below}
-use Rattle.status_base.specs.Nodes.{placed_entries, placed_nodes, tree_of}
+use Rattle.status_base.specs.Nodes.{placed_of, placed_entries, placed_nodes, tree_of}
 use Rattle.status_base.specs.declared.worktree.memory.Node.{Node}
 use Rattle.status_base.proofs.Placed.{Nodes, key_cmp}
 
@@ -149,3 +149,21 @@ pub below-by_first : (front : Vec ℕ) (es found : Nodes) (tree : Tree) (path : 
 below-by_first front es found tree path is at ordered between =
     ap (first_has_front front.items) between ∙ sym (any-by_first front es ordered) ∙ sym (any_key (has_front front.items) es)
     ∙ ap (λ (f : List ℕ). list_any (has_front f) (paths.keys (placed_nodes es))) at ∙ ap (λ (t : Tree). has_below t path) is
+
+-- ---- the entries of a tree's nodes are those of a map in order
+
+none_of_length : (es : List (List ℕ × Placed)) → length es ≡ 0 → es ≡ []
+none_of_length [] h = refl
+none_of_length (e ∷ es) h = absurd (omega arith)
+
+first_put : (e : Vec ℕ × Node) (es : Nodes) → AllByRecursion (λ (y : Vec ℕ). key_cmp e.0 y ≡ Less) (keys_of es)
+    → paths.put path_cmp e.0.items (placed_of e.1) (placed_entries es) ≡ placed_entries (e ∷ es)
+first_put e [] all = refl
+first_put e (f ∷ es) all = rw all.0 refl
+
+pub entries_placed : (es : Nodes) → IsStrictlySortedBy key_cmp (keys_of es) → paths.entries (placed_nodes es) ≡ placed_entries es
+entries_placed [] ordered = none_of_length _ (sym (paths.len-entries (paths.empty {X = Placed} {R = path_cmp})) ∙ paths.len-empty path_cmp Placed)
+entries_placed (e ∷ es) ordered =
+    paths.entries-insert nat_list_cmp_total (placed_nodes es) e.0.items (placed_of e.1)
+    ∙ ap (paths.put path_cmp e.0.items (placed_of e.1)) (entries_placed es (sorted_tail key_cmp e.0 (keys_of es) ordered))
+    ∙ first_put e es (sorted_head key_cmp e.0 (keys_of es) ordered)

@@ -1,8 +1,9 @@
 -- What stands below a path, at it and above it in an index.
-use Rattle.std.proofs.Common.{◌≡◌, refl, sym, ap, ◌∙◌, ℕ, ◌+◌, ◌<◌, ◌≤◌, inl, inr, Bool, true, false, not, List, [], ◌∷◌, ◌++◌, length, take, drop, slice_index_or, Option, All, arith}
+use lib.Seq.{drop-drop}
+use Rattle.std.proofs.Common.{◌≡◌, refl, sym, ap, ◌∙◌, ℕ, ◌+◌, ◌-◌, ◌<◌, ◌≤◌, inl, inr, Bool, true, false, not, List, [], ◌∷◌, ◌++◌, length, take, drop, slice_index_or, Option, All, arith}
 use Rattle.std.specs.List.{Any, filter, prefix_len}
 use Rattle.std.specs.Option.{option_to_list}
-use Rattle.std.specs.Ordering.{nat_cmp, ordering_then, ordering_reverse, is_lt, is_le, is_gt}
+use Rattle.std.specs.Ordering.{nat_cmp, ordering_then, ordering_reverse, is_eq, is_lt, is_le, is_gt}
 use Rattle.std.specs.Cmp.Lexicographic.{slice_cmp}
 use Rattle.std.specs.declared.cmp.Ordering.{Ordering}
 use Rattle.std.specs.declared.cmp.Ordering.TheVariants.{Less, Equal, Greater}
@@ -13,7 +14,7 @@ use Rattle.std.proofs.lemmas.List.{append-nil, length-take, length-drop, take-ap
 use Rattle.std.proofs.lemmas.List.Elements.{All-head, All-tail, filter-append}
 use Rattle.std.proofs.lemmas.List.Sums.{prefix_len-le-length, prefix_len_passes, prefix_len_stops}
 use Rattle.status_index.specs.Entries.{IndexEntry, IsIndex}
-use Rattle.status_index.specs.Stretch.{is_below, is_up_to, IsFront}
+use Rattle.status_index.specs.Stretch.{is_at, is_below, is_up_to, part_of, IsFront}
 use Rattle.status_index.specs.Staging.{is_above, with_entry, place_of}
 use Rattle.status_index.proofs.Refusals.{listed_in}
 use Rattle.status_index.proofs.Stretches.{IsFront-below, ascends, front_fails}
@@ -42,6 +43,16 @@ Equal-between : (o : Ordering) → is_lt o ≡ false → is_le o ≡ true → o 
 Equal-between Less h k = cc
 Equal-between Equal h k = refl
 Equal-between Greater h k = cc
+
+apart_from_lt : (o : Ordering) → is_lt o ≡ true → is_eq o ≡ false
+apart_from_lt Less h = refl
+apart_from_lt Equal h = cc
+apart_from_lt Greater h = refl
+
+apart_from_gt : (o : Ordering) → is_le o ≡ false → is_eq o ≡ false
+apart_from_gt Less h = cc
+apart_from_gt Equal h = cc
+apart_from_gt Greater h = refl
 
 -- what isn't up to a path is above it
 above_or_not : (p : List ℕ) (e : IndexEntry) → is_above p e ≡ not (is_up_to p e)
@@ -140,6 +151,44 @@ module _ (es : List IndexEntry) (p : List ℕ) (h : IsIndex es) where
       let high = front_fails (is_below p) es (IsFront-below es p h) k d from inside in
       let low = prefix_len_passes (is_up_to p) es k d to in
       same_path _ _ (Equal-between _ high low)
+
+  none_before : All (λ e. is_at p e ≡ false) (take (prefix_len (is_below p) es) es)
+  none_before k d l = apart_from_lt _ (passes_in_front (is_below p) es (IsFront-below es p h) k d l)
+
+  none_behind : All (λ e. is_at p e ≡ false) (drop (prefix_len (is_up_to p) es) es)
+  none_behind k d l = apart_from_gt _ (fails_behind (is_up_to p) es (IsFront-up_to es p h) k d l)
+
+  all_between : All (λ e. is_at p e ≡ true) (part_of es (prefix_len (is_below p) es) (prefix_len (is_up_to p) es))
+  all_between k d l =
+      let a = prefix_len (is_below p) es in
+      let b = prefix_len (is_up_to p) es in
+      let inside : k < b - a = omega (arith, length-take (b - a) (drop a es)) in
+      let place : a + k < b = omega arith in
+      let has : (slice_index_or es (a + k) d).path ≡ p = path_between (a + k) d (omega arith) place in
+      rw (get_or-take (b - a) (drop a es) k d inside, get_or-drop a es k d)
+      (ap (λ q. is_eq (slice_cmp nat_cmp q p)) has ∙ ap is_eq (tied_itself nat_list_cmp_total p))
+
+  behind_is : drop (prefix_len (is_up_to p) es - prefix_len (is_below p) es) (drop (prefix_len (is_below p) es) es) ≡ drop (prefix_len (is_up_to p) es) es
+  behind_is =
+      let a = prefix_len (is_below p) es in
+      let b = prefix_len (is_up_to p) es in
+      let ordered = places_ordered in
+      let sum : a + (b - a) ≡ b = omega arith in
+      drop-drop (b - a) a es ∙ ap (λ n. drop n es) sum
+
+  -- the path's entries stand between its places
+  pub filter-at : filter (is_at p) es ≡ part_of es (prefix_len (is_below p) es) (prefix_len (is_up_to p) es)
+  filter-at =
+      let a = prefix_len (is_below p) es in
+      let b = prefix_len (is_up_to p) es in
+      let between = part_of es a b in
+      let behind = drop b es in
+      let parts : drop a es ≡ between ++ behind = sym (take-append-drop (b - a) (drop a es)) ∙ ap (λ l. between ++ l) behind_is in
+      let rest : filter (is_at p) (drop a es) ≡ between =
+      ap (filter (is_at p)) parts ∙ filter-append (is_at p) between behind
+      ∙ rw (filter_all (is_at p) between all_between, filter_none (is_at p) behind none_behind) (append-nil between) in
+      ap (filter (is_at p)) (sym (take-append-drop a es)) ∙ filter-append (is_at p) (take a es) (drop a es)
+      ∙ rw (filter_none (is_at p) (take a es) none_before) rest
 
 -- where the places are one, no entry has the path
 pub none_at : (es : List IndexEntry) (p : List ℕ) → IsIndex es → prefix_len (is_below p) es ≡ prefix_len (is_up_to p) es → Any (λ e. e.path ≡ p) es → ⊥

@@ -1,7 +1,7 @@
 -- The stretch of an index whose paths begin with a prefix.
 use Rattle.std.specs.Prelude.{◌≡◌, ℕ, ◌<◌, ◌≤◌, ◌-◌, nat_eq, Bool, true, false, List, length, take, drop, Option, Some, None, All, AllPairs}
 use Rattle.std.specs.List.{starts_with}
-use Rattle.std.specs.Ordering.{nat_cmp, is_lt, is_le}
+use Rattle.std.specs.Ordering.{nat_cmp, is_eq, is_lt, is_le}
 use Rattle.std.specs.Cmp.Lexicographic.{slice_cmp}
 use Rattle.std.specs.declared.ops.Range.{Range}
 use Rattle.status_index.specs.declared.path_probe.Question.{Question}
@@ -36,6 +36,10 @@ is_below prefix e = is_lt (slice_cmp nat_cmp e.path prefix)
 -- whether an entry's path is the prefix or below it
 abbrev pub is_up_to : List ℕ → IndexEntry → Bool
 is_up_to prefix e = is_le (slice_cmp nat_cmp e.path prefix)
+
+-- whether an entry's path is this one
+abbrev pub is_at : List ℕ → IndexEntry → Bool
+is_at path e = is_eq (slice_cmp nat_cmp e.path path)
 
 -- what is asked of an entry: whether its path is below the prefix, begins with it, or is it or below it
 abbrev pub meets : Question → List ℕ → IndexEntry → Bool

@@ -3,6 +3,7 @@
 ghost use Rattle.std.specs.Prelude.{map};
 ghost use Rattle.status_index.specs.Entries.{IsIndex, index_entries};
 
+mod lookup;
 mod staging;
 
 use crate::entry::{Entry, NewEntry, PathStorage};

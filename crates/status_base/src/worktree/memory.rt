@@ -1,12 +1,15 @@
 //! A worktree in memory.
 
-ghost use Rattle.std.specs.Prelude.{◌≡◌, ◌⊎◌, [], None, Some, IfOk, IfErr, OnOk, MatchOption, is_some};
+ghost use Rattle.std.specs.Prelude.{◌≡◌, ◌⊎◌, ℕ, ◌<◌, ◌^◌, [], length, None, Some, IfOk, IfErr, OnOk, MatchOption, is_some};
+ghost use Rattle.std.specs.Global.{Vec as ByteVec};
+ghost use Rattle.std.specs.Map.Iter.{ShowsInOrder, deref_pair};
 ghost use Rattle.std.specs.Option.{option_map};
 ghost use Rattle.std.specs.FinMap as paths;
 ghost use Rattle.bstr.specs.BStr.{bstr_bytes};
 ghost use Rattle.status_base.specs.Paths.{is_odd, odd_component};
 ghost use Rattle.status_base.specs.MemoryTree.{is_no_directory, has_below, has_file_above, absence, bare_directory, planted_at, no_faults};
-ghost use Rattle.status_base.specs.Nodes.{placed_of, is_bad_path, put_fault, fault_without_node, IsPut};
+ghost use Rattle.status_base.specs.Nodes.{placed_of, placed_entries, is_bad_path, put_fault, fault_without_node, IsPut};
+ghost use Rattle.status_base.specs.declared.worktree.memory.Node.{Node as NodeValue};
 ghost use Rattle.status_base.specs.Trees.{empty_tree};
 
 use crate::worktree::Worktree;
@@ -14,6 +17,7 @@ use bstr::BStr;
 use status_index::{Fault, Metadata, NodeKind, ReadBytes, Time};
 use std::alloc::{AllocError, AllocFailed, Global};
 use std::collections::BTreeMap;
+use std::collections::btree_map::Iter;
 use std::marker::Model;
 use thiserror::Error;
 
@@ -162,6 +166,15 @@ impl MemoryWorktree {
         ensures after { self.new ≡ record self.old { nodes = paths.remove self.old.nodes (bstr_bytes path.entry) } }
     {
         self.nodes.remove(path.as_bytes())
+    }
+
+    /// The nodes that were put, with their paths, in ascending order of the paths' bytes.
+    pub fn nodes(&self) -> Iter<'_, Vec<u8>, Node>
+        ensures nodes { placed_entries result ≡ paths.entries self.now.nodes }
+        ensures runs { ShowsInOrder (deref_pair {K = ByteVec ℕ} {X = NodeValue}) }
+        ensures fits { length result < 2 ^ 63 }
+    {
+        self.nodes.iter()
     }
 
     fn node_at(&self, path: &[u8]) -> Option<&Node>

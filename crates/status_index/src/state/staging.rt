@@ -5,16 +5,15 @@ use crate::entry::Entry;
 use crate::flags::Flags;
 use crate::id::ObjectId;
 use crate::mode::Mode;
-use crate::path_probe::{Question, front_len};
 use crate::stat::Stat;
 use bstr::BStr;
 
 impl State {
-    ghost use Rattle.std.specs.Prelude.{◌≡◌, ◌≢◌, ◌≤◌, length, IsOk, IfErr, OnOk, OnErr};
+    ghost use Rattle.std.specs.Prelude.{◌≡◌, ◌≢◌, IsOk, IfErr, OnOk, OnErr};
     ghost use Rattle.std.specs.List.{Any, prefix_len};
     ghost use Rattle.bstr.specs.BStr.{bstr_bytes};
     ghost use Rattle.status_index.specs.Entries.{IsIndex, said_of};
-    ghost use Rattle.status_index.specs.States.{entries_of, backing_of, timestamp_of, index_of};
+    ghost use Rattle.status_index.specs.States.{backing_of, timestamp_of, index_of};
     ghost use Rattle.status_index.specs.Stretch.{is_below, is_up_to};
     ghost use Rattle.status_index.specs.Staging.{IsPutRefusal, with_entry};
 
@@ -76,18 +75,6 @@ impl State {
     {
         let (start, end) = self.places_of(path.as_bytes());
         self.entries.drain(start..end);
-    }
-
-    /// From which place up to which the entries of a path stand. Where it has none, both are the place for one.
-    fn places_of(&self, path: &[u8]) -> (usize, usize)
-        ensures start { result.0 ≡ prefix_len (is_below path.now) (index_of self.now) }
-        ensures end { result.1 ≡ prefix_len (is_up_to path.now) (index_of self.now) }
-        ensures order { result.0 ≤ result.1 }
-        ensures inside { result.1 ≤ length (entries_of self.now) }
-    {
-        let (start, _) = front_len(&self.entries, &self.backing, path, Question::Below);
-        let (end, _) = front_len(&self.entries, &self.backing, path, Question::UpTo);
-        (start, end)
     }
 
     /// Whether an entry may be put at a path, whose entries stand from `start` up to `end`. Any entry of another path
