@@ -33,4 +33,6 @@ mod state;
 #[cfg(test)]
 mod tracker;
 #[cfg(test)]
+mod walks;
+#[cfg(test)]
 mod words;

@@ -1,0 +1,12 @@
+use Rattle.std.proofs.Common.{◌≡◌, false}
+use Rattle.status_index.specs.States.{index_of}
+use Rattle.status_walk.proofs.Walking.{IsUnderWay}
+use Rattle.status_walk.proofs.untracked.UntrackedWalkWalkMemoryWorktree.walk.Given as goal
+
+abbrev pub invariant-loop-path : goal.invariant-loop-path
+invariant-loop-path g l = record {
+  keeps : g.D.Delegate.keeps l.delegate ≡ g.D.Delegate.keeps l.fn.delegate;
+  going : g.D.Delegate.cancelled l.delegate ≡ false;
+  way : IsUnderWay l.worktree (index_of l.index) (g.P.Pathspec.included l.pathspec) (g.D.Delegate.keeps l.fn.delegate)
+      (g.D.Delegate.kept l.fn.delegate) l.emitted l.path-iterator (g.D.Delegate.kept l.delegate);
+}

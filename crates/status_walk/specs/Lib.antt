@@ -1,0 +1,4 @@
+pub mod Untracked
+pub mod Walked
+pub mod Walks
+pub mod WorktreeIds

@@ -1,0 +1,27 @@
+-- What a walk hands out.
+use Rattle.std.specs.Prelude.{ℕ, Bool, true, false, List, Option, Some, None}
+use Rattle.bstr.specs.Owned.{bstring_bytes}
+use Rattle.status_walk.specs.declared.delegate.Action.{Action}
+use Rattle.status_walk.specs.declared.delegate.Action.TheVariants.{Continue, Cancel}
+use Rattle.status_walk.specs.declared.entry.DirEntry.{DirEntry}
+use Rattle.status_walk.specs.declared.entry.Kind.{Kind}
+use Rattle.status_walk.specs.declared.entry.Status.{Status}
+
+-- a node that was found, and the status of the directory that stands for it, where one does
+pub record Walked : Type 0 where
+  pub path : List ℕ
+  pub status : Status
+  pub disk_kind : Option Kind
+  pub collapsed : Option Status
+
+abbrev pub walked_of : DirEntry → Option Status → Walked
+walked_of e collapsed = record { path = bstring_bytes e.rela_path; status = e.status; disk_kind = e.disk_kind; collapsed = collapsed }
+
+abbrev pub is_cancel : Action → Bool
+is_cancel Continue = false
+is_cancel Cancel = true
+
+-- nothing handed out ends no walk
+abbrev pub is_cancelling : Option Action → Bool
+is_cancelling None = false
+is_cancelling (Some action) = is_cancel action

@@ -1,0 +1,31 @@
+-- What a walk means, and what it answers.
+use Rattle.std.specs.Prelude.{◌≡◌, ℕ, ◌≤◌, Bool, false, List, ◌++◌, length, take, filter, Option, Some, None, Result, Ok, Err, ⊤}
+use Rattle.bstr.specs.Owned.{bstring_bytes}
+use Rattle.status_index.specs.declared.fault.Fault.{Fault as WorktreeFault}
+use Rattle.status_walk.specs.declared.walk.Outcome.{Outcome}
+use Rattle.status_walk.specs.declared.walk.WalkError.{WalkError}
+use Rattle.status_walk.specs.declared.walk.WalkError.TheVariants.{Fault, Memory}
+use Rattle.status_walk.specs.Walked.{Walked}
+
+-- a fault, and where it is met
+pub record WalkFault : Type 0 where
+  pub path : List ℕ
+  pub fault : WorktreeFault
+
+-- what there is to find, in order, and the fault behind it, where one ends the walk
+pub record WalkMeaning : Type 0 where
+  pub entries : List Walked
+  pub fault : Option WalkFault
+
+-- a walk to its end hands out all that there is to find, and meets no fault; one that the delegate ends, the first of it
+pub record IsWalked (m : WalkMeaning) (keeps : Walked → Bool) (old new : List Walked) (cancelled : Bool) (o : Outcome) : Type 0 where
+  pub ended : o.cancelled ≡ cancelled
+  pub inside : o.emitted ≤ length m.entries
+  pub kept : new ≡ old ++ filter keeps (take o.emitted m.entries)
+  pub whole : o.cancelled ≡ false → (o.emitted ≡ length m.entries) × (m.fault ≡ None)
+
+-- what a walk answers by its meaning: so it ended; or with the fault that is meant; or memory ran out
+abbrev pub IsWalk : WalkMeaning → (Walked → Bool) → List Walked → Bool → Result Outcome WalkError → List Walked → Type 0
+IsWalk m keeps old cancelled (Ok o) new = IsWalked m keeps old new cancelled o
+IsWalk m keeps old cancelled (Err (Fault path fault)) new = m.fault ≡ Some (record { path = bstring_bytes path; fault = fault })
+IsWalk m keeps old cancelled (Err Memory) new = ⊤

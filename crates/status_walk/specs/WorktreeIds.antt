@@ -1,0 +1,68 @@
+-- The ids of what a walk found.
+use Rattle.std.specs.Prelude.{◌≡◌, ◌⊎◌, ℕ, Bool, true, false, List, Option, Some, None, Result, Ok, Err, if◌then◌else◌}
+use Rattle.status_index.specs.BlobId.{blob_id, null_id}
+use Rattle.status_index.specs.Content.{Content}
+use Rattle.status_index.specs.StreamId.{first_bytes_id}
+use Rattle.status_index.specs.declared.fault.Fault.{Fault}
+use Rattle.status_index.specs.declared.fault.Fault.TheVariants.{NotFound, PermissionDenied, Interrupted, Memory}
+use Rattle.status_index.specs.declared.id.HashKind.{HashKind}
+use Rattle.status_index.specs.declared.id.ObjectId.{ObjectId}
+use Rattle.status_index.specs.declared.metadata.Metadata.{Metadata}
+use Rattle.status_base.specs.Converted.{Converted, refused, same, other}
+use Rattle.status_walk.specs.declared.entry.Kind.{Kind}
+use Rattle.status_walk.specs.declared.entry.Kind.TheVariants.{Untrackable, File, Symlink, Directory, Repository}
+use Rattle.status_walk.specs.declared.id.IdError.{IdError}
+use Rattle.status_walk.specs.declared.id.IdError.TheVariants.{Open, Hash, ReadLink, Convert}
+
+-- a file that doesn't open for one of these faults is passed over
+abbrev pub is_passed_over : Fault → Bool
+is_passed_over NotFound = true
+is_passed_over PermissionDenied = true
+is_passed_over Interrupted = true
+is_passed_over _ = false
+
+abbrev pub hashed : Result ObjectId Fault → Result ObjectId IdError
+hashed (Ok id) = Ok id
+hashed (Err f) = Err (Hash f)
+
+module _ (kind : HashKind) where
+  -- of a file that is stored as it is, as many bytes as lstat says that it has
+  abbrev pub stored_id : Content → Result Metadata Fault → Result ObjectId IdError
+  stored_id content (Ok node) = hashed (first_bytes_id kind content node.len)
+  stored_id content (Err f) = Err (Open f)
+
+  -- of a file, what the filter makes of it
+  abbrev pub converted_id : Result Metadata Fault → Content → Converted → Result ObjectId IdError
+  converted_id node content same = stored_id content node
+  converted_id node content (other bytes) = Ok (blob_id kind bytes)
+  converted_id node content (refused f) = Err (Convert f)
+
+  abbrev pub file_id : Result Metadata Fault → (Content → List ℕ → Converted) → List ℕ → Result Content Fault → Result ObjectId IdError
+  file_id node conversion path (Ok content) = converted_id node content (conversion content path)
+  file_id node conversion path (Err f) = if is_passed_over f then Ok (null_id kind) else Err (Open f)
+
+  abbrev pub link_id : Result (List ℕ) Fault → Result ObjectId IdError
+  link_id (Ok target) = Ok (blob_id kind target)
+  link_id (Err f) = Err (ReadLink f)
+
+  module _ (lstat : List ℕ → Result Metadata Fault) (opened : List ℕ → Result Content Fault) (target : List ℕ → Result (List ℕ) Fault) (conversion : Content → List ℕ → Converted) (path : List ℕ) where
+    -- the id of a node: of a file or a link by its content; whatever else it is, null
+    abbrev pub worktree_id : Option Kind → Result ObjectId IdError
+    worktree_id (Some File) = file_id (lstat path) conversion path (opened path)
+    worktree_id (Some Symlink) = link_id (target path)
+    worktree_id (Some Untrackable) = Ok (null_id kind)
+    worktree_id (Some Directory) = Ok (null_id kind)
+    worktree_id (Some Repository) = Ok (null_id kind)
+    worktree_id None = Ok (null_id kind)
+
+-- the fault within an error
+abbrev pub fault_of : IdError → Fault
+fault_of (Open f) = f
+fault_of (Hash f) = f
+fault_of (ReadLink f) = f
+fault_of (Convert f) = f
+
+-- the id or error that is meant, or want of memory
+abbrev pub IsId : Result ObjectId IdError → Result ObjectId IdError → Type 0
+IsId meant (Ok id) = meant ≡ Ok id
+IsId meant (Err e) = (meant ≡ Err e) ⊎ (fault_of e ≡ Memory)

@@ -1,0 +1,170 @@
+//! The walk that finds what isn't tracked.
+
+ghost use Rattle.std.specs.Prelude.{◌≡◌, ◌++◌, filter, is_some, None, IfOk, OnOk, IsTrue, true, false};
+ghost use Rattle.std.specs.List.{list_any};
+ghost use Rattle.std.specs.Option.{option_map, option_to_list};
+ghost use Rattle.bstr.specs.BStr.{bstr_bytes};
+ghost use Rattle.status_index.specs.Mode.{is_submodule};
+ghost use Rattle.status_index.specs.States.{index_of};
+ghost use Rattle.status_walk.specs.Untracked.{emitted_kind, is_below_submodule, is_submodule_at, is_tracked, is_untracked, untracked_at, untracked_walk};
+ghost use Rattle.status_walk.specs.Walked.{walked_of, is_cancelling};
+ghost use Rattle.status_walk.specs.Walks.{IsWalk};
+
+use crate::delegate::{Action, Delegate};
+use crate::entry::{DirEntry, Kind, Status};
+use crate::walk::{Outcome, Walk, WalkError};
+use bstr::{BStr, BString};
+use status_base::index::{Entry, State};
+use status_base::worktree::{MemoryWorktree, NodeKind, Pathspec};
+use std::alloc::{AllocError, Global};
+
+/// Finds the files, links and other nodes of a worktree in memory that a pathspec includes, whose paths no entry has, and
+/// which lie below no submodule's entry, in ascending order of their paths.
+#[derive(Clone, Copy)]
+pub struct UntrackedWalk {
+    alloc: Global,
+}
+
+impl UntrackedWalk {
+    /// Such a walk.
+    pub fn new(alloc: Global) -> UntrackedWalk {
+        UntrackedWalk { alloc }
+    }
+}
+
+impl Walk<MemoryWorktree> for UntrackedWalk {
+    ghost modelled = { λ _. true };
+
+    ghost meaning = { λ _ tree es _ included. untracked_walk tree es included };
+
+    fn walk<P: Pathspec, D: Delegate>(
+        &mut self,
+        worktree: &MemoryWorktree,
+        index: &State,
+        pathspec: &P,
+        delegate: &mut D,
+    ) -> Result<Outcome, WalkError>
+        requires { D.cancelled delegate.old ≡ false }
+        ensures { IsWalk (untracked_walk worktree.now (index_of index.now) (P.included pathspec.now))
+            (D.keeps delegate.old) (D.kept delegate.old) (D.cancelled delegate.new) result (D.kept delegate.new) }
+    {
+        let mut emitted = 0;
+        for (path, node) in worktree.nodes() {
+            let path = BStr::new(path.as_slice());
+            match hand_out(self.alloc, index, pathspec, path, node.kind, delegate)? {
+                None => {}
+                Some(Action::Continue) => emitted += 1,
+                Some(Action::Cancel) => {
+                    return Ok(Outcome {
+                        emitted: emitted + 1,
+                        cancelled: true,
+                    });
+                }
+            }
+        }
+        Ok(Outcome {
+            emitted,
+            cancelled: false,
+        })
+    }
+}
+
+/// Hands a node out, if it is untracked, and gives the delegate's answer.
+fn hand_out<P: Pathspec, D: Delegate>(
+    alloc: Global,
+    index: &State,
+    pathspec: &P,
+    path: BStr<'_>,
+    kind: NodeKind,
+    delegate: &mut D,
+) -> Result<Option<Action>, AllocError>
+    requires { D.cancelled delegate.old ≡ false }
+    ensures keeps { D.keeps delegate.new ≡ D.keeps delegate.old }
+    ensures handed { IfOk result (λ action. is_some action
+        ≡ is_some (untracked_at (index_of index.now) (P.included pathspec.now) (bstr_bytes path.entry) kind)) }
+    ensures kept { OnOk result (D.kept delegate.new ≡ D.kept delegate.old ++ filter (D.keeps delegate.old)
+        (option_to_list (untracked_at (index_of index.now) (P.included pathspec.now) (bstr_bytes path.entry) kind))) }
+    ensures cancelled { IfOk result (λ action. D.cancelled delegate.new ≡ is_cancelling action) }
+{
+    match untracked_at(alloc, index, pathspec, path, kind)? {
+        Some(entry) => Ok(Some(delegate.emit(entry, None)?)),
+        None => Ok(None),
+    }
+}
+
+/// The entry of a node that isn't tracked and may be. None for another.
+fn untracked_at<P: Pathspec>(
+    alloc: Global,
+    index: &State,
+    pathspec: &P,
+    path: BStr<'_>,
+    kind: NodeKind,
+) -> Result<Option<DirEntry>, AllocError>
+    ensures { IfOk result (λ found. option_map (λ e. walked_of e None) found
+        ≡ untracked_at (index_of index.now) (P.included pathspec.now) (bstr_bytes path.entry) kind) }
+{
+    let Some(kind) = emitted_kind(kind) else {
+        return Ok(None);
+    };
+    if !is_untracked(index, pathspec, path) {
+        return Ok(None);
+    }
+    Ok(Some(DirEntry {
+        rela_path: BString::from_slice(alloc, path.as_bytes())?,
+        status: Status::Untracked,
+        disk_kind: Some(kind),
+    }))
+}
+
+/// What a node is as an entry of a walk. None for a directory, which isn't handed out itself.
+fn emitted_kind(kind: NodeKind) -> Option<Kind>
+    ensures { result ≡ emitted_kind kind }
+{
+    match kind {
+        NodeKind::File => Some(Kind::File),
+        NodeKind::Link => Some(Kind::Symlink),
+        NodeKind::Other => Some(Kind::Untrackable),
+        NodeKind::Directory => None,
+    }
+}
+
+/// Whether a pathspec includes a path that no entry has, below no submodule's entry.
+fn is_untracked<P: Pathspec>(index: &State, pathspec: &P, path: BStr<'_>) -> bool
+    ensures { result ≡ is_untracked (index_of index.now) (P.included pathspec.now) (bstr_bytes path.entry) }
+{
+    pathspec.includes(path, false) && !is_tracked(index, path) && !is_below_submodule(index, path)
+}
+
+/// Whether an entry has this path.
+fn is_tracked(index: &State, path: BStr<'_>) -> bool
+    ensures { result ≡ is_tracked (index_of index.now) (bstr_bytes path.entry) }
+{
+    !index.entries_at(path).is_empty()
+}
+
+/// Whether a submodule's entry stands at a directory above a path.
+fn is_below_submodule(index: &State, path: BStr<'_>) -> bool
+    ensures { result ≡ is_below_submodule (index_of index.now) (bstr_bytes path.entry) }
+{
+    let path = path.as_bytes();
+    for (end, byte) in path.iter().enumerate() {
+        if *byte == b'/' && is_submodule(index, BStr::new(&path[..end])) {
+            return true;
+        }
+    }
+    false
+}
+
+/// Whether an entry of this path is a submodule's.
+fn is_submodule(index: &State, path: BStr<'_>) -> bool
+    ensures { result ≡ is_submodule_at (index_of index.now) (bstr_bytes path.entry) }
+{
+    has_submodule(index.entries_at(path))
+}
+
+/// Whether one of these entries is a submodule's.
+fn has_submodule(entries: &[Entry]) -> bool
+    ensures { result ≡ list_any (λ e. is_submodule e.mode) entries.now }
+{
+    entries.iter().any(|entry| entry.mode.is_submodule())
+}
