@@ -1,0 +1,9 @@
+pub mod Afterwards
+pub mod Blank
+pub mod Breaking
+pub mod Counting
+pub mod Gets
+pub mod Pairing
+pub mod Placing
+pub mod Room
+pub mod Weights

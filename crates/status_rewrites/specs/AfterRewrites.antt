@@ -1,0 +1,65 @@
+-- The list after its rewrites.
+use Rattle.std.specs.Prelude.{◌≡◌, ℕ, zero, suc, ◌==◌, Bool, true, false, List, [], ◌∷◌, map, Option, Some, None, Result, Ok, Err, slice_get, find, ⊤}
+use Rattle.std.specs.Global.{Vec}
+use Rattle.std.specs.List.{All, enumerate_from, flat_map, sum_by}
+use Rattle.status_tracker.specs.declared.tracker.Pair.{Pair}
+use Rattle.status_rewrites.specs.declared.refused.Refused.{Refused}
+use Rattle.status_rewrites.specs.declared.refused.Refused.TheVariants.{BadPair, Memory}
+use Rattle.status_rewrites.specs.declared.rewritten.Rewritten.{Rewritten}
+use Rattle.status_rewrites.specs.declared.rewritten.Rewritten.TheVariants.{Alone, Rewrite}
+use Rattle.status_rewrites.specs.Lawful.{AreLawful, IsBadPair}
+use Rattle.status_rewrites.specs.Parts.{goes}
+
+-- what a pair brings, of its source x: a copy a copy of it, a rename x itself
+abbrev pub IsOf : {I : Type 0} → (I → I → Type 0) → Bool → I → I → Type 0
+IsOf is_made_of true x y = is_made_of x y
+IsOf is_made_of false x y = y ≡ x
+
+-- a pair, and what it brings of its source
+abbrev pub Brings : {I : Type 0} → (I → I → Type 0) → List I → Pair × I → Type 0
+Brings {I} is_made_of xs m = (x : I) × (slice_get xs m.0.source ≡ Some x) × IsOf is_made_of m.0.copy x m.1
+
+abbrev pub pairs_of : {I : Type 0} → List (Pair × I) → List Pair
+pairs_of {I} ms = map (λ (m : Pair × I). m.0) ms
+
+-- an item that so many renames take out: nothing, unless none does
+abbrev pub staying : {I : Type 0} → ℕ → I → Option I
+staying zero x = Some x
+staying (suc n) x = None
+
+-- the pair that comes to a place, with what it brings
+abbrev pub coming : {I : Type 0} → List (Pair × I) → ℕ → Option (Pair × I)
+coming {I} ms i = find (λ (m : Pair × I). m.0.destination == i) ms
+
+-- what stands in a place, by what stays there and what comes: nothing, the item alone, or a rewrite
+abbrev pub standing : {I : Type 0} → Option I → Option (Pair × I) → List (Rewritten I)
+standing None m = []
+standing (Some x) None = Alone x ∷ []
+standing (Some x) (Some m) = Rewrite m.1 x m.0.copy ∷ []
+
+-- the list after the rewrites, place by place
+abbrev pub after_rewrites : {I : Type 0} → List I → List (Pair × I) → List (Rewritten I)
+after_rewrites {I} xs ms =
+    flat_map (λ (e : ℕ × I). standing (staying (goes (pairs_of ms) e.0) e.1) (coming ms e.0)) (enumerate_from 0 xs)
+
+-- which of the list's items an entry holds: a rename both, a copy its destination alone
+abbrev pub parts : {I : Type 0} → Rewritten I → List I
+parts (Alone x) = x ∷ []
+parts (Rewrite x y true) = y ∷ []
+parts (Rewrite x y false) = x ∷ y ∷ []
+
+-- the list after the rewrites of these pairs, in which each item stands once, alone or within a rewrite
+pub record IsRewritten {I : Type 0} (is_made_of : I → I → Type 0) (xs : List I) (ps : List Pair) (entries : List (Rewritten I)) : Type 0 where
+  -- the pairs, each with what it brings
+  pub moves : List (Pair × I)
+  pub moves_are : pairs_of moves ≡ ps
+  pub bring : All (Brings is_made_of xs) moves
+  pub entries_are : entries ≡ after_rewrites xs moves
+  -- of whatever is summed up
+  pub bag : (f : I → ℕ) → sum_by f (flat_map parts entries) ≡ sum_by f xs
+
+-- the list with its rewrites where the pairs break no rule, else the first pair that breaks one; or want of memory
+abbrev pub IsAnswer : {I : Type 0} → (I → Bool) → (I → Bool) → (I → I → Type 0) → List I → List Pair → Result (Vec (Rewritten I)) Refused → Type 0
+IsAnswer removed walked is_made_of xs ps (Ok entries) = AreLawful removed walked xs ps × IsRewritten is_made_of xs ps entries.items
+IsAnswer removed walked is_made_of xs ps (Err (BadPair at)) = IsBadPair removed walked xs ps at
+IsAnswer removed walked is_made_of xs ps (Err Memory) = ⊤

@@ -1,0 +1,4 @@
+pub mod AfterRewrites
+pub mod Lawful
+pub mod Parts
+pub mod Places

@@ -1,0 +1,104 @@
+//! A list and its pairs, made one.
+
+ghost use Rattle.std.specs.Prelude.{◌≡◌, ◌<◌, true, IfOk, OnOk, length, map, flat_map, slice_get};
+ghost use Rattle.status_rewrites.specs.AfterRewrites.{IsAnswer};
+ghost use Rattle.status_rewrites.specs.Places.{free, fits, passes, is_free, may_go, standing_in, IsPaired};
+
+use crate::item::Item;
+use crate::place::{Place, entry_of, leave, may_come, may_go, reach};
+use crate::refused::Refused;
+use crate::rewritten::Rewritten;
+use status_tracker::Pair;
+use std::alloc::{AllocError, Global};
+
+/// A place for each item.
+fn places_of<I: Drop>(alloc: Global, items: Vec<I>) -> Result<Vec<Place<I>>, AllocError>
+    ensures { IfOk result (λ places. places.items ≡ map free items.items) }
+{
+    let mut places = Vec::with_capacity(alloc, items.len())?;
+    for item in items {
+        places.push(Place {
+            item: Some(item),
+            arrived: None,
+            as_copy: false,
+            kept: false,
+        })?;
+    }
+    Ok(places)
+}
+
+fn source_fits<I: Item>(places: &[Place<I>], pair: &Pair) -> bool
+    ensures { result ≡ passes (may_go I.is_removed pair.now.copy) (slice_get places.now pair.now.source) }
+{
+    match places.get(pair.source) {
+        Some(place) => may_go(place, pair.copy),
+        None => false,
+    }
+}
+
+fn destination_fits<I: Item>(places: &[Place<I>], pair: &Pair) -> bool
+    ensures { result ≡ passes (is_free I.is_walked) (slice_get places.now pair.now.destination) }
+{
+    match places.get(pair.destination) {
+        Some(place) => may_come(place),
+        None => false,
+    }
+}
+
+/// Whether the places leave room for a pair: at each of them an item plays one part at most.
+fn fits<I: Item>(places: &[Place<I>], pair: &Pair) -> bool
+    ensures { result ≡ fits I.is_removed I.is_walked places.now pair.now }
+{
+    pair.source != pair.destination && source_fits(places, pair) && destination_fits(places, pair)
+}
+
+/// Moves or copies a pair's source into its destination's place.
+fn pair_up<I: Item>(places: &mut Vec<Place<I>>, pair: &Pair) -> Result<(), AllocError>
+    requires source { pair.now.source < length places.old.items }
+    requires destination { pair.now.destination < length places.old.items }
+    ensures { OnOk result (IsPaired I.is_copy places.old.items pair.now places.new.items) }
+{
+    let source = leave(&mut places[pair.source], pair.copy)?;
+    reach(&mut places[pair.destination], source, pair.copy);
+    Ok(())
+}
+
+/// What stands in the places, in their order.
+fn entries_of<I: Drop>(
+    alloc: Global,
+    places: Vec<Place<I>>,
+) -> Result<Vec<Rewritten<I>>, AllocError>
+    ensures { IfOk result (λ entries. entries.items ≡ flat_map standing_in places.items) }
+{
+    let mut entries = Vec::with_capacity(alloc, places.len())?;
+    for place in places {
+        if let Some(entry) = entry_of(place) {
+            entries.push(entry)?;
+        }
+    }
+    Ok(entries)
+}
+
+/// The list with its rewrites. Each pair is one entry, in its destination's place, and the source of a rename has no
+/// other. All else stands as it stood, a copy's source too. Takes time O(items + pairs).
+///
+/// # Errors
+/// The first pair that breaks a rule: a place is out of range; a destination is no walked item, or has another pair; a
+/// rename's source is no removed item, or another rename's; a copy's source is a rename's, or a destination. Want of
+/// memory.
+pub fn rewrite<I: Item>(
+    alloc: Global,
+    items: Vec<I>,
+    pairs: &[Pair],
+) -> Result<Vec<Rewritten<I>>, Refused>
+    ensures { IsAnswer I.is_removed I.is_walked I.is_copy items.items pairs.now result }
+{
+    let mut places = places_of(alloc, items)?;
+    for (at, pair) in pairs.iter().enumerate() {
+        if !fits(&places, pair) {
+            return Err(Refused::BadPair { at });
+        }
+        pair_up(&mut places, pair)?;
+    }
+    Ok(entries_of(alloc, places)?)
+}
