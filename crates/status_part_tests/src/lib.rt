@@ -1,5 +1,5 @@
-//! Tests of what the status call is made of, and of trackers: the board, rounds, the index, the worktree and comparers.
-//! They name public items alone, so those crates are proved without them.
+//! Tests of what the status call is made of, and of trackers and rewrites: the board, rounds, the index, the worktree
+//! and comparers. They name public items alone, so those crates are proved without them.
 #![tactic(auto)]
 
 #[cfg(test)]
@@ -8,6 +8,8 @@ mod board;
 mod compare;
 #[cfg(test)]
 mod disk;
+#[cfg(test)]
+mod draws;
 #[cfg(test)]
 mod hash;
 #[cfg(test)]
@@ -20,6 +22,8 @@ mod memory;
 mod pieces;
 #[cfg(test)]
 mod reading;
+#[cfg(test)]
+mod rewrites;
 #[cfg(test)]
 mod round;
 #[cfg(test)]

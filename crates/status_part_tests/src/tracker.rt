@@ -1,8 +1,8 @@
 //! Trackers: pairs of equal content, by hand and against a plain count.
 
-ghost use Rattle.std.specs.Prelude.{◌<◌};
 ghost use Rattle.status_tracker.specs.Changed.{Changed};
 
+use crate::draws::Draws;
 use bstr::BStr;
 use status_index::{EntryKind, HashKind, ObjectId};
 use status_tracker::{Change, ChangeKind, IdentityTracker, Rewrites, Tracker, TrackerError};
@@ -191,51 +191,35 @@ fn files_with_no_bytes_pair_where_they_are_tracked(rt: HostRuntime) -> Result<()
     Ok(())
 }
 
-// Numbers that look drawn.
-#[derive(Drop)]
-struct Draws(u64);
-
-impl Draws {
-    // A number below `bound`.
-    fn below(&mut self, bound: u64) -> u64
-        requires { 0 < bound }
-    {
-        self.0 = self
-            .0
-            .wrapping_mul(6_364_136_223_846_793_005)
-            .wrapping_add(1_442_695_040_888_963_407);
-        (self.0 >> 33) % bound
-    }
-
-    fn item(&mut self) -> Item {
-        Item {
-            kind: match self.below(5) {
-                0 => ChangeKind::Modification,
-                1 | 2 => ChangeKind::Deletion,
-                _ => ChangeKind::Addition,
-            },
-            path: match self.below(5) {
-                0 => "a",
-                1 => "a/b",
-                2 => "ab",
-                3 => "b",
-                _ => "c",
-            },
-            mode: match self.below(8) {
-                0 => EntryKind::Tree,
-                1 => EntryKind::Commit,
-                2 => EntryKind::BlobExecutable,
-                3 | 4 => EntryKind::Link,
-                _ => EntryKind::Blob,
-            },
-            id: match self.below(8) {
-                0 => NULL,
-                1 => LONG_FOO,
-                2 => ObjectId::empty_blob(HashKind::Sha1),
-                3 => BAR,
-                _ => FOO,
-            },
-        }
+// A change that may pair.
+fn drawn_item(draws: &mut Draws) -> Item {
+    Item {
+        kind: match draws.below(5) {
+            0 => ChangeKind::Modification,
+            1 | 2 => ChangeKind::Deletion,
+            _ => ChangeKind::Addition,
+        },
+        path: match draws.below(5) {
+            0 => "a",
+            1 => "a/b",
+            2 => "ab",
+            3 => "b",
+            _ => "c",
+        },
+        mode: match draws.below(8) {
+            0 => EntryKind::Tree,
+            1 => EntryKind::Commit,
+            2 => EntryKind::BlobExecutable,
+            3 | 4 => EntryKind::Link,
+            _ => EntryKind::Blob,
+        },
+        id: match draws.below(8) {
+            0 => NULL,
+            1 => LONG_FOO,
+            2 => ObjectId::empty_blob(HashKind::Sha1),
+            3 => BAR,
+            _ => FOO,
+        },
     }
 }
 
@@ -301,7 +285,7 @@ fn drawn_changes_pair_as_a_plain_count_says(rt: HostRuntime) -> Result<(), Fail>
         let track_empty = draws.below(2) == 0;
         let mut items = Vec::new(alloc);
         for _ in 0..draws.below(40) {
-            items.push(draws.item())?;
+            items.push(drawn_item(&mut draws))?;
         }
         let want = plain_pairs(alloc, &items, track_empty)?;
         let pairs = found(alloc, &mut tracker, &items, track_empty)?;

@@ -1,6 +1,10 @@
-//! The words of the index and its errors.
+//! The words of the index, and of errors.
 
+use bstr::BString;
 use status_index::{ByteText, EntryKind, Fault, IndexError, Mode, TimeError};
+use status_rewrites::Refused;
+use status_tracker::TrackerError;
+use status_walk::{IdError, WalkError};
 use std::test::Fail;
 
 #[test]
@@ -38,6 +42,50 @@ fn errors_have_words(rt: HostRuntime) -> Result<(), Fail> {
         text.as_str(),
         "The clock was off when reading file related metadata after updating a file on disk"
     );
+    Ok(())
+}
+
+#[test]
+fn errors_of_walks_and_pairs_have_words(rt: HostRuntime) -> Result<(), Fail> {
+    let alloc = rt.alloc();
+    let fault = Fault::NotFound;
+    let walk = WalkError::Fault {
+        rela_path: BString::from_slice(alloc, b"a")?,
+        fault,
+    };
+    for (text, want) in [
+        (format!(in alloc; "{walk}")?, "not found"),
+        (format!(in alloc; "{}", WalkError::Memory)?, "Out of memory"),
+        (format!(in alloc; "{}", IdError::Open(fault))?, "not found"),
+        (format!(in alloc; "{}", IdError::Hash(fault))?, "not found"),
+        (
+            format!(in alloc; "{}", IdError::ReadLink(fault))?,
+            "not found",
+        ),
+        (
+            format!(in alloc; "{}", IdError::Convert(fault))?,
+            "not found",
+        ),
+        (
+            format!(in alloc; "{}", TrackerError::BadPair { at: 3 })?,
+            "bad pair at 3",
+        ),
+        (
+            format!(in alloc; "{}", TrackerError::Refused(5))?,
+            "refused with code 5",
+        ),
+        (
+            format!(in alloc; "{}", TrackerError::Memory)?,
+            "Out of memory",
+        ),
+        (
+            format!(in alloc; "{}", Refused::BadPair { at: 3 })?,
+            "bad pair at 3",
+        ),
+        (format!(in alloc; "{}", Refused::Memory)?, "Out of memory"),
+    ] {
+        assert_eq!(rt; text.as_str(), want);
+    }
     Ok(())
 }
 

@@ -1,0 +1,419 @@
+//! Lists with their renames and copies, by hand and against a plain model.
+
+ghost use Rattle.std.specs.Prelude.{◌≡◌, true, false, refl};
+ghost use Rattle.std.proofs.Common.{sym};
+ghost use Rattle.status_part_tests.specs.declared.rewrites.Node.TheVariants as nodes;
+
+use crate::draws::Draws;
+use Named::{Alone, Copied, Renamed};
+use Node::{Changed, Removed, Walked};
+use status_rewrites::{Item, Refused, Rewritten, rewrite};
+use status_tracker::Pair;
+use std::alloc::{AllocError, Global};
+use std::test::Fail;
+
+/// An item of a test, named by its place.
+#[derive(Clone, Copy, Debug)]
+enum Node {
+    Removed(usize),
+    Changed(usize),
+    Walked(usize),
+}
+
+impl Node {
+    fn name(&self) -> usize {
+        match self {
+            Removed(name) | Changed(name) | Walked(name) => *name,
+        }
+    }
+}
+
+impl Item for Node {
+    ghost is_removed = { elim [ nodes.Removed n ↦ true | nodes.Changed n ↦ false | nodes.Walked n ↦ false ] };
+
+    ghost is_walked = { elim [ nodes.Removed n ↦ false | nodes.Changed n ↦ false | nodes.Walked n ↦ true ] };
+
+    ghost is_copy = { λ x y. y ≡ x };
+
+    ghost apart = { elim [ nodes.Removed n ↦ λ _. refl | nodes.Changed n ↦ λ _. refl | nodes.Walked n ↦ λ no. sym no ] };
+
+    fn is_removed(&self) -> bool {
+        matches!(self, Removed(_))
+    }
+
+    fn is_walked(&self) -> bool {
+        matches!(self, Walked(_))
+    }
+
+    fn another(&self) -> Result<Node, AllocError> {
+        Ok(*self)
+    }
+}
+
+/// An entry, by the names of its items.
+#[derive(Clone, Copy, Debug, PartialEq, Eq)]
+enum Named {
+    Alone(usize),
+    /// From the first to the second.
+    Renamed(usize, usize),
+    /// From the first to the second.
+    Copied(usize, usize),
+}
+
+/// A list rewritten, by names, or the place of the bad pair.
+fn rewritten(
+    alloc: Global,
+    nodes: &[Node],
+    pairs: &[Pair],
+) -> Result<Result<Vec<Named>, usize>, AllocError> {
+    let entries = match rewrite(alloc, Vec::from_slice(alloc, nodes)?, pairs) {
+        Ok(entries) => entries,
+        Err(Refused::BadPair { at }) => return Ok(Err(at)),
+        Err(Refused::Memory) => return Err(AllocError),
+    };
+    let mut named = Vec::new(alloc);
+    for entry in &entries {
+        named.push(match entry {
+            Rewritten::Alone(item) => Alone(item.name()),
+            Rewritten::Rewrite {
+                source,
+                destination,
+                copy: true,
+            } => Copied(source.name(), destination.name()),
+            Rewritten::Rewrite {
+                source,
+                destination,
+                copy: false,
+            } => Renamed(source.name(), destination.name()),
+        })?;
+    }
+    Ok(Ok(named))
+}
+
+/// Items, pairs (source, destination, copy), and the entries, or the place of the bad pair.
+type Row<'a> = (
+    &'a [Node],
+    &'a [(usize, usize, bool)],
+    Result<&'a [Named], usize>,
+);
+
+const ROWS: [Row<'static>; 42] = [
+    (&[], &[], Ok(&[])),
+    // What is in no pair stays.
+    (
+        &[Removed(0), Changed(1), Walked(2)],
+        &[],
+        Ok(&[Alone(0), Alone(1), Alone(2)]),
+    ),
+    // A rename's source leaves its place, and the rename stands in its destination's.
+    (
+        &[Removed(0), Changed(1), Walked(2)],
+        &[(0, 2, false)],
+        Ok(&[Alone(1), Renamed(0, 2)]),
+    ),
+    (
+        &[Walked(0), Changed(1), Removed(2)],
+        &[(2, 0, false)],
+        Ok(&[Renamed(2, 0), Alone(1)]),
+    ),
+    (
+        &[Removed(0), Removed(1), Walked(2), Walked(3)],
+        &[(0, 3, false), (1, 2, false)],
+        Ok(&[Renamed(1, 2), Renamed(0, 3)]),
+    ),
+    // A copy's source stays, whatever it is.
+    (
+        &[Changed(0), Changed(1), Walked(2)],
+        &[(0, 2, true)],
+        Ok(&[Alone(0), Alone(1), Copied(0, 2)]),
+    ),
+    (
+        &[Walked(0), Changed(1)],
+        &[(1, 0, true)],
+        Ok(&[Copied(1, 0), Alone(1)]),
+    ),
+    (
+        &[Removed(0), Walked(1)],
+        &[(0, 1, true)],
+        Ok(&[Alone(0), Copied(0, 1)]),
+    ),
+    (
+        &[Walked(0), Walked(1)],
+        &[(0, 1, true)],
+        Ok(&[Alone(0), Copied(0, 1)]),
+    ),
+    // One source of several copies.
+    (
+        &[Changed(0), Walked(1), Walked(2)],
+        &[(0, 2, true), (0, 1, true)],
+        Ok(&[Alone(0), Copied(0, 1), Copied(0, 2)]),
+    ),
+    (
+        &[
+            Removed(0),
+            Changed(1),
+            Walked(2),
+            Walked(3),
+            Walked(4),
+            Walked(5),
+        ],
+        &[(1, 4, true), (0, 2, false), (1, 3, true)],
+        Ok(&[
+            Alone(1),
+            Renamed(0, 2),
+            Copied(1, 3),
+            Copied(1, 4),
+            Alone(5),
+        ]),
+    ),
+    // A place out of range.
+    (&[], &[(0, 0, true)], Err(0)),
+    (&[Removed(0), Walked(1)], &[(2, 1, false)], Err(0)),
+    (&[Removed(0), Walked(1)], &[(2, 1, true)], Err(0)),
+    (&[Removed(0), Walked(1)], &[(0, 2, false)], Err(0)),
+    (&[Removed(0), Walked(1)], &[(0, 2, true)], Err(0)),
+    (
+        &[Removed(0), Walked(1)],
+        &[(0, 1, false), (usize::MAX, 1, true)],
+        Err(1),
+    ),
+    // A destination that didn't come.
+    (&[Removed(0), Changed(1)], &[(0, 1, false)], Err(0)),
+    (&[Removed(0), Removed(1)], &[(0, 1, false)], Err(0)),
+    (&[Changed(0), Changed(1)], &[(0, 1, true)], Err(0)),
+    (&[Changed(0), Removed(1)], &[(0, 1, true)], Err(0)),
+    (
+        &[Removed(0), Removed(1), Walked(2), Changed(3)],
+        &[(0, 2, false), (1, 3, false)],
+        Err(1),
+    ),
+    // A destination of two pairs.
+    (
+        &[Removed(0), Removed(1), Walked(2)],
+        &[(0, 2, false), (1, 2, false)],
+        Err(1),
+    ),
+    (
+        &[Removed(0), Changed(1), Walked(2)],
+        &[(0, 2, false), (1, 2, true)],
+        Err(1),
+    ),
+    (
+        &[Removed(0), Changed(1), Walked(2)],
+        &[(1, 2, true), (0, 2, false)],
+        Err(1),
+    ),
+    (
+        &[Changed(0), Walked(1)],
+        &[(0, 1, true), (0, 1, true)],
+        Err(1),
+    ),
+    // A rename of what didn't go.
+    (&[Changed(0), Walked(1)], &[(0, 1, false)], Err(0)),
+    (&[Walked(0), Walked(1)], &[(0, 1, false)], Err(0)),
+    (
+        &[Removed(0), Changed(1), Walked(2), Walked(3)],
+        &[(0, 2, false), (1, 3, false)],
+        Err(1),
+    ),
+    // The source of two renames.
+    (
+        &[Removed(0), Walked(1), Walked(2)],
+        &[(0, 1, false), (0, 2, false)],
+        Err(1),
+    ),
+    (
+        &[Removed(0), Removed(1), Walked(2), Walked(3), Walked(4)],
+        &[(0, 2, false), (1, 3, false), (0, 4, false)],
+        Err(2),
+    ),
+    // The source of a rename and of a copy.
+    (
+        &[Removed(0), Walked(1), Walked(2)],
+        &[(0, 1, false), (0, 2, true)],
+        Err(1),
+    ),
+    (
+        &[Removed(0), Walked(1), Walked(2)],
+        &[(0, 1, true), (0, 2, false)],
+        Err(1),
+    ),
+    // The source of a copy and a destination.
+    (
+        &[Removed(0), Walked(1), Walked(2)],
+        &[(0, 1, false), (1, 2, true)],
+        Err(1),
+    ),
+    (
+        &[Removed(0), Walked(1), Walked(2)],
+        &[(1, 2, true), (0, 1, false)],
+        Err(1),
+    ),
+    (
+        &[Changed(0), Walked(1), Walked(2)],
+        &[(0, 1, true), (1, 2, true)],
+        Err(1),
+    ),
+    (
+        &[Changed(0), Walked(1), Walked(2)],
+        &[(1, 2, true), (0, 1, true)],
+        Err(1),
+    ),
+    // Source and destination are one.
+    (&[Walked(0)], &[(0, 0, true)], Err(0)),
+    (&[Walked(0)], &[(0, 0, false)], Err(0)),
+    (&[Removed(0)], &[(0, 0, false)], Err(0)),
+    // Of several bad pairs the first counts.
+    (
+        &[Removed(0), Walked(1), Walked(2)],
+        &[(0, 1, false), (9, 2, true), (0, 2, false)],
+        Err(1),
+    ),
+    (&[Changed(0)], &[(3, 0, true), (0, 0, true)], Err(0)),
+];
+
+/// These pairs: source, destination, copy.
+fn pairs_of(alloc: Global, rows: &[(usize, usize, bool)]) -> Result<Vec<Pair>, AllocError> {
+    let mut pairs = Vec::new(alloc);
+    for (source, destination, copy) in rows {
+        pairs.push(Pair {
+            source: *source,
+            destination: *destination,
+            copy: *copy,
+        })?;
+    }
+    Ok(pairs)
+}
+
+#[test]
+fn pairs_become_entries_or_the_first_bad_one_is_named(rt: HostRuntime) -> Result<(), Fail> {
+    let alloc = rt.alloc();
+    for (row, (nodes, pairs, want)) in ROWS.into_iter().enumerate() {
+        let got = rewritten(alloc, nodes, &pairs_of(alloc, pairs)?)?;
+        match (&got, want) {
+            (Ok(entries), Ok(want)) => assert!(rt; entries.as_slice() == want, "row {row}"),
+            (Err(at), Err(want)) => assert_eq!(rt; *at, want, "row {row}"),
+            _ => assert!(rt; false, "row {row}: {got:?}"),
+        }
+    }
+    Ok(())
+}
+
+/// Whether an item plays one part at most among the pairs, and one that it may play.
+fn plays_one_part(node: &Node, pairs: &[Pair]) -> bool {
+    let name = node.name();
+    let (mut renames, mut copies, mut arrivals) = (0usize, 0usize, 0usize);
+    for pair in pairs {
+        if pair.source == name && pair.copy {
+            copies = copies.saturating_add(1);
+        } else if pair.source == name {
+            renames = renames.saturating_add(1);
+        }
+        if pair.destination == name {
+            arrivals = arrivals.saturating_add(1);
+        }
+    }
+    match (renames, copies, arrivals) {
+        (0, _, 0) => true,
+        (1, 0, 0) => matches!(node, Removed(_)),
+        (0, 0, 1) => matches!(node, Walked(_)),
+        _ => false,
+    }
+}
+
+/// Whether the pairs break no rule.
+fn are_lawful(nodes: &[Node], pairs: &[Pair]) -> bool {
+    let inside = pairs.iter().all(|pair| pair.source < nodes.len()
+        && pair.destination < nodes.len());
+    inside && nodes.iter().all(|node| plays_one_part(node, pairs))
+}
+
+/// The rewritten list of plain rules: each place is looked up among the pairs.
+fn plain(
+    alloc: Global,
+    nodes: &[Node],
+    pairs: &[Pair],
+) -> Result<Result<Vec<Named>, usize>, AllocError> {
+    for at in 0..pairs.len() {
+        if !are_lawful(nodes, &pairs[..at + 1]) {
+            return Ok(Err(at));
+        }
+    }
+    let mut entries = Vec::new(alloc);
+    for node in nodes {
+        let name = node.name();
+        if pairs.iter().any(|pair| pair.source == name && !pair.copy) {
+            continue;
+        }
+        entries.push(match pairs.iter().find(|pair| pair.destination == name) {
+            None => Alone(name),
+            Some(pair) if pair.copy => Copied(pair.source, name),
+            Some(pair) => Renamed(pair.source, name),
+        })?;
+    }
+    Ok(Ok(entries))
+}
+
+/// A list of up to 12 items.
+fn drawn_nodes(alloc: Global, draws: &mut Draws) -> Result<Vec<Node>, AllocError> {
+    let mut nodes = Vec::new(alloc);
+    for name in 0..draws.below(13) as usize {
+        nodes.push(match draws.below(5) {
+            0 => Changed(name),
+            1 | 2 => Removed(name),
+            _ => Walked(name),
+        })?;
+    }
+    Ok(nodes)
+}
+
+/// Up to 8 pairs, of which most break no rule.
+fn drawn_pairs(alloc: Global, draws: &mut Draws, nodes: &[Node]) -> Result<Vec<Pair>, AllocError> {
+    let mut pairs = Vec::new(alloc);
+    let bound = (nodes.len() as u64).saturating_add(1);
+    for _ in 0..draws.below(129) {
+        if pairs.len() == 8 {
+            break;
+        }
+        pairs.push(Pair {
+            source: draws.below(bound) as usize,
+            destination: draws.below(bound) as usize,
+            copy: draws.below(4) == 0,
+        })?;
+        if !are_lawful(nodes, &pairs) && draws.below(128) > 0 {
+            pairs.pop();
+        }
+    }
+    Ok(pairs)
+}
+
+#[test]
+fn drawn_pairs_rewrite_as_the_plain_rules_say(rt: HostRuntime) -> Result<(), Fail> {
+    let alloc = rt.alloc();
+    let mut draws = Draws(1);
+    let (mut lists, mut refusals) = (0usize, 0usize);
+    let (mut renames, mut copies) = (0usize, 0usize);
+    for round in 0..2000u64 {
+        let nodes = drawn_nodes(alloc, &mut draws)?;
+        let pairs = drawn_pairs(alloc, &mut draws, &nodes)?;
+        let got = rewritten(alloc, &nodes, &pairs)?;
+        assert!(rt; got == plain(alloc, &nodes, &pairs)?, "round {round}");
+        if got.is_err() {
+            refusals = refusals.saturating_add(1);
+            continue;
+        }
+        lists = lists.saturating_add(1);
+        let copied = pairs.iter().filter(|pair| pair.copy).count();
+        copies = copies.saturating_add(copied);
+        renames = renames.saturating_add(pairs.len().saturating_sub(copied));
+    }
+    assert!(rt;
+        lists > 1000 && refusals > 500,
+        "{lists} lists, {refusals} refusals"
+    );
+    assert!(rt;
+        renames > 500 && copies > 500,
+        "{renames} renames, {copies} copies"
+    );
+    Ok(())
+}
