@@ -31,7 +31,7 @@ pub enum Kind {
 }
 
 /// A node that a walk found.
-#[derive(Debug, Drop)]
+#[derive(Clone, Debug, Drop)]
 pub struct DirEntry {
     /// Its path from the worktree's root.
     pub rela_path: BString,

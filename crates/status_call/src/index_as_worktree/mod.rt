@@ -23,6 +23,6 @@ pub mod workers;
 pub use function::index_as_worktree;
 pub use recorder::{Record, Recorder};
 pub use types::{
-    Capabilities, Change, Conflict, ConflictIndexEntry, Context, EntryStatus, Error, Options,
-    Outcome, VisitEntry,
+    Capabilities, Change, Conflict, ConflictIndexEntry, Context, EntryStatus, Error, Finding,
+    Options, Outcome, VisitEntry,
 };

@@ -66,6 +66,17 @@ pub struct Record<'index, T, U> {
     parts: PhantomData<(Change<T, U>, Option<T>)>,
 }
 
+impl<'index, T, U> Record<'index, T, U> {
+    ghost use Rattle.std.specs.Prelude.{◌≡◌};
+
+    /// The list of entries that was handed along: the whole index.
+    pub fn entries(&self) -> &'index [Entry]
+        ensures { result.now ≡ self.now.whole.0.now }
+    {
+        self.whole.0
+    }
+}
+
 /// Keeps the records of a status in a list. One that is refused memory stays as it was.
 #[derive(Debug, Drop)]
 pub struct Recorder<'index, T, U> {
