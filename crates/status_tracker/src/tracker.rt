@@ -31,13 +31,13 @@ pub struct Rewrites {
 #[derive(Clone, Copy, Debug, PartialEq, Eq, Error)]
 pub enum TrackerError {
     /// A pair breaks a rule: a place is out of range, is of the wrong kind of change, or has another part already.
-    #[error("bad pair at {at}")]
+    #[error("tracker")]
     BadPair {
         /// The pair's place in the tracker's answer.
         at: usize,
     },
     /// The tracker refused, with a code of its own.
-    #[error("refused with code {0}")]
+    #[error("tracker")]
     Refused(u32),
     /// Memory ran out.
     #[error("Out of memory")]
