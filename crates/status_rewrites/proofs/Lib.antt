@@ -3,6 +3,8 @@ pub mod Blank
 pub mod Breaking
 pub mod Counting
 pub mod Gets
+pub mod Led
+pub mod Mapped
 pub mod Pairing
 pub mod Placing
 pub mod Room

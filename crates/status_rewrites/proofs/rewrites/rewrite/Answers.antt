@@ -4,7 +4,7 @@ use Rattle.status_rewrites.specs.Places.{fits}
 use Rattle.status_rewrites.proofs.Afterwards.{all_rewritten}
 use Rattle.status_rewrites.proofs.Blank.{blank}
 use Rattle.status_rewrites.proofs.Breaking.{bad_pair}
-use Rattle.status_rewrites.proofs.Pairing.{paired_none, paired_step, fits_within}
+use Rattle.status_rewrites.proofs.Pairing.{paired_none, paired_step}
 use Rattle.status_rewrites.proofs.rewrites.rewrite.Goals as goal
 
 pub loop-at-init : goal.loop-at-init
