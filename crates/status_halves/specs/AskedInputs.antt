@@ -1,0 +1,15 @@
+-- What a status is asked, with its worktree.
+use Rattle.std.specs.Borrow.{Bor}
+use Rattle.status_call.specs.declared.index_as_worktree.inputs.Inputs.{Inputs}
+use Rattle.status_halves.specs.declared.asked.Asked.{Asked}
+
+abbrev pub inputs_of : {W C S O P T L : Type 0} → Bor W → Asked C S O P T L → Inputs W C S O P T L
+inputs_of worktree a = record {
+  worktree = worktree;
+  compare = a.compare;
+  submodule = a.submodule;
+  objects = a.objects;
+  pathspec = a.pathspec;
+  filter = a.filter;
+  lister = a.lister;
+}

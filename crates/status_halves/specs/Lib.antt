@@ -1,0 +1,5 @@
+pub mod AskedInputs
+pub mod Beside
+pub mod BothHalves
+pub mod Keeping
+pub mod Recorded
