@@ -1,0 +1,34 @@
+-- From a half that failed to the call's error.
+use Rattle.std.proofs.Common.{Bool, Option, Err}
+use Rattle.status_index.specs.declared.fault.Fault.TheVariants.{NotFound, NotADirectory, PermissionDenied, Interrupted, IllformedUtf8, UnexpectedEnd, NotNormal, Memory, Other}
+use Rattle.status_index.specs.declared.id.HashKind.{HashKind}
+use Rattle.status_index.specs.declared.state.State.{State}
+use Rattle.status_compare.specs.declared.error.Error.TheVariants as statuses
+use Rattle.status_call.specs.Query.{Query}
+use Rattle.status_call.specs.declared.index_as_worktree.inputs.Settings.{Settings}
+use Rattle.status_call.specs.declared.index_as_worktree.types.Options.{Options}
+use Rattle.status_halves.specs.BothHalves.{IsBoth, Walking}
+use Rattle.status_halves.specs.declared.halves.Failed.{Failed}
+use Rattle.status_halves.specs.declared.halves.Failed.TheVariants as failures
+use Rattle.status_walk.specs.declared.walk.WalkError.TheVariants as walks
+use Rattle.status_joined.specs.Listing.{error_of_failed, IsHalfFault}
+
+module _ {T U : Type 0} (query : Settings → Query T U) (options : Options) (index : State) (interruptible : Bool) (walking : Option Walking) (kind : HashKind) (sorted : Bool) where
+  pub half_fault : (f : Failed) → IsBoth query options index interruptible walking (Err f) → IsHalfFault query options index interruptible walking kind sorted (error_of_failed f)
+  half_fault (failures.Walk walks.Memory) met = tt
+  half_fault (failures.Walk (walks.Fault path NotFound)) met = met
+  half_fault (failures.Walk (walks.Fault path NotADirectory)) met = met
+  half_fault (failures.Walk (walks.Fault path PermissionDenied)) met = met
+  half_fault (failures.Walk (walks.Fault path Interrupted)) met = met
+  half_fault (failures.Walk (walks.Fault path IllformedUtf8)) met = met
+  half_fault (failures.Walk (walks.Fault path UnexpectedEnd)) met = met
+  half_fault (failures.Walk (walks.Fault path NotNormal)) met = met
+  half_fault (failures.Walk (walks.Fault path Memory)) met = tt
+  half_fault (failures.Walk (walks.Fault path (Other code))) met = met
+  half_fault (failures.Tracked statuses.Memory) met = tt
+  half_fault (failures.Tracked statuses.IllformedUtf8) met = met
+  half_fault (failures.Tracked statuses.Time) met = met
+  half_fault (failures.Tracked (statuses.Io f)) met = met
+  half_fault (failures.Tracked (statuses.Find f)) met = met
+  half_fault (failures.Tracked (statuses.SubmoduleStatus path text)) met = met
+  half_fault (failures.Tracked statuses.SpawnThread) met = met

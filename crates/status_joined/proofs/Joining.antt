@@ -1,0 +1,119 @@
+-- The joined theorem at each way out of the call.
+use Rattle.std.proofs.Common.{inl, inr, ◌≡◌, ◌≤◌, ℕ, Bool, List, [], ◌++◌, map, take, drop, length, Option, Some, None, is_some, Result, Ok, Err, sym, subst}
+use Rattle.std.proofs.lemmas.List.{append-nil, take-append-drop}
+use Rattle.status_index.specs.declared.state.State.{State}
+use Rattle.status_call.specs.Query.{Query}
+use Rattle.status_call.specs.declared.index_as_worktree.inputs.Settings.{Settings}
+use Rattle.status_call.specs.declared.index_as_worktree.types.Outcome.{Outcome as StatusOutcome}
+use Rattle.status_halves.specs.BothHalves.{Walking}
+use Rattle.status_rewrites.specs.declared.rewritten.Rewritten.{Rewritten}
+use Rattle.status_rewrites.specs.declared.rewritten.Rewritten.TheVariants.{Alone}
+use Rattle.status_tracker.specs.Changed.{Changed}
+use Rattle.status_tracker.specs.Trackers.{TrackerFault}
+use Rattle.status_tracker.specs.declared.tracker.Pair.{Pair}
+use Rattle.status_tracker.specs.declared.tracker.Rewrites.{Rewrites}
+use Rattle.status_walk.specs.declared.walk.Outcome.{Outcome as WalkOutcome}
+use Rattle.status_joined.specs.declared.index_as_worktree_with_renames.error.Error.{Error}
+use Rattle.status_joined.specs.declared.index_as_worktree_with_renames.error.Error.TheVariants as errors
+use Rattle.status_joined.specs.declared.index_as_worktree_with_renames.rewrites.Outcome.{Outcome as RewritesOutcome}
+use Rattle.status_joined.specs.declared.index_as_worktree_with_renames.types.Options.{Options}
+use Rattle.status_joined.specs.Feeding.{AreTold}
+use Rattle.status_joined.specs.Items.{Item, Told}
+use Rattle.status_joined.specs.Joined.{Identifying, IsRewriting, IsRewritingFault, tracked_options}
+use Rattle.status_joined.specs.JoinedTheorem.{HasJoinedList, IsFault, IsJoined, IsToldOf}
+use Rattle.status_joined.specs.Listing.{HasList, IsHalfFault}
+
+module _ {T U : Type 0} (query : Settings → Query T U) (options : Options) (index : State) (interruptible : Bool) (walking : Option Walking) (ids : Identifying) (means : List Changed → Bool → Result (List Pair) TrackerFault → Type 0) where
+  -- an error before anything was told
+  pub quietly : (old : List (Told T U)) (e : Error) → IsFault query options index interruptible walking ids means e → IsJoined query options index interruptible walking ids means old (Err e) old
+  quietly old e fault = record { more = []; grew = sym (append-nil old); complete = tt; fault = fault; quiet = inl (λ i. []) }
+
+  pub of_half : (e : Error) → IsHalfFault query (tracked_options options) index interruptible walking options.object_hash (is_some options.sorting) e → IsFault query options index interruptible walking ids means e
+  of_half (errors.DirWalk x) fault = fault
+  of_half (errors.TrackedFileModifications x) fault = fault
+  of_half errors.Memory fault = tt
+  of_half errors.SpawnThread fault = absurd fault
+  of_half errors.SetAttributeContext fault = absurd fault
+  of_half (errors.OpenWorktreeFile x) fault = absurd fault
+  of_half (errors.HashFile x) fault = absurd fault
+  of_half (errors.ReadLink x) fault = absurd fault
+  of_half (errors.ConvertToGit x) fault = absurd fault
+  of_half (errors.RewriteTracker x) fault = absurd fault
+
+  pub of_half_at : (w : Option Walking) → w ≡ walking → (e : Error) → IsHalfFault query (tracked_options options) index interruptible w options.object_hash (is_some options.sorting) e → IsFault query options index interruptible walking ids means e
+  of_half_at w same e fault = of_half e (subst (λ x. IsHalfFault query (tracked_options options) index interruptible x options.object_hash (is_some options.sorting) e) same fault)
+
+  pub list_at : (w : Option Walking) → w ≡ walking → (sorted : Bool) → sorted ≡ is_some options.sorting → (list : List (Item T U)) (o : StatusOutcome) (walked : Option WalkOutcome) → HasList query (tracked_options options) index interruptible w options.object_hash sorted list o walked → HasJoinedList query options index interruptible walking ids means list o walked
+  list_at w same sorted asked list o walked has =
+      subst (λ x. HasList query (tracked_options options) index interruptible x options.object_hash (is_some options.sorting) list o walked) same
+      (subst (λ y. HasList query (tracked_options options) index interruptible w options.object_hash y list o walked) asked has)
+
+  pub alone_told : options.rewrites ≡ None → (list : List (Item T U)) (ts : List (Told T U)) → AreTold (map Alone list) ts → IsToldOf query options index interruptible walking ids means options.rewrites list ts None
+  alone_told unasked list ts told = rw unasked told
+
+  pub rewritten_told : (r : Rewrites) → options.rewrites ≡ Some r → (known : Identifying) → known ≡ ids → (list : List (Item T U)) (entries : List (Rewritten (Item T U))) (o : RewritesOutcome) → IsRewriting known options.object_hash means r.track_empty list entries o → (ts : List (Told T U)) → AreTold entries ts → IsToldOf query options index interruptible walking ids means options.rewrites list ts (Some o)
+  rewritten_told r asked known same list entries o rewriting ts told =
+      rw asked (entries, (subst (λ x. IsRewriting x options.object_hash means r.track_empty list entries o) same rewriting, told))
+
+  module _ (list : List (Item T U)) (tracked : StatusOutcome) (walked : Option WalkOutcome) (has : HasJoinedList query options index interruptible walking ids means list tracked walked) where
+    pub of_list : (r : Rewrites) → options.rewrites ≡ Some r → (e : Error) → IsRewritingFault ids options.object_hash means r.track_empty list e → IsFault query options index interruptible walking ids means e
+    of_list r asked (errors.DirWalk x) fault = absurd fault
+    of_list r asked (errors.TrackedFileModifications x) fault = absurd fault
+    of_list r asked errors.Memory fault = tt
+    of_list r asked errors.SpawnThread fault = absurd fault
+    of_list r asked errors.SetAttributeContext fault = absurd fault
+    of_list r asked (errors.OpenWorktreeFile x) fault = record { tracked = tracked; walked = walked; list = list; has = has; fault = rw asked fault }
+    of_list r asked (errors.HashFile x) fault = record { tracked = tracked; walked = walked; list = list; has = has; fault = rw asked fault }
+    of_list r asked (errors.ReadLink x) fault = record { tracked = tracked; walked = walked; list = list; has = has; fault = rw asked fault }
+    of_list r asked (errors.ConvertToGit x) fault = record { tracked = tracked; walked = walked; list = list; has = has; fault = rw asked fault }
+    of_list r asked (errors.RewriteTracker x) fault = record { tracked = tracked; walked = walked; list = list; has = has; fault = rw asked fault }
+
+    pub of_list_at : (known : Identifying) → known ≡ ids → (r : Rewrites) → options.rewrites ≡ Some r → (e : Error) → IsRewritingFault known options.object_hash means r.track_empty list e → IsFault query options index interruptible walking ids means e
+    of_list_at known same r asked e fault = of_list r asked e (subst (λ x. IsRewritingFault x options.object_hash means r.track_empty list e) same fault)
+
+    -- all was told
+    pub told_all : (entries : List (Rewritten (Item T U))) (o : Option RewritesOutcome) → ((ts : List (Told T U)) → AreTold entries ts → IsToldOf query options index interruptible walking ids means options.rewrites list ts o) → (old new : List (Told T U)) → (ts : List (Told T U)) × AreTold entries ts × (new ≡ old ++ ts) → IsJoined query options index interruptible walking ids means old (Ok (record { tracked_file_modification = tracked; dirwalk = walked; rewrites = o })) new
+    told_all entries o meant old new fed =
+        record { more = fed.0; grew = fed.2; complete = record { list = list; has = has; is_told = meant fed.0 fed.1 }; fault = tt; quiet = tt }
+
+    -- memory ran out while the collector was told
+    pub told_some : (entries : List (Rewritten (Item T U))) (o : Option RewritesOutcome) → ((ts : List (Told T U)) → AreTold entries ts → IsToldOf query options index interruptible walking ids means options.rewrites list ts o) → (old new : List (Told T U)) → (ts : List (Told T U)) × AreTold entries ts × ((n : ℕ) × (n ≤ length ts) × (new ≡ old ++ take n ts)) → IsJoined query options index interruptible walking ids means old (Err errors.Memory) new
+    told_some entries o meant old new fed =
+        record {
+          more = take fed.2.0 fed.0;
+          grew = fed.2.2;
+          complete = tt;
+          fault = tt;
+          quiet = inr (
+            (λ i. errors.Memory),
+            record {
+              whole = fed.0;
+              outcome = record { tracked_file_modification = tracked; dirwalk = walked; rewrites = o };
+              is_whole = record { list = list; has = has; is_told = meant fed.0 fed.1 };
+              beginning = (drop fed.2.0 fed.0, take-append-drop fed.2.0 fed.0);
+            },
+          );
+        }
+
+  -- the same with what the call's steps say: of the walk that was asked for, of whether the list is sorted, and of the ids' filter
+  module _ (w : Option Walking) (same_walk : w ≡ walking) (sorted : Bool) (same_order : sorted ≡ is_some options.sorting) (list : List (Item T U)) (tracked : StatusOutcome) (walked : Option WalkOutcome) (has : HasList query (tracked_options options) index interruptible w options.object_hash sorted list tracked walked) where
+    joined : HasJoinedList query options index interruptible walking ids means list tracked walked
+    joined = list_at w same_walk sorted same_order list tracked walked has
+
+    pub plain_all : options.rewrites ≡ None → (old new : List (Told T U)) → (ts : List (Told T U)) × AreTold (map Alone list) ts × (new ≡ old ++ ts) → IsJoined query options index interruptible walking ids means old (Ok (record { tracked_file_modification = tracked; dirwalk = walked; rewrites = None })) new
+    plain_all unasked old new fed = told_all list tracked walked joined (map Alone list) None (alone_told unasked list) old new fed
+
+    pub plain_some : options.rewrites ≡ None → (old new : List (Told T U)) → (ts : List (Told T U)) × AreTold (map Alone list) ts × ((n : ℕ) × (n ≤ length ts) × (new ≡ old ++ take n ts)) → IsJoined query options index interruptible walking ids means old (Err errors.Memory) new
+    plain_some unasked old new fed = told_some list tracked walked joined (map Alone list) None (alone_told unasked list) old new fed
+
+    module _ (r : Rewrites) (asked : options.rewrites ≡ Some r) (known : Identifying) (same_ids : known ≡ ids) where
+      pub late : (old : List (Told T U)) (e : Error) → IsRewritingFault known options.object_hash means r.track_empty list e → IsJoined query options index interruptible walking ids means old (Err e) old
+      late old e fault = quietly old e (of_list_at list tracked walked joined known same_ids r asked e fault)
+
+      pub rewritten_all : (entries : List (Rewritten (Item T U))) (o : RewritesOutcome) → IsRewriting known options.object_hash means r.track_empty list entries o → (old new : List (Told T U)) → (ts : List (Told T U)) × AreTold entries ts × (new ≡ old ++ ts) → IsJoined query options index interruptible walking ids means old (Ok (record { tracked_file_modification = tracked; dirwalk = walked; rewrites = Some o })) new
+      rewritten_all entries o rewriting old new fed =
+          told_all list tracked walked joined entries (Some o) (rewritten_told r asked known same_ids list entries o rewriting) old new fed
+
+      pub rewritten_some : (entries : List (Rewritten (Item T U))) (o : RewritesOutcome) → IsRewriting known options.object_hash means r.track_empty list entries o → (old new : List (Told T U)) → (ts : List (Told T U)) × AreTold entries ts × ((n : ℕ) × (n ≤ length ts) × (new ≡ old ++ take n ts)) → IsJoined query options index interruptible walking ids means old (Err errors.Memory) new
+      rewritten_some entries o rewriting old new fed =
+          told_some list tracked walked joined entries (Some o) (rewritten_told r asked known same_ids list entries o rewriting) old new fed

@@ -1,0 +1,78 @@
+-- The joined theorem: what a status with untracked files, renames and copies tells its collector, and what it answers.
+use Rattle.std.specs.Prelude.{◌≡◌, ◌⊎◌, ℕ, Bool, not, IsTrue, List, map, Some, Result, Ok, Err, slice_get, ⊤}
+use Rattle.std.specs.List.{count_by}
+use Rattle.status_index.specs.declared.id.HashKind.{HashKind}
+use Rattle.status_index.specs.declared.id.ObjectId.{ObjectId}
+use Rattle.status_call.specs.declared.index_as_worktree.types.Options.{Options as StatusOptions}
+use Rattle.status_rewrites.specs.AfterRewrites.{IsRewritten}
+use Rattle.status_rewrites.specs.Lawful.{AreLawful, IsBadPair}
+use Rattle.status_rewrites.specs.declared.rewritten.Rewritten.{Rewritten}
+use Rattle.status_tracker.specs.Changed.{Changed}
+use Rattle.status_tracker.specs.Trackers.{TrackerFault, bad_pair, refused}
+use Rattle.status_tracker.specs.declared.tracker.Pair.{Pair}
+use Rattle.status_tracker.specs.declared.tracker.TrackerError.TheVariants as tracker_errors
+use Rattle.status_walk.specs.Walked.{Walked}
+use Rattle.status_walk.specs.declared.id.IdError.{IdError}
+use Rattle.status_walk.specs.declared.id.IdError.TheVariants.{Open, Hash, ReadLink, Convert}
+use Rattle.status_joined.specs.declared.index_as_worktree_with_renames.error.Error.{Error}
+use Rattle.status_joined.specs.declared.index_as_worktree_with_renames.error.Error.TheVariants as errors
+use Rattle.status_joined.specs.declared.index_as_worktree_with_renames.rewrites.Outcome.{Outcome as RewritesOutcome}
+use Rattle.status_joined.specs.declared.index_as_worktree_with_renames.types.Options.{Options}
+use Rattle.status_joined.specs.Changes.{changed_of}
+use Rattle.status_joined.specs.Identified.{forget, identified, id_faults}
+use Rattle.status_joined.specs.Items.{Item, is_removed, is_walked}
+
+-- the tracked half's options: the listings are the joined call's own
+abbrev pub tracked_options : Options → StatusOptions
+tracked_options o = record {
+  fs = o.tracked_file_modifications.fs;
+  thread_limit = o.tracked_file_modifications.thread_limit;
+  stat = o.tracked_file_modifications.stat;
+  fscache = o.fscache;
+  chunk_size = o.tracked_file_modifications.chunk_size;
+}
+
+-- the ids of nodes, and whether the worktree is modelled that has them
+pub record Identifying : Type 0 where
+  pub modelled : Bool
+  pub ids : Walked → Result ObjectId IdError
+
+module _ {T U : Type 0} (ids : Identifying) (kind : HashKind) (means : List Changed → Bool → Result (List Pair) TrackerFault → Type 0) where
+  -- the list's items with the ids of their contents; nothing else of them changes
+  pub record AreIdentified (list items : List (Item T U)) : Type 0 where
+    pub known : IsTrue ids.modelled → map (identified ids.ids) list ≡ map Ok items
+    pub same : map (forget kind) items ≡ map (forget kind) list
+
+  -- the list with the tracker's renames and copies, each just once; and how many there are
+  pub record IsRewriting (track_empty : Bool) (list : List (Item T U)) (entries : List (Rewritten (Item T U))) (o : RewritesOutcome) : Type 0 where
+    pub items : List (Item T U)
+    pub identified : AreIdentified list items
+    pub pairs : List Pair
+    pub meant : means (map changed_of items) track_empty (Ok pairs)
+    pub lawful : AreLawful is_removed is_walked items pairs
+    pub rewritten : IsRewritten (λ x y. y ≡ x) items pairs entries
+    pub renames : o.renames ≡ count_by (λ p. not p.copy) pairs
+    pub copies : o.copies ≡ count_by (λ p. p.copy) pairs
+
+  -- the first fault that a node of the list meets on the way to its id
+  abbrev pub IsIdFault : List (Item T U) → IdError → Type 0
+  IsIdFault list e = IsTrue ids.modelled → slice_get (id_faults ids.ids list) 0 ≡ Some e
+
+  -- the tracker's own refusal of this pair, or the first of its pairs that breaks a rule
+  abbrev pub IsPairFault : Bool → List (Item T U) → ℕ → Type 0
+  IsPairFault track_empty items at =
+      means (map changed_of items) track_empty (Err (bad_pair at))
+      ⊎ ((pairs : List Pair) × (means (map changed_of items) track_empty (Ok pairs) × IsBadPair is_removed is_walked items pairs at))
+
+  -- why a list has no renames and copies
+  abbrev pub IsRewritingFault : Bool → List (Item T U) → Error → Type 0
+  IsRewritingFault track_empty list (errors.OpenWorktreeFile f) = IsIdFault list (Open f)
+  IsRewritingFault track_empty list (errors.HashFile f) = IsIdFault list (Hash f)
+  IsRewritingFault track_empty list (errors.ReadLink f) = IsIdFault list (ReadLink f)
+  IsRewritingFault track_empty list (errors.ConvertToGit f) = IsIdFault list (Convert f)
+  IsRewritingFault track_empty list (errors.RewriteTracker (tracker_errors.BadPair at)) =
+      (items : List (Item T U)) × (AreIdentified list items × IsPairFault track_empty items at)
+  IsRewritingFault track_empty list (errors.RewriteTracker (tracker_errors.Refused code)) =
+      (items : List (Item T U)) × (AreIdentified list items × means (map changed_of items) track_empty (Err (refused code)))
+  IsRewritingFault track_empty list errors.Memory = ⊤
+  IsRewritingFault track_empty list _ = ⊥

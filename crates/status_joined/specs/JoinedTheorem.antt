@@ -1,0 +1,81 @@
+-- The joined theorem: what a status with untracked files, renames and copies tells its collector, and what it answers.
+use Rattle.std.specs.Prelude.{◌≡◌, ◌⊎◌, Bool, List, [], ◌++◌, map, Option, Some, None, is_some, Result, IfOk, IfErr, ⊤}
+use Rattle.status_index.specs.declared.state.State.{State}
+use Rattle.status_call.specs.Query.{Query}
+use Rattle.status_call.specs.StatusTheorem.{IsBeginning}
+use Rattle.status_call.specs.declared.index_as_worktree.inputs.Settings.{Settings}
+use Rattle.status_call.specs.declared.index_as_worktree.types.Outcome.{Outcome as StatusOutcome}
+use Rattle.status_halves.specs.BothHalves.{Walking}
+use Rattle.status_rewrites.specs.declared.rewritten.Rewritten.{Rewritten}
+use Rattle.status_rewrites.specs.declared.rewritten.Rewritten.TheVariants.{Alone}
+use Rattle.status_tracker.specs.Changed.{Changed}
+use Rattle.status_tracker.specs.Trackers.{TrackerFault}
+use Rattle.status_tracker.specs.declared.tracker.Pair.{Pair}
+use Rattle.status_tracker.specs.declared.tracker.Rewrites.{Rewrites}
+use Rattle.status_walk.specs.declared.walk.Outcome.{Outcome as WalkOutcome}
+use Rattle.status_joined.specs.declared.index_as_worktree_with_renames.error.Error.{Error}
+use Rattle.status_joined.specs.declared.index_as_worktree_with_renames.error.Error.TheVariants.{DirWalk, Memory, TrackedFileModifications}
+use Rattle.status_joined.specs.declared.index_as_worktree_with_renames.rewrites.Outcome.{Outcome as RewritesOutcome}
+use Rattle.status_joined.specs.declared.index_as_worktree_with_renames.types.Options.{Options}
+use Rattle.status_joined.specs.declared.index_as_worktree_with_renames.types.Outcome.{Outcome}
+use Rattle.status_joined.specs.Feeding.{AreTold}
+use Rattle.status_joined.specs.Items.{Item, Told}
+use Rattle.status_joined.specs.Joined.{Identifying, IsRewriting, IsRewritingFault, tracked_options}
+use Rattle.status_joined.specs.Listing.{HasList, IsHalfFault}
+
+module _ {T U : Type 0} (query : Settings → Query T U) (options : Options) (index : State) (interruptible : Bool) (walking : Option Walking) (ids : Identifying) (means : List Changed → Bool → Result (List Pair) TrackerFault → Type 0) where
+  -- both halves came through and ended so, and this is the list of what they found
+  abbrev pub HasJoinedList : List (Item T U) → StatusOutcome → Option WalkOutcome → Type 0
+  HasJoinedList = HasList query (tracked_options options) index interruptible walking options.object_hash (is_some options.sorting)
+
+  -- what is told of a list: each item alone; or, where renames and copies are looked for, the list with these
+  abbrev pub IsToldOf : Option Rewrites → List (Item T U) → List (Told T U) → Option RewritesOutcome → Type 0
+  IsToldOf None list told None = AreTold (map Alone list) told
+  IsToldOf (Some r) list told (Some o) =
+      (entries : List (Rewritten (Item T U))) × (IsRewriting ids options.object_hash means r.track_empty list entries o × AreTold entries told)
+  IsToldOf None list told (Some o) = ⊥
+  IsToldOf (Some r) list told None = ⊥
+
+  -- all that there is to tell, with the outcomes of both halves and of the renames and copies
+  pub record IsWhole (told : List (Told T U)) (o : Outcome) : Type 0 where
+    pub list : List (Item T U)
+    pub has : HasJoinedList list o.tracked_file_modification o.dirwalk
+    pub is_told : IsToldOf options.rewrites list told o.rewrites
+
+  -- why the list has no renames and copies, where these are looked for
+  abbrev pub IsListFault : Option Rewrites → List (Item T U) → Error → Type 0
+  IsListFault None list e = ⊥
+  IsListFault (Some r) list e = IsRewritingFault ids options.object_hash means r.track_empty list e
+
+  -- both halves came through, and their list has this fault
+  pub record IsLateFault (e : Error) : Type 0 where
+    pub tracked : StatusOutcome
+    pub walked : Option WalkOutcome
+    pub list : List (Item T U)
+    pub has : HasJoinedList list tracked walked
+    pub fault : IsListFault options.rewrites list e
+
+  -- the fault of a half; or, where both came through, of their list; or memory ran out
+  abbrev pub IsFault : Error → Type 0
+  IsFault (DirWalk e) = IsHalfFault query (tracked_options options) index interruptible walking options.object_hash (is_some options.sorting) (DirWalk e)
+  IsFault (TrackedFileModifications e) = IsHalfFault query (tracked_options options) index interruptible walking options.object_hash (is_some options.sorting) (TrackedFileModifications e)
+  IsFault Memory = ⊤
+  IsFault e = IsLateFault e
+
+  -- a beginning of all that there is to tell
+  pub record IsCutShort (told : List (Told T U)) : Type 0 where
+    pub whole : List (Told T U)
+    pub outcome : Outcome
+    pub is_whole : IsWhole whole outcome
+    pub beginning : IsBeginning told whole
+
+  -- what was told over any worktree, and where all that was handed in is modelled
+  pub record IsJoined (old : List (Told T U)) (result : Result Outcome Error) (new : List (Told T U)) : Type 0 where
+    pub more : List (Told T U)
+    pub grew : new ≡ old ++ more
+    -- Ok: all that there is to tell
+    pub complete : IfOk result (IsWhole more)
+    -- an error: a fault that a part has
+    pub fault : IfErr result IsFault
+    -- on an error nothing was told; or the collector's memory ran out, behind a beginning
+    pub quiet : IfErr result (λ e. (more ≡ []) ⊎ ((e ≡ Memory) × IsCutShort more))

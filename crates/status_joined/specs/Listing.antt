@@ -1,0 +1,47 @@
+-- The list of both halves, and why there is none.
+use Rattle.std.specs.Prelude.{Bool, List, map, Option, Result, Ok, Err, ⊤}
+use Rattle.status_index.specs.declared.id.HashKind.{HashKind}
+use Rattle.status_index.specs.declared.state.State.{State}
+use Rattle.status_call.specs.Query.{Query}
+use Rattle.status_call.specs.Visits.{Visit}
+use Rattle.status_call.specs.declared.index_as_worktree.inputs.Settings.{Settings}
+use Rattle.status_call.specs.declared.index_as_worktree.types.Options.{Options}
+use Rattle.status_call.specs.declared.index_as_worktree.types.Outcome.{Outcome}
+use Rattle.status_halves.specs.BothHalves.{Walking, HasWalked, IsWalkedHalf, IsWalkFailure}
+use Rattle.status_halves.specs.Recorded.{IsTrackedHalf, IsTrackedFailure}
+use Rattle.status_halves.specs.declared.halves.Failed.{Failed}
+use Rattle.status_halves.specs.declared.halves.Failed.TheVariants as failures
+use Rattle.status_walk.specs.Walked.{Walked}
+use Rattle.status_walk.specs.declared.walk.Outcome.{Outcome as WalkOutcome}
+use Rattle.status_joined.specs.declared.index_as_worktree_with_renames.error.Error.{Error}
+use Rattle.status_joined.specs.declared.index_as_worktree_with_renames.error.Error.TheVariants as errors
+use Rattle.status_joined.specs.declared.index_as_worktree_with_renames.listing.Listing.{Listing}
+use Rattle.status_joined.specs.Errors.{error_of_status, error_of_walk}
+use Rattle.status_joined.specs.Items.{Item}
+use Rattle.status_joined.specs.Listed.{item_of}
+use Rattle.status_joined.specs.Lists.{IsList, unsorted}
+
+-- of a half that failed
+abbrev pub error_of_failed : Failed → Error
+error_of_failed (failures.Walk e) = error_of_walk e
+error_of_failed (failures.Tracked e) = error_of_status e
+
+module _ {T U : Type 0} (query : Settings → Query T U) (options : Options) (index : State) (interruptible : Bool) (walking : Option Walking) (kind : HashKind) (sorted : Bool) where
+  -- both halves came through and ended so, and this is the list of what they found
+  pub record HasList (list : List (Item T U)) (o : Outcome) (w : Option WalkOutcome) : Type 0 where
+    pub visits : List (Visit T U)
+    pub kept : List Walked
+    pub tracked : IsTrackedHalf query options index interruptible visits o
+    pub walked : IsWalkedHalf interruptible walking kept w
+    pub list_is : IsList sorted (unsorted kind visits kept) list
+
+  -- the walk's fault; or, where the walk came through, the status's; or memory ran out
+  abbrev pub IsHalfFault : Error → Type 0
+  IsHalfFault (errors.DirWalk e) = IsWalkFailure walking e
+  IsHalfFault (errors.TrackedFileModifications e) = HasWalked interruptible walking × IsTrackedFailure query options index e
+  IsHalfFault errors.Memory = ⊤
+  IsHalfFault _ = ⊥
+
+  abbrev pub IsListing : Result (Listing T U) Error → Type 0
+  IsListing (Ok l) = HasList (map item_of l.items.items) l.tracked l.walked
+  IsListing (Err e) = IsHalfFault e

@@ -1,0 +1,43 @@
+-- What is told, in a word, and where.
+use Rattle.std.specs.Prelude.{ℕ, true, false, List, Option, Some, None}
+use Rattle.status_call.specs.declared.index_as_worktree.types.Change.TheVariants as changes
+use Rattle.status_call.specs.declared.index_as_worktree.types.EntryStatus.{EntryStatus}
+use Rattle.status_call.specs.declared.index_as_worktree.types.EntryStatus.TheVariants as statuses
+use Rattle.status_walk.specs.declared.entry.Status.{Status}
+use Rattle.status_walk.specs.declared.entry.Status.TheVariants as nodes
+use Rattle.status_joined.specs.declared.index_as_worktree_with_renames.summary.Summary.{Summary}
+use Rattle.status_joined.specs.declared.index_as_worktree_with_renames.summary.Summary.TheVariants.{Removed, Added, Modified, TypeChange, Renamed, Copied, IntentToAdd, Conflict}
+use Rattle.status_joined.specs.Items.{Told, modification, contents, rewrite, path_of}
+
+-- of a path that the index has; another stat alone is no change
+abbrev pub status_summary : {T U : Type 0} → EntryStatus T U → Option Summary
+status_summary (statuses.Conflict stages entries) = Some Conflict
+status_summary (statuses.Change changes.Removed) = Some Removed
+status_summary (statuses.Change (changes.TypeChange mode)) = Some TypeChange
+status_summary (statuses.Change (changes.Modification executable content size_zero)) = Some Modified
+status_summary (statuses.Change (changes.SubmoduleModification change)) = Some Modified
+status_summary (statuses.NeedsUpdate stat) = None
+status_summary statuses.IntentToAdd = Some IntentToAdd
+
+-- of a node: it was added where it is untracked
+abbrev pub node_summary : Status → Option Summary
+node_summary nodes.Untracked = Some Added
+node_summary _ = None
+
+abbrev pub summary_of : {T U : Type 0} → Told T U → Option Summary
+summary_of (modification v) = status_summary v.status
+summary_of (contents w) = node_summary w.status
+summary_of (rewrite source w id true) = Some Copied
+summary_of (rewrite source w id false) = Some Renamed
+
+-- the path of what was renamed or copied; of all else its own
+abbrev pub source_path : {T U : Type 0} → Told T U → List ℕ
+source_path (modification v) = v.path
+source_path (contents w) = w.path
+source_path (rewrite source w id copy) = path_of source
+
+-- the path of what a rename or a copy became; of all else its own
+abbrev pub destination_path : {T U : Type 0} → Told T U → List ℕ
+destination_path (modification v) = v.path
+destination_path (contents w) = w.path
+destination_path (rewrite source w id copy) = w.path

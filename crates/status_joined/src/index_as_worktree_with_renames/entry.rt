@@ -1,0 +1,152 @@
+//! What a collector is given.
+
+ghost use Rattle.std.specs.Prelude.{◌≡◌};
+ghost use Rattle.bstr.specs.BStr.{bstr_bytes};
+ghost use Rattle.status_joined.specs.Items.{path_of};
+ghost use Rattle.status_joined.specs.Summaries.{summary_of, status_summary, source_path, destination_path};
+ghost use Rattle.status_joined.specs.Telling.{told_entry, told_source};
+
+use crate::index_as_worktree_with_renames::summary::Summary;
+use bstr::BStr;
+use status_base::index::{self, ObjectId};
+use status_call::index_as_worktree::{Change, EntryStatus};
+use status_walk::{DirEntry, Status};
+
+/// A difference between the index and the worktree, as a collector is given it.
+#[derive(Clone, Debug, Drop)]
+pub enum Entry<'index, T, U> {
+    /// The status of a path that the index has.
+    Modification {
+        /// The entries of the whole index.
+        entries: &'index [index::Entry],
+        /// The entry of the path.
+        entry: &'index index::Entry,
+        /// The entry's place in `entries`.
+        entry_index: usize,
+        /// The path, from the worktree's root.
+        rela_path: BStr<'index>,
+        /// How the entry stands to the worktree.
+        status: EntryStatus<T, U>,
+    },
+    /// A node that the walk found, and that is no part of a rename or a copy.
+    DirectoryContents {
+        /// The node.
+        entry: DirEntry,
+        /// The status of the directory that stands for the nodes in it, where one does.
+        collapsed_directory_status: Option<Status>,
+    },
+    /// A rename or a copy. What it became is a node that the walk found.
+    Rewrite {
+        /// What was renamed or copied.
+        source: RewriteSource<'index, T, U>,
+        /// What it became.
+        dirwalk_entry: DirEntry,
+        /// The status of the directory that stands for the nodes beside `dirwalk_entry`, where one does.
+        dirwalk_entry_collapsed_directory_status: Option<Status>,
+        /// The id of what it became, by its content.
+        dirwalk_entry_id: ObjectId,
+        /// Whether the source is still there.
+        copy: bool,
+    },
+}
+
+/// What was renamed or copied.
+#[derive(Clone, Debug, Drop)]
+pub enum RewriteSource<'index, T, U> {
+    /// An entry of the index. Of a rename it has no file in the worktree any more.
+    RewriteFromIndex {
+        /// The entries of the whole index.
+        index_entries: &'index [index::Entry],
+        /// The entry. Its id is that of the source's content.
+        source_entry: &'index index::Entry,
+        /// The entry's place in `index_entries`.
+        source_entry_index: usize,
+        /// The entry's path, from the worktree's root.
+        source_rela_path: BStr<'index>,
+        /// How the entry stands to the worktree.
+        source_status: EntryStatus<T, U>,
+    },
+    /// A node that the walk found. It can be copied alone, since it is still there.
+    CopyFromDirectoryEntry {
+        /// The node.
+        source_dirwalk_entry: DirEntry,
+        /// The status of the directory that stands for the nodes in it, where one does.
+        source_dirwalk_entry_collapsed_directory_status: Option<Status>,
+        /// The id of the node's content.
+        source_dirwalk_entry_id: ObjectId,
+    },
+}
+
+impl<'index, T, U> RewriteSource<'index, T, U> {
+    /// The path of what was renamed or copied, from the worktree's root.
+    pub fn rela_path(&self) -> BStr<'_>
+        ensures { bstr_bytes result ≡ path_of (told_source self.now) }
+    {
+        match self {
+            RewriteSource::RewriteFromIndex {
+                source_rela_path,
+                ..
+            } => *source_rela_path,
+            RewriteSource::CopyFromDirectoryEntry {
+                source_dirwalk_entry,
+                ..
+            } => source_dirwalk_entry.rela_path.as_bstr(),
+        }
+    }
+}
+
+impl<'index, T, U> Entry<'index, T, U> {
+    /// What happened to the path, in a word. None for a node that isn't untracked, and for an entry that only needs
+    /// another stat.
+    pub fn summary(&self) -> Option<Summary>
+        ensures { result ≡ summary_of (told_entry self.now) }
+    {
+        match self {
+            Entry::Modification { status, .. } => status_summary(status),
+            Entry::DirectoryContents { entry, .. } => match entry.status {
+                Status::Untracked => Some(Summary::Added),
+                Status::Ignored | Status::Tracked | Status::Pruned => None,
+            },
+            Entry::Rewrite { copy: true, .. } => Some(Summary::Copied),
+            Entry::Rewrite { copy: false, .. } => Some(Summary::Renamed),
+        }
+    }
+
+    /// The path of what was renamed or copied. For what isn't a rename or a copy, its own path.
+    pub fn source_rela_path(&self) -> BStr<'_>
+        ensures { bstr_bytes result ≡ source_path (told_entry self.now) }
+    {
+        match self {
+            Entry::Modification { rela_path, .. } => *rela_path,
+            Entry::DirectoryContents { entry, .. } => entry.rela_path.as_bstr(),
+            Entry::Rewrite { source, .. } => source.rela_path(),
+        }
+    }
+
+    /// The path of what a rename or a copy became. For what is neither, its own path.
+    pub fn destination_rela_path(&self) -> BStr<'_>
+        ensures { bstr_bytes result ≡ destination_path (told_entry self.now) }
+    {
+        match self {
+            Entry::Modification { rela_path, .. } => *rela_path,
+            Entry::DirectoryContents { entry, .. } => entry.rela_path.as_bstr(),
+            Entry::Rewrite { dirwalk_entry, .. } => dirwalk_entry.rela_path.as_bstr(),
+        }
+    }
+}
+
+/// What happened to a path that the index has. None where only the entry's stat changes.
+fn status_summary<T, U>(status: &EntryStatus<T, U>) -> Option<Summary>
+    ensures { result ≡ status_summary status.now }
+{
+    match status {
+        EntryStatus::Conflict { .. } => Some(Summary::Conflict),
+        EntryStatus::Change(Change::Removed) => Some(Summary::Removed),
+        EntryStatus::Change(Change::TypeChange { .. }) => Some(Summary::TypeChange),
+        EntryStatus::Change(Change::Modification { .. } | Change::SubmoduleModification(_)) => {
+            Some(Summary::Modified)
+        }
+        EntryStatus::NeedsUpdate(_) => None,
+        EntryStatus::IntentToAdd => Some(Summary::IntentToAdd),
+    }
+}

@@ -1,0 +1,185 @@
+//! Feeding of a collector.
+
+ghost use Rattle.std.specs.Prelude.{◌≡◌, true, map, All};
+ghost use Rattle.status_rewrites.specs.Entries.{map_rewritten, IsLed};
+ghost use Rattle.status_rewrites.specs.declared.rewritten.Rewritten.TheVariants.{Alone, Rewrite};
+ghost use Rattle.status_joined.specs.Feeding.{IsFed, IsToldOne};
+ghost use Rattle.status_joined.specs.Items.{is_walked, IsTold};
+ghost use Rattle.status_joined.specs.Listed.{item_of};
+ghost use Rattle.status_joined.specs.Telling.{told_entry, told_source};
+
+use crate::index_as_worktree_with_renames::entry::{Entry, RewriteSource};
+use crate::index_as_worktree_with_renames::item::ModificationOrDirwalkEntry;
+use crate::index_as_worktree_with_renames::recorder::VisitEntry;
+use status_call::index_as_worktree::Record;
+use status_rewrites::Rewritten;
+use std::alloc::AllocError;
+
+/// What a collector is given of an item that is no part of a rewrite.
+fn entry_of_item<'index, T, U>(
+    item: ModificationOrDirwalkEntry<'index, T, U>,
+) -> Entry<'index, T, U>
+    ensures { IsTold (Alone (item_of item.entry)) (told_entry result) }
+{
+    match item {
+        ModificationOrDirwalkEntry::Modification(record) => {
+            let entries = record.entries();
+            let Record {
+                entry,
+                entry_index,
+                relative_path,
+                status,
+                ..
+            } = record;
+            Entry::Modification {
+                entries,
+                entry,
+                entry_index,
+                rela_path: relative_path,
+                status,
+            }
+        }
+        ModificationOrDirwalkEntry::DirwalkEntry {
+            entry,
+            id: _,
+            collapsed_directory_status,
+        } => Entry::DirectoryContents {
+            entry,
+            collapsed_directory_status,
+        },
+    }
+}
+
+/// What a collector is given of a rewrite's source.
+fn source_of_item<'index, T, U>(
+    item: ModificationOrDirwalkEntry<'index, T, U>,
+) -> RewriteSource<'index, T, U>
+    ensures { told_source result ≡ item_of item.entry }
+{
+    match item {
+        ModificationOrDirwalkEntry::Modification(record) => {
+            let index_entries = record.entries();
+            let Record {
+                entry,
+                entry_index,
+                relative_path,
+                status,
+                ..
+            } = record;
+            RewriteSource::RewriteFromIndex {
+                index_entries,
+                source_entry: entry,
+                source_entry_index: entry_index,
+                source_rela_path: relative_path,
+                source_status: status,
+            }
+        }
+        ModificationOrDirwalkEntry::DirwalkEntry {
+            entry,
+            id,
+            collapsed_directory_status,
+        } => RewriteSource::CopyFromDirectoryEntry {
+            source_dirwalk_entry: entry,
+            source_dirwalk_entry_collapsed_directory_status: collapsed_directory_status,
+            source_dirwalk_entry_id: id,
+        },
+    }
+}
+
+/// What a collector is given of a rewrite. Its destination is a node.
+fn entry_of_rewrite<'index, T, U>(
+    source: ModificationOrDirwalkEntry<'index, T, U>,
+    destination: ModificationOrDirwalkEntry<'index, T, U>,
+    copy: bool,
+) -> Entry<'index, T, U>
+    requires { is_walked (item_of destination) ≡ true }
+    ensures { IsTold (Rewrite (item_of source.entry) (item_of destination.entry) copy) (told_entry result) }
+{
+    match destination {
+        ModificationOrDirwalkEntry::Modification(_record) => unreachable!(),
+        ModificationOrDirwalkEntry::DirwalkEntry {
+            entry,
+            id,
+            collapsed_directory_status,
+        } => Entry::Rewrite {
+            source: source_of_item(source),
+            dirwalk_entry: entry,
+            dirwalk_entry_collapsed_directory_status: collapsed_directory_status,
+            dirwalk_entry_id: id,
+            copy,
+        },
+    }
+}
+
+/// What a collector is given of an entry of the list. A rewrite's destination is a node.
+fn entry_of_rewritten<'index, T, U>(
+    rewritten: Rewritten<ModificationOrDirwalkEntry<'index, T, U>>,
+) -> Entry<'index, T, U>
+    requires { IsLed is_walked (map_rewritten item_of rewritten) }
+    ensures { IsTold (map_rewritten item_of rewritten.entry) (told_entry result) }
+{
+    match rewritten {
+        Rewritten::Alone(item) => entry_of_item(item),
+        Rewritten::Rewrite {
+            source,
+            destination,
+            copy,
+        } => entry_of_rewrite(source, destination, copy),
+    }
+}
+
+/// Gives a collector one entry of the list.
+fn feed_one<'index, V: VisitEntry<'index>>(
+    entry: Rewritten<ModificationOrDirwalkEntry<'index, V::ContentChange, V::SubmoduleStatus>>,
+    collector: &mut V,
+) -> Result<(), AllocError>
+    requires { IsLed is_walked (map_rewritten item_of entry) }
+    ensures { IsToldOne (map_rewritten item_of entry.entry) (V.visits collector.old) result (V.visits collector.new) }
+{
+    collector.visit_entry(entry_of_rewritten(entry))
+}
+
+/// Gives a collector the items of a list, each alone, in order.
+///
+/// # Errors
+/// Want of memory; then a beginning of them was given.
+pub(crate) fn feed_items<'index, V: VisitEntry<'index>>(
+    items: Vec<ModificationOrDirwalkEntry<'index, V::ContentChange, V::SubmoduleStatus>>,
+    collector: &mut V,
+) -> Result<(), AllocError>
+where
+    V::ContentChange: Drop,
+    V::SubmoduleStatus: Drop,
+    ensures { IsFed (map Alone (map item_of items.entry.items)) (V.visits collector.old) result (V.visits collector.new) }
+{
+    for item in items {
+        if let Err(refused) = feed_one(Rewritten::Alone(item), collector) {
+            return Err(refused);
+        }
+    }
+    Ok(())
+}
+
+/// Gives a collector the entries of a list with its rewrites, in order.
+///
+/// # Errors
+/// Want of memory; then a beginning of them was given.
+pub(crate) fn feed_rewritten<'index, V: VisitEntry<'index>>(
+    entries: Vec<
+        Rewritten<ModificationOrDirwalkEntry<'index, V::ContentChange, V::SubmoduleStatus>>,
+    >,
+    collector: &mut V,
+) -> Result<(), AllocError>
+where
+    V::ContentChange: Drop,
+    V::SubmoduleStatus: Drop,
+    requires { All (IsLed is_walked) (map (map_rewritten item_of) entries.items) }
+    ensures { IsFed (map (map_rewritten item_of) entries.entry.items) (V.visits collector.old) result (V.visits collector.new) }
+{
+    for entry in entries {
+        if let Err(refused) = feed_one(entry, collector) {
+            return Err(refused);
+        }
+    }
+    Ok(())
+}

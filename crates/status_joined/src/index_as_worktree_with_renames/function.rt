@@ -1,0 +1,181 @@
+//! The status of an index against a worktree with untracked files, renames and copies.
+
+ghost use Rattle.std.specs.Prelude.{◌≡◌, IfOk, is_some, option_map};
+ghost use Rattle.status_index.specs.States.{index_of};
+ghost use Rattle.status_halves.specs.BothHalves.{Walking, walking};
+ghost use Rattle.status_joined.specs.Identified.{ids_by};
+ghost use Rattle.status_joined.specs.JoinedInputs.{asked_walk, joined_inputs};
+ghost use Rattle.status_joined.specs.JoinedTheorem.{IsJoined};
+
+use crate::index_as_worktree_with_renames::error::Error;
+use crate::index_as_worktree_with_renames::feed::{feed_items, feed_rewritten};
+use crate::index_as_worktree_with_renames::listing::{Listing, list_halves};
+use crate::index_as_worktree_with_renames::recorder::VisitEntry;
+use crate::index_as_worktree_with_renames::rewriting::{RewrittenList, rewrite_list};
+use crate::index_as_worktree_with_renames::types::{Context, DirwalkContext, Options, Outcome};
+use status_base::index::State;
+use status_base::worktree::{Find, Lister, Pathspec, SubmoduleStatus, ToGit, Worktree};
+use status_call::index_as_worktree;
+use status_call::index_as_worktree::inputs::{Inputs, Means};
+use status_compare::CompareBlobs;
+use status_halves::Asked;
+use status_tracker::Tracker;
+use status_walk::Walk;
+use std::alloc::{AllocError, Global};
+use std::sync::Wait;
+use std::thread::Threads;
+
+/// The same filter again, for the ids of nodes.
+fn another<T: ToGit>(filter: &T) -> Result<T, AllocError>
+    ensures { IfOk result (λ f. T.conversion f ≡ T.conversion filter.now) }
+{
+    filter.clone()
+}
+
+/// The walk, where one is asked for.
+fn asked_walk<K: Drop>(asked: bool, walk: K) -> Option<K>
+    ensures { (f : K → Walking) → option_map f result ≡ asked_walk asked (f walk) }
+{
+    if asked { Some(walk) } else { None }
+}
+
+/// Tells `collector` how the worktree differs from `index`, what lies in it beside the index, and what of both are renames
+/// and copies, and answers what that took.
+///
+/// The status of the index and the walk run side by side, the walk in a thread of its own where there can be one. What they
+/// find is told when both have ended: by path, where the options have `sorting`, else the index's entries before the nodes.
+/// With `rewrites` the tracker says which of them are renames and copies. Each of these is told in place of the node that
+/// it became; what was renamed isn't told by itself, and what was copied is.
+///
+/// Where the context's interrupt flag is seen set, both halves end early, and what they found until then is told.
+///
+/// # Errors
+/// The walk's fault, or else the status's, that of the first node that has no id, or the tracker's; or the first of the
+/// tracker's pairs that breaks a rule. Then nothing was told. Want of memory; then nothing was told, or, where it is the
+/// collector's, a beginning.
+pub fn index_as_worktree_with_renames<
+    'index,
+    'w,
+    R: Threads + Wait,
+    W: Worktree + Sync,
+    V: VisitEntry<'index, ContentChange = C::Output, SubmoduleStatus = S::Output>,
+    C: CompareBlobs + Send,
+    S: SubmoduleStatus + Send,
+    O: Find + Send,
+    P: Pathspec + Send,
+    T: ToGit + Send,
+    L: Lister + Send,
+    K: Walk<W> + Send + Drop,
+    X: Tracker + Drop,
+>(
+    rt: &R,
+    alloc: Global,
+    index: &'index State,
+    worktree: &'w W,
+    collector: &mut V,
+    compare: C,
+    submodule: S,
+    objects: O,
+    context: Context<'_, P, T, L, K, X>,
+    options: Options,
+) -> Result<Outcome, Error>
+where
+    W::File: Send,
+    C::Output: Send + Clone + 'index,
+    S::Output: Send + Clone + 'index,
+    requires content { (x y : C.Output) → C.Output.is_clone x y → y ≡ x }
+    requires submodule { (x y : S.Output) → S.Output.is_clone x y → y ≡ x }
+    ensures { IsJoined (⟦<Inputs<'w, W, C, S, O, P, T, L> as Means>⟧.query
+        (joined_inputs worktree.entry compare submodule objects context.entry))
+        options index.now (is_some context.entry.should_interrupt) (asked_walk options.dirwalk
+        (walking (K.modelled context.entry.dirwalk.walk) (W.modelled worktree.entry.now)
+        (K.meaning context.entry.dirwalk.walk worktree.entry.now (index_of index.now) (P.prefix context.entry.pathspec)
+        (P.included context.entry.pathspec))))
+        (record {
+          modelled = W.modelled worktree.entry.now;
+          ids = ids_by options.object_hash (W.lstat_of worktree.entry.now)
+              (W.open_of worktree.entry.now) (W.target_of worktree.entry.now) (T.conversion context.entry.filter);
+        })
+        (X.means context.entry.tracker) (V.visits collector.old) result (V.visits collector.new) }
+{
+    let Context {
+        pathspec,
+        filter,
+        lister,
+        should_interrupt,
+        dirwalk: DirwalkContext { walk },
+        mut tracker,
+    } = context;
+    let id_filter = match another(&filter) {
+        Ok(filter) => filter,
+        Err(_refused) => return Err(Error::Memory),
+    };
+    let asked = Asked {
+        compare,
+        submodule,
+        objects,
+        pathspec,
+        filter,
+        lister,
+        options: index_as_worktree::Options {
+            fs: options.tracked_file_modifications.fs,
+            thread_limit: options.tracked_file_modifications.thread_limit,
+            stat: options.tracked_file_modifications.stat,
+            fscache: options.fscache,
+            chunk_size: options.tracked_file_modifications.chunk_size,
+        },
+    };
+    let walk = asked_walk(options.dirwalk, walk);
+    let kind = options.object_hash;
+    let sorted = options.sorting.is_some();
+    let Listing {
+        items,
+        tracked,
+        walked,
+    } = match list_halves(
+        rt,
+        alloc,
+        index,
+        worktree,
+        walk,
+        asked,
+        should_interrupt,
+        kind,
+        sorted,
+    ) {
+        Ok(listing) => listing,
+        Err(error) => return Err(error),
+    };
+    match options.rewrites {
+        None => match feed_items(items, collector) {
+            Ok(()) => Ok(Outcome {
+                tracked_file_modification: tracked,
+                dirwalk: walked,
+                rewrites: None,
+            }),
+            Err(_refused) => Err(Error::Memory),
+        },
+        Some(rewrites) => {
+            let RewrittenList { entries, outcome } = match rewrite_list(
+                alloc,
+                kind,
+                worktree,
+                &id_filter,
+                &mut tracker,
+                rewrites,
+                items,
+            ) {
+                Ok(list) => list,
+                Err(error) => return Err(error),
+            };
+            match feed_rewritten(entries, collector) {
+                Ok(()) => Ok(Outcome {
+                    tracked_file_modification: tracked,
+                    dirwalk: walked,
+                    rewrites: Some(outcome),
+                }),
+                Err(_refused) => Err(Error::Memory),
+            }
+        }
+    }
+}

@@ -1,0 +1,24 @@
+//! The status of an index against a worktree with untracked files, renames and copies.
+
+mod entry;
+mod error;
+mod feed;
+mod function;
+mod ids;
+pub mod item;
+mod list;
+mod listing;
+mod order;
+mod recorder;
+pub mod rewrites;
+mod rewriting;
+mod summary;
+mod types;
+
+pub use entry::{Entry, RewriteSource};
+pub use error::Error;
+pub use function::index_as_worktree_with_renames;
+pub use item::ModificationOrDirwalkEntry;
+pub use recorder::{Recorder, VisitEntry};
+pub use summary::Summary;
+pub use types::{Context, DirwalkContext, Options, Outcome, Sorting};

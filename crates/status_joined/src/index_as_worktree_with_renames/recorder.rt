@@ -1,0 +1,72 @@
+//! Who is given the entries of a status with untracked files, renames and copies.
+
+ghost use Rattle.std.specs.Prelude.{◌≡◌, ◌++◌, ◌∷◌, [], List, OnOk, OnErr};
+ghost use Rattle.status_joined.specs.Items.{Told};
+ghost use Rattle.status_joined.specs.Telling.{told_entry};
+
+use crate::index_as_worktree_with_renames::entry::Entry;
+use std::alloc::{AllocError, Global};
+
+/// Who is given the entries of a status. Its meaning is the list of what it was given.
+pub trait VisitEntry<'index> {
+    /// What a comparer reports of a change.
+    type ContentChange;
+    /// What a submodule reports of a change.
+    type SubmoduleStatus;
+
+    /// What it was given so far.
+    ghost visits: { Self → List (Told Self.ContentChange Self.SubmoduleStatus) };
+
+    /// Takes an entry.
+    ///
+    /// # Errors
+    /// Want of memory; then it wasn't taken.
+    fn visit_entry(
+        &mut self,
+        entry: Entry<'index, Self::ContentChange, Self::SubmoduleStatus>,
+    ) -> Result<(), AllocError>
+        ensures ok { OnOk result (visits self.new ≡ visits self.old ++ told_entry entry.entry ∷ []) }
+        ensures err { OnErr result (visits self.new ≡ visits self.old) };
+}
+
+/// Keeps the entries of a status in a list. One that is refused memory stays as it was.
+#[derive(Debug, Drop)]
+pub struct Recorder<'index, T, U> {
+    /// The entries, in the order in which they came.
+    pub records: Vec<Entry<'index, T, U>>,
+}
+
+impl<'index, T, U> Recorder<'index, T, U> {
+    ghost use Rattle.std.specs.Prelude.{◌≡◌, []};
+    ghost use Rattle.status_joined.specs.Recorded.{told_of_recorder};
+
+    /// A recorder with no entry.
+    pub fn new(alloc: Global) -> Recorder<'index, T, U>
+        ensures { told_of_recorder result ≡ [] }
+    {
+        Recorder {
+            records: Vec::new(alloc),
+        }
+    }
+}
+
+impl<'index, T: Drop, U: Drop> VisitEntry<'index> for Recorder<'index, T, U> {
+    ghost use Rattle.std.specs.Prelude.{◌≡◌, ◌++◌, ◌∷◌, [], OnOk, OnErr};
+    ghost use Rattle.status_joined.specs.Recorded.{told_of_recorder};
+    ghost use Rattle.status_joined.specs.Telling.{told_entry};
+
+    type ContentChange = T;
+
+    type SubmoduleStatus = U;
+
+    ghost visits = { told_of_recorder };
+
+    fn visit_entry(&mut self, entry: Entry<'index, T, U>) -> Result<(), AllocError>
+        ensures ok { OnOk result (told_of_recorder self.new
+            ≡ told_of_recorder self.old ++ told_entry entry.entry ∷ []) }
+        ensures err { OnErr result (told_of_recorder self.new ≡ told_of_recorder self.old) }
+    {
+        self.records.push(entry)?;
+        Ok(())
+    }
+}

@@ -1,0 +1,76 @@
+//! The list with its renames and copies.
+
+ghost use Rattle.std.specs.Prelude.{◌≡◌, IfOk, map, not, All};
+ghost use Rattle.std.specs.List.{count_by};
+ghost use Rattle.status_rewrites.specs.Entries.{map_rewritten, IsLed};
+ghost use Rattle.status_joined.specs.Identified.{ids_by};
+ghost use Rattle.status_joined.specs.Items.{is_walked};
+ghost use Rattle.status_joined.specs.Listed.{item_of};
+ghost use Rattle.status_joined.specs.RewritingAnswers.{IsRewritingAnswer};
+
+use crate::index_as_worktree_with_renames::error::{Error, id_error, refused_error};
+use crate::index_as_worktree_with_renames::ids::identify;
+use crate::index_as_worktree_with_renames::item::ModificationOrDirwalkEntry;
+use crate::index_as_worktree_with_renames::rewrites::Outcome;
+use status_base::index::HashKind;
+use status_base::worktree::{ToGit, Worktree};
+use status_rewrites::{Rewritten, rewrite};
+use status_tracker::{Pair, Rewrites, Tracker};
+use std::alloc::Global;
+
+/// A list with its renames and copies, and how many there are.
+#[derive(Drop)]
+pub(crate) struct RewrittenList<'index, T, U> {
+    pub(crate) entries: Vec<Rewritten<ModificationOrDirwalkEntry<'index, T, U>>>,
+    pub(crate) outcome: Outcome,
+}
+
+/// How many of the pairs are renames, and how many are copies.
+fn count(pairs: &[Pair]) -> Outcome
+    ensures renames { result.renames ≡ count_by (λ p. not p.copy) pairs.now }
+    ensures copies { result.copies ≡ count_by (λ p. p.copy) pairs.now }
+{
+    let copies = pairs.iter().filter(|pair| pair.copy).count();
+    Outcome {
+        renames: pairs.len() - copies,
+        copies,
+    }
+}
+
+/// Gives the list's nodes their ids, asks the tracker, and rewrites the list by what it answers.
+///
+/// # Errors
+/// The fault of the first node that has no id. The tracker's refusal, or the first of its pairs that breaks a rule. Want
+/// of memory.
+pub(crate) fn rewrite_list<'index, W: Worktree, F: ToGit, X: Tracker, T: Clone, U: Clone>(
+    alloc: Global,
+    kind: HashKind,
+    worktree: &W,
+    filter: &F,
+    tracker: &mut X,
+    rewrites: Rewrites,
+    mut items: Vec<ModificationOrDirwalkEntry<'index, T, U>>,
+) -> Result<RewrittenList<'index, T, U>, Error>
+    requires content { (x y : T) → T.is_clone x y → y ≡ x }
+    requires submodule { (x y : U) → U.is_clone x y → y ≡ x }
+    ensures answer { IsRewritingAnswer (record {
+      modelled = W.modelled worktree.now;
+      ids = ids_by kind
+          (W.lstat_of worktree.now) (W.open_of worktree.now) (W.target_of worktree.now) (F.conversion filter.now);
+    })
+        kind (X.means tracker.old) rewrites (map item_of items.entry.items) result }
+    ensures led { IfOk result (λ r. All (IsLed is_walked) (map (map_rewritten item_of) r.entries.items)) }
+{
+    if let Err(error) = identify(alloc, kind, worktree, filter, &mut items) {
+        return Err(id_error(error));
+    }
+    let pairs = match tracker.pairs(items.as_slice(), rewrites) {
+        Ok(pairs) => pairs,
+        Err(error) => return Err(Error::from(error)),
+    };
+    let outcome = count(pairs.as_slice());
+    match rewrite(alloc, items, pairs.as_slice()) {
+        Ok(entries) => Ok(RewrittenList { entries, outcome }),
+        Err(refused) => Err(refused_error(refused)),
+    }
+}
