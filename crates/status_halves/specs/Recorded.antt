@@ -1,5 +1,5 @@
 -- What the tracked half recorded.
-use Rattle.std.specs.Prelude.{◌≡◌, ◌≢◌, ◌<◌, ◌^◌, Bool, true, false, IsTrue, List, map, All, AllPairs, Result, Ok, Err}
+use Rattle.std.specs.Prelude.{◌≡◌, ◌≢◌, ◌<◌, ◌^◌, Bool, true, false, IsTrue, List, map, All, AllPairs, Some, Result, Ok, Err}
 use Rattle.status_index.specs.declared.state.State.{State}
 use Rattle.status_index.specs.States.{entries_of, backing_of}
 use Rattle.status_compare.specs.declared.error.Error.{Error}
@@ -8,7 +8,7 @@ use Rattle.status_call.specs.Inputs.{settings}
 use Rattle.status_call.specs.Outcomes.{skipped_of}
 use Rattle.status_call.specs.Query.{Query}
 use Rattle.status_call.specs.Recorded.{visits_of}
-use Rattle.status_call.specs.StatusTheorem.{IsComplete, IsFirstFault, IsStatusOfSome}
+use Rattle.status_call.specs.StatusTheorem.{IsComplete, IsFirstFault, IsStatusOfSome, NeverSpawns}
 use Rattle.status_call.specs.Visits.{Visit, finding_of, IsFaithful}
 use Rattle.status_call.specs.declared.index_as_worktree.inputs.Settings.{Settings}
 use Rattle.status_call.specs.declared.index_as_worktree.types.Finding.{Finding}
@@ -30,10 +30,12 @@ module _ {T U : Type 0} (query : Settings → Query T U) (options : Options) (in
     pub uninterrupted : interruptible ≡ false → o.interrupted ≡ false
     pub fits : skipped_of o < 2 ^ 64
 
-  -- the status failed at its first fault, unless memory or a thread was refused
+  -- the status failed at its first fault, unless memory or a thread was refused. With limit 1 no thread is, where the comparer doesn't
+  -- answer so
   pub record IsTrackedFailure (e : Error) : Type 0 where
     pub found : List (Finding T U)
     pub first : IsTrue query_of.modelled → e ≢ Memory → e ≢ SpawnThread → IsFirstFault query_of index found e
+    pub alone : IsTrue query_of.modelled → options.thread_limit ≡ Some 1 → NeverSpawns query_of → e ≢ SpawnThread
 
   abbrev pub IsRecorded : Bool → Result (Tracked T U) Error → Type 0
   IsRecorded interruptible (Ok t) = IsTrackedHalf interruptible (visits_of t.recorder) t.outcome

@@ -1,5 +1,5 @@
 -- What a walk means, and what it answers.
-use Rattle.std.specs.Prelude.{◌≡◌, ℕ, ◌≤◌, Bool, false, List, ◌++◌, length, take, filter, Option, Some, None, Result, Ok, Err, ⊤}
+use Rattle.std.specs.Prelude.{◌≡◌, ℕ, ◌<◌, ◌≤◌, Bool, true, false, List, ◌++◌, length, take, filter, Option, Some, None, Result, Ok, Err, ⊤}
 use Rattle.bstr.specs.Owned.{bstring_bytes}
 use Rattle.status_index.specs.declared.fault.Fault.{Fault as WorktreeFault}
 use Rattle.status_walk.specs.declared.walk.Outcome.{Outcome}
@@ -17,10 +17,12 @@ pub record WalkMeaning : Type 0 where
   pub entries : List Walked
   pub fault : Option WalkFault
 
--- a walk to its end hands out all that there is to find, and meets no fault; one that the delegate ends, the first of it
+-- a walk to its end hands out all that there is to find, and meets no fault; one that the delegate ends, the first of it, with what it
+-- ended at
 pub record IsWalked (m : WalkMeaning) (keeps : Walked → Bool) (old new : List Walked) (cancelled : Bool) (o : Outcome) : Type 0 where
   pub ended : o.cancelled ≡ cancelled
   pub inside : o.emitted ≤ length m.entries
+  pub begun : o.cancelled ≡ true → 0 < o.emitted
   pub kept : new ≡ old ++ filter keeps (take o.emitted m.entries)
   pub whole : o.cancelled ≡ false → (o.emitted ≡ length m.entries) × (m.fault ≡ None)
 

@@ -1,4 +1,4 @@
-use Rattle.std.proofs.Common.{◌++◌, map, ap, ◌∙◌}
+use Rattle.std.proofs.Common.{◌++◌, map, ap, ◌∙◌, Err}
 use Rattle.status_call.specs.Visits.{finding_of}
 use Rattle.status_halves.proofs.Tracking.{none_of}
 use Rattle.status_halves.proofs.tracked.record_tracked.Goals as goal
@@ -7,7 +7,11 @@ use Rattle.status_halves.proofs.tracked.record_tracked.Goals as goal
 pub returns : goal.returns
 returns g c =
     let m = c.in-Err.ensures.all in
-    record { found = map finding_of m.more; first = m.fault }
+    record {
+      found = map finding_of m.more;
+      first = m.fault;
+      alone = λ modelled one never spawned. c.in-Err.ensures.alone modelled one never (ap Err spawned);
+    }
 
 -- src/tracked.rt:52:1
 pub returns-in-Ok : goal.returns-in-Ok

@@ -58,6 +58,7 @@ returns-in-Some-Cancel g c =
     record {
       ended = sym (answer.cancelled ∙ ap is_cancelling some);
       inside = after.inside;
+      begun = λ h. omega arith;
       kept = after.has;
       whole = λ h. absurd (true≢false h);
     }
@@ -69,6 +70,7 @@ returns g c =
     record {
       ended = sym u.going;
       inside = way.inside;
+      begun = λ h. absurd (true≢false (sym h));
       kept = way.has;
       whole = λ h. (at_end _ _ _ _ _ _ _ way, refl);
     }
