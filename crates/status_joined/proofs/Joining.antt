@@ -1,5 +1,7 @@
 -- The joined theorem at each way out of the call.
-use Rattle.std.proofs.Common.{inl, inr, ◌≡◌, ◌≤◌, ℕ, Bool, List, [], ◌++◌, map, take, drop, length, Option, Some, None, is_some, Result, Ok, Err, sym, subst}
+use Rattle.std.proofs.Common.{inl, inr, ◌≡◌, ◌≤◌, ℕ, Bool, true, false, IsTrue, List, [], ◌++◌, map, take, drop, length, Option, Some, None, is_some, Result, Ok, Err, sym, subst}
+use Rattle.std.specs.List.Sorted.{IsSorted}
+use Rattle.std.proofs.lemmas.Bool.{false≢true}
 use Rattle.std.proofs.lemmas.List.{append-nil, take-append-drop}
 use Rattle.status_index.specs.declared.state.State.{State}
 use Rattle.status_call.specs.Query.{Query}
@@ -20,8 +22,11 @@ use Rattle.status_joined.specs.declared.index_as_worktree_with_renames.types.Opt
 use Rattle.status_joined.specs.Feeding.{AreTold}
 use Rattle.status_joined.specs.Items.{Item, Told}
 use Rattle.status_joined.specs.Joined.{Identifying, IsRewriting, IsRewritingFault, tracked_options}
-use Rattle.status_joined.specs.JoinedTheorem.{HasJoinedList, IsFault, IsJoined, IsToldOf}
+use Rattle.status_joined.specs.JoinedTheorem.{HasJoinedList, IsFault, IsJoined, IsToldOf, IsWhole}
 use Rattle.status_joined.specs.Listing.{HasList, IsHalfFault}
+use Rattle.status_joined.specs.Lists.{IsList, list_cmp, unsorted}
+use Rattle.status_joined.specs.Summaries.{told_cmp}
+use Rattle.status_joined.proofs.InOrder.{alone_in_order, rewritten_in_order}
 
 module _ {T U : Type 0} (query : Settings → Query T U) (options : Options) (index : State) (interruptible : Bool) (walking : Option Walking) (ids : Identifying) (means : List Changed → Bool → Result (List Pair) TrackerFault → Type 0) where
   -- an error before anything was told
@@ -55,6 +60,29 @@ module _ {T U : Type 0} (query : Settings → Query T U) (options : Options) (in
   rewritten_told r asked known same list entries o rewriting ts told =
       rw asked (entries, (subst (λ x. IsRewriting x options.object_hash means r.track_empty list entries o) same rewriting, told))
 
+  -- what is told of a sorted list is sorted
+  told_in_order : (r : Option Rewrites) (list : List (Item T U)) (ts : List (Told T U)) (o : Option RewritesOutcome) → IsSorted list_cmp list → IsToldOf query options index interruptible walking ids means r list ts o → IsSorted told_cmp ts
+  told_in_order None list ts None up told = alone_in_order list ts up told
+  told_in_order None list ts (Some o) up told = absurd told
+  told_in_order (Some r) list ts None up told = absurd told
+  told_in_order (Some r) list ts (Some o) up told =
+      let w = told.1.0 in
+      rewritten_in_order options.object_hash list w.items w.rewritten.moves told.0 ts up w.identified.same w.rewritten.entries_are told.1.1
+
+  list_in_order : (sorted : Bool) (items list : List (Item T U)) → IsList sorted items list → IsTrue sorted → IsSorted list_cmp list
+  list_in_order true items list is asked = is.order
+  list_in_order false items list is asked = absurd (false≢true asked)
+
+  whole_of : (list : List (Item T U)) (ts : List (Told T U)) (tracked : StatusOutcome) (walked : Option WalkOutcome) (o : Option RewritesOutcome) → HasJoinedList query options index interruptible walking ids means list tracked walked → IsToldOf query options index interruptible walking ids means options.rewrites list ts o → IsWhole query options index interruptible walking ids means ts (record { tracked_file_modification = tracked; dirwalk = walked; rewrites = o })
+  whole_of list ts tracked walked o has told = record {
+    list = list;
+    has = has;
+    is_told = told;
+    order = λ asked.
+        told_in_order options.rewrites list ts o
+        (list_in_order (is_some options.sorting) (unsorted options.object_hash has.visits has.kept) list has.list_is asked) told;
+  }
+
   module _ (list : List (Item T U)) (tracked : StatusOutcome) (walked : Option WalkOutcome) (has : HasJoinedList query options index interruptible walking ids means list tracked walked) where
     pub of_list : (r : Rewrites) → options.rewrites ≡ Some r → (e : Error) → IsRewritingFault ids options.object_hash means r.track_empty list e → IsFault query options index interruptible walking ids means e
     of_list r asked (errors.DirWalk x) fault = absurd fault
@@ -74,7 +102,7 @@ module _ {T U : Type 0} (query : Settings → Query T U) (options : Options) (in
     -- all was told
     pub told_all : (entries : List (Rewritten (Item T U))) (o : Option RewritesOutcome) → ((ts : List (Told T U)) → AreTold entries ts → IsToldOf query options index interruptible walking ids means options.rewrites list ts o) → (old new : List (Told T U)) → (ts : List (Told T U)) × AreTold entries ts × (new ≡ old ++ ts) → IsJoined query options index interruptible walking ids means old (Ok (record { tracked_file_modification = tracked; dirwalk = walked; rewrites = o })) new
     told_all entries o meant old new fed =
-        record { more = fed.0; grew = fed.2; complete = record { list = list; has = has; is_told = meant fed.0 fed.1 }; fault = tt; quiet = tt }
+        record { more = fed.0; grew = fed.2; complete = whole_of list fed.0 tracked walked o has (meant fed.0 fed.1); fault = tt; quiet = tt }
 
     -- memory ran out while the collector was told
     pub told_some : (entries : List (Rewritten (Item T U))) (o : Option RewritesOutcome) → ((ts : List (Told T U)) → AreTold entries ts → IsToldOf query options index interruptible walking ids means options.rewrites list ts o) → (old new : List (Told T U)) → (ts : List (Told T U)) × AreTold entries ts × ((n : ℕ) × (n ≤ length ts) × (new ≡ old ++ take n ts)) → IsJoined query options index interruptible walking ids means old (Err errors.Memory) new
@@ -89,7 +117,7 @@ module _ {T U : Type 0} (query : Settings → Query T U) (options : Options) (in
             record {
               whole = fed.0;
               outcome = record { tracked_file_modification = tracked; dirwalk = walked; rewrites = o };
-              is_whole = record { list = list; has = has; is_told = meant fed.0 fed.1 };
+              is_whole = whole_of list fed.0 tracked walked o has (meant fed.0 fed.1);
               beginning = (drop fed.2.0 fed.0, take-append-drop fed.2.0 fed.0);
             },
           );

@@ -1,5 +1,6 @@
 -- The joined theorem: what a status with untracked files, renames and copies tells its collector, and what it answers.
-use Rattle.std.specs.Prelude.{◌≡◌, ◌⊎◌, Bool, List, [], ◌++◌, map, Option, Some, None, is_some, Result, IfOk, IfErr, ⊤}
+use Rattle.std.specs.Prelude.{◌≡◌, ◌⊎◌, Bool, IsTrue, List, [], ◌++◌, map, Option, Some, None, is_some, Result, IfOk, IfErr, ⊤}
+use Rattle.std.specs.List.Sorted.{IsSorted}
 use Rattle.status_index.specs.declared.state.State.{State}
 use Rattle.status_call.specs.Query.{Query}
 use Rattle.status_call.specs.StatusTheorem.{IsBeginning}
@@ -22,6 +23,7 @@ use Rattle.status_joined.specs.Feeding.{AreTold}
 use Rattle.status_joined.specs.Items.{Item, Told}
 use Rattle.status_joined.specs.Joined.{Identifying, IsRewriting, IsRewritingFault, tracked_options}
 use Rattle.status_joined.specs.Listing.{HasList, IsHalfFault}
+use Rattle.status_joined.specs.Summaries.{told_cmp}
 
 module _ {T U : Type 0} (query : Settings → Query T U) (options : Options) (index : State) (interruptible : Bool) (walking : Option Walking) (ids : Identifying) (means : List Changed → Bool → Result (List Pair) TrackerFault → Type 0) where
   -- both halves came through and ended so, and this is the list of what they found
@@ -41,6 +43,8 @@ module _ {T U : Type 0} (query : Settings → Query T U) (options : Options) (in
     pub list : List (Item T U)
     pub has : HasJoinedList list o.tracked_file_modification o.dirwalk
     pub is_told : IsToldOf options.rewrites list told o.rewrites
+    -- with sorting: by the path that each is told by, and at equal paths records before nodes
+    pub order : IsTrue (is_some options.sorting) → IsSorted told_cmp told
 
   -- why the list has no renames and copies, where these are looked for
   abbrev pub IsListFault : Option Rewrites → List (Item T U) → Error → Type 0

@@ -1,5 +1,8 @@
--- What is told, in a word, and where.
+-- What is told, in a word, where, and in which order.
 use Rattle.std.specs.Prelude.{ℕ, true, false, List, Option, Some, None}
+use Rattle.std.specs.Cmp.Lexicographic.{slice_cmp}
+use Rattle.std.specs.Ordering.{nat_cmp, ordering_then}
+use Rattle.std.specs.declared.cmp.Ordering.{Ordering}
 use Rattle.status_call.specs.declared.index_as_worktree.types.Change.TheVariants as changes
 use Rattle.status_call.specs.declared.index_as_worktree.types.EntryStatus.{EntryStatus}
 use Rattle.status_call.specs.declared.index_as_worktree.types.EntryStatus.TheVariants as statuses
@@ -41,3 +44,13 @@ abbrev pub destination_path : {T U : Type 0} → Told T U → List ℕ
 destination_path (modification v) = v.path
 destination_path (contents w) = w.path
 destination_path (rewrite source w id copy) = w.path
+
+-- records before nodes. A rename or a copy stands as the node that it became
+abbrev pub told_side : {T U : Type 0} → Told T U → ℕ
+told_side (modification v) = 0
+told_side (contents w) = 1
+told_side (rewrite source w id copy) = 1
+
+-- by the path that each is told by, which is that of its destination, and at equal paths records before nodes
+abbrev pub told_cmp : {T U : Type 0} → Told T U → Told T U → Ordering
+told_cmp t u = ordering_then (slice_cmp nat_cmp (destination_path t) (destination_path u)) (nat_cmp (told_side t) (told_side u))
