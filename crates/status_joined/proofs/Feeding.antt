@@ -1,5 +1,5 @@
 -- What of a list's entries was told, while they are told.
-use Rattle.std.proofs.Common.{◌≡◌, refl, sym, ap, ◌∙◌, subst, ℕ, ◌≤◌, List, [], ◌∷◌, ◌++◌, length, map, take, All, arith, append_assoc, length-append}
+use Rattle.std.proofs.Common.{◌≡◌, refl, sym, ap, ◌∙◌, subst, ℕ, suc, ◌<◌, List, [], ◌∷◌, ◌++◌, length, map, take, All, arith, append_assoc, length-append}
 use Rattle.std.proofs.lemmas.List.{append-nil}
 use Rattle.std.proofs.lemmas.Bool.{false≢true}
 use Rattle.std.proofs.lemmas.List.Elements.{All-head, All-tail, All-nil, All-append, All-push}
@@ -68,11 +68,18 @@ module _ {T U : Type 0} where
       let whole : h.front ≡ entries = sym (append-nil h.front) ∙ ap (λ (l : List (Rewritten (Item T U))). h.front ++ l) (sym none) ∙ h.whole in
       (h.given, subst (λ xs. AreTold xs h.given) whole h.told, h.grew)
 
-  -- a front was told, and nothing after it
-  pub told_until : (entries : List (Rewritten (Item T U))) (old now after : List (Told T U)) (left : List (Rewritten (Item T U))) → All (IsLed is_walked) entries → IsUnderWay entries old now left → after ≡ now → (ts : List (Told T U)) × AreTold entries ts × ((n : ℕ) × (n ≤ length ts) × (after ≡ old ++ take n ts))
-  told_until entries old now after left led h same =
+  as_many : (xs : List (Rewritten (Item T U))) (ts : List (Told T U)) → AreTold xs ts → length ts ≡ length xs
+  as_many [] [] h = refl
+  as_many [] (t ∷ ts) h = absurd h
+  as_many (x ∷ xs) [] h = absurd h
+  as_many (x ∷ xs) (t ∷ ts) h = ap (λ n. suc n) (as_many xs ts h.1)
+
+  -- a front was told, and nothing after it, though an entry was left
+  pub told_until : (entries : List (Rewritten (Item T U))) (old now after : List (Told T U)) (entry : Rewritten (Item T U)) (left rest : List (Rewritten (Item T U))) → left ≡ entry ∷ rest → All (IsLed is_walked) entries → IsUnderWay entries old now left → after ≡ now → (ts : List (Told T U)) × AreTold entries ts × ((n : ℕ) × (n < length ts) × (after ≡ old ++ take n ts))
+  told_until entries old now after entry left behind step led h same =
       let rest = may_tell_all left (all_left (IsLed is_walked) entries old now left h led) in
-      let fits : length h.given ≤ length (h.given ++ rest.0) = omega (arith, length-append h.given rest.0) in (
+      let some : length rest.0 ≡ suc (length behind) = as_many left rest.0 rest.1 ∙ ap length step in
+      let fits : length h.given < length (h.given ++ rest.0) = omega (arith, length-append h.given rest.0, some) in (
         h.given ++ rest.0,
         subst (λ xs. AreTold xs (h.given ++ rest.0)) h.whole (told_append h.front left h.given rest.0 h.told rest.1),
         (length h.given, fits, same ∙ h.grew ∙ ap (λ (l : List (Told T U)). old ++ l) (sym (take-append_seam h.given rest.0))),

@@ -1,8 +1,8 @@
 -- The joined theorem at each way out of the call.
-use Rattle.std.proofs.Common.{inl, inr, ◌≡◌, ◌≤◌, ℕ, Bool, true, false, IsTrue, List, [], ◌++◌, map, take, drop, length, Option, Some, None, is_some, Result, Ok, Err, sym, subst}
+use Rattle.std.proofs.Common.{inl, inr, ◌≡◌, ◌<◌, ℕ, Bool, true, false, IsTrue, List, [], ◌++◌, map, take, drop, length, Option, Some, None, is_some, Result, Ok, Err, sym, subst, arith}
 use Rattle.std.specs.List.Sorted.{IsSorted}
 use Rattle.std.proofs.lemmas.Bool.{false≢true}
-use Rattle.std.proofs.lemmas.List.{append-nil, take-append-drop}
+use Rattle.std.proofs.lemmas.List.{append-nil, length-take-le, take-append-drop}
 use Rattle.status_index.specs.declared.state.State.{State}
 use Rattle.status_call.specs.Query.{Query}
 use Rattle.status_call.specs.declared.index_as_worktree.inputs.Settings.{Settings}
@@ -105,7 +105,7 @@ module _ {T U : Type 0} (query : Settings → Query T U) (options : Options) (in
         record { more = fed.0; grew = fed.2; complete = whole_of list fed.0 tracked walked o has (meant fed.0 fed.1); fault = tt; quiet = tt }
 
     -- memory ran out while the collector was told
-    pub told_some : (entries : List (Rewritten (Item T U))) (o : Option RewritesOutcome) → ((ts : List (Told T U)) → AreTold entries ts → IsToldOf query options index interruptible walking ids means options.rewrites list ts o) → (old new : List (Told T U)) → (ts : List (Told T U)) × AreTold entries ts × ((n : ℕ) × (n ≤ length ts) × (new ≡ old ++ take n ts)) → IsJoined query options index interruptible walking ids means old (Err errors.Memory) new
+    pub told_some : (entries : List (Rewritten (Item T U))) (o : Option RewritesOutcome) → ((ts : List (Told T U)) → AreTold entries ts → IsToldOf query options index interruptible walking ids means options.rewrites list ts o) → (old new : List (Told T U)) → (ts : List (Told T U)) × AreTold entries ts × ((n : ℕ) × (n < length ts) × (new ≡ old ++ take n ts)) → IsJoined query options index interruptible walking ids means old (Err errors.Memory) new
     told_some entries o meant old new fed =
         record {
           more = take fed.2.0 fed.0;
@@ -119,6 +119,7 @@ module _ {T U : Type 0} (query : Settings → Query T U) (options : Options) (in
               outcome = record { tracked_file_modification = tracked; dirwalk = walked; rewrites = o };
               is_whole = whole_of list fed.0 tracked walked o has (meant fed.0 fed.1);
               beginning = (drop fed.2.0 fed.0, take-append-drop fed.2.0 fed.0);
+              short = omega (arith, fed.2.1, length-take-le fed.2.0 fed.0 (omega (arith, fed.2.1)));
             },
           );
         }
@@ -131,7 +132,7 @@ module _ {T U : Type 0} (query : Settings → Query T U) (options : Options) (in
     pub plain_all : options.rewrites ≡ None → (old new : List (Told T U)) → (ts : List (Told T U)) × AreTold (map Alone list) ts × (new ≡ old ++ ts) → IsJoined query options index interruptible walking ids means old (Ok (record { tracked_file_modification = tracked; dirwalk = walked; rewrites = None })) new
     plain_all unasked old new fed = told_all list tracked walked joined (map Alone list) None (alone_told unasked list) old new fed
 
-    pub plain_some : options.rewrites ≡ None → (old new : List (Told T U)) → (ts : List (Told T U)) × AreTold (map Alone list) ts × ((n : ℕ) × (n ≤ length ts) × (new ≡ old ++ take n ts)) → IsJoined query options index interruptible walking ids means old (Err errors.Memory) new
+    pub plain_some : options.rewrites ≡ None → (old new : List (Told T U)) → (ts : List (Told T U)) × AreTold (map Alone list) ts × ((n : ℕ) × (n < length ts) × (new ≡ old ++ take n ts)) → IsJoined query options index interruptible walking ids means old (Err errors.Memory) new
     plain_some unasked old new fed = told_some list tracked walked joined (map Alone list) None (alone_told unasked list) old new fed
 
     module _ (r : Rewrites) (asked : options.rewrites ≡ Some r) (known : Identifying) (same_ids : known ≡ ids) where
@@ -142,6 +143,6 @@ module _ {T U : Type 0} (query : Settings → Query T U) (options : Options) (in
       rewritten_all entries o rewriting old new fed =
           told_all list tracked walked joined entries (Some o) (rewritten_told r asked known same_ids list entries o rewriting) old new fed
 
-      pub rewritten_some : (entries : List (Rewritten (Item T U))) (o : RewritesOutcome) → IsRewriting known options.object_hash means r.track_empty list entries o → (old new : List (Told T U)) → (ts : List (Told T U)) × AreTold entries ts × ((n : ℕ) × (n ≤ length ts) × (new ≡ old ++ take n ts)) → IsJoined query options index interruptible walking ids means old (Err errors.Memory) new
+      pub rewritten_some : (entries : List (Rewritten (Item T U))) (o : RewritesOutcome) → IsRewriting known options.object_hash means r.track_empty list entries o → (old new : List (Told T U)) → (ts : List (Told T U)) × AreTold entries ts × ((n : ℕ) × (n < length ts) × (new ≡ old ++ take n ts)) → IsJoined query options index interruptible walking ids means old (Err errors.Memory) new
       rewritten_some entries o rewriting old new fed =
           told_some list tracked walked joined entries (Some o) (rewritten_told r asked known same_ids list entries o rewriting) old new fed

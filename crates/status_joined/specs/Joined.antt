@@ -1,6 +1,7 @@
 -- The joined theorem: what a status with untracked files, renames and copies tells its collector, and what it answers.
 use Rattle.std.specs.Prelude.{◌≡◌, ◌⊎◌, ℕ, Bool, not, IsTrue, List, map, Some, Result, Ok, Err, slice_get, ⊤}
 use Rattle.std.specs.List.{count_by}
+use Rattle.status_index.specs.declared.fault.Fault.TheVariants as faults
 use Rattle.status_index.specs.declared.id.HashKind.{HashKind}
 use Rattle.status_index.specs.declared.id.ObjectId.{ObjectId}
 use Rattle.status_call.specs.declared.index_as_worktree.types.Options.{Options as StatusOptions}
@@ -64,8 +65,12 @@ module _ {T U : Type 0} (ids : Identifying) (kind : HashKind) (means : List Chan
       means (map changed_of items) track_empty (Err (bad_pair at))
       ⊎ ((pairs : List Pair) × (means (map changed_of items) track_empty (Ok pairs) × IsBadPair is_removed is_walked items pairs at))
 
-  -- why a list has no renames and copies
+  -- why a list has no renames and copies. Want of memory is told as that
   abbrev pub IsRewritingFault : Bool → List (Item T U) → Error → Type 0
+  IsRewritingFault track_empty list (errors.OpenWorktreeFile faults.Memory) = ⊥
+  IsRewritingFault track_empty list (errors.HashFile faults.Memory) = ⊥
+  IsRewritingFault track_empty list (errors.ReadLink faults.Memory) = ⊥
+  IsRewritingFault track_empty list (errors.ConvertToGit faults.Memory) = ⊥
   IsRewritingFault track_empty list (errors.OpenWorktreeFile f) = IsIdFault list (Open f)
   IsRewritingFault track_empty list (errors.HashFile f) = IsIdFault list (Hash f)
   IsRewritingFault track_empty list (errors.ReadLink f) = IsIdFault list (ReadLink f)

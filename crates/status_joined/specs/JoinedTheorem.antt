@@ -1,5 +1,5 @@
 -- The joined theorem: what a status with untracked files, renames and copies tells its collector, and what it answers.
-use Rattle.std.specs.Prelude.{◌≡◌, ◌⊎◌, Bool, IsTrue, List, [], ◌++◌, map, Option, Some, None, is_some, Result, IfOk, IfErr, ⊤}
+use Rattle.std.specs.Prelude.{◌≡◌, ◌⊎◌, ◌<◌, Bool, IsTrue, List, [], ◌++◌, length, map, Option, Some, None, is_some, Result, IfOk, IfErr, ⊤}
 use Rattle.std.specs.List.Sorted.{IsSorted}
 use Rattle.status_index.specs.declared.state.State.{State}
 use Rattle.status_call.specs.Query.{Query}
@@ -66,12 +66,13 @@ module _ {T U : Type 0} (query : Settings → Query T U) (options : Options) (in
   IsFault Memory = ⊤
   IsFault e = IsLateFault e
 
-  -- a beginning of all that there is to tell
+  -- a beginning of all that there is to tell, and not all of it
   pub record IsCutShort (told : List (Told T U)) : Type 0 where
     pub whole : List (Told T U)
     pub outcome : Outcome
     pub is_whole : IsWhole whole outcome
     pub beginning : IsBeginning told whole
+    pub short : length told < length whole
 
   -- what was told over any worktree, and where all that was handed in is modelled
   pub record IsJoined (old : List (Told T U)) (result : Result Outcome Error) (new : List (Told T U)) : Type 0 where

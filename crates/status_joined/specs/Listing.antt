@@ -1,8 +1,10 @@
 -- The list of both halves, and why there is none.
 use Rattle.std.specs.Prelude.{Bool, List, map, Option, Result, Ok, Err, ⊤}
 use Rattle.status_index.specs.declared.id.HashKind.{HashKind}
+use Rattle.status_index.specs.declared.fault.Fault.TheVariants as faults
 use Rattle.status_index.specs.declared.state.State.{State}
 use Rattle.status_call.specs.Query.{Query}
+use Rattle.status_compare.specs.declared.error.Error.TheVariants as statuses
 use Rattle.status_call.specs.Visits.{Visit}
 use Rattle.status_call.specs.declared.index_as_worktree.inputs.Settings.{Settings}
 use Rattle.status_call.specs.declared.index_as_worktree.types.Options.{Options}
@@ -13,6 +15,7 @@ use Rattle.status_halves.specs.declared.halves.Failed.{Failed}
 use Rattle.status_halves.specs.declared.halves.Failed.TheVariants as failures
 use Rattle.status_walk.specs.Walked.{Walked}
 use Rattle.status_walk.specs.declared.walk.Outcome.{Outcome as WalkOutcome}
+use Rattle.status_walk.specs.declared.walk.WalkError.TheVariants as walks
 use Rattle.status_joined.specs.declared.index_as_worktree_with_renames.error.Error.{Error}
 use Rattle.status_joined.specs.declared.index_as_worktree_with_renames.error.Error.TheVariants as errors
 use Rattle.status_joined.specs.declared.index_as_worktree_with_renames.listing.Listing.{Listing}
@@ -35,9 +38,12 @@ module _ {T U : Type 0} (query : Settings → Query T U) (options : Options) (in
     pub walked : IsWalkedHalf interruptible walking kept w
     pub list_is : IsList sorted (unsorted kind visits kept) list
 
-  -- the walk's fault; or, where the walk came through, the status's; or memory ran out
+  -- the walk's fault; or, where the walk came through, the status's; or memory ran out, which is told as that
   abbrev pub IsHalfFault : Error → Type 0
+  IsHalfFault (errors.DirWalk walks.Memory) = ⊥
+  IsHalfFault (errors.DirWalk (walks.Fault path faults.Memory)) = ⊥
   IsHalfFault (errors.DirWalk e) = IsWalkFailure walking e
+  IsHalfFault (errors.TrackedFileModifications statuses.Memory) = ⊥
   IsHalfFault (errors.TrackedFileModifications e) = HasWalked interruptible walking × IsTrackedFailure query options index e
   IsHalfFault errors.Memory = ⊤
   IsHalfFault _ = ⊥
