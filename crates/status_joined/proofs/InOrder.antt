@@ -34,18 +34,18 @@ module _ {I K : Type 0} (key : I → K) where
   abbrev standing_at : List (Pair × I) → ℕ × I → List (Rewritten I)
   standing_at ms e = standing (staying (goes (pairs_of ms) e.0) e.1) (coming ms e.0)
 
+  all_more : (P : K → Type 0) (n : ℕ) (x : I) (m : Option (Pair × I)) (rest : List (Rewritten I)) → P (key x) → All P (map place_key rest) → All P (map place_key (standing (staying n x) m ++ rest))
+  all_more P (suc n) x m rest h others = others
+  all_more P zero x None rest h others = All-cons P (key x) (map place_key rest) h others
+  all_more P zero x (Some m) rest h others = All-cons P (key x) (map place_key rest) h others
+
+  all_after : (P : K → Type 0) (ms : List (Pair × I)) (n : ℕ) (xs : List I) → All P (map key xs) → All P (map place_key (flat_map (standing_at ms) (enumerate_from n xs)))
+  all_after P ms n [] h = All-nil P
+  all_after P ms n (x ∷ xs) h =
+      all_more P (goes (pairs_of ms) n) x (coming ms n) (flat_map (standing_at ms) (enumerate_from (n + 1) xs))
+      (All-head P (key x) (map key xs) h) (all_after P ms (n + 1) xs (All-tail P (key x) (map key xs) h))
+
   module _ (R : K → K → Type 0) where
-    all_more : (P : K → Type 0) (n : ℕ) (x : I) (m : Option (Pair × I)) (rest : List (Rewritten I)) → P (key x) → All P (map place_key rest) → All P (map place_key (standing (staying n x) m ++ rest))
-    all_more P (suc n) x m rest h others = others
-    all_more P zero x None rest h others = All-cons P (key x) (map place_key rest) h others
-    all_more P zero x (Some m) rest h others = All-cons P (key x) (map place_key rest) h others
-
-    all_after : (P : K → Type 0) (ms : List (Pair × I)) (n : ℕ) (xs : List I) → All P (map key xs) → All P (map place_key (flat_map (standing_at ms) (enumerate_from n xs)))
-    all_after P ms n [] h = All-nil P
-    all_after P ms n (x ∷ xs) h =
-        all_more P (goes (pairs_of ms) n) x (coming ms n) (flat_map (standing_at ms) (enumerate_from (n + 1) xs))
-        (All-head P (key x) (map key xs) h) (all_after P ms (n + 1) xs (All-tail P (key x) (map key xs) h))
-
     pairs_more : (n : ℕ) (x : I) (m : Option (Pair × I)) (rest : List (Rewritten I)) → All (R (key x)) (map place_key rest) → AllPairs R (map place_key rest) → AllPairs R (map place_key (standing (staying n x) m ++ rest))
     pairs_more (suc n) x m rest h others = others
     pairs_more zero x None rest h others = AllPairs-cons R (key x) (map place_key rest) h others

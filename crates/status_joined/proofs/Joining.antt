@@ -20,8 +20,9 @@ use Rattle.status_joined.specs.declared.index_as_worktree_with_renames.error.Err
 use Rattle.status_joined.specs.declared.index_as_worktree_with_renames.rewrites.Outcome.{Outcome as RewritesOutcome}
 use Rattle.status_joined.specs.declared.index_as_worktree_with_renames.types.Options.{Options}
 use Rattle.status_joined.specs.Feeding.{AreTold}
+use Rattle.status_joined.specs.Identified.{Identifying}
 use Rattle.status_joined.specs.Items.{Item, Told}
-use Rattle.status_joined.specs.Joined.{Identifying, IsRewriting, IsRewritingFault, tracked_options}
+use Rattle.status_joined.specs.Joined.{IsRewriting, IsRewritingFault, tracked_options}
 use Rattle.status_joined.specs.JoinedTheorem.{HasJoinedList, IsFault, IsJoined, IsToldOf, IsWhole}
 use Rattle.status_joined.specs.Listing.{HasList, IsHalfFault}
 use Rattle.status_joined.specs.Lists.{IsList, list_cmp, unsorted}

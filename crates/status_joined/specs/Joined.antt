@@ -3,7 +3,6 @@ use Rattle.std.specs.Prelude.{◌≡◌, ◌⊎◌, ℕ, Bool, not, IsTrue, List
 use Rattle.std.specs.List.{count_by}
 use Rattle.status_index.specs.declared.fault.Fault.TheVariants as faults
 use Rattle.status_index.specs.declared.id.HashKind.{HashKind}
-use Rattle.status_index.specs.declared.id.ObjectId.{ObjectId}
 use Rattle.status_call.specs.declared.index_as_worktree.types.Options.{Options as StatusOptions}
 use Rattle.status_rewrites.specs.AfterRewrites.{IsRewritten}
 use Rattle.status_rewrites.specs.Lawful.{AreLawful, IsBadPair}
@@ -12,7 +11,6 @@ use Rattle.status_tracker.specs.Changed.{Changed}
 use Rattle.status_tracker.specs.Trackers.{TrackerFault, bad_pair, refused}
 use Rattle.status_tracker.specs.declared.tracker.Pair.{Pair}
 use Rattle.status_tracker.specs.declared.tracker.TrackerError.TheVariants as tracker_errors
-use Rattle.status_walk.specs.Walked.{Walked}
 use Rattle.status_walk.specs.declared.id.IdError.{IdError}
 use Rattle.status_walk.specs.declared.id.IdError.TheVariants.{Open, Hash, ReadLink, Convert}
 use Rattle.status_joined.specs.declared.index_as_worktree_with_renames.error.Error.{Error}
@@ -20,7 +18,7 @@ use Rattle.status_joined.specs.declared.index_as_worktree_with_renames.error.Err
 use Rattle.status_joined.specs.declared.index_as_worktree_with_renames.rewrites.Outcome.{Outcome as RewritesOutcome}
 use Rattle.status_joined.specs.declared.index_as_worktree_with_renames.types.Options.{Options}
 use Rattle.status_joined.specs.Changes.{changed_of}
-use Rattle.status_joined.specs.Identified.{forget, identified, id_faults}
+use Rattle.status_joined.specs.Identified.{Identifying, forget, identified, id_faults}
 use Rattle.status_joined.specs.Items.{Item, is_removed, is_walked}
 
 -- the tracked half's options: the listings are the joined call's own
@@ -32,11 +30,6 @@ tracked_options o = record {
   fscache = o.fscache;
   chunk_size = o.tracked_file_modifications.chunk_size;
 }
-
--- the ids of nodes, and whether the worktree is modelled that has them
-pub record Identifying : Type 0 where
-  pub modelled : Bool
-  pub ids : Walked → Result ObjectId IdError
 
 module _ {T U : Type 0} (ids : Identifying) (kind : HashKind) (means : List Changed → Bool → Result (List Pair) TrackerFault → Type 0) where
   -- the list's items with the ids of their contents; nothing else of them changes

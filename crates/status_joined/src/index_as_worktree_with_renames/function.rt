@@ -1,10 +1,9 @@
 //! The status of an index against a worktree with untracked files, renames and copies.
 
 ghost use Rattle.std.specs.Prelude.{◌≡◌, IfOk, is_some, option_map};
-ghost use Rattle.status_index.specs.States.{index_of};
-ghost use Rattle.status_halves.specs.BothHalves.{Walking, walking};
-ghost use Rattle.status_joined.specs.Identified.{ids_by};
-ghost use Rattle.status_joined.specs.JoinedInputs.{asked_walk, joined_inputs};
+ghost use Rattle.status_halves.specs.BothHalves.{Walking};
+ghost use Rattle.status_joined.specs.Identified.{identifying};
+ghost use Rattle.status_joined.specs.JoinedInputs.{asked_walk, joined_inputs, walking_by};
 ghost use Rattle.status_joined.specs.JoinedTheorem.{IsJoined};
 
 use crate::index_as_worktree_with_renames::error::Error;
@@ -43,9 +42,11 @@ fn asked_walk<K: Drop>(asked: bool, walk: K) -> Option<K>
 /// and copies, and answers what that took.
 ///
 /// The status of the index and the walk run side by side, the walk in a thread of its own where there can be one. What they
-/// find is told when both have ended: by path, where the options have `sorting`, else the index's entries before the nodes.
+/// find is told when both have ended. Where the options have `sorting` that is by path, and at equal paths an entry of the
+/// index before a node. Else all of the index's entries come before the nodes.
+///
 /// With `rewrites` the tracker says which of them are renames and copies. Each of these is told in place of the node that
-/// it became; what was renamed isn't told by itself, and what was copied is.
+/// it became, so by that node's path; what was renamed isn't told by itself, and what was copied is.
 ///
 /// Where the context's interrupt flag is seen set, both halves end early, and what they found until then is told.
 ///
@@ -87,15 +88,11 @@ where
     requires submodule { (x y : S.Output) → S.Output.is_clone x y → y ≡ x }
     ensures { IsJoined (⟦<Inputs<'w, W, C, S, O, P, T, L> as Means>⟧.query
         (joined_inputs worktree.entry compare submodule objects context.entry))
-        options index.now (is_some context.entry.should_interrupt) (asked_walk options.dirwalk
-        (walking (K.modelled context.entry.dirwalk.walk) (W.modelled worktree.entry.now)
-        (K.meaning context.entry.dirwalk.walk worktree.entry.now (index_of index.now) (P.prefix context.entry.pathspec)
-        (P.included context.entry.pathspec))))
-        (record {
-          modelled = W.modelled worktree.entry.now;
-          ids = ids_by options.object_hash (W.lstat_of worktree.entry.now)
-              (W.open_of worktree.entry.now) (W.target_of worktree.entry.now) (T.conversion context.entry.filter);
-        })
+        options index.now (is_some context.entry.should_interrupt)
+        (asked_walk options.dirwalk (walking_by K.modelled W.modelled K.meaning P.prefix P.included
+        index.now worktree.entry.now context.entry.pathspec context.entry.dirwalk.walk))
+        (identifying W.modelled W.lstat_of W.open_of W.target_of T.conversion
+        options.object_hash worktree.entry.now context.entry.filter)
         (X.means context.entry.tracker) (V.visits collector.old) result (V.visits collector.new) }
 {
     let Context {

@@ -1,7 +1,7 @@
 //! Ids of the list's nodes.
 
-ghost use Rattle.std.specs.Prelude.{◌≡◌, IsTrue, OnOk, map};
-ghost use Rattle.status_joined.specs.Identified.{ids_by, forget, IsIdentified, IsIdentifiedItem};
+ghost use Rattle.std.specs.Prelude.{◌≡◌, OnOk, map};
+ghost use Rattle.status_joined.specs.Identified.{identifying, forget, IsIdentifiedBy, AreIdentifiedBy};
 ghost use Rattle.status_joined.specs.Listed.{item_of};
 
 use crate::index_as_worktree_with_renames::item::ModificationOrDirwalkEntry;
@@ -18,8 +18,8 @@ fn identify_item<W: Worktree, F: ToGit, T: Drop, U: Drop>(
     item: &mut ModificationOrDirwalkEntry<'_, T, U>,
     buffer: &mut Vec<u8>,
 ) -> Result<(), IdError>
-    ensures ids { IsTrue (W.modelled worktree.now) → IsIdentifiedItem (ids_by kind (W.lstat_of worktree.now)
-        (W.open_of worktree.now) (W.target_of worktree.now) (F.conversion filter.now))
+    ensures ids { IsIdentifiedBy
+        (identifying W.modelled W.lstat_of W.open_of W.target_of F.conversion kind worktree.now filter.now)
         (item_of item.old) result (item_of item.new) }
     ensures same { OnOk result (forget kind (item_of item.new) ≡ forget kind (item_of item.old)) }
 {
@@ -49,8 +49,8 @@ pub(crate) fn identify<W: Worktree, F: ToGit, T: Drop, U: Drop>(
     filter: &F,
     items: &mut Vec<ModificationOrDirwalkEntry<'_, T, U>>,
 ) -> Result<(), IdError>
-    ensures ids { IsTrue (W.modelled worktree.now) → IsIdentified (ids_by kind (W.lstat_of worktree.now)
-        (W.open_of worktree.now) (W.target_of worktree.now) (F.conversion filter.now))
+    ensures ids { AreIdentifiedBy
+        (identifying W.modelled W.lstat_of W.open_of W.target_of F.conversion kind worktree.now filter.now)
         (map item_of items.old.items) result (map item_of items.new.items) }
     ensures same { OnOk result (map (forget kind) (map item_of items.new.items)
         ≡ map (forget kind) (map item_of items.old.items)) }

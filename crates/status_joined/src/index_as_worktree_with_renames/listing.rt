@@ -1,9 +1,8 @@
 //! The list of both halves.
 
 ghost use Rattle.std.specs.Prelude.{◌≡◌, is_some, option_map};
-ghost use Rattle.status_index.specs.States.{index_of};
 ghost use Rattle.status_halves.specs.AskedInputs.{inputs_of};
-ghost use Rattle.status_halves.specs.BothHalves.{walking};
+ghost use Rattle.status_joined.specs.JoinedInputs.{walking_by};
 ghost use Rattle.status_joined.specs.Listing.{error_of_failed, IsListing};
 
 use crate::index_as_worktree_with_renames::error::{Error, walk_error};
@@ -70,9 +69,10 @@ where
     W::File: Send,
     C::Output: Send + Drop + 'index,
     S::Output: Send + Drop + 'index,
-    ensures { IsListing (⟦<Inputs<'w, W, C, S, O, P, T, L> as Means>⟧.query (inputs_of worktree.entry asked)) asked.options
-        index.now (is_some interrupt.entry) (option_map (λ k. walking (K.modelled k) (W.modelled worktree.entry.now)
-        (K.meaning k worktree.entry.now (index_of index.now) (P.prefix asked.pathspec) (P.included asked.pathspec))) walk)
+    ensures { IsListing (⟦<Inputs<'w, W, C, S, O, P, T, L> as Means>⟧.query (inputs_of worktree.entry asked))
+        asked.options index.now (is_some interrupt.entry)
+        (option_map (walking_by K.modelled W.modelled K.meaning P.prefix P.included index.now worktree.entry.now asked.pathspec)
+        walk)
         kind sorted result }
 {
     let halves = match run_halves(rt, alloc, index, worktree, walk, asked, interrupt) {

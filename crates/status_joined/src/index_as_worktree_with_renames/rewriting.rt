@@ -3,7 +3,7 @@
 ghost use Rattle.std.specs.Prelude.{◌≡◌, IfOk, map, not, All};
 ghost use Rattle.std.specs.List.{count_by};
 ghost use Rattle.status_rewrites.specs.Entries.{map_rewritten, IsLed};
-ghost use Rattle.status_joined.specs.Identified.{ids_by};
+ghost use Rattle.status_joined.specs.Identified.{identifying};
 ghost use Rattle.status_joined.specs.Items.{is_walked};
 ghost use Rattle.status_joined.specs.Listed.{item_of};
 ghost use Rattle.status_joined.specs.RewritingAnswers.{IsRewritingAnswer};
@@ -53,12 +53,9 @@ pub(crate) fn rewrite_list<'index, W: Worktree, F: ToGit, X: Tracker, T: Clone, 
 ) -> Result<RewrittenList<'index, T, U>, Error>
     requires content { (x y : T) → T.is_clone x y → y ≡ x }
     requires submodule { (x y : U) → U.is_clone x y → y ≡ x }
-    ensures answer { IsRewritingAnswer (record {
-      modelled = W.modelled worktree.now;
-      ids = ids_by kind
-          (W.lstat_of worktree.now) (W.open_of worktree.now) (W.target_of worktree.now) (F.conversion filter.now);
-    })
-        kind (X.means tracker.old) rewrites (map item_of items.entry.items) result }
+    ensures answer { IsRewritingAnswer
+        (identifying W.modelled W.lstat_of W.open_of W.target_of F.conversion kind worktree.now filter.now)
+        kind (X.means tracker.old) rewrites items.entry.items result }
     ensures led { IfOk result (λ r. All (IsLed is_walked) (map (map_rewritten item_of) r.entries.items)) }
 {
     if let Err(error) = identify(alloc, kind, worktree, filter, &mut items) {
