@@ -60,7 +60,7 @@ pub trait Walk<W: Worktree> {
     /// Goes through the worktree. Where the delegate says so it ends, and hands out nothing more.
     ///
     /// # Errors
-    /// The worktree's fault, or want of memory.
+    /// The worktree's fault; or `WalkError::Memory`, also where it was the worktree that had no memory.
     fn walk<P: Pathspec, D: Delegate>(
         &mut self,
         worktree: &W,

@@ -57,7 +57,7 @@ pub enum RewriteSource<'index, T, U> {
     RewriteFromIndex {
         /// The entries of the whole index.
         index_entries: &'index [index::Entry],
-        /// The entry. Its id is that of the source's content.
+        /// The entry. Its id is that of the content that the index has.
         source_entry: &'index index::Entry,
         /// The entry's place in `index_entries`.
         source_entry_index: usize,

@@ -20,7 +20,8 @@ pub enum Error {
     /// The walk met a fault of the worktree.
     #[error(transparent)]
     DirWalk(WalkError),
-    /// The system refused a thread for the walk or for the status of the index.
+    /// Never given: where no thread can be had for the walk, it runs in the caller's. A thread that the status of the
+    /// index is refused stands in `TrackedFileModifications`.
     #[error("Could not start a worker thread")]
     SpawnThread,
     /// Never given: no attributes are read.
