@@ -13,8 +13,6 @@ mod draws;
 #[cfg(test)]
 mod hash;
 #[cfg(test)]
-mod joined_types;
-#[cfg(test)]
 mod lister;
 #[cfg(test)]
 mod listings;

@@ -1,0 +1,16 @@
+//! Tests of a status with untracked files, renames and copies: its answers over walks, trackers and worktrees as a caller
+//! writes them.
+#![tactic(auto)]
+
+#[cfg(test)]
+mod given;
+#[cfg(test)]
+mod rows;
+#[cfg(test)]
+mod trackers;
+#[cfg(test)]
+mod types;
+#[cfg(test)]
+mod walks;
+#[cfg(test)]
+mod worktrees;
