@@ -137,6 +137,7 @@ pub struct GivenNode<'a> {
     pub path: &'a str,
     pub kind: NodeKind,
     pub bytes: &'a [u8],
+    pub len: u64,
     pub mtime: u32,
 }
 
@@ -146,6 +147,7 @@ pub fn file<'a>(path: &'a str, bytes: &'a [u8]) -> GivenNode<'a> {
         path,
         kind: NodeKind::File,
         bytes,
+        len: bytes.len() as u64,
         mtime: STAGED,
     }
 }
@@ -155,6 +157,14 @@ pub fn later_file<'a>(path: &'a str, bytes: &'a [u8]) -> GivenNode<'a> {
     GivenNode {
         mtime: LATER,
         ..file(path, bytes)
+    }
+}
+
+/// A file that ends before its length, which is four bytes.
+pub fn short_file(path: &str) -> GivenNode<'_> {
+    GivenNode {
+        len: 4,
+        ..file(path, b"foo")
     }
 }
 
@@ -178,7 +188,7 @@ fn node(alloc: Global, given: &GivenNode<'_>) -> Result<Node, AllocError> {
     Ok(Node {
         kind: given.kind,
         bytes: Vec::from_slice(alloc, given.bytes)?,
-        len: given.bytes.len() as u64,
+        len: given.len,
         executable: false,
         mtime: Some(stamp(given.mtime)),
         ctime: Some(stamp(STAGED)),

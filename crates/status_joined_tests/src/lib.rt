@@ -3,6 +3,8 @@
 #![tactic(auto)]
 
 #[cfg(test)]
+mod collectors;
+#[cfg(test)]
 mod given;
 #[cfg(test)]
 mod rows;

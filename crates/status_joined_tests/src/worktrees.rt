@@ -8,34 +8,30 @@ use status_base::worktree::{Fault, MemoryFile, MemoryWorktree, Metadata, Worktre
 use std::sync::atomic::{AtomicBool, Ordering};
 use std::thread;
 
-/// A worktree in memory that has a fault at one path.
+/// A call of a worktree that has a fault.
+#[derive(Clone, Copy, PartialEq, Eq)]
+pub enum Call {
+    Lstat,
+    Open,
+    ReadLink,
+}
+
+/// A worktree in memory with faults in place of what calls at some paths answer.
 #[derive(Drop)]
 pub struct Planted<'a> {
     pub worktree: MemoryWorktree,
-    pub path: &'a str,
-    pub lstat: Option<Fault>,
-    pub open: Option<Fault>,
-    pub read_link: Option<Fault>,
+    pub faults: &'a [(Call, &'a str, Fault)],
 }
 
 impl<'a> Planted<'a> {
-    /// A worktree whose file at a path doesn't open, by this fault.
-    pub fn at_open(worktree: MemoryWorktree, path: &'a str, fault: Fault) -> Planted<'a> {
-        Planted {
-            worktree,
-            path,
-            lstat: None,
-            open: Some(fault),
-            read_link: None,
+    // The fault of a call, where it has one.
+    fn check(&self, call: Call, path: BStr<'_>) -> Result<(), Fault> {
+        for (planted, at, fault) in self.faults {
+            if *planted == call && at.as_bytes() == path.as_bytes() {
+                return Err(*fault);
+            }
         }
-    }
-
-    // The fault, where this is its path.
-    fn check(&self, path: BStr<'_>, fault: Option<Fault>) -> Result<(), Fault> {
-        match fault {
-            Some(fault) if path.as_bytes() == self.path.as_bytes() => Err(fault),
-            _ => Ok(()),
-        }
+        Ok(())
     }
 }
 
@@ -51,18 +47,18 @@ impl<'a> Worktree for Planted<'a> {
     ghost target_of = { λ _ _. Err NotFound };
 
     fn lstat(&self, path: BStr<'_>) -> Result<Metadata, Fault> {
-        self.check(path, self.lstat)?;
+        self.check(Call::Lstat, path)?;
         self.worktree.lstat(path)
     }
 
     fn open(&self, path: BStr<'_>) -> Result<MemoryFile, Fault> {
-        self.check(path, self.open)?;
+        self.check(Call::Open, path)?;
         self.worktree.open(path)
     }
 
     fn read_link(&self, path: BStr<'_>, target: &mut Vec<u8>) -> Result<(), Fault> {
         target.clear();
-        self.check(path, self.read_link)?;
+        self.check(Call::ReadLink, path)?;
         self.worktree.read_link(path, target)
     }
 }

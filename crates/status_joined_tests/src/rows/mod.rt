@@ -1,3 +1,11 @@
 //! Small indexes, worktrees and walks, and what is told of them.
 
+mod bad_pairs;
+mod collectors;
+mod copies;
+mod faults;
+mod ids;
+mod interrupts;
+mod meetings;
+mod renames;
 mod walked;

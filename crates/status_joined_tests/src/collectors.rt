@@ -1,0 +1,40 @@
+//! Collectors of a test's own.
+
+use status_joined::index_as_worktree_with_renames::{Entry, VisitEntry};
+use std::alloc::AllocError;
+
+/// Hands so many entries on, and has no memory for the next.
+#[derive(Drop)]
+pub struct Full<V> {
+    pub collector: V,
+    pub room: usize,
+}
+
+impl<'index, V: VisitEntry<'index>> VisitEntry<'index> for Full<V>
+where
+    V::ContentChange: Drop,
+    V::SubmoduleStatus: Drop,
+{
+    ghost use Rattle.std.specs.Prelude.{◌≡◌, ◌++◌, ◌∷◌, [], OnOk, OnErr};
+    ghost use Rattle.status_joined.specs.Telling.{told_entry};
+
+    type ContentChange = V::ContentChange;
+
+    type SubmoduleStatus = V::SubmoduleStatus;
+
+    ghost visits = { λ s. V.visits s.collector };
+
+    fn visit_entry(
+        &mut self,
+        entry: Entry<'index, V::ContentChange, V::SubmoduleStatus>,
+    ) -> Result<(), AllocError>
+        ensures ok { OnOk result (V.visits self.new.collector ≡ V.visits self.old.collector ++ told_entry entry.entry ∷ []) }
+        ensures err { OnErr result (V.visits self.new.collector ≡ V.visits self.old.collector) }
+    {
+        if self.room == 0 {
+            return Err(AllocError);
+        }
+        self.room -= 1;
+        self.collector.visit_entry(entry)
+    }
+}

@@ -1,0 +1,31 @@
+//! Both halves at the same time.
+
+use crate::given::{Asked, foo_index, joined, worktree};
+use crate::trackers::Answers;
+use crate::walks::Meets;
+use crate::worktrees::Waiting;
+use std::sync::atomic::AtomicBool;
+use std::test::Fail;
+
+#[test]
+fn the_walk_and_the_status_run_at_the_same_time(rt: HostRuntime) -> Result<(), Fail> {
+    let alloc = rt.alloc();
+    let (begun, looked) = (AtomicBool::new(false), AtomicBool::new(false));
+    let index = foo_index(alloc, &["a"])?;
+    let worktree = Waiting {
+        worktree: worktree(alloc, &[])?,
+        path: "a",
+        looked: &looked,
+        until: &begun,
+    };
+    let walk = Meets {
+        alloc,
+        begun: &begun,
+        looked: &looked,
+    };
+    let asked = Asked::sorted(walk, Answers { alloc, pairs: &[] });
+    let report = joined(&rt, &index, &worktree, asked);
+    assert!(rt; report.answer.is_ok());
+    assert_eq!(rt; report.told(alloc)?.as_str(), "0 removed \"a\"\n");
+    Ok(())
+}
