@@ -47,11 +47,14 @@ fn hand_out<D: Delegate>(
     ensures { IfOk result (λ outcome. D.cancelled delegate.new ≡ outcome.cancelled) }
 {
     for (before, node) in nodes.iter().enumerate() {
-        if delegate.emit(entry(alloc, node)?, node.collapsed)? == Action::Cancel {
-            return Ok(Outcome {
-                emitted: before + 1,
-                cancelled: true,
-            });
+        match delegate.emit(entry(alloc, node)?, node.collapsed)? {
+            Action::Continue => {}
+            Action::Cancel => {
+                return Ok(Outcome {
+                    emitted: before + 1,
+                    cancelled: true,
+                });
+            }
         }
     }
     Ok(Outcome {

@@ -2,10 +2,11 @@
 
 use crate::given::{Asked, BAR, FOO, file, foo_index, joined, later_file, worktree};
 use crate::trackers::{Answers, copy, rename};
+use crate::walks::{Found, HandsOut, untracked};
 use status_base::index::ObjectId;
 use status_joined::index_as_worktree_with_renames::{Entry, RewriteSource, Summary, rewrites};
 use status_tracker::Pair;
-use status_walk::UntrackedWalk;
+use status_walk::{Status, UntrackedWalk};
 use std::alloc::Global;
 use std::test::Fail;
 
@@ -101,5 +102,57 @@ fn renames_and_copies_are_counted(rt: HostRuntime) -> Result<(), Fail> {
         copies: 1,
     };
     assert_eq!(rt; report.answer?.rewrites, Some(counts));
+    Ok(())
+}
+
+// The statuses that stand for the directories of a copy's source and destination.
+fn collapsed(record: &Entry<'_, ObjectId, ()>) -> (Option<Status>, Option<Status>) {
+    match record {
+        Entry::Rewrite {
+            source: RewriteSource::CopyFromDirectoryEntry {
+                source_dirwalk_entry_collapsed_directory_status,
+                ..
+            },
+            dirwalk_entry_collapsed_directory_status,
+            ..
+        } => (
+            *source_dirwalk_entry_collapsed_directory_status,
+            *dirwalk_entry_collapsed_directory_status,
+        ),
+        _ => (None, None),
+    }
+}
+
+#[test]
+fn a_copy_has_the_statuses_of_both_directories(rt: HostRuntime) -> Result<(), Fail> {
+    let alloc = rt.alloc();
+    let index = foo_index(alloc, &[])?;
+    let worktree = worktree(alloc, &[file("b", b"foo"), file("c", b"foo")])?;
+    let nodes = [
+        Found {
+            collapsed: Some(Status::Ignored),
+            ..untracked("b")
+        },
+        Found {
+            collapsed: Some(Status::Untracked),
+            ..untracked("c")
+        },
+    ];
+    let walk = HandsOut {
+        alloc,
+        nodes: &nodes,
+    };
+    let pairs = [copy(0, 1)];
+    let tracker = Answers {
+        alloc,
+        pairs: &pairs,
+    };
+    let report = joined(&rt, &index, &worktree, Asked::rewritten(walk, tracker));
+    assert_eq!(rt;
+        report.told(alloc)?.as_str(),
+        "- added \"b\"\n- copied \"b\" \"c\"\n"
+    );
+    let wanted = (Some(Status::Ignored), Some(Status::Untracked));
+    assert_eq!(rt; collapsed(&report.records[1]), wanted);
     Ok(())
 }

@@ -1,9 +1,10 @@
 //! Renames by equal content.
 
 use crate::given::{
-    Asked, FOO, empty_entry, file, foo_entry, index, joined, link, mode_entry, options, worktree,
+    Asked, FOO, GivenEntry, empty_entry, file, foo_entry, index, joined, link, mode_entry, options,
+    worktree,
 };
-use status_base::index::{Mode, ObjectId};
+use status_base::index::{HashKind, Mode, ObjectId};
 use status_call::index_as_worktree::{Change, EntryStatus};
 use status_joined::index_as_worktree_with_renames::{
     Entry, Options, RewriteSource, Summary, rewrites,
@@ -12,6 +13,12 @@ use status_tracker::{IdentityTracker, Rewrites};
 use status_walk::{Status, UntrackedWalk};
 use std::alloc::Global;
 use std::test::Fail;
+
+// The id of `foo`, by git in a repository of SHA-256.
+const LONG_FOO: ObjectId = ObjectId::Sha256([
+    0xa6, 0x5c, 0xa4, 0x37, 0x6b, 0x51, 0xe9, 0x80, 0x97, 0xfe, 0xc3, 0xa0, 0x09, 0xb7, 0xe5, 0xad,
+    0xce, 0x32, 0x55, 0xae, 0xca, 0xa1, 0xa6, 0xda, 0x7b, 0x1c, 0xdc, 0x92, 0xb9, 0x0e, 0x02, 0x5e,
+]);
 
 // Asks for renames by equal content.
 fn asked(alloc: Global, options: Options) -> Asked<'static, UntrackedWalk, IdentityTracker> {
@@ -120,6 +127,29 @@ fn files_with_no_bytes_are_renamed_where_they_are_tracked(rt: HostRuntime) -> Re
     let report = joined(&rt, &index, &worktree, asked(alloc, tracked(true)));
     assert_eq!(rt; report.told(alloc)?.as_str(), "- renamed \"a\" \"b\"\n");
     assert_eq!(rt; report.answer?.rewrites, renamed(1));
+    Ok(())
+}
+
+#[test]
+fn ids_of_nodes_are_of_the_kind_that_is_asked_for(rt: HostRuntime) -> Result<(), Fail> {
+    let alloc = rt.alloc();
+    let long = GivenEntry {
+        id: LONG_FOO,
+        ..foo_entry("a")
+    };
+    let index = index(alloc, &[long])?;
+    let worktree = worktree(alloc, &[file("b", b"foo")])?;
+    for (object_hash, wanted) in [
+        (HashKind::Sha256, "- renamed \"a\" \"b\"\n"),
+        (HashKind::Sha1, "0 removed \"a\"\n- added \"b\"\n"),
+    ] {
+        let options = Options {
+            object_hash,
+            ..tracked(false)
+        };
+        let report = joined(&rt, &index, &worktree, asked(alloc, options));
+        assert_eq!(rt; report.told(alloc)?.as_str(), wanted);
+    }
     Ok(())
 }
 
