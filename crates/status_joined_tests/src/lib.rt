@@ -5,6 +5,10 @@
 #[cfg(test)]
 mod collectors;
 #[cfg(test)]
+mod drawn;
+#[cfg(test)]
+mod draws;
+#[cfg(test)]
 mod given;
 #[cfg(test)]
 mod rows;
