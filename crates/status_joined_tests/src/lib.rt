@@ -9,7 +9,11 @@ mod drawn;
 #[cfg(test)]
 mod draws;
 #[cfg(test)]
+mod faults;
+#[cfg(test)]
 mod given;
+#[cfg(test)]
+mod memory;
 #[cfg(test)]
 mod rows;
 #[cfg(test)]
