@@ -11,6 +11,8 @@ mod draws;
 #[cfg(test)]
 mod faults;
 #[cfg(test)]
+mod filters;
+#[cfg(test)]
 mod given;
 #[cfg(test)]
 mod memory;

@@ -1,0 +1,93 @@
+//! Faults of a filter, on the way to a node's id.
+
+ghost use Rattle.std.specs.Prelude.{◌≡◌};
+ghost use Rattle.status_base.specs.Converted.{refused};
+
+use crate::given::{file, foo_index, link, options, worktree};
+use bstr::BStr;
+use status_base::worktree::{
+    AllPaths, Fault, MemoryObjects, NoLister, NoSubmodules, ReadBytes, ToGit, ToGitOutcome,
+};
+use status_compare::HashEq;
+use status_joined::index_as_worktree_with_renames::{
+    Context, DirwalkContext, Error, Recorder, index_as_worktree_with_renames,
+};
+use status_tracker::{IdentityTracker, Rewrites};
+use status_walk::UntrackedWalk;
+use std::alloc::AllocError;
+use std::test::Fail;
+
+/// Refuses each file by the same fault.
+#[derive(Debug, Drop)]
+struct RefusesFiles(Fault);
+
+impl Clone for RefusesFiles {
+    ghost is_clone = { λ x y. y ≡ x };
+
+    fn clone(&self) -> Result<RefusesFiles, AllocError> {
+        Ok(RefusesFiles(self.0))
+    }
+}
+
+impl ToGit for RefusesFiles {
+    ghost use Rattle.std.proofs.Common.{ap};
+
+    ghost conversion = { λ filter _ _. refused filter.0 };
+
+    ghost clone_keeps_conversion = { λ _ _ same. ap (λ filter _ _. refused filter.0) same };
+
+    fn convert<'a, F: ReadBytes>(
+        &self,
+        _file: F,
+        _path: BStr<'_>,
+        _buffer: &'a mut Vec<u8>,
+    ) -> Result<ToGitOutcome<'a, F>, Fault> {
+        Err(self.0)
+    }
+}
+
+#[test]
+fn a_filter_that_refuses_a_node_ends_the_status(rt: HostRuntime) -> Result<(), Fail> {
+    let alloc = rt.alloc();
+    let index = foo_index(alloc, &["a"])?;
+    // The link is no file, so the filter isn't asked of it.
+    let worktree = worktree(alloc, &[link("b", b"foo"), file("c", b"foo")])?;
+    for fault in [
+        Fault::NotFound,
+        Fault::PermissionDenied,
+        Fault::Other(7),
+        Fault::Memory,
+    ] {
+        let mut recorder = Recorder::new(alloc);
+        let context = Context {
+            pathspec: AllPaths,
+            filter: RefusesFiles(fault),
+            lister: NoLister,
+            should_interrupt: None,
+            dirwalk: DirwalkContext {
+                walk: UntrackedWalk::new(alloc),
+            },
+            tracker: IdentityTracker::new(alloc),
+        };
+        let answer = index_as_worktree_with_renames(
+            &rt,
+            alloc,
+            &index,
+            &worktree,
+            &mut recorder,
+            HashEq,
+            NoSubmodules,
+            MemoryObjects::new(alloc),
+            context,
+            options(Some(Rewrites { track_empty: false })),
+        );
+        let is_wanted = match answer {
+            Err(Error::Memory) => fault == Fault::Memory,
+            Err(Error::ConvertToGit(found)) => found == fault && fault != Fault::Memory,
+            _ => false,
+        };
+        assert!(rt; is_wanted, "{fault:?}");
+        assert!(rt; recorder.records.is_empty(), "{fault:?}");
+    }
+    Ok(())
+}
