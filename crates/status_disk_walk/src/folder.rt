@@ -1,0 +1,55 @@
+//! A folder of the disk, of which directories are listed.
+
+use status_base::worktree::Fault;
+use status_base::worktree::disk::fault_of;
+use std::alloc::{AllocError, Global};
+use std::fs::{DirEntry, ReadDir};
+use std::path::Path;
+use std::rt::Files;
+use std::{fs, io};
+
+/// A folder of the disk.
+#[derive(Drop)]
+pub(crate) struct Folder<R> {
+    rt: R,
+    // What stands before a path: the folder's own path and a slash, or nothing for the working folder.
+    front: String,
+}
+
+impl<R: Files + AllocGlobal + Clone + Drop> Folder<R> {
+    /// The folder at a path, where an empty path is the working folder.
+    pub(crate) fn new(rt: R, root: Path<'_>) -> Result<Folder<R>, AllocError> {
+        let mut front = String::from_str(rt.alloc(), root.as_str())?;
+        if !front.is_empty() {
+            front.push('/')?;
+        }
+        Ok(Folder { rt, front })
+    }
+
+    /// Takes the memory of a walk over the folder.
+    pub(crate) fn alloc(&self) -> Global {
+        self.rt.alloc()
+    }
+
+    /// Lists a directory, by its path from the folder. The folder's own path is empty.
+    ///
+    /// # Errors
+    /// The system's fault, or want of memory.
+    pub(crate) fn list(&self, directory: &str) -> Result<ReadDir<R>, Fault> {
+        let mut path = String::from_str(self.rt.alloc(), self.front.as_str())?;
+        path.push_str(directory)?;
+        if path.is_empty() {
+            path.push('.')?;
+        }
+        fs::read_dir(&self.rt, path.as_str()).map_err(|error| fault_of(error.kind()))
+    }
+}
+
+/// What a listing found, or its fault. A name that isn't UTF-8 is one: it can't be had.
+pub(crate) fn found<R: Files>(listed: io::Result<DirEntry<R>>) -> Result<DirEntry<R>, Fault> {
+    match listed {
+        Ok(entry) => Ok(entry),
+        Err(error) if error.kind() == io::ErrorKind::InvalidFilename => Err(Fault::IllformedUtf8),
+        Err(error) => Err(fault_of(error.kind())),
+    }
+}
