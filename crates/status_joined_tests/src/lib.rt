@@ -5,6 +5,8 @@
 #[cfg(test)]
 mod collectors;
 #[cfg(test)]
+mod disk_walk;
+#[cfg(test)]
 mod drawn;
 #[cfg(test)]
 mod draws;
