@@ -7,6 +7,9 @@ use crate::lines::path_value;
 use crate::profile::ProfileError;
 use bstr::BStr;
 use gix_status::index_as_worktree::Error;
+use gix_status::index_as_worktree_with_renames::Error as JoinedError;
+use gix_status::tracker::TrackerError;
+use gix_status::walk::WalkError;
 use gix_status::worktree::{Fault, FindError, TreeError};
 use gix_status::world::Refusal;
 use std::alloc::{AllocError, Global};
@@ -28,6 +31,8 @@ pub enum Failure {
     },
     /// The status fails.
     Status(Error),
+    /// The status with untracked files, renames or sorted lines fails.
+    Joined(JoinedError),
     /// The beginning of a world is refused.
     Start(Refusal),
     /// An event is refused.
@@ -94,7 +99,8 @@ impl Failure {
             Failure::Unreadable => writeln!(faults, "cannot read {name}"),
             Failure::Profile(error) => writeln!(faults, "{error}"),
             Failure::Worktree { error, at } => writeln!(faults, "bad worktree: {error} at {at}"),
-            Failure::Status(error) => write_status_line(alloc, error, faults),
+            Failure::Status(error) => write_status_line(status_words(alloc, error), faults),
+            Failure::Joined(error) => write_status_line(joined_words(alloc, error), faults),
             Failure::Start(refusal) => {
                 let words = refusal_words(refusal);
                 writeln!(faults, "refused start: {words}")
@@ -109,8 +115,12 @@ impl Failure {
     }
 }
 
-fn write_status_line<E: io::Write>(alloc: Global, error: &Error, faults: &mut E) -> io::Result<()> {
-    match status_words(alloc, error) {
+/// Writes the line of a status that failed, with these words.
+fn write_status_line<E: io::Write>(
+    words: Result<String, AllocError>,
+    faults: &mut E,
+) -> io::Result<()> {
+    match words {
         Ok(words) => writeln!(faults, "status failed: {words}"),
         Err(_) => writeln!(faults, "out of memory"),
     }
@@ -129,6 +139,22 @@ fn status_words(alloc: Global, error: &Error) -> Result<String, AllocError> {
         }
         Error::SpawnThread => String::from_str(alloc, "no thread"),
         Error::Memory => Err(AllocError),
+    }
+}
+
+/// The words for a status with untracked files, renames or sorted lines that failed.
+fn joined_words(alloc: Global, error: &JoinedError) -> Result<String, AllocError> {
+    match error {
+        JoinedError::TrackedFileModifications(error) => status_words(alloc, error),
+        JoinedError::DirWalk(WalkError::Fault { fault, .. }) => format!(in alloc; "walk: {fault}"),
+        JoinedError::SpawnThread => status_words(alloc, &Error::SpawnThread),
+        JoinedError::SetAttributeContext => String::from_str(alloc, "attributes"),
+        JoinedError::OpenWorktreeFile(fault) => format!(in alloc; "open: {fault}"),
+        JoinedError::HashFile(fault) => format!(in alloc; "hash: {fault}"),
+        JoinedError::ReadLink(fault) => format!(in alloc; "read link: {fault}"),
+        JoinedError::ConvertToGit(fault) => format!(in alloc; "convert: {fault}"),
+        JoinedError::RewriteTracker(_) => String::from_str(alloc, "tracker"),
+        JoinedError::DirWalk(WalkError::Memory) | JoinedError::Memory => Err(AllocError),
     }
 }
 
@@ -165,6 +191,21 @@ fn is_memory(error: &Error) -> bool {
     )
 }
 
+/// Whether a status with untracked files, renames or sorted lines fails for want of memory, wherever it is met.
+fn is_joined_memory(error: &JoinedError) -> bool {
+    match error {
+        JoinedError::TrackedFileModifications(error) => is_memory(error),
+        JoinedError::DirWalk(WalkError::Fault { fault, .. })
+        | JoinedError::OpenWorktreeFile(fault)
+        | JoinedError::HashFile(fault)
+        | JoinedError::ReadLink(fault)
+        | JoinedError::ConvertToGit(fault) => *fault == Fault::Memory,
+        JoinedError::RewriteTracker(error) => *error == TrackerError::Memory,
+        JoinedError::DirWalk(WalkError::Memory) | JoinedError::Memory => true,
+        JoinedError::SpawnThread | JoinedError::SetAttributeContext => false,
+    }
+}
+
 impl From<AllocError> for Failure {
     fn from(_error: AllocError) -> Failure {
         Failure::Memory
@@ -183,5 +224,14 @@ impl From<Error> for Failure {
             return Failure::Memory;
         }
         Failure::Status(error)
+    }
+}
+
+impl From<JoinedError> for Failure {
+    fn from(error: JoinedError) -> Failure {
+        if is_joined_memory(&error) {
+            return Failure::Memory;
+        }
+        Failure::Joined(error)
     }
 }

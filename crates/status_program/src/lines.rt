@@ -8,6 +8,7 @@ mod tests;
 
 use bstr::BStr;
 use gix_status::index_as_worktree::{Change, Conflict, ConflictIndexEntry, EntryStatus, Outcome};
+use gix_status::index_as_worktree_with_renames::Entry;
 use serde_json::Value;
 use std::alloc::{AllocError, Global};
 use std::fmt;
@@ -22,6 +23,31 @@ pub fn status_line<T: Drop, U: Drop>(
     let path = path_value(alloc, path)?;
     let words = Words(status);
     format!(in alloc; "{entry_index} {words} {path}\n")
+}
+
+/// The line of an entry of a status with untracked files, renames or sorted lines, with its line feed. A node that isn't
+/// the index's is taken to be untracked, and a rewrite to be a rename: the program asks for no others.
+pub fn entry_line<T: Drop, U: Drop>(
+    alloc: Global,
+    entry: &Entry<'_, T, U>,
+) -> Result<String, AllocError> {
+    match entry {
+        Entry::Modification {
+            entry_index,
+            rela_path,
+            status,
+            ..
+        } => status_line(alloc, *entry_index, *rela_path, status),
+        Entry::DirectoryContents { entry, .. } => {
+            let path = path_value(alloc, entry.rela_path.as_bstr())?;
+            format!(in alloc; "- added {path}\n")
+        }
+        Entry::Rewrite { .. } => {
+            let source = path_value(alloc, entry.source_rela_path())?;
+            let destination = path_value(alloc, entry.destination_rela_path())?;
+            format!(in alloc; "- renamed {source} {destination}\n")
+        }
+    }
 }
 
 /// The line that a run of a replay begins with, with its line feed. Runs are counted from 1.

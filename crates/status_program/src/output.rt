@@ -4,9 +4,10 @@ ghost use Rattle.std.specs.Prelude.{◌<◌, ◌^◌};
 ghost use Rattle.status_call.specs.Outcomes.{skipped_of};
 
 use crate::failure::Failure;
-use crate::lines::{status_line, total_line};
+use crate::lines::{entry_line, status_line, total_line};
 use bstr::BStr;
 use gix_status::index_as_worktree::{EntryStatus, Outcome};
+use gix_status::index_as_worktree_with_renames::Entry;
 use std::alloc::Global;
 use std::io;
 
@@ -26,6 +27,16 @@ pub fn print_record<T: Drop, U: Drop, O: io::Write>(
     output: &mut O,
 ) -> Result<(), Failure> {
     let line = status_line(alloc, entry_index, path, status)?;
+    print(line.as_str(), output)
+}
+
+/// Writes the line of an entry of a status with untracked files, renames or sorted lines.
+pub fn print_entry<T: Drop, U: Drop, O: io::Write>(
+    alloc: Global,
+    entry: &Entry<'_, T, U>,
+    output: &mut O,
+) -> Result<(), Failure> {
+    let line = entry_line(alloc, entry)?;
     print(line.as_str(), output)
 }
 

@@ -1,23 +1,32 @@
 //! The status of a profile's index against its worktree.
 
-ghost use Rattle.std.specs.Prelude.{◌<◌, ◌^◌, IfOk};
+ghost use Rattle.std.specs.Prelude.{◌≡◌, ◌<◌, ◌^◌, IfOk};
 ghost use Rattle.status_call.specs.Outcomes.{skipped_of};
 
 #[cfg(test)]
 mod folder_tests;
+mod joined;
+#[cfg(test)]
+mod joined_tests;
+mod no_walk;
+mod request;
 #[cfg(test)]
 mod tests;
 
 use crate::failure::Failure;
 use crate::input::read_all;
 use crate::output::{flush, print_record, print_totals};
-use crate::profile::{Place, Profile, ProfileOptions};
+use crate::profile::{Place, Profile};
+use crate::status::joined::print_joined;
+use crate::status::no_walk::NoWalk;
+use crate::status::request::Request;
 use bstr::BString;
 use gix_status::index::State;
 use gix_status::index_as_worktree::traits::{CompareBlobs, FastEq, HashEq};
 use gix_status::index_as_worktree::{
     Context, Error, Options, Outcome, Record, Recorder, VisitEntry, index_as_worktree,
 };
+use gix_status::walk::{UntrackedWalk, Walk};
 use gix_status::worktree::{
     AllPaths, DiskWorktree, MemoryObjects, MemoryWorktree, NoFilter, NoLister, NoSubmodules, Node,
     Pathspec, Prefix, Worktree,
@@ -62,19 +71,31 @@ where
 {
     let alloc = rt.alloc();
     let Profile {
+        hash,
         options,
         index,
         place,
-        ..
     } = read_profile(alloc, profile)?;
     match place {
         Place::Nodes(nodes) => {
-            let worktree = plant(alloc, nodes)?;
-            status_of_profile(rt, &index, &worktree, options, output)
+            let request = Request {
+                index: &index,
+                worktree: &plant(alloc, nodes)?,
+                walk: UntrackedWalk::new(alloc),
+                hash,
+                options,
+            };
+            print_request(rt, request, output)
         }
         Place::Folder(folder) => {
-            let worktree = DiskWorktree::new(rt, Path::new(folder.as_str()))?;
-            status_of_profile(rt, &index, &worktree, options, output)
+            let request = Request {
+                index: &index,
+                worktree: &DiskWorktree::new(rt, Path::new(folder.as_str()))?,
+                walk: NoWalk,
+                hash,
+                options,
+            };
+            print_request(rt, request, output)
         }
     }
 }
@@ -95,62 +116,82 @@ fn plant(alloc: Global, nodes: Vec<(BString, Node)>) -> Result<MemoryWorktree, F
     Ok(worktree)
 }
 
-/// Prints the status of an index against a worktree, as the options of a profile have it.
-fn status_of_profile<R: AllocGlobal + Threads + Wait, W: Worktree + Sync, O: io::Write>(
-    rt: &R,
-    index: &State,
-    worktree: &W,
-    options: ProfileOptions,
-    output: &mut O,
-) -> Result<(), Failure>
+/// Prints the status that is asked for.
+fn print_request<
+    R: AllocGlobal + Threads + Wait,
+    W: Worktree + Sync,
+    K: Walk<W> + Send + Drop,
+    O: io::Write,
+>(rt: &R, request: Request<'_, W, K>, output: &mut O) -> Result<(), Failure>
 where
     W::File: Send,
 {
-    let prefix = options.prefix.as_bstr();
+    let prefix = request.options.prefix.as_bstr();
     if prefix.as_bytes().is_empty() {
-        return status_of_paths(rt, index, worktree, AllPaths, options, output);
+        return print_paths(rt, request, AllPaths, output);
     }
     let prefix = Prefix::new(rt.alloc(), prefix)?;
-    status_of_paths(rt, index, worktree, prefix, options, output)
+    print_paths(rt, request, prefix, output)
 }
 
 /// Prints the status of these paths, by the comparer that the options name.
-fn status_of_paths<
+fn print_paths<
     R: AllocGlobal + Threads + Wait,
     W: Worktree + Sync,
+    K: Walk<W> + Send + Drop,
     P: Pathspec + Send,
+    O: io::Write,
+>(rt: &R, request: Request<'_, W, K>, pathspec: P, output: &mut O) -> Result<(), Failure>
+where
+    W::File: Send,
+{
+    match request.options.comparer {
+        Comparer::Hash => print_compared(rt, request, pathspec, HashEq, output),
+        Comparer::Fast => print_compared(rt, request, pathspec, FastEq, output),
+    }
+}
+
+/// Prints the status of these paths by this comparer: with untracked files, renames or sorted lines where the options
+/// have one of these.
+fn print_compared<
+    'a,
+    R: AllocGlobal + Threads + Wait,
+    W: Worktree + Sync,
+    K: Walk<W> + Send + Drop,
+    P: Pathspec + Send,
+    C: CompareBlobs + Send,
     O: io::Write,
 >(
     rt: &R,
-    index: &State,
-    worktree: &W,
+    request: Request<'a, W, K>,
     pathspec: P,
-    options: ProfileOptions,
+    compare: C,
     output: &mut O,
 ) -> Result<(), Failure>
 where
     W::File: Send,
+    C::Output: Send + Clone + 'a,
+    requires { (x y : C.Output) → C.Output.is_clone x y → y ≡ x }
 {
-    match options.comparer {
-        Comparer::Hash => status_by(rt, index, worktree, HashEq, pathspec, options, output),
-        Comparer::Fast => status_by(rt, index, worktree, FastEq, pathspec, options, output),
+    if request.options.is_joined() {
+        return print_joined(rt, request, pathspec, compare, output);
     }
+    print_plain(rt, request, pathspec, compare, output)
 }
 
 /// Prints the status of these paths by this comparer. The records before a fault are printed too.
-fn status_by<
+fn print_plain<
     R: AllocGlobal + Threads + Wait,
     W: Worktree + Sync,
-    C: CompareBlobs + Send,
+    K: Drop,
     P: Pathspec + Send,
+    C: CompareBlobs + Send,
     O: io::Write,
 >(
     rt: &R,
-    index: &State,
-    worktree: &W,
-    compare: C,
+    request: Request<'_, W, K>,
     pathspec: P,
-    options: ProfileOptions,
+    compare: C,
     output: &mut O,
 ) -> Result<(), Failure>
 where
@@ -158,6 +199,12 @@ where
     C::Output: Send,
 {
     let alloc = rt.alloc();
+    let Request {
+        index,
+        worktree,
+        options,
+        ..
+    } = request;
     let counts = options.counts;
     let mut recorder = Recorder::new(alloc);
     let answer = report_status(

@@ -1,7 +1,11 @@
 use crate::failure::Failure;
 use crate::profile::{Key, ProfileError};
+use bstr::BString;
 use gix_status::index::IndexError;
 use gix_status::index_as_worktree::Error;
+use gix_status::index_as_worktree_with_renames::Error as JoinedError;
+use gix_status::tracker::TrackerError;
+use gix_status::walk::WalkError;
 use gix_status::worktree::{ByteText, Fault, FindError, TreeError};
 use gix_status::world::Refusal;
 use std::io;
@@ -63,6 +67,65 @@ fn each_error_of_a_status_has_its_words(rt: HostRuntime) -> Result<(), Fail> {
 }
 
 #[test]
+fn each_error_of_a_status_with_renames_has_its_words(rt: HostRuntime) -> Result<(), Fail> {
+    let walk = WalkError::Fault {
+        rela_path: BString::from_slice(rt.alloc(), "d")?,
+        fault: Fault::PermissionDenied,
+    };
+    let cases = [
+        (
+            JoinedError::DirWalk(walk),
+            "status failed: walk: permission denied\n",
+        ),
+        (
+            JoinedError::TrackedFileModifications(Error::Io(Fault::NotNormal)),
+            "status failed: not normal\n",
+        ),
+        (
+            JoinedError::TrackedFileModifications(Error::Time),
+            "status failed: time\n",
+        ),
+        (
+            JoinedError::TrackedFileModifications(Error::SpawnThread),
+            "status failed: no thread\n",
+        ),
+        (JoinedError::SpawnThread, "status failed: no thread\n"),
+        (
+            JoinedError::OpenWorktreeFile(Fault::Other(7)),
+            "status failed: open: other 7\n",
+        ),
+        (
+            JoinedError::HashFile(Fault::UnexpectedEnd),
+            "status failed: hash: unexpected end\n",
+        ),
+        (
+            JoinedError::ReadLink(Fault::IllformedUtf8),
+            "status failed: read link: ill-formed UTF-8\n",
+        ),
+        (
+            JoinedError::ConvertToGit(Fault::Interrupted),
+            "status failed: convert: interrupted\n",
+        ),
+        (
+            JoinedError::RewriteTracker(TrackerError::BadPair { at: 3 }),
+            "status failed: tracker\n",
+        ),
+        (
+            JoinedError::RewriteTracker(TrackerError::Refused(4)),
+            "status failed: tracker\n",
+        ),
+        (
+            JoinedError::SetAttributeContext,
+            "status failed: attributes\n",
+        ),
+    ];
+    for (error, line) in cases {
+        assert_reported(&rt, Failure::from(error), line);
+    }
+    Ok(())
+}
+
+#[test]
 fn each_refusal_has_its_words(rt: HostRuntime) {
     let cases = [
         (Refusal::ClockEnd, "refused 3: clock end\n"),
@@ -81,8 +144,12 @@ fn each_refusal_has_its_words(rt: HostRuntime) {
 }
 
 #[test]
-fn want_of_memory_has_one_line_wherever_it_is_met(rt: HostRuntime) {
+fn want_of_memory_has_one_line_wherever_it_is_met(rt: HostRuntime) -> Result<(), Fail> {
     let unread = io::Error::from(io::ErrorKind::OutOfMemory);
+    let walk = WalkError::Fault {
+        rela_path: BString::from_slice(rt.alloc(), "d")?,
+        fault: Fault::Memory,
+    };
     let cases = [
         Failure::Memory,
         Failure::of_reading(unread),
@@ -96,10 +163,21 @@ fn want_of_memory_has_one_line_wherever_it_is_met(rt: HostRuntime) {
         Failure::of_event(Refusal::Memory, 3),
         Failure::of_event(Refusal::Run(Error::Memory), 3),
         Failure::of_event(Refusal::Run(Error::Io(Fault::Memory)), 3),
+        Failure::from(JoinedError::Memory),
+        Failure::from(JoinedError::TrackedFileModifications(Error::Memory)),
+        Failure::from(JoinedError::DirWalk(WalkError::Memory)),
+        Failure::from(JoinedError::DirWalk(walk)),
+        Failure::from(JoinedError::OpenWorktreeFile(Fault::Memory)),
+        Failure::from(JoinedError::HashFile(Fault::Memory)),
+        Failure::from(JoinedError::ReadLink(Fault::Memory)),
+        Failure::from(JoinedError::ConvertToGit(Fault::Memory)),
+        Failure::from(JoinedError::RewriteTracker(TrackerError::Memory)),
+        Failure::Joined(JoinedError::Memory),
     ];
     for failure in cases {
         assert_reported(&rt, failure, "out of memory\n");
     }
+    Ok(())
 }
 
 #[test]

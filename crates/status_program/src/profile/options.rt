@@ -40,18 +40,29 @@ pub struct ProfileOptions {
 }
 
 impl ProfileOptions {
-    /// Whether a status can be computed with these options.
-    fn is_supported(&self) -> bool {
-        !self.untracked && !self.renames && !self.sort
+    /// Whether the status has untracked files, renames or sorted lines.
+    pub fn is_joined(&self) -> bool {
+        self.untracked || self.renames || self.sort
+    }
+
+    /// The options over a folder, in which no file is executable, so that the executable bit doesn't count.
+    ///
+    /// # Errors
+    /// Untracked files or renames: a folder isn't walked.
+    fn over_folder(mut self) -> Result<ProfileOptions, FieldError> {
+        if self.untracked || self.renames {
+            return Err(FieldError::Form);
+        }
+        self.status.fs.executable_bit = false;
+        Ok(self)
     }
 }
 
-/// Reads the options, which may be missing as a whole. Over a folder no file is executable, so that the executable bit
-/// doesn't count there.
+/// Reads the options, which may be missing as a whole.
 pub fn read_options(alloc: Global, profile: Fields<'_>) -> Result<ProfileOptions, FieldError> {
     let fields = profile.object("options")?;
     let common = read_history_options(fields)?;
-    let mut options = ProfileOptions {
+    let options = ProfileOptions {
         status: read_status(fields, common)?,
         comparer: fields.word_or("comparer", Comparer::Hash)?,
         prefix: BString::from_slice(alloc, fields.text_or("prefix", "")?.as_bytes())?,
@@ -60,13 +71,10 @@ pub fn read_options(alloc: Global, profile: Fields<'_>) -> Result<ProfileOptions
         sort: fields.bool_or("sort", false)?,
         counts: common.counts,
     };
-    if !options.is_supported() {
-        return Err(FieldError::Form);
+    match profile.get("folder") {
+        Some(_) => options.over_folder(),
+        None => Ok(options),
     }
-    if profile.get("folder").is_some() {
-        options.status.fs.executable_bit = false;
-    }
-    Ok(options)
 }
 
 /// Reads the options of a history, each of which may be missing.

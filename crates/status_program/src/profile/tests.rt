@@ -78,6 +78,9 @@ pub struct Wanted<'a> {
     pub status: &'a Options,
     pub comparer: Comparer,
     pub prefix: &'a str,
+    pub untracked: bool,
+    pub renames: bool,
+    pub sort: bool,
     pub counts: bool,
     pub folder: Option<&'a str>,
     pub entries: &'a [WantedEntry],
@@ -157,6 +160,9 @@ pub const PLAIN: Wanted<'static> = Wanted {
     status: &STATUS,
     comparer: Comparer::Hash,
     prefix: "",
+    untracked: false,
+    renames: false,
+    sort: false,
     counts: false,
     folder: None,
     entries: &[],
@@ -172,7 +178,7 @@ const MTIME_5: Stat = Stat {
 const SIZE_3: Stat = Stat { size: 3, ..MTIME_5 };
 
 // Profiles, and the way that reads them first.
-static PROFILES: [(&str, Way, Wanted<'static>); 11] = [
+static PROFILES: [(&str, Way, Wanted<'static>); 15] = [
     (
         r#"{"hash":"sha1","timestamp":[9,0],
 "options":{"comparer":"hash","chunk_size":1,"thread_limit":2},
@@ -321,6 +327,30 @@ static PROFILES: [(&str, Way, Wanted<'static>); 11] = [
         Way::Quick,
         PLAIN,
     ),
+    (
+        r#"{"timestamp":[9,0],"options":{"untracked":true},"index":[],"worktree":[]}"#,
+        Way::Quick,
+        Wanted {
+            untracked: true,
+            ..PLAIN
+        },
+    ),
+    (
+        r#"{"timestamp":[9,0],"options":{"renames":true},"index":[],"worktree":[]}"#,
+        Way::Quick,
+        Wanted {
+            renames: true,
+            ..PLAIN
+        },
+    ),
+    (
+        r#"{"timestamp":[9,0],"options":{"sort":true},"index":[],"worktree":[]}"#,
+        Way::Quick,
+        Wanted {
+            sort: true,
+            ..PLAIN
+        },
+    ),
     // Lists that don't count may have any form.
     (
         r#"{"index":[1],"worktree":"x","timestamp":[9,0],"worktree":[],"index":[]}"#,
@@ -343,6 +373,17 @@ static PROFILES: [(&str, Way, Wanted<'static>); 11] = [
         Wanted {
             status: &NO_EXECUTABLE,
             folder: Some("d/e"),
+            ..PLAIN
+        },
+    ),
+    // A folder's lines may be sorted.
+    (
+        r#"{"timestamp":[9,0],"options":{"untracked":false,"renames":false,"sort":true},"index":[],"folder":"d"}"#,
+        Way::Quick,
+        Wanted {
+            status: &NO_EXECUTABLE,
+            sort: true,
+            folder: Some("d"),
             ..PLAIN
         },
     ),
@@ -453,7 +494,7 @@ const NO_VALUES: &[&str] = &[
     "\"\t\"",
 ];
 
-// Options that are wrong, or not supported.
+// Options that are wrong.
 const BAD_OPTIONS: &[&str] = &[
     r#""symlink":1"#,
     r#""executable_bit":null"#,
@@ -470,9 +511,9 @@ const BAD_OPTIONS: &[&str] = &[
     r#""comparer":"slow""#,
     r#""prefix":1"#,
     r#""counts":0"#,
-    r#""untracked":true"#,
-    r#""renames":true"#,
-    r#""sort":true"#,
+    r#""untracked":1"#,
+    r#""renames":null"#,
+    r#""sort":"true""#,
 ];
 
 // Fields of entries that lack one.
@@ -595,7 +636,7 @@ static WRONG_FORMS: [(Frame, &str, &[&str], ProfileError); 18] = [
 ];
 
 // Profiles in which several things are wrong, and the first of them, in the order in which keys are read.
-static FIRST_ERRORS: [(&str, ProfileError); 36] = [
+static FIRST_ERRORS: [(&str, ProfileError); 37] = [
     ("[]", Bad(Key::Hash)),
     ("null", Bad(Key::Hash)),
     ("\"sha1\"", Bad(Key::Hash)),
@@ -619,8 +660,13 @@ static FIRST_ERRORS: [(&str, ProfileError); 36] = [
         r#"{"timestamp":[9,0],"index":[],"worktree":[],"folder":null}"#,
         Bad(Key::Worktree),
     ),
+    // A folder isn't walked, whatever its form.
     (
         r#"{"timestamp":[9,0],"options":{"untracked":true},"index":1,"folder":1}"#,
+        Bad(Key::Options),
+    ),
+    (
+        r#"{"timestamp":[9,0],"options":{"renames":true},"index":[],"folder":"d"}"#,
         Bad(Key::Options),
     ),
     (
@@ -762,9 +808,10 @@ fn assert_profile<R: Abort>(rt: &R, text: &str, profile: &Profile, wanted: &Want
         wanted.prefix.as_bytes(),
         "at {text}"
     );
+    assert_eq!(rt; options.untracked, wanted.untracked, "at {text}");
+    assert_eq!(rt; options.renames, wanted.renames, "at {text}");
+    assert_eq!(rt; options.sort, wanted.sort, "at {text}");
     assert_eq!(rt; options.counts, wanted.counts, "at {text}");
-    let is_unsupported = options.untracked || options.renames || options.sort;
-    assert!(rt; !is_unsupported, "at {text}");
     let entries = profile.index.entries();
     assert_eq!(rt; entries.len(), wanted.entries.len(), "at {text}");
     for (entry, wanted) in entries.iter().zip(wanted.entries) {

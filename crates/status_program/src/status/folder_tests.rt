@@ -90,10 +90,11 @@ fn make<R: Files + AllocGlobal>(rt: &R, folder: &str, name: &str, made: Made) ->
     }
 }
 
-// Asserts what is printed of `a`, `b` and further entries over folders at `base`.
+// Asserts what is printed, with these options as members, of `a`, `b` and further entries over folders at `base`.
 fn assert_folders<R: AllocGlobal + Abort + Files + Sync + Threads + Wait>(
     rt: &R,
     base: &str,
+    options: &str,
     cases: &[(&str, &str, &str)],
 ) -> io::Result<()>
 where
@@ -102,7 +103,7 @@ where
 {
     for (name, more, lines) in cases {
         let text = format!(in rt.alloc();
-            r#"{{"timestamp":[9,0],"index":[
+            r#"{{"timestamp":[9,0],"options":{{{options}}},"index":[
 {{"path":"a","id":"19102815663d23f8b75a47e7a01965dcdc96468c"}},
 {{"path":"b","id":"ba0e162e1c47469e3fe4b393a8bf8c569f302116"}}{more}],
 "worktree":1,"folder":"{base}{name}"}}"#
@@ -139,7 +140,9 @@ fn nodes_of_a_folder_are_compared(rt: HostRuntime) -> Result<(), Fail> {
     for (name, made) in NODES {
         make(&rt, root, name, made)?;
     }
-    assert_folders(&rt, root, &FOLDERS)?;
+    assert_folders(&rt, root, "", &FOLDERS)?;
+    // The index's order is that of the paths, and no folder is walked.
+    assert_folders(&rt, root, r#""sort":true"#, &FOLDERS)?;
     for entry in &ENTRIES {
         assert_entry(&rt, root, entry)?;
     }
@@ -162,7 +165,7 @@ fn a_relative_folder_starts_at_the_working_folder(rt: HostRuntime) -> Result<(),
         make(&rt, root, name, made)?;
     }
     env::set_current_dir(&rt, root)?;
-    assert_folders(&rt, "", &RELATIVE)?;
+    assert_folders(&rt, "", "", &RELATIVE)?;
     fs::remove_dir_all(&rt, root)?;
     Ok(())
 }

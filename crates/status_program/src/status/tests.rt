@@ -9,35 +9,35 @@ use std::test::Fail;
 use std::thread::Threads;
 
 // The ids of `foo`, of `bar` and of no bytes, by git.
-const FOO: &str = "19102815663d23f8b75a47e7a01965dcdc96468c";
+pub const FOO: &str = "19102815663d23f8b75a47e7a01965dcdc96468c";
 
-const BAR: &str = "ba0e162e1c47469e3fe4b393a8bf8c569f302116";
+pub const BAR: &str = "ba0e162e1c47469e3fe4b393a8bf8c569f302116";
 
-const EMPTY: &str = "e69de29bb2d1d6434b8b29ae775ad8c2e48c5391";
+pub const EMPTY: &str = "e69de29bb2d1d6434b8b29ae775ad8c2e48c5391";
 
 // The members of an entry that was staged with three bytes, or with none.
-const STAGED: &str = r#""size":3,"mtime":[5,0]"#;
+pub const STAGED: &str = r#""size":3,"mtime":[5,0]"#;
 
-const STAGED_EMPTY: &str = r#""size":0,"mtime":[5,0]"#;
+pub const STAGED_EMPTY: &str = r#""size":0,"mtime":[5,0]"#;
 
 // The members of a file with the staged content, and of files that were written later.
-const SAME: &str = r#""text":"foo","mtime":[5,0]"#;
+pub const SAME: &str = r#""text":"foo","mtime":[5,0]"#;
 
-const LONGER: &str = r#""text":"bars","mtime":[7,0]"#;
+pub const LONGER: &str = r#""text":"bars","mtime":[7,0]"#;
 
 const AS_LONG: &str = r#""text":"bar","mtime":[7,0]"#;
 
 // The option to print the line of totals.
-const COUNTS: &str = r#""counts":true"#;
+pub const COUNTS: &str = r#""counts":true"#;
 
 // An entry, by its path, its id and further members.
-type Entry = (&'static str, &'static str, &'static str);
+pub type Entry = (&'static str, &'static str, &'static str);
 
 // A node, by its path and further members.
-type Node = (&'static str, &'static str);
+pub type Node = (&'static str, &'static str);
 
 // An index against a worktree: what is shown, the options as members, the entries, the nodes and the lines that are printed.
-type Case = (
+pub type Case = (
     &'static str,
     &'static str,
     &'static [Entry],
@@ -221,7 +221,7 @@ static PREFIXES: [Case; 4] = [
 ];
 
 // Profiles that are refused, and the line that says why.
-static REFUSED: [(&str, &str); 12] = [
+static REFUSED: [(&str, &str); 13] = [
     ("not", "not JSON\n"),
     ("3", "bad profile: hash\n"),
     (
@@ -229,7 +229,11 @@ static REFUSED: [(&str, &str); 12] = [
         "bad profile: timestamp\n",
     ),
     (
-        r#"{"timestamp":[9,0],"options":{"sort":true},"index":[],"worktree":[]}"#,
+        r#"{"timestamp":[9,0],"options":{"untracked":true},"index":[],"folder":"d"}"#,
+        "bad profile: options\n",
+    ),
+    (
+        r#"{"timestamp":[9,0],"options":{"renames":true},"index":[],"folder":"d"}"#,
         "bad profile: options\n",
     ),
     (
@@ -300,10 +304,16 @@ const NO_ENTRIES: &str =
 static FULL: [(usize, &str); 2] = [(0, ""), (5, "total")];
 
 // Where the output can't be flushed: options, entries, and the lines before. The worktree has `a`, which was changed.
-static UNFLUSHED: [(&str, &str, &[Entry], &str); 3] = [
+static UNFLUSHED: [(&str, &str, &[Entry], &str); 4] = [
     (
         "after the records",
         "",
+        &[("a", FOO, STAGED)],
+        "0 modified -c- \"a\"\n",
+    ),
+    (
+        "after sorted records",
+        r#""sort":true"#,
         &[("a", FOO, STAGED)],
         "0 modified -c- \"a\"\n",
     ),
@@ -379,7 +389,7 @@ fn push_item(items: &mut String, item: &str) -> Result<(), AllocError> {
 }
 
 // A profile that was written in second 9, with these options as members.
-fn profile(
+pub fn profile(
     alloc: Global,
     options: &str,
     entries: &[Entry],
@@ -403,7 +413,7 @@ fn profile(
 }
 
 // Asserts what is printed of each index against its worktree.
-fn assert_cases<R: AllocGlobal + Abort + Files + Sync + Threads + Wait>(
+pub fn assert_cases<R: AllocGlobal + Abort + Files + Sync + Threads + Wait>(
     rt: &R,
     cases: &[Case],
 ) -> Result<(), AllocError>

@@ -1,0 +1,35 @@
+//! The walk where nothing is to be found.
+
+use gix_status::index::State;
+use gix_status::walk::{Delegate, Outcome, Walk, WalkError};
+use gix_status::worktree::{Pathspec, Worktree};
+
+/// Finds nothing. It is handed in where no walk is asked for.
+#[derive(Clone, Copy)]
+pub struct NoWalk;
+
+impl<W: Worktree> Walk<W> for NoWalk {
+    ghost use Rattle.std.specs.Prelude.{◌≡◌, [], None, true, false};
+    ghost use Rattle.status_walk.specs.Walks.{IsWalk};
+
+    ghost modelled = { λ _. true };
+
+    ghost meaning = { λ _ _ _ _ _. record { entries = []; fault = None } };
+
+    fn walk<P: Pathspec, D: Delegate>(
+        &mut self,
+        _worktree: &W,
+        _index: &State,
+        _pathspec: &P,
+        delegate: &mut D,
+    ) -> Result<Outcome, WalkError>
+        requires { D.cancelled delegate.old ≡ false }
+        ensures { IsWalk (record { entries = []; fault = None }) (D.keeps delegate.old) (D.kept delegate.old)
+            (D.cancelled delegate.new) result (D.kept delegate.new) }
+    {
+        Ok(Outcome {
+            emitted: 0,
+            cancelled: false,
+        })
+    }
+}
