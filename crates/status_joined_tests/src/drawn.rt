@@ -38,6 +38,13 @@ impl Content {
         }
     }
 
+    fn size(self) -> u32 {
+        match self {
+            Content::Empty => 0,
+            Content::Foo | Content::Bar => 3,
+        }
+    }
+
     fn id(self) -> ObjectId {
         match self {
             Content::Empty => EMPTY,
@@ -242,8 +249,8 @@ impl Case {
         }
     }
 
-    /// The path from which a thing came to this one: of the paths where such a thing is gone, the one whose number among
-    /// them is that of this path among those to which such a thing came.
+    /// The path from which a thing came to this one: of the paths where such a thing is gone, the one whose number
+    /// among them is that of this path among those to which such a thing came.
     fn origin(&self, thing: Thing, to: usize) -> Option<usize> {
         let rank = self.rank(Came(thing), to);
         for from in 0..self.sites.len() {
@@ -415,7 +422,7 @@ impl Case {
             if let Some(thing) = site.staged {
                 entries.push(GivenEntry {
                     id: thing.content.id(),
-                    size: thing.content.bytes().len() as u32,
+                    size: thing.content.size(),
                     mode: match thing.kind {
                         NodeKind::Link => Mode::Symlink,
                         _ => Mode::File,

@@ -244,7 +244,7 @@ fn report_of<
     joined(rt, index, worktree, asked)
 }
 
-/// What is told where a fault isn't answered: at an entry's lstat it is a removal, and of a file that isn't opened no id
+/// What is told where a fault isn't answered: at an entry it is a removal, and of a file that isn't opened no id
 /// is known.
 fn told(point: Point, sorted: bool) -> &'static str {
     match (point, sorted) {
