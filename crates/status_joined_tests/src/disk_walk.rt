@@ -1,6 +1,6 @@
 //! The walk over a folder of the disk.
 
-ghost use Rattle.std.specs.Prelude.{[], false};
+ghost use Rattle.std.specs.Prelude.{◌≡◌, [], false};
 
 use bstr::{BStr, BString};
 use status_base::worktree::{
@@ -75,7 +75,9 @@ struct Lines {
 }
 
 impl Lines {
-    fn new(alloc: Global, room: usize) -> Lines {
+    fn new(alloc: Global, room: usize) -> Lines
+        ensures { result.cancelled ≡ false }
+    {
         Lines {
             alloc,
             text: String::new(alloc),

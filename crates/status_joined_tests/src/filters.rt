@@ -3,16 +3,11 @@
 ghost use Rattle.std.specs.Prelude.{◌≡◌};
 ghost use Rattle.status_base.specs.Converted.{refused};
 
-use crate::given::{file, foo_index, link, options, worktree};
+use crate::given::{Asked, file, foo_index, link, tell_filtered, worktree};
 use bstr::BStr;
-use status_base::worktree::{
-    AllPaths, Fault, MemoryObjects, NoLister, NoSubmodules, ReadBytes, ToGit, ToGitOutcome,
-};
-use status_compare::HashEq;
-use status_joined::index_as_worktree_with_renames::{
-    Context, DirwalkContext, Error, Recorder, index_as_worktree_with_renames,
-};
-use status_tracker::{IdentityTracker, Rewrites};
+use status_base::worktree::{Fault, ReadBytes, ToGit, ToGitOutcome};
+use status_joined::index_as_worktree_with_renames::{Error, Recorder};
+use status_tracker::IdentityTracker;
 use status_walk::UntrackedWalk;
 use std::alloc::AllocError;
 use std::test::Fail;
@@ -59,28 +54,9 @@ fn a_filter_that_refuses_a_node_ends_the_status(rt: HostRuntime) -> Result<(), F
         Fault::Memory,
     ] {
         let mut recorder = Recorder::new(alloc);
-        let context = Context {
-            pathspec: AllPaths,
-            filter: RefusesFiles(fault),
-            lister: NoLister,
-            should_interrupt: None,
-            dirwalk: DirwalkContext {
-                walk: UntrackedWalk::new(alloc),
-            },
-            tracker: IdentityTracker::new(alloc),
-        };
-        let answer = index_as_worktree_with_renames(
-            &rt,
-            alloc,
-            &index,
-            &worktree,
-            &mut recorder,
-            HashEq,
-            NoSubmodules,
-            MemoryObjects::new(alloc),
-            context,
-            options(Some(Rewrites { track_empty: false })),
-        );
+        let asked = Asked::rewritten(UntrackedWalk::new(alloc), IdentityTracker::new(alloc));
+        let filter = RefusesFiles(fault);
+        let answer = tell_filtered(&rt, alloc, &index, &worktree, &mut recorder, filter, asked);
         let is_wanted = match answer {
             Err(Error::Memory) => fault == Fault::Memory,
             Err(Error::ConvertToGit(found)) => found == fault && fault != Fault::Memory,

@@ -17,7 +17,7 @@ use bstr::{BStr, BString};
 use status_base::index::{Flags, IndexError, Mode, Moment, NewEntry, ObjectId, Stat, State, Time};
 use status_base::worktree::{
     AllPaths, MemoryObjects, MemoryWorktree, NoFilter, NoLister, NoSubmodules, Node, NodeKind,
-    TreeError, Worktree,
+    ToGit, TreeError, Worktree,
 };
 use status_call::index_as_worktree::{self, Capabilities};
 use status_compare::HashEq;
@@ -303,6 +303,30 @@ pub fn tell<
 where
     W::File: Send,
 {
+    tell_filtered(rt, alloc, index, worktree, collector, NoFilter, asked)
+}
+
+/// Tells a collector of an index and a worktree, by ids and with a filter.
+pub fn tell_filtered<
+    'index,
+    R: Threads + Wait,
+    W: Worktree + Sync,
+    F: ToGit + Send,
+    V: VisitEntry<'index, ContentChange = ObjectId, SubmoduleStatus = ()>,
+    K: Walk<W> + Send + Drop,
+    X: Tracker + Drop,
+>(
+    rt: &R,
+    alloc: Global,
+    index: &'index State,
+    worktree: &W,
+    collector: &mut V,
+    filter: F,
+    asked: Asked<'_, K, X>,
+) -> Result<Outcome, Error>
+where
+    W::File: Send,
+{
     let Asked {
         walk,
         tracker,
@@ -311,7 +335,7 @@ where
     } = asked;
     let context = Context {
         pathspec: AllPaths,
-        filter: NoFilter,
+        filter,
         lister: NoLister,
         should_interrupt: interrupt,
         dirwalk: DirwalkContext { walk },
