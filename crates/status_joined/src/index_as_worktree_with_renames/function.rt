@@ -7,6 +7,7 @@ ghost use Rattle.status_joined.specs.JoinedInputs.{asked_walk, joined_inputs, wa
 ghost use Rattle.status_joined.specs.JoinedTheorem.{IsJoined};
 
 use crate::index_as_worktree_with_renames::error::Error;
+use crate::index_as_worktree_with_renames::exact_clone::ExactClone;
 use crate::index_as_worktree_with_renames::feed::{feed_items, feed_rewritten};
 use crate::index_as_worktree_with_renames::listing::{Listing, list_halves};
 use crate::index_as_worktree_with_renames::recorder::VisitEntry;
@@ -82,10 +83,8 @@ pub fn index_as_worktree_with_renames<
 ) -> Result<Outcome, Error>
 where
     W::File: Send,
-    C::Output: Send + Clone + 'index,
-    S::Output: Send + Clone + 'index,
-    requires content { (x y : C.Output) → C.Output.is_clone x y → y ≡ x }
-    requires submodule { (x y : S.Output) → S.Output.is_clone x y → y ≡ x }
+    C::Output: Send + ExactClone + 'index,
+    S::Output: Send + ExactClone + 'index,
     ensures { IsJoined (⟦<Inputs<'w, W, C, S, O, P, T, L> as Means>⟧.query
         (joined_inputs worktree.entry compare submodule objects context.entry))
         options index.now (is_some context.entry.should_interrupt)

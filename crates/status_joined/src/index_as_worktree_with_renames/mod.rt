@@ -2,6 +2,7 @@
 
 mod entry;
 mod error;
+mod exact_clone;
 mod feed;
 mod function;
 mod ids;
@@ -17,6 +18,7 @@ mod types;
 
 pub use entry::{Entry, RewriteSource};
 pub use error::Error;
+pub use exact_clone::ExactClone;
 pub use function::index_as_worktree_with_renames;
 pub use item::ModificationOrDirwalkEntry;
 pub use recorder::{Recorder, VisitEntry};

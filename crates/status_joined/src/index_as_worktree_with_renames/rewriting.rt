@@ -9,6 +9,7 @@ ghost use Rattle.status_joined.specs.Listed.{item_of};
 ghost use Rattle.status_joined.specs.RewritingAnswers.{IsRewritingAnswer};
 
 use crate::index_as_worktree_with_renames::error::{Error, id_error, refused_error};
+use crate::index_as_worktree_with_renames::exact_clone::ExactClone;
 use crate::index_as_worktree_with_renames::ids::identify;
 use crate::index_as_worktree_with_renames::item::ModificationOrDirwalkEntry;
 use crate::index_as_worktree_with_renames::rewrites::Outcome;
@@ -42,7 +43,7 @@ fn count(pairs: &[Pair]) -> Outcome
 /// # Errors
 /// The fault of the first node that has no id. The tracker's refusal, or the first of its pairs that breaks a rule. Want
 /// of memory.
-pub(crate) fn rewrite_list<'index, W: Worktree, F: ToGit, X: Tracker, T: Clone, U: Clone>(
+pub(crate) fn rewrite_list<'index, W: Worktree, F: ToGit, X: Tracker, T: ExactClone, U: ExactClone>(
     alloc: Global,
     kind: HashKind,
     worktree: &W,
@@ -51,8 +52,6 @@ pub(crate) fn rewrite_list<'index, W: Worktree, F: ToGit, X: Tracker, T: Clone, 
     rewrites: Rewrites,
     mut items: Vec<ModificationOrDirwalkEntry<'index, T, U>>,
 ) -> Result<RewrittenList<'index, T, U>, Error>
-    requires content { (x y : T) → T.is_clone x y → y ≡ x }
-    requires submodule { (x y : U) → U.is_clone x y → y ≡ x }
     ensures answer { IsRewritingAnswer
         (identifying W.modelled W.lstat_of W.open_of W.target_of F.conversion kind worktree.now filter.now)
         kind (X.means tracker.old) rewrites items.entry.items result }

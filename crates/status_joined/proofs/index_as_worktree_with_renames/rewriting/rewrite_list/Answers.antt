@@ -22,7 +22,7 @@ pub returns-in-Ok-rewrite-clause-answer : goal.returns-in-Ok-rewrite-clause-answ
 returns-in-Ok-rewrite-clause-answer g c =
     rewriting _ _ _ _ _ c.identify.new.items.items c.as_slice.result.now c.as_slice.ensures.value
     (record { known = c.in_default.ensures.ids; same = c.in_default.ensures.same }) c.in-Ok.pairs.items c.in-Ok.ensures _
-    (λ x y k. same_copy c.requires.content c.requires.submodule (item_of x) (item_of y) k) c.in-Ok-rewrite.entries.items
+    (λ x y k. same_copy g.met.T.ExactClone.clones_are_equal g.met.U.ExactClone.clones_are_equal (item_of x) (item_of y) k) c.in-Ok-rewrite.entries.items
     c.as_slice-3.result.now c.as_slice-3.ensures.value c.in-Ok-rewrite.ensures
     c.as_slice-2.result.now c.as_slice-2.ensures.value c.count-outcome.result c.count-outcome.ensures.renames c.count-outcome.ensures.copies
 
@@ -32,7 +32,7 @@ returns-in-Ok-rewrite-clause-led g c =
     destinations_led ids c.args.kind (g.X.Tracker.means c.args.tracker.now) c.args.rewrites.track_empty (map item_of c.args.items.items)
     c.identify.new.items.items c.as_slice.result.now c.as_slice.ensures.value
     (record { known = c.in_default.ensures.ids; same = c.in_default.ensures.same }) c.in-Ok.pairs.items c.in-Ok.ensures _
-    (λ x y k. same_copy c.requires.content c.requires.submodule (item_of x) (item_of y) k) c.in-Ok-rewrite.entries.items
+    (λ x y k. same_copy g.met.T.ExactClone.clones_are_equal g.met.U.ExactClone.clones_are_equal (item_of x) (item_of y) k) c.in-Ok-rewrite.entries.items
     c.as_slice-3.result.now c.as_slice-3.ensures.value c.in-Ok-rewrite.ensures
 
 pub returns-clause-answer : goal.returns-clause-answer
