@@ -1,6 +1,6 @@
 //! The status of a profile's index against its worktree.
 
-ghost use Rattle.std.specs.Prelude.{◌≡◌, ◌<◌, ◌^◌, IfOk};
+ghost use Rattle.std.specs.Prelude.{◌<◌, ◌^◌, IfOk};
 ghost use Rattle.status_call.specs.Outcomes.{skipped_of};
 
 #[cfg(test)]
@@ -26,6 +26,7 @@ use gix_status::index_as_worktree::traits::{CompareBlobs, FastEq, HashEq};
 use gix_status::index_as_worktree::{
     Context, Error, Options, Outcome, Record, Recorder, VisitEntry, index_as_worktree,
 };
+use gix_status::index_as_worktree_with_renames::ExactClone;
 use gix_status::walk::{UntrackedWalk, Walk};
 use gix_status::worktree::{
     AllPaths, DiskWorktree, MemoryObjects, MemoryWorktree, NoFilter, NoLister, NoSubmodules, Node,
@@ -170,8 +171,7 @@ fn print_compared<
 ) -> Result<(), Failure>
 where
     W::File: Send,
-    C::Output: Send + Clone + 'a,
-    requires { (x y : C.Output) → C.Output.is_clone x y → y ≡ x }
+    C::Output: Send + ExactClone + 'a,
 {
     if request.options.is_joined() {
         return print_joined(rt, request, pathspec, compare, output);

@@ -1,6 +1,6 @@
 //! The status of a profile with untracked files, renames or sorted lines.
 
-ghost use Rattle.std.specs.Prelude.{◌≡◌, ◌<◌, ◌^◌, IfOk};
+ghost use Rattle.std.specs.Prelude.{◌<◌, ◌^◌, IfOk};
 ghost use Rattle.status_call.specs.Outcomes.{skipped_of};
 
 use crate::failure::Failure;
@@ -10,8 +10,8 @@ use crate::status::request::Request;
 use gix_status::index::HashKind;
 use gix_status::index_as_worktree::traits::CompareBlobs;
 use gix_status::index_as_worktree_with_renames::{
-    Context, DirwalkContext, Entry, Error, Options, Outcome, Recorder, Sorting, VisitEntry,
-    index_as_worktree_with_renames,
+    Context, DirwalkContext, Entry, Error, ExactClone, Options, Outcome, Recorder, Sorting,
+    VisitEntry, index_as_worktree_with_renames,
 };
 use gix_status::tracker::{IdentityTracker, Rewrites};
 use gix_status::walk::Walk;
@@ -39,8 +39,7 @@ pub fn print_joined<
 ) -> Result<(), Failure>
 where
     W::File: Send,
-    C::Output: Send + Clone + 'a,
-    requires { (x y : C.Output) → C.Output.is_clone x y → y ≡ x }
+    C::Output: Send + ExactClone + 'a,
 {
     let alloc = rt.alloc();
     let counts = request.options.counts;
@@ -70,8 +69,7 @@ fn report_joined<
 ) -> Result<Outcome, Error>
 where
     W::File: Send,
-    C::Output: Send + Clone + 'a,
-    requires { (x y : C.Output) → C.Output.is_clone x y → y ≡ x }
+    C::Output: Send + ExactClone + 'a,
     ensures { IfOk result (λ o. skipped_of o.tracked_file_modification < 2 ^ 64) }
 {
     let Request {
