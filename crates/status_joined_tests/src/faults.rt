@@ -14,12 +14,10 @@ use status_base::index::{Mode, State};
 use status_base::worktree::{Fault, MemoryFile, MemoryWorktree, Metadata, ReadBytes, Worktree};
 use status_call::index_as_worktree;
 use status_joined::index_as_worktree_with_renames::{Error, Options};
-use status_tracker::{IdentityTracker, Rewrites, Tracker, TrackerError};
-use status_walk::{Kind, Walk, WalkError};
+use status_tracker::{IdentityTracker, Rewrites, TrackerError};
+use status_walk::{Kind, WalkError};
 use std::alloc::Global;
-use std::sync::Wait;
 use std::test::Fail;
-use std::thread::Threads;
 
 /// What a worktree has a fault at.
 #[derive(Clone, Copy, Debug, PartialEq, Eq)]
@@ -211,37 +209,18 @@ fn nodes() -> [Found<'static>; 3] {
     [untracked("x"), link, untracked("m")]
 }
 
-/// Options with which renames are looked for.
-fn asked(sorted: bool) -> Options {
+/// Asks for renames, in the order of paths or of the index and the walk.
+fn asked<'a, K, X>(walk: K, tracker: X, sorted: bool) -> Asked<'a, K, X> {
     let options = options(Some(Rewrites { track_empty: false }));
-    Options {
-        sorting: if sorted { options.sorting } else { None },
-        ..options
-    }
-}
-
-/// What is told of this index and worktree.
-fn report_of<
-    'index,
-    'a,
-    R: AllocGlobal + Threads + Wait,
-    K: Walk<Broken<'a>> + Send + Drop,
-    X: Tracker + Drop,
->(
-    rt: &R,
-    index: &'index State,
-    worktree: &Broken<'a>,
-    walk: K,
-    tracker: X,
-    sorted: bool,
-) -> Report<'index> {
-    let asked = Asked {
+    Asked {
         walk,
         tracker,
-        options: asked(sorted),
+        options: Options {
+            sorting: if sorted { options.sorting } else { None },
+            ..options
+        },
         interrupt: None,
-    };
-    joined(rt, index, worktree, asked)
+    }
 }
 
 /// What is told where a fault isn't answered: at an entry it is a removal, and of a file that isn't opened no id
@@ -294,7 +273,7 @@ fn each_fault_of_the_worktree_has_its_answer(rt: HostRuntime) -> Result<(), Fail
                     nodes: &nodes,
                 };
                 let tracker = IdentityTracker::new(alloc);
-                let report = report_of(&rt, &index, &worktree, walk, tracker, sorted);
+                let report = joined(&rt, &index, &worktree, asked(walk, tracker, sorted));
                 let text = report.told(alloc)?;
                 let told = if wanted == Exit::Told {
                     told(point, sorted)
@@ -334,7 +313,7 @@ fn each_fault_of_the_walk_is_its_answer(rt: HostRuntime) -> Result<(), Fail> {
             fault,
         };
         let tracker = Refuses(TrackerError::Refused(3));
-        let report = report_of(&rt, &index, &worktree, walk, tracker, true);
+        let report = joined(&rt, &index, &worktree, asked(walk, tracker, true));
         assert!(rt; exit_of(&report) == wanted, "{fault:?}");
         assert!(rt; report.records.is_empty(), "{fault:?}");
     }
@@ -382,7 +361,12 @@ fn of_several_faults_the_first_in_order_is_answered(rt: HostRuntime) -> Result<(
                 alloc,
                 nodes: &nodes,
             };
-            let report = report_of(&rt, &index, &worktree, walk, Refuses(refused), sorted);
+            let report = joined(
+                &rt,
+                &index,
+                &worktree,
+                asked(walk, Refuses(refused), sorted),
+            );
             assert!(rt;
                 exit_of(&report) == wanted,
                 "{without} left out, sorted: {sorted}"

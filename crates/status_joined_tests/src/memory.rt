@@ -28,7 +28,11 @@ fn refused_memory_is_told_as_such_or_changes_nothing(rt: HostRuntime) -> Result<
         answer,
     };
     let told = report.told(alloc)?;
-    match report.answer {
+    let Report {
+        records: _records,
+        answer,
+    } = report;
+    match answer {
         Ok(_) => {
             assert_eq!(rt; told.as_str(), TOLD);
             Ok(())

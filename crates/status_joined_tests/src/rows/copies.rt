@@ -25,6 +25,7 @@ fn what_was_copied_is_told_by_itself_too(rt: HostRuntime) -> Result<(), Fail> {
         report.told(alloc)?.as_str(),
         "0 modified \"a\"\n- copied \"a\" \"b\"\n"
     );
+    assert_eq!(rt; report.records.len(), 2);
     let copied = &report.records[1];
     assert!(rt;
         matches!(
@@ -76,7 +77,9 @@ fn an_untracked_file_may_be_copied_more_than_once(rt: HostRuntime) -> Result<(),
         report.told(alloc)?.as_str(),
         "0 removed \"a\"\n- added \"b\"\n- copied \"b\" \"c\"\n- copied \"b\" \"d\"\n"
     );
-    assert!(rt; is_copy_of_b(&report.records[2]) && is_copy_of_b(&report.records[3]));
+    assert_eq!(rt; report.records.len(), 4);
+    assert!(rt; is_copy_of_b(&report.records[2]));
+    assert!(rt; is_copy_of_b(&report.records[3]));
     Ok(())
 }
 
@@ -153,6 +156,7 @@ fn a_copy_has_the_statuses_of_both_directories(rt: HostRuntime) -> Result<(), Fa
         "- added \"b\"\n- copied \"b\" \"c\"\n"
     );
     let wanted = (Some(Status::Ignored), Some(Status::Untracked));
+    assert_eq!(rt; report.records.len(), 2);
     assert_eq!(rt; collapsed(&report.records[1]), wanted);
     Ok(())
 }
