@@ -48,6 +48,32 @@ fn a_flag_that_is_set_ends_both_halves_at_once(rt: HostRuntime) -> Result<(), Fa
     Ok(())
 }
 
+#[test]
+fn a_flag_that_stays_unset_ends_neither_half(rt: HostRuntime) -> Result<(), Fail> {
+    let alloc = rt.alloc();
+    let index = foo_index(alloc, &["a"])?;
+    let worktree = worktree(alloc, &[file("b", b"foo"), file("c", b"foo")])?;
+    let flag = AtomicBool::new(false);
+    let tracker = Answers { alloc, pairs: &[] };
+    let asked = Asked {
+        interrupt: Some(&flag),
+        ..Asked::sorted(UntrackedWalk::new(alloc), tracker)
+    };
+    let report = joined(&rt, &index, &worktree, asked);
+    assert_eq!(rt;
+        report.told(alloc)?.as_str(),
+        "0 removed \"a\"\n- added \"b\"\n- added \"c\"\n"
+    );
+    let outcome = report.answer?;
+    assert!(rt; !outcome.tracked_file_modification.interrupted);
+    let walked = status_walk::Outcome {
+        emitted: 2,
+        cancelled: false,
+    };
+    assert_eq!(rt; outcome.dirwalk, Some(walked));
+    Ok(())
+}
+
 // What is told, and what it took, where the flag is set while the status looks at the first of two entries and the walk has
 // one of three nodes.
 fn told_until<R: AllocGlobal + Threads + Wait, X: Tracker + Drop>(
