@@ -7,6 +7,7 @@ pub mod DefaultOptions
 pub mod EntryParts
 pub mod Fed
 pub mod Inputs
+pub mod Known
 pub mod Laws
 pub mod ListedStatus
 pub mod Modelled

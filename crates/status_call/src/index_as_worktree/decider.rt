@@ -4,9 +4,9 @@ ghost use Rattle.std.specs.Prelude.{◌≡◌, List, Option, Result, IsTrue};
 ghost use Rattle.std.proofs.Props.{props};
 ghost use Rattle.bstr.specs.BStr.{bstr_bytes};
 ghost use Rattle.status_base.specs.CheckState.{IsClear};
-ghost use Rattle.status_base.specs.ListingTable.{IsOf};
 ghost use Rattle.status_index.specs.Entries.{entry_at};
 ghost use Rattle.status_compare.specs.Reading.{IsMeant};
+ghost use Rattle.status_call.specs.Known.{Keeps};
 ghost use Rattle.status_call.specs.Status.{answer, in_submodule};
 
 use crate::index_as_worktree::content::{
@@ -38,7 +38,7 @@ pub struct Decider<'w, W: Worktree, C, S, O, P, T, L: Lister> {
     listings: Listings,
     buffer: Vec<u8>,
     ghost clear: { IsTrue (W.modelled inputs.worktree.now) → IsClear (W.lstat_of inputs.worktree.now) check.path },
-    ghost kept: { IsTrue (L.modelled inputs.lister) → IsOf (L.listing inputs.lister) listings } by { Prim.hlevel props },
+    ghost kept: { Keeps (L.modelled inputs.lister) (L.listing inputs.lister) listings } by { Prim.hlevel props },
 }
 
 impl<

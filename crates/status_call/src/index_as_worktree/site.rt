@@ -1,17 +1,15 @@
 //! What stands at an entry's path.
 
-ghost use Rattle.std.specs.Prelude.{◌≡◌, ◌&&◌, Bool, IfOk, IsTrue, Ok, Result};
+ghost use Rattle.std.specs.Prelude.{◌≡◌, ◌&&◌, Bool, IsTrue, Ok, Result};
 ghost use Rattle.bstr.specs.BStr.{bstr_bytes};
 ghost use Rattle.status_base.specs.CheckState.{IsClear};
 ghost use Rattle.status_base.specs.LinkCheck.{LinkCheck};
-ghost use Rattle.status_base.specs.Listed.{known_node};
-ghost use Rattle.status_base.specs.ListingTable.{IsOf};
 ghost use Rattle.status_base.specs.Verified.{IsRefused};
 ghost use Rattle.status_index.specs.declared.metadata.Metadata.{Metadata as NodeMetadata};
 ghost use Rattle.status_index.specs.declared.fault.Fault.{Fault as WorktreeFault};
-ghost use Rattle.status_call.specs.EntryParts.{IsSite, IsSiteAt};
+ghost use Rattle.status_call.specs.EntryParts.{IsSite};
 ghost use Rattle.status_call.specs.Counts.{is_accepted};
-ghost use Rattle.status_call.specs.Modelled.{are_modelled};
+ghost use Rattle.status_call.specs.Known.{IsFound, IsKnown, Keeps};
 ghost use Rattle.status_call.specs.Status.{found_by, found_fault, found_node};
 
 use crate::index_as_worktree::types::Error;
@@ -54,14 +52,13 @@ pub(crate) fn find<W: Worktree, L: Lister>(
     listings: &mut Listings,
     path: BStr<'_>,
 ) -> Result<Look, Error>
-    ensures site { IsTrue (W.modelled worktree.now) → IsTrue (are_modelled fscache (L.modelled lister.now))
-        → IsClear (W.lstat_of worktree.now) check.old.path
-        → (IsTrue (L.modelled lister.now) → IsOf (L.listing lister.now) listings.old)
-        → IsSiteAt (W.lstat_of worktree.now) (known_node fscache (L.listing lister.now) (bstr_bytes path.entry)) (bstr_bytes path.entry) result }
+    ensures site { IsTrue (W.modelled worktree.now)
+        → IsFound fscache (L.modelled lister.now) (L.listing lister.now) listings.old (bstr_bytes path.entry)
+        (W.lstat_of worktree.now) check.old.path result }
     ensures clear { IsTrue (W.modelled worktree.now) → IsClear (W.lstat_of worktree.now) check.old.path
         → IsClear (W.lstat_of worktree.now) check.new.path }
-    ensures kept { IsTrue (L.modelled lister.now) → IsOf (L.listing lister.now) listings.old
-        → IsOf (L.listing lister.now) listings.new }
+    ensures kept { Keeps (L.modelled lister.now) (L.listing lister.now) listings.old
+        → Keeps (L.modelled lister.now) (L.listing lister.now) listings.new }
 {
     if let Err(error) = check.verified_path(worktree, path) {
         return look_refused(error);
@@ -85,11 +82,10 @@ fn known_at<L: Lister>(
     listings: &mut Listings,
     path: BStr<'_>,
 ) -> Result<Option<Metadata>, AllocError>
-    ensures known { IsTrue (are_modelled fscache (L.modelled lister.now))
-        → (IsTrue (L.modelled lister.now) → IsOf (L.listing lister.now) listings.old)
-        → IfOk result (λ node. node ≡ known_node fscache (L.listing lister.now) (bstr_bytes path.entry)) }
-    ensures kept { IsTrue (L.modelled lister.now) → IsOf (L.listing lister.now) listings.old
-        → IsOf (L.listing lister.now) listings.new }
+    ensures known { IsKnown fscache (L.modelled lister.now) (L.listing lister.now) listings.old
+        (bstr_bytes path.entry) result }
+    ensures kept { Keeps (L.modelled lister.now) (L.listing lister.now) listings.old
+        → Keeps (L.modelled lister.now) (L.listing lister.now) listings.new }
 {
     if !fscache {
         return Ok(None);

@@ -5,7 +5,7 @@ use Rattle.status_call.proofs.index_as_worktree.decider.Decider.look.Goals as go
 pub invariant_of-self : goal.invariant_of-self
 invariant_of-self g c = record {
   clear = λ modelled. c.find.ensures.clear modelled (c.args.self.now.clear modelled);
-  kept = λ modelled. c.find.ensures.kept modelled (c.args.self.now.kept modelled);
+  kept = c.find.ensures.kept c.args.self.now.kept;
 }
 
 pub returns-clause-site : goal.returns-clause-site
