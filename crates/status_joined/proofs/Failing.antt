@@ -3,6 +3,7 @@ use Rattle.std.proofs.Common.{Bool, Option, Err}
 use Rattle.status_index.specs.declared.fault.Fault.TheVariants.{NotFound, NotADirectory, PermissionDenied, Interrupted, IllformedUtf8, UnexpectedEnd, NotNormal, Memory, Other}
 use Rattle.status_index.specs.declared.id.HashKind.{HashKind}
 use Rattle.status_index.specs.declared.state.State.{State}
+use Rattle.status_base.specs.declared.worktree.objects.FindError.TheVariants as finds
 use Rattle.status_compare.specs.declared.error.Error.TheVariants as statuses
 use Rattle.status_call.specs.Query.{Query}
 use Rattle.status_call.specs.declared.index_as_worktree.inputs.Settings.{Settings}
@@ -28,7 +29,16 @@ module _ {T U : Type 0} (query : Settings → Query T U) (options : Options) (in
   half_fault (failures.Tracked statuses.Memory) met = tt
   half_fault (failures.Tracked statuses.IllformedUtf8) met = met
   half_fault (failures.Tracked statuses.Time) met = met
-  half_fault (failures.Tracked (statuses.Io f)) met = met
-  half_fault (failures.Tracked (statuses.Find f)) met = met
+  half_fault (failures.Tracked (statuses.Io NotFound)) met = met
+  half_fault (failures.Tracked (statuses.Io NotADirectory)) met = met
+  half_fault (failures.Tracked (statuses.Io PermissionDenied)) met = met
+  half_fault (failures.Tracked (statuses.Io Interrupted)) met = met
+  half_fault (failures.Tracked (statuses.Io IllformedUtf8)) met = met
+  half_fault (failures.Tracked (statuses.Io UnexpectedEnd)) met = met
+  half_fault (failures.Tracked (statuses.Io NotNormal)) met = met
+  half_fault (failures.Tracked (statuses.Io Memory)) met = tt
+  half_fault (failures.Tracked (statuses.Io (Other code))) met = met
+  half_fault (failures.Tracked (statuses.Find finds.Missing)) met = met
+  half_fault (failures.Tracked (statuses.Find finds.Memory)) met = tt
   half_fault (failures.Tracked (statuses.SubmoduleStatus path text)) met = met
   half_fault (failures.Tracked statuses.SpawnThread) met = met

@@ -1,5 +1,6 @@
 -- The errors of a call that the errors of its parts become. Want of memory is told as that, wherever it was met.
 use Rattle.status_index.specs.declared.fault.Fault.TheVariants as faults
+use Rattle.status_base.specs.declared.worktree.objects.FindError.TheVariants as finds
 use Rattle.status_compare.specs.declared.error.Error.{Error as StatusError}
 use Rattle.status_compare.specs.declared.error.Error.TheVariants as statuses
 use Rattle.status_rewrites.specs.declared.refused.Refused.{Refused}
@@ -16,6 +17,8 @@ use Rattle.status_joined.specs.declared.index_as_worktree_with_renames.error.Err
 -- of the status of the index
 abbrev pub error_of_status : StatusError → Error
 error_of_status statuses.Memory = errors.Memory
+error_of_status (statuses.Io faults.Memory) = errors.Memory
+error_of_status (statuses.Find finds.Memory) = errors.Memory
 error_of_status e = errors.TrackedFileModifications e
 
 -- of a walk

@@ -4,6 +4,7 @@ use Rattle.status_index.specs.declared.id.HashKind.{HashKind}
 use Rattle.status_index.specs.declared.fault.Fault.TheVariants as faults
 use Rattle.status_index.specs.declared.state.State.{State}
 use Rattle.status_call.specs.Query.{Query}
+use Rattle.status_base.specs.declared.worktree.objects.FindError.TheVariants as finds
 use Rattle.status_compare.specs.declared.error.Error.TheVariants as statuses
 use Rattle.status_call.specs.Visits.{Visit}
 use Rattle.status_call.specs.declared.index_as_worktree.inputs.Settings.{Settings}
@@ -44,6 +45,8 @@ module _ {T U : Type 0} (query : Settings → Query T U) (options : Options) (in
   IsHalfFault (errors.DirWalk (walks.Fault path faults.Memory)) = ⊥
   IsHalfFault (errors.DirWalk e) = IsWalkFailure walking e
   IsHalfFault (errors.TrackedFileModifications statuses.Memory) = ⊥
+  IsHalfFault (errors.TrackedFileModifications (statuses.Io faults.Memory)) = ⊥
+  IsHalfFault (errors.TrackedFileModifications (statuses.Find finds.Memory)) = ⊥
   IsHalfFault (errors.TrackedFileModifications e) = HasWalked interruptible walking × IsTrackedFailure query options index e
   IsHalfFault errors.Memory = ⊤
   IsHalfFault _ = ⊥

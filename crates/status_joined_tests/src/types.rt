@@ -2,6 +2,7 @@
 
 use bstr::{BStr, BString};
 use status_base::index::{self, HashKind, ObjectId, State};
+use status_base::worktree::FindError;
 use status_call::index_as_worktree::{self, Change, Conflict, EntryStatus};
 use status_index::{ByteText, Fault, Flags, IndexError, Mode, Moment, NewEntry, Stat};
 use status_joined::index_as_worktree_with_renames::{
@@ -187,6 +188,18 @@ fn errors_of_the_joined_call_have_words(rt: HostRuntime) -> Result<(), Fail> {
         (
             Error::from(index_as_worktree::Error::Memory),
             "Out of memory",
+        ),
+        (
+            Error::from(index_as_worktree::Error::Io(Fault::Memory)),
+            "Out of memory",
+        ),
+        (
+            Error::from(index_as_worktree::Error::Find(FindError::Memory)),
+            "Out of memory",
+        ),
+        (
+            Error::from(index_as_worktree::Error::Find(FindError::Missing)),
+            "Failed to obtain blob from object database",
         ),
         (Error::DirWalk(walk), "permission denied"),
         (Error::SpawnThread, "Could not start a worker thread"),

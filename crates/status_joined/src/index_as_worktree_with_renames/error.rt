@@ -3,7 +3,7 @@
 ghost use Rattle.std.specs.Prelude.{◌≡◌};
 ghost use Rattle.status_joined.specs.Errors.{error_of_walk, error_of_id, error_of_refused};
 
-use status_base::worktree::Fault;
+use status_base::worktree::{Fault, FindError};
 use status_call::index_as_worktree;
 use status_rewrites::Refused;
 use status_tracker::TrackerError;
@@ -55,7 +55,9 @@ impl From<index_as_worktree::Error> for Error {
 
     fn from(error: index_as_worktree::Error) -> Error {
         match error {
-            index_as_worktree::Error::Memory => Error::Memory,
+            index_as_worktree::Error::Memory
+            | index_as_worktree::Error::Io(Fault::Memory)
+            | index_as_worktree::Error::Find(FindError::Memory) => Error::Memory,
             error => Error::TrackedFileModifications(error),
         }
     }
