@@ -4,6 +4,9 @@ use status_base::index::ObjectId;
 
 /// A value whose clones equal it. What was copied is told twice, so what a comparer and a submodule report has to be such:
 /// it is reported of the copy as of what was copied.
+///
+/// Implement it for a type of your own that has an exact clone. Numbers, `bool`, `()`, `ObjectId` and options of such
+/// values have it.
 pub trait ExactClone: Clone {
     ghost use Rattle.std.specs.Prelude.{◌≡◌};
 
@@ -17,4 +20,37 @@ impl ExactClone for ObjectId {
 
 impl ExactClone for () {
     ghost clones_are_equal = { λ _ _ same. same };
+}
+
+impl ExactClone for bool {
+    ghost clones_are_equal = { λ _ _ same. same };
+}
+
+impl ExactClone for u8 {
+    ghost clones_are_equal = { λ _ _ same. same };
+}
+
+impl ExactClone for u16 {
+    ghost clones_are_equal = { λ _ _ same. same };
+}
+
+impl ExactClone for u32 {
+    ghost clones_are_equal = { λ _ _ same. same };
+}
+
+impl ExactClone for u64 {
+    ghost clones_are_equal = { λ _ _ same. same };
+}
+
+impl ExactClone for usize {
+    ghost clones_are_equal = { λ _ _ same. same };
+}
+
+impl<T: ExactClone> ExactClone for Option<T> {
+    ghost use Rattle.std.proofs.Common.{refl, ap, None, Some};
+
+    ghost clones_are_equal = { elim [
+      | None ↦ elim [ None ↦ λ _. refl | Some _ ↦ absurd ]
+      | Some x ↦ elim [ None ↦ absurd | Some y ↦ λ same. ap Some (T.clones_are_equal x y same) ]
+    ] };
 }

@@ -8,4 +8,5 @@ mod ids;
 mod interrupts;
 mod meetings;
 mod renames;
+mod submodules;
 mod walked;

@@ -1,0 +1,104 @@
+//! A submodule of a type of the test's own, which reports an option of a number.
+
+use crate::given::{index, mode_entry, options};
+use bstr::BStr;
+use status_base::index::{Entry, Mode};
+use status_base::worktree::{
+    AllPaths, MemoryObjects, MemoryWorktree, NoFilter, NoLister, Node, NodeKind, SubmoduleFault,
+    SubmoduleStatus,
+};
+use status_call::index_as_worktree::{Change, EntryStatus};
+use status_compare::HashEq;
+use status_joined::index_as_worktree_with_renames as joined;
+use status_joined::index_as_worktree_with_renames::{
+    Context, DirwalkContext, Recorder, index_as_worktree_with_renames,
+};
+use status_tracker::IdentityTracker;
+use status_walk::UntrackedWalk;
+use std::test::Fail;
+
+/// Every submodule changed, and it is known in how many places.
+#[derive(Clone, Copy)]
+struct Changed {
+    places: Option<u64>,
+}
+
+impl SubmoduleStatus for Changed {
+    ghost use Rattle.std.specs.Prelude.{true, refl, Ok, Some};
+    ghost use Rattle.std.proofs.Common.{ap};
+
+    type Output = Option<u64>;
+
+    ghost modelled = { λ _. true };
+
+    ghost meaning = { λ changed _. Ok (Some changed.places) };
+
+    ghost clone_keeps_modelled = { λ _ _ _. refl };
+
+    ghost clone_keeps_meaning = { λ _ _ same. ap (λ c _. Ok (Some c.places)) same };
+
+    fn status(
+        &mut self,
+        _entry: &Entry,
+        _path: BStr<'_>,
+    ) -> Result<Option<Option<u64>>, SubmoduleFault> {
+        Ok(Some(self.places))
+    }
+}
+
+#[test]
+fn a_submodule_reports_a_type_of_the_callers(rt: HostRuntime) -> Result<(), Fail> {
+    let alloc = rt.alloc();
+    let index = index(alloc, &[mode_entry("sub", Mode::Commit)])?;
+    let mut worktree = MemoryWorktree::new(alloc);
+    let directory = Node {
+        kind: NodeKind::Directory,
+        bytes: Vec::new(alloc),
+        len: 0,
+        executable: false,
+        mtime: None,
+        ctime: None,
+        dev: 0,
+        ino: 0,
+        uid: 0,
+        gid: 0,
+    };
+    worktree.put(BStr::from("sub"), directory)?;
+    for places in [None, Some(7)] {
+        let mut recorder = Recorder::new(alloc);
+        let context = Context {
+            pathspec: AllPaths,
+            filter: NoFilter,
+            lister: NoLister,
+            should_interrupt: None,
+            dirwalk: DirwalkContext {
+                walk: UntrackedWalk::new(alloc),
+            },
+            tracker: IdentityTracker::new(alloc),
+        };
+        index_as_worktree_with_renames(
+            &rt,
+            alloc,
+            &index,
+            &worktree,
+            &mut recorder,
+            HashEq,
+            Changed { places },
+            MemoryObjects::new(alloc),
+            context,
+            options(None),
+        )?;
+        assert_eq!(rt; recorder.records.len(), 1);
+        assert!(rt;
+            matches!(
+                &recorder.records[0],
+                joined::Entry::Modification {
+                    entry_index: 0,
+                    status: EntryStatus::Change(Change::SubmoduleModification(found)),
+                    ..
+                } if *found == places
+            )
+        );
+    }
+    Ok(())
+}
