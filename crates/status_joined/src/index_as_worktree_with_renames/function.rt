@@ -54,7 +54,7 @@ fn asked_walk<K: Drop>(asked: bool, walk: K) -> Option<K>
 /// # Errors
 /// The walk's fault, or else the status's, that of the first node that has no id, or the tracker's; or the first of the
 /// tracker's pairs that breaks a rule. A thread that the status was refused is a fault of its. Then nothing was told. Want
-/// of memory; then nothing was told, or, where it is the collector's, a beginning.
+/// of memory; then nothing was told, or a beginning.
 pub fn index_as_worktree_with_renames<
     'index,
     'w,
