@@ -2,12 +2,14 @@
 
 ghost use Rattle.std.specs.Prelude.{◌≡◌, [], false};
 
+use crate::given::{Asked, foo_index, joined};
 use bstr::{BStr, BString};
 use status_base::worktree::{
     AllPaths, DiskWorktree, Fault, MemoryFile, Metadata, NodeKind, Pathspec, Prefix, Worktree,
 };
 use status_disk_walk::DiskWalk;
 use status_index::{Flags, HashKind, IndexError, Mode, Moment, NewEntry, ObjectId, Stat, State};
+use status_tracker::IdentityTracker;
 use status_walk::{Action, Delegate, DirEntry, Kind, Outcome, Status, Walk, WalkError};
 use std::alloc::{AllocError, Global};
 use std::fs::Permissions;
@@ -208,6 +210,28 @@ fn what_no_entry_has_is_found(rt: HostRuntime) -> Result<(), Fail> {
         cancelled: true,
     };
     assert_eq!(rt; outcome, cut);
+    fs::remove_dir_all(&rt, root)?;
+    Ok(())
+}
+
+#[test]
+fn a_folder_has_untracked_files_and_renames(rt: HostRuntime) -> Result<(), Fail> {
+    let alloc = rt.alloc();
+    let folder = new_folder(&rt, "disk_walk_joined", process::id(rt.process()))?;
+    let root = folder.as_str();
+    fill(&rt, root, &["d"], &["c"])?;
+    fs::write(&rt, within(&rt, root, "d/b")?, "foo")?;
+    symlink(&rt, "c", within(&rt, root, "d/l")?)?;
+    let worktree = DiskWorktree::new(&rt, Path::new(root))?;
+    let index = foo_index(alloc, &["a"])?;
+    let walk = DiskWalk::new(&rt, Path::new(root))?;
+    let asked = Asked::rewritten(walk, IdentityTracker::new(alloc));
+    let report = joined(&rt, &index, &worktree, asked);
+    assert_eq!(rt;
+        report.told(alloc)?.as_str(),
+        "- added \"c\"\n- renamed \"a\" \"d/b\"\n- added \"d/l\"\n"
+    );
+    assert!(rt; report.answer.is_ok());
     fs::remove_dir_all(&rt, root)?;
     Ok(())
 }
