@@ -136,7 +136,7 @@ fn exit_of(report: &Report<'_>) -> Exit {
 }
 
 /// All faults.
-const FAULTS: [Fault; 9] = [
+pub const FAULTS: [Fault; 9] = [
     Fault::NotFound,
     Fault::NotADirectory,
     Fault::PermissionDenied,

@@ -3,9 +3,10 @@
 ghost use Rattle.std.specs.Prelude.{◌≡◌};
 ghost use Rattle.status_base.specs.Converted.{refused};
 
-use crate::given::{Asked, file, foo_index, link, tell_filtered, worktree};
+use crate::faults::FAULTS;
+use crate::given::{Asked, file, foo_index, link, tell_handed, worktree};
 use bstr::BStr;
-use status_base::worktree::{Fault, ReadBytes, ToGit, ToGitOutcome};
+use status_base::worktree::{Fault, NoLister, NoSubmodules, ReadBytes, ToGit, ToGitOutcome};
 use status_joined::index_as_worktree_with_renames::{Error, Recorder};
 use status_tracker::IdentityTracker;
 use status_walk::UntrackedWalk;
@@ -47,16 +48,21 @@ fn a_filter_that_refuses_a_node_ends_the_status(rt: HostRuntime) -> Result<(), F
     let index = foo_index(alloc, &["a"])?;
     // The link is no file, so the filter isn't asked of it.
     let worktree = worktree(alloc, &[link("b", b"foo"), file("c", b"foo")])?;
-    for fault in [
-        Fault::NotFound,
-        Fault::PermissionDenied,
-        Fault::Other(7),
-        Fault::Memory,
-    ] {
+    for fault in FAULTS {
         let mut recorder = Recorder::new(alloc);
         let asked = Asked::rewritten(UntrackedWalk::new(alloc), IdentityTracker::new(alloc));
         let filter = RefusesFiles(fault);
-        let answer = tell_filtered(&rt, alloc, &index, &worktree, &mut recorder, filter, asked);
+        let answer = tell_handed(
+            &rt,
+            alloc,
+            &index,
+            &worktree,
+            &mut recorder,
+            NoSubmodules,
+            filter,
+            NoLister,
+            asked,
+        );
         let is_wanted = match answer {
             Err(Error::Memory) => fault == Fault::Memory,
             Err(Error::ConvertToGit(found)) => found == fault && fault != Fault::Memory,

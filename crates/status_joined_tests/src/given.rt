@@ -16,14 +16,14 @@
 use bstr::{BStr, BString};
 use status_base::index::{Flags, IndexError, Mode, Moment, NewEntry, ObjectId, Stat, State, Time};
 use status_base::worktree::{
-    AllPaths, MemoryObjects, MemoryWorktree, NoFilter, NoLister, NoSubmodules, Node, NodeKind,
-    ToGit, TreeError, Worktree,
+    AllPaths, Lister, MemoryObjects, MemoryWorktree, NoFilter, NoLister, NoSubmodules, Node,
+    NodeKind, SubmoduleStatus, ToGit, TreeError, Worktree,
 };
 use status_call::index_as_worktree::{self, Capabilities};
 use status_compare::HashEq;
 use status_joined::index_as_worktree_with_renames::{
-    Context, DirwalkContext, Entry, Error, Options, Outcome, Recorder, Sorting, Summary,
-    VisitEntry, index_as_worktree_with_renames,
+    Context, DirwalkContext, Entry, Error, ExactClone, Options, Outcome, Recorder, Sorting,
+    Summary, VisitEntry, index_as_worktree_with_renames,
 };
 use status_tracker::{Rewrites, Tracker};
 use status_walk::{Status, Walk};
@@ -303,16 +303,28 @@ pub fn tell<
 where
     W::File: Send,
 {
-    tell_filtered(rt, alloc, index, worktree, collector, NoFilter, asked)
+    tell_handed(
+        rt,
+        alloc,
+        index,
+        worktree,
+        collector,
+        NoSubmodules,
+        NoFilter,
+        NoLister,
+        asked,
+    )
 }
 
-/// Tells a collector of an index and a worktree, by ids and with a filter.
-pub fn tell_filtered<
+/// Tells a collector of an index and a worktree, by ids, with submodules, a filter and a lister.
+pub fn tell_handed<
     'index,
     R: Threads + Wait,
     W: Worktree + Sync,
+    S: SubmoduleStatus + Send,
     F: ToGit + Send,
-    V: VisitEntry<'index, ContentChange = ObjectId, SubmoduleStatus = ()>,
+    L: Lister + Send,
+    V: VisitEntry<'index, ContentChange = ObjectId, SubmoduleStatus = S::Output>,
     K: Walk<W> + Send + Drop,
     X: Tracker + Drop,
 >(
@@ -321,11 +333,14 @@ pub fn tell_filtered<
     index: &'index State,
     worktree: &W,
     collector: &mut V,
+    submodule: S,
     filter: F,
+    lister: L,
     asked: Asked<'_, K, X>,
 ) -> Result<Outcome, Error>
 where
     W::File: Send,
+    S::Output: Send + ExactClone + 'index,
 {
     let Asked {
         walk,
@@ -336,7 +351,7 @@ where
     let context = Context {
         pathspec: AllPaths,
         filter,
-        lister: NoLister,
+        lister,
         should_interrupt: interrupt,
         dirwalk: DirwalkContext { walk },
         tracker,
@@ -348,7 +363,7 @@ where
         worktree,
         collector,
         HashEq,
-        NoSubmodules,
+        submodule,
         MemoryObjects::new(alloc),
         context,
         options,

@@ -6,6 +6,7 @@ mod copies;
 mod faults;
 mod ids;
 mod interrupts;
+mod listings;
 mod meetings;
 mod renames;
 mod submodules;

@@ -1,18 +1,13 @@
 //! A submodule of a type of the test's own, which reports an option of a number.
 
-use crate::given::{index, mode_entry, options};
+use crate::given::{Asked, index, mode_entry, tell_handed};
 use bstr::BStr;
 use status_base::index::{Entry, Mode};
 use status_base::worktree::{
-    AllPaths, MemoryObjects, MemoryWorktree, NoFilter, NoLister, Node, NodeKind, SubmoduleFault,
-    SubmoduleStatus,
+    MemoryWorktree, NoFilter, NoLister, Node, NodeKind, SubmoduleFault, SubmoduleStatus,
 };
 use status_call::index_as_worktree::{Change, EntryStatus};
-use status_compare::HashEq;
-use status_joined::index_as_worktree_with_renames as joined;
-use status_joined::index_as_worktree_with_renames::{
-    Context, DirwalkContext, Recorder, index_as_worktree_with_renames,
-};
+use status_joined::index_as_worktree_with_renames::{self as joined, Recorder};
 use status_tracker::IdentityTracker;
 use status_walk::UntrackedWalk;
 use std::test::Fail;
@@ -66,28 +61,18 @@ fn a_submodule_reports_a_type_of_the_callers(rt: HostRuntime) -> Result<(), Fail
     worktree.put(BStr::from("sub"), directory)?;
     for places in [None, Some(7)] {
         let mut recorder = Recorder::new(alloc);
-        let context = Context {
-            pathspec: AllPaths,
-            filter: NoFilter,
-            lister: NoLister,
-            should_interrupt: None,
-            dirwalk: DirwalkContext {
-                walk: UntrackedWalk::new(alloc),
-            },
-            tracker: IdentityTracker::new(alloc),
-        };
-        index_as_worktree_with_renames(
+        let answer = tell_handed(
             &rt,
             alloc,
             &index,
             &worktree,
             &mut recorder,
-            HashEq,
             Changed { places },
-            MemoryObjects::new(alloc),
-            context,
-            options(None),
-        )?;
+            NoFilter,
+            NoLister,
+            Asked::sorted(UntrackedWalk::new(alloc), IdentityTracker::new(alloc)),
+        );
+        assert!(rt; answer.is_ok());
         assert_eq!(rt; recorder.records.len(), 1);
         assert!(rt;
             matches!(

@@ -1,0 +1,88 @@
+//! Listings of directories in place of `lstat` of the index's entries.
+
+use crate::given::{Asked, Report, STAGED, file, foo_index, tell_handed, worktree};
+use bstr::{BStr, BString};
+use status_base::fscache::Stat;
+use status_base::worktree::{Lister, Listing, NoFilter, NoSubmodules};
+use status_joined::index_as_worktree_with_renames::{Options, Recorder};
+use status_tracker::IdentityTracker;
+use status_walk::UntrackedWalk;
+use std::alloc::{AllocError, Global};
+use std::test::Fail;
+
+/// Lists the root as if one file lay in it, as it was staged with the content `foo`.
+#[derive(Clone, Copy)]
+struct OneFile<'a> {
+    alloc: Global,
+    name: &'a str,
+}
+
+impl Lister for OneFile<'_> {
+    ghost use Rattle.std.specs.Prelude.{false, refl, None};
+
+    ghost modelled = { λ _. false };
+
+    ghost listing = { λ _ _. None };
+
+    ghost clone_keeps_modelled = { λ _ _ _. refl };
+
+    ghost clone_keeps_listing = { λ _ _ _. refl };
+
+    fn list(&self, directory: BStr<'_>) -> Result<Listing, AllocError> {
+        if !directory.as_bytes().is_empty() {
+            return Ok(None);
+        }
+        let stat = Stat {
+            is_dir: false,
+            is_symlink: false,
+            size: 3,
+            mtime_secs: STAGED,
+            mtime_nsecs: 0,
+            ctime_secs: STAGED,
+            ctime_nsecs: 0,
+        };
+        let mut names = Vec::new(self.alloc);
+        names.push((BString::from_slice(self.alloc, self.name)?, stat))?;
+        Ok(Some(names))
+    }
+}
+
+#[test]
+fn entries_are_looked_up_in_listings_and_nodes_arent(rt: HostRuntime) -> Result<(), Fail> {
+    let alloc = rt.alloc();
+    let index = foo_index(alloc, &["a", "b"])?;
+    let worktree = worktree(alloc, &[file("c", b"foo")])?;
+    for (fscache, told) in [
+        (false, "1 removed \"b\"\n- renamed \"a\" \"c\"\n"),
+        (true, "- renamed \"b\" \"c\"\n"),
+    ] {
+        let asked = Asked::rewritten(UntrackedWalk::new(alloc), IdentityTracker::new(alloc));
+        let asked = Asked {
+            options: Options {
+                fscache,
+                ..asked.options
+            },
+            ..asked
+        };
+        let lister = OneFile { alloc, name: "a" };
+        let mut recorder = Recorder::new(alloc);
+        let answer = tell_handed(
+            &rt,
+            alloc,
+            &index,
+            &worktree,
+            &mut recorder,
+            NoSubmodules,
+            NoFilter,
+            lister,
+            asked,
+        );
+        let report = Report {
+            records: recorder.records,
+            answer,
+        };
+        assert_eq!(rt; report.told(alloc)?.as_str(), told);
+        assert!(rt; report.answer.is_ok());
+    }
+    Ok(())
+}
