@@ -1,4 +1,6 @@
 pub mod Blank
+pub mod Bucketing
+pub mod Dealing
 pub mod Joining
 pub mod Keys
 pub mod LawfulPairs

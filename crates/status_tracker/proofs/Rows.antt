@@ -39,13 +39,6 @@ row_of side track_empty key ordered kept rows =
     ∙ sym (filter-map alike standing (side_of side track_empty ordered))
     ∙ ap (filter alike) (sym (filter-map may standing ordered))
 
--- the same of equal lists
-pub rows_along : (side : ChangeKind) (track_empty : Bool) (xs ys kept held : List Seen) → xs ≡ ys → held ≡ kept → HasRows (side_of side track_empty xs) kept → HasRows (side_of side track_empty ys) held
-rows_along side track_empty xs ys kept held e d rows key =
-    ap (alike_in key) d
-    ∙ rows key
-    ∙ ap (λ v. alike_in key (side_of side track_empty v)) e
-
 -- a join of the two sides of what was read gives the identity pairs
 pub pairs_from_join : (track_empty : Bool) (xs : List Changed) (seen ordered gone came : List Seen) (pairs : List Pair) → map standing seen ≡ enumerate_from 0 xs → IsPermutation seen ordered → IsSorted (λ a b. path_cmp (standing a) (standing b)) ordered → HasRows (side_of Deletion track_empty ordered) gone → HasRows (side_of Addition track_empty ordered) came → IsJoin gone came pairs → AreIdentityPairs track_empty xs pairs
 pairs_from_join track_empty xs seen ordered gone came pairs read bag up of_gone of_came j =

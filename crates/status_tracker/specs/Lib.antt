@@ -1,3 +1,4 @@
+pub mod Buckets
 pub mod Changed
 pub mod IdentityPairs
 pub mod Joins

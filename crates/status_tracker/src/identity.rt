@@ -1,12 +1,14 @@
 //! The tracker by equal content.
 
 ghost use Rattle.std.specs.Prelude.{IfOk, map};
+ghost use Rattle.status_tracker.specs.Buckets.{ArePairsOf};
 ghost use Rattle.status_tracker.specs.IdentityPairs.{AreIdentityPairs};
 ghost use Rattle.status_tracker.specs.Lawful.{AreLawful, IsIdentityAnswer};
 
+use crate::buckets::join_buckets;
 use crate::change::{Change, ChangeKind};
 use crate::join::join;
-use crate::seen::{one_side, put_in_path_order, see_all};
+use crate::seen::{Seen, one_side, put_in_path_order, see_all};
 use crate::tracker::{Pair, Rewrites, Tracker, TrackerError};
 use std::alloc::{AllocError, Global};
 
@@ -25,6 +27,25 @@ impl IdentityTracker {
     }
 }
 
+/// From so many changes on, buckets are faster.
+const LONG: usize = 32_768;
+
+/// The pairs of what was read.
+fn side_pairs<'a>(
+    alloc: Global,
+    seen: &'a [Seen<'a>],
+    track_empty: bool,
+) -> Result<Vec<Pair>, AllocError>
+    ensures { IfOk result (λ pairs. ArePairsOf track_empty seen.now pairs.items) }
+{
+    if seen.len() >= LONG {
+        return join_buckets(alloc, seen, track_empty);
+    }
+    let gone = one_side(alloc, seen, ChangeKind::Deletion, track_empty)?;
+    let came = one_side(alloc, seen, ChangeKind::Addition, track_empty)?;
+    join(alloc, &gone, &came)
+}
+
 /// The renames among changes by equal content.
 fn identity_pairs<C: Change>(
     alloc: Global,
@@ -36,9 +57,7 @@ fn identity_pairs<C: Change>(
 {
     let mut seen = see_all(alloc, items)?;
     put_in_path_order(&mut seen)?;
-    let gone = one_side(alloc, &seen, ChangeKind::Deletion, track_empty)?;
-    let came = one_side(alloc, &seen, ChangeKind::Addition, track_empty)?;
-    join(alloc, &gone, &came)
+    side_pairs(alloc, &seen, track_empty)
 }
 
 impl Tracker for IdentityTracker {

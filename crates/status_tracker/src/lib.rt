@@ -1,6 +1,7 @@
 //! Trackers of renames and copies: what a tracker sees of a change, what it answers, and the tracker by equal content.
 #![tactic(auto)]
 
+mod buckets;
 pub mod change;
 pub mod identity;
 mod join;

@@ -23,7 +23,7 @@ pub(crate) struct Seen<'a> {
 }
 
 /// Files and links are told apart, and both from what doesn't pair.
-fn mode_number(mode: EntryKind) -> u8
+pub(crate) fn mode_number(mode: EntryKind) -> u8
     ensures { result ≡ mode_number mode }
 {
     match mode {
@@ -92,7 +92,7 @@ pub(crate) fn put_in_path_order(seen: &mut Vec<Seen<'_>>) -> Result<(), AllocErr
 }
 
 /// Sorts by kind and id, and keeps the order within each.
-fn put_in_key_order(seen: &mut Vec<Seen<'_>>) -> Result<(), AllocError>
+pub(crate) fn put_in_key_order(seen: &mut Vec<Seen<'_>>) -> Result<(), AllocError>
     ensures rows { HasRows seen.old.items seen.new.items }
     ensures ascends { OnOk result (AreByKey seen.new.items) }
 {
@@ -101,7 +101,7 @@ fn put_in_key_order(seen: &mut Vec<Seen<'_>>) -> Result<(), AllocError>
 
 /// Whether a change is of this side and may be in a pair.
 #[tactic(auto, unfolding(crate::specs::IdentityPairs::may_stand))]
-fn may_stand(seen: &Seen<'_>, side: ChangeKind, track_empty: bool) -> bool
+pub(crate) fn may_stand(seen: &Seen<'_>, side: ChangeKind, track_empty: bool) -> bool
     ensures { result ≡ may_stand side track_empty (changed_of seen.now) }
 {
     seen.kind == side
