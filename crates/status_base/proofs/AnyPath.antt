@@ -19,7 +19,9 @@ use Rattle.std.proofs.lemmas.Map.Keys.{sorted_head, sorted_tail}
 use Rattle.status_base.specs.MemoryTree.{Placed, Tree, has_below}
 use Rattle.status_base.specs.Nodes.{placed_of, placed_entries, placed_nodes, tree_of}
 use Rattle.status_base.specs.declared.worktree.memory.Node.{Node}
-use Rattle.status_base.proofs.Placed.{Nodes, key_cmp}
+use Rattle.status_base.proofs.ListingTables.{key_cmp}
+use Rattle.status_base.proofs.Placed.{Nodes, Faults}
+use Rattle.status_base.proofs.PlantedReads.{entries-empty}
 
 or_twice : (b c d : Bool) → b ≡ c → (c || d) ≡ (b || (c || d))
 or_twice true true d e = refl
@@ -48,13 +50,9 @@ any-put p k v (e ∷ es) =
       | Greater ↦ λ t. ap (λ b. p e.0 || b) (any-put p k v es) ∙ or_turned (p e.0) (p k) _
     ] refl
 
-nothing_passes : (p : List ℕ → Bool) (es : List (List ℕ × Placed)) → length es ≡ 0 → list_any p (map (λ e. e.0) es) ≡ false
-nothing_passes p [] h = refl
-nothing_passes p (e ∷ es) h = absurd (omega arith)
-
 -- a test of a map's keys, by the entries that it was made of
 any-from_entries : (p : List ℕ → Bool) (es : List (List ℕ × Placed)) → list_any p (paths.keys (paths.from_entries {R = path_cmp} es)) ≡ list_any p (map (λ e. e.0) es)
-any-from_entries p [] = nothing_passes p _ (sym (paths.len-entries (paths.empty {X = Placed} {R = path_cmp})) ∙ paths.len-empty path_cmp Placed)
+any-from_entries p [] = ap (λ l. list_any p (map (λ e. e.0) l)) (entries-empty path_cmp Placed)
 any-from_entries p (e ∷ es) =
     ap (λ l. list_any p (map (λ x. x.0) l)) (paths.entries-insert nat_list_cmp_total (paths.from_entries es) e.0 e.1)
     ∙ any-put p e.0 e.1 _ ∙ ap (λ b. p e.0 || b) (any-from_entries p es)
@@ -143,18 +141,14 @@ any-by_first front (e ∷ es) ordered =
     ] refl
 
 -- whether a node lies below a path, by the first path from `path/` on
-pub below-by_first : (front : Vec ℕ) (es found : Nodes) (tree : Tree) (path : List ℕ) → tree_of es ≡ tree → front.items ≡ path ++ 47 ∷ []
+pub below-by_first : (front : Vec ℕ) (es found : Nodes) (faults : Faults) (tree : Tree) (path : List ℕ) → tree_of es faults ≡ tree → front.items ≡ path ++ 47 ∷ []
     → IsStrictlySortedBy key_cmp (keys_of es) → found ≡ entries_between key_cmp (Included front) Unbounded es
     → first_has_front front.items found ≡ has_below tree path
-below-by_first front es found tree path is at ordered between =
+below-by_first front es found faults tree path is at ordered between =
     ap (first_has_front front.items) between ∙ sym (any-by_first front es ordered) ∙ sym (any_key (has_front front.items) es)
     ∙ ap (λ (f : List ℕ). list_any (has_front f) (paths.keys (placed_nodes es))) at ∙ ap (λ (t : Tree). has_below t path) is
 
 -- ---- the entries of a tree's nodes are those of a map in order
-
-none_of_length : (es : List (List ℕ × Placed)) → length es ≡ 0 → es ≡ []
-none_of_length [] h = refl
-none_of_length (e ∷ es) h = absurd (omega arith)
 
 first_put : (e : Vec ℕ × Node) (es : Nodes) → AllByRecursion (λ (y : Vec ℕ). key_cmp e.0 y ≡ Less) (keys_of es)
     → paths.put path_cmp e.0.items (placed_of e.1) (placed_entries es) ≡ placed_entries (e ∷ es)
@@ -162,7 +156,7 @@ first_put e [] all = refl
 first_put e (f ∷ es) all = rw all.0 refl
 
 pub entries_placed : (es : Nodes) → IsStrictlySortedBy key_cmp (keys_of es) → paths.entries (placed_nodes es) ≡ placed_entries es
-entries_placed [] ordered = none_of_length _ (sym (paths.len-entries (paths.empty {X = Placed} {R = path_cmp})) ∙ paths.len-empty path_cmp Placed)
+entries_placed [] ordered = entries-empty path_cmp Placed
 entries_placed (e ∷ es) ordered =
     paths.entries-insert nat_list_cmp_total (placed_nodes es) e.0.items (placed_of e.1)
     ∙ ap (paths.put path_cmp e.0.items (placed_of e.1)) (entries_placed es (sorted_tail key_cmp e.0 (keys_of es) ordered))

@@ -8,3 +8,4 @@ pub mod ListingTables
 pub mod LooksLemmas
 pub mod PathFronts
 pub mod Placed
+pub mod PlantedReads

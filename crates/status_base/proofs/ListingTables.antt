@@ -58,7 +58,7 @@ apart : (k q : List ℕ) → tied q k ≡ false → AreApart (is_at (to_key k)) 
 apart k q t x h = ap is_eq (sym (alike_right nat_list_cmp_total k x.items q ((Equal-is _).0 h))) ∙ t
 
 -- what a look-up finds after a change at one path
-lookup-updated : {V : Type 0} (old new : List (Vec ℕ × V)) (k : List ℕ) (w : Option V)
+pub lookup-updated : {V : Type 0} (old new : List (Vec ℕ × V)) (k : List ℕ) (w : Option V)
     → lookup (is_at (to_key k)) new ≡ w → KeepsOthers (eq_by_cmp key_cmp) (is_at (to_key k)) old new
     → (q : List ℕ) → lookup (is_at (to_key q)) new ≡ cond (tied q k) w (lookup (is_at (to_key q)) old)
 unfolding KeepsOthers
@@ -77,6 +77,16 @@ map-insert {V} old new m k path v was at here others =
     (λ q. get-map new q ∙ lookup-updated old new k (Some v) here others q ∙ ap (cond (tied q k) (Some v)) (sym (get-map old q)) ∙ sym (paths.get-insert nat_list_cmp_total (map_of old) k v q))
     ∙ ap (λ (n : PathMap V). paths.insert n k v) was
     ∙ ap (λ (q : List ℕ). paths.insert m q v) at
+
+-- the map after an entry was removed
+pub map-remove : {V : Type 0} (old new : List (Vec ℕ × V)) (m : PathMap V) (k path : List ℕ) → map_of old ≡ m → k ≡ path
+    → lookup (is_at (to_key k)) new ≡ None → KeepsOthers (eq_by_cmp key_cmp) (is_at (to_key k)) old new
+    → map_of new ≡ paths.remove m path
+map-remove {V} old new m k path was at here others =
+    paths.same_map nat_list_cmp_total (paths.slice_cmp-IsAntisymmetric paths.nat_cmp-IsAntisymmetric) (map_of new) (paths.remove (map_of old) k)
+    (λ q. get-map new q ∙ lookup-updated old new k None here others q ∙ ap (cond (tied q k) None) (sym (get-map old q)) ∙ sym (paths.get-remove nat_list_cmp_total (map_of old) k q))
+    ∙ ap (λ (n : PathMap V). paths.remove n k) was
+    ∙ ap (λ (q : List ℕ). paths.remove m q) at
 
 -- what a look-up of a path finds
 pub map-get : {V : Type 0} (es : List (Vec ℕ × V)) (m : PathMap V) (k : List ℕ) → map_of es ≡ m → lookup (is_at (to_key k)) es ≡ paths.get m k

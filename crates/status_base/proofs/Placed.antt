@@ -1,31 +1,27 @@
--- A map from paths to nodes as a tree's nodes.
-use Rattle.std.proofs.Common.{◌≡◌, ℕ, Bool, true, false, cond, List, [], ◌∷◌, Option, Some, None, refl, sym, ap, subst, ◌∙◌}
-use Rattle.std.specs.Option.{option_map}
-use Rattle.std.specs.Ordering.{nat_cmp, is_eq, eq_by_cmp}
-use Rattle.std.specs.declared.cmp.Ordering.{Ordering}
+-- Maps from paths to nodes and to planted faults as a tree.
+use Rattle.std.proofs.Common.{◌≡◌, ℕ, Bool, true, false, cond, List, [], ◌∷◌, Option, Some, None, Result, Ok, Err, OnOk, OnErr, refl, sym, ap, ◌∙◌}
+use Rattle.std.specs.Option.{option_map, unwrap_or}
+use Rattle.std.specs.Ordering.{nat_cmp, eq_by_cmp}
 use Rattle.std.specs.Cmp.Lexicographic.{slice_cmp}
 use Rattle.std.specs.Global.{Vec}
-use Rattle.std.specs.Cmp.{Equal-is, alike_right}
-use Rattle.std.specs.Map.{lookup, KeepsOthers, IsKeyTest, AreApart}
+use Rattle.std.specs.Map.{lookup, set_value, KeepsOthers}
 use Rattle.std.specs.BTreeMap.{is_at}
 use Rattle.std.specs.FinMap as paths
 use Rattle.std.proofs.lemmas.Cmp.{nat_list_cmp_total}
-use Rattle.status_base.specs.MemoryTree.{Placed, PathMap, Tree, planted_at, planted_or_none, no_faults}
+use Rattle.status_index.specs.declared.fault.Fault.{Fault}
+use Rattle.status_base.specs.MemoryTree.{Placed, Planted, PathMap, Tree, planted_at, planted_or_none, no_faults}
 use Rattle.status_base.specs.Nodes.{placed_of, placed_entries, placed_nodes, tree_of}
+use Rattle.status_base.specs.PathTables.{map_of}
+use Rattle.status_base.specs.Points.{with_fault, IsPlanted}
 use Rattle.status_base.specs.declared.worktree.memory.Node.{Node}
+use Rattle.status_base.specs.declared.worktree.planted.Point.{Point}
+use Rattle.status_base.proofs.ListingTables.{to_key, key_cmp, tied, lookup-updated, map-insert, map-remove, map-get}
 
 abbrev pub Nodes : Type 0
 Nodes = List (Vec ℕ × Node)
 
--- how a path compares to the keys
-abbrev pub to_key : List ℕ → Vec ℕ → Ordering
-to_key q k = slice_cmp nat_cmp q k.items
-
-abbrev pub key_cmp : Vec ℕ → Vec ℕ → Ordering
-key_cmp x y = slice_cmp nat_cmp x.items y.items
-
-abbrev pub tied : List ℕ → List ℕ → Bool
-tied = eq_by_cmp (slice_cmp nat_cmp)
+abbrev pub Faults : Type 0
+Faults = List (Vec ℕ × Planted)
 
 find-placed : (es : Nodes) (q : List ℕ) → paths.find (slice_cmp nat_cmp) q (placed_entries es) ≡ option_map placed_of (lookup (is_at (to_key q)) es)
 find-placed [] q = refl
@@ -38,26 +34,6 @@ find-placed (e ∷ es) q =
 -- what is placed at a path is the node that a look-up finds
 get-placed : (es : Nodes) (q : List ℕ) → paths.get (placed_nodes es) q ≡ option_map placed_of (lookup (is_at (to_key q)) es)
 get-placed es q = paths.get-from_entries nat_list_cmp_total (placed_entries es) q ∙ find-placed es q
-
-is_key_test : (q : List ℕ) → IsKeyTest (eq_by_cmp key_cmp) (is_at (to_key q))
-is_key_test q x y h = ap is_eq (nat_list_cmp_total.congr q x.items y.items ((Equal-is _).0 h))
-
-same_path : (q k : List ℕ) → tied q k ≡ true → q ≡ k
-same_path q k t = paths.slice_cmp-IsAntisymmetric paths.nat_cmp-IsAntisymmetric q k ((Equal-is _).0 t)
-
-apart : (k q : List ℕ) → tied q k ≡ false → AreApart (is_at (to_key k)) (is_at (to_key q))
-apart k q t x h = ap is_eq (sym (alike_right nat_list_cmp_total k x.items q ((Equal-is _).0 h))) ∙ t
-
--- what a look-up finds after a change at one path
-lookup-updated : (old new : Nodes) (k : List ℕ) (w : Option Node)
-    → lookup (is_at (to_key k)) new ≡ w → KeepsOthers (eq_by_cmp key_cmp) (is_at (to_key k)) old new
-    → (q : List ℕ) → lookup (is_at (to_key q)) new ≡ cond (tied q k) w (lookup (is_at (to_key q)) old)
-unfolding KeepsOthers
-lookup-updated old new k w here others q =
-    elim (tied q k) as (λ b. tied q k ≡ b → lookup (is_at (to_key q)) new ≡ cond b w (lookup (is_at (to_key q)) old)) [
-      | true ↦ λ t. subst (λ x. lookup (is_at (to_key x)) new ≡ w) (sym (same_path q k t)) here
-      | false ↦ λ t. others (is_at (to_key q)) (is_key_test q) (apart k q t)
-    ] refl
 
 placed_cond : (b : Bool) (w o : Option Node) → option_map placed_of (cond b w o) ≡ cond b (option_map placed_of w) (option_map placed_of o)
 placed_cond true w o = refl
@@ -82,35 +58,90 @@ nodes-remove : (old new : Nodes) (k : List ℕ)
 nodes-remove old new k here others =
     paths.same_map nat_list_cmp_total (paths.slice_cmp-IsAntisymmetric paths.nat_cmp-IsAntisymmetric) _ _ (λ q. get-updated old new k None here others q ∙ sym (paths.get-remove nat_list_cmp_total _ k q))
 
-abbrev unplanted : PathMap Placed → Tree
-unplanted nodes = record { nodes = nodes; planted = paths.empty }
+-- a tree with other nodes
+with_nodes : (old new : Nodes) (faults : Faults) (to : PathMap Placed → PathMap Placed) (tree : Tree) → tree_of old faults ≡ tree
+    → placed_nodes new ≡ to (placed_nodes old) → tree_of new faults ≡ record tree { nodes = to tree.nodes }
+with_nodes old new faults to tree was is =
+    ap (λ (m : PathMap Placed). record { nodes = m; planted = map_of faults }) is ∙ ap (λ (t : Tree). record t { nodes = to t.nodes }) was
 
 -- the tree after a node was put
-pub tree-insert : (old new : Nodes) (tree : Tree) (k path : List ℕ) (v : Node) → tree_of old ≡ tree → k ≡ path
+pub tree-insert : (old new : Nodes) (faults : Faults) (tree : Tree) (k path : List ℕ) (v : Node) → tree_of old faults ≡ tree → k ≡ path
     → lookup (is_at (to_key k)) new ≡ Some v → KeepsOthers (eq_by_cmp key_cmp) (is_at (to_key k)) old new
-    → tree_of new ≡ record tree { nodes = paths.insert tree.nodes path (placed_of v) }
-tree-insert old new tree k path v was at here others =
-    ap unplanted (nodes-insert old new k v here others) ∙ ap (λ (t : Tree). record t { nodes = paths.insert t.nodes k (placed_of v) }) was
+    → tree_of new faults ≡ record tree { nodes = paths.insert tree.nodes path (placed_of v) }
+tree-insert old new faults tree k path v was at here others =
+    with_nodes old new faults (λ m. paths.insert m k (placed_of v)) tree was (nodes-insert old new k v here others)
     ∙ ap (λ (q : List ℕ). record tree { nodes = paths.insert tree.nodes q (placed_of v) }) at
 
 -- the tree after a node was removed
-pub tree-remove : (old new : Nodes) (tree : Tree) (k path : List ℕ) → tree_of old ≡ tree → k ≡ path
+pub tree-remove : (old new : Nodes) (faults : Faults) (tree : Tree) (k path : List ℕ) → tree_of old faults ≡ tree → k ≡ path
     → lookup (is_at (to_key k)) new ≡ None → KeepsOthers (eq_by_cmp key_cmp) (is_at (to_key k)) old new
-    → tree_of new ≡ record tree { nodes = paths.remove tree.nodes path }
-tree-remove old new tree k path was at here others =
-    ap unplanted (nodes-remove old new k here others) ∙ ap (λ (t : Tree). record t { nodes = paths.remove t.nodes k }) was
+    → tree_of new faults ≡ record tree { nodes = paths.remove tree.nodes path }
+tree-remove old new faults tree k path was at here others =
+    with_nodes old new faults (λ m. paths.remove m k) tree was (nodes-remove old new k here others)
     ∙ ap (λ (q : List ℕ). record tree { nodes = paths.remove tree.nodes q }) at
 
 -- what a look-up in a tree finds
-pub tree-get : (es : Nodes) (tree : Tree) (k path : List ℕ) → tree_of es ≡ tree → k ≡ path
+pub tree-get : (es : Nodes) (faults : Faults) (tree : Tree) (k path : List ℕ) → tree_of es faults ≡ tree → k ≡ path
     → option_map placed_of (lookup (is_at (to_key k)) es) ≡ paths.get tree.nodes path
-tree-get es tree k path is at = sym (get-placed es k) ∙ ap (λ (t : Tree). paths.get t.nodes k) is ∙ ap (paths.get tree.nodes) at
+tree-get es faults tree k path is at = sym (get-placed es k) ∙ ap (λ (t : Tree). paths.get t.nodes k) is ∙ ap (paths.get tree.nodes) at
 
 -- what a look-up of a reference found, placed
 pub placed-lent : {B : Type 0} (r : Option B) (see : B → Node) → option_map (λ n. placed_of (see n)) r ≡ option_map placed_of (option_map see r)
 placed-lent None see = refl
 placed-lent (Some n) see = refl
 
--- no fault is planted in a tree of nodes
-pub tree-unplanted : (es : Nodes) (tree : Tree) (path : List ℕ) → tree_of es ≡ tree → planted_at tree path ≡ no_faults
-tree-unplanted es tree path is = subst (λ (t : Tree). planted_at t path ≡ no_faults) is (ap planted_or_none (paths.get-empty (slice_cmp nat_cmp) path))
+-- ---- planted faults
+
+-- a tree with other planted faults
+with_faults : (es : Nodes) (old new : Faults) (to : PathMap Planted → PathMap Planted) (tree : Tree) → tree_of es old ≡ tree
+    → map_of new ≡ to (map_of old) → tree_of es new ≡ record tree { planted = to tree.planted }
+with_faults es old new to tree was is =
+    ap (λ (m : PathMap Planted). record { nodes = placed_nodes es; planted = m }) is ∙ ap (λ (t : Tree). record t { planted = to t.planted }) was
+
+-- the tree after a fault was planted
+pub tree-plant : (es : Nodes) (old new : Faults) (tree : Tree) (k path : List ℕ) (p : Planted) → tree_of es old ≡ tree → k ≡ path
+    → lookup (is_at (to_key k)) new ≡ Some p → KeepsOthers (eq_by_cmp key_cmp) (is_at (to_key k)) old new
+    → tree_of es new ≡ record tree { planted = paths.insert tree.planted path p }
+tree-plant es old new tree k path p was at here others =
+    with_faults es old new (λ m. paths.insert m path p) tree was (map-insert old new (map_of old) k path p refl at here others)
+
+-- the tree after a path was cleared of planted faults
+pub tree-clear : (es : Nodes) (old new : Faults) (tree : Tree) (k path : List ℕ) → tree_of es old ≡ tree → k ≡ path
+    → lookup (is_at (to_key k)) new ≡ None → KeepsOthers (eq_by_cmp key_cmp) (is_at (to_key k)) old new
+    → tree_of es new ≡ record tree { planted = paths.remove tree.planted path }
+tree-clear es old new tree k path was at here others =
+    with_faults es old new (λ m. paths.remove m path) tree was (map-remove old new (map_of old) k path refl at here others)
+
+-- what a look-up of planted faults finds
+pub tree-planted : (es : Nodes) (faults : Faults) (tree : Tree) (k path : List ℕ) (found : Option Planted) → tree_of es faults ≡ tree → k ≡ path
+    → found ≡ lookup (is_at (to_key k)) faults → planted_or_none found ≡ planted_at tree path
+tree-planted es faults tree k path found is at finds =
+    ap planted_or_none (finds ∙ map-get faults tree.planted k (ap (λ (t : Tree). t.planted) is)) ∙ ap (planted_at tree) at
+
+-- entries with the value that they have
+same_value : {K V : Type 0} (test : K → Bool) (es : List (K × V)) (v : V) → lookup test es ≡ Some v → set_value test es v ≡ es
+same_value test [] v h = refl
+same_value test (e ∷ es) v h =
+    elim (test e.0) as (λ b. cond b (Some e.1) (lookup test es) ≡ Some v → cond b ((e.0, v) ∷ es) (e ∷ set_value test es v) ≡ e ∷ es) [
+      | true ↦ λ is. ap (λ (o : Option _). (e.0, unwrap_or o v) ∷ es) (sym is)
+      | false ↦ λ is. ap (λ xs. e ∷ xs) (same_value test es v is)
+    ] h
+
+-- the tree after a fault was planted beside others, which were written over in their place
+pub planted-beside : {A E : Type 0} (es : Nodes) (old new : Faults) (tree : Tree) (k path : List ℕ) (point : Point) (fault : Fault) (was is : Planted) (r : Result A E)
+    → tree_of es old ≡ tree → k ≡ path → Some was ≡ lookup (is_at (to_key k)) old → new ≡ set_value (is_at (to_key k)) old is
+    → lookup (is_at (to_key k)) new ≡ Some is → KeepsOthers (eq_by_cmp key_cmp) (is_at (to_key k)) old new
+    → OnOk r (is ≡ with_fault was point fault) → OnErr r (is ≡ was) → IsPlanted tree path point fault r (tree_of es new)
+planted-beside es old new tree k path point fault was is (Ok _) view at found set here others ok err =
+    tree-plant es old new tree k path is view at here others
+    ∙ ap (λ p. record tree { planted = paths.insert tree.planted path p }) (ok ∙ ap (λ p. with_fault p point fault) (tree-planted es old tree k path (Some was) view at found))
+planted-beside es old new tree k path point fault was is (Err _) view at found set here others ok err =
+    ap (tree_of es) (set ∙ ap (set_value (is_at (to_key k)) old) err ∙ same_value (is_at (to_key k)) old was (sym found)) ∙ view
+
+-- the tree after a fault was planted where none was
+pub planted-first : (es : Nodes) (old new : Faults) (tree : Tree) (k path : List ℕ) (point : Point) (fault : Fault) (is : Planted)
+    → tree_of es old ≡ tree → k ≡ path → None ≡ lookup (is_at (to_key k)) old → lookup (is_at (to_key k)) new ≡ Some is → KeepsOthers (eq_by_cmp key_cmp) (is_at (to_key k)) old new
+    → is ≡ with_fault no_faults point fault → tree_of es new ≡ record tree { planted = paths.insert tree.planted path (with_fault (planted_at tree path) point fault) }
+planted-first es old new tree k path point fault is view at none here others one =
+    tree-plant es old new tree k path is view at here others
+    ∙ ap (λ p. record tree { planted = paths.insert tree.planted path p }) (one ∙ ap (λ p. with_fault p point fault) (tree-planted es old tree k path None view at none))

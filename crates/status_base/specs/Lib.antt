@@ -15,6 +15,7 @@ pub mod Objects
 pub mod Outcomes
 pub mod PathTables
 pub mod Paths
+pub mod Points
 pub mod Stopped
 pub mod Submodules
 pub mod Trees

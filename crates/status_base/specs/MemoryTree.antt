@@ -17,12 +17,12 @@ pub record Placed : Type 0 where
   pub metadata : Metadata
   pub bytes : List ℕ
 
--- the faults that are planted at a path; those of reads stand each behind a number of bytes, in ascending order
+-- the faults that are planted at a path; those of reads stand each behind a number of bytes
 pub record Planted : Type 0 where
   pub lstat : Option Fault
   pub opening : Option Fault
   pub read_link : Option Fault
-  pub reads : List (ℕ × Fault)
+  pub reads : map.FinMap nat_cmp Fault
 
 abbrev pub PathMap : Type 0 → Type 0
 PathMap A = map.FinMap (slice_cmp nat_cmp) A
@@ -32,7 +32,7 @@ pub record Tree : Type 0 where
   pub planted : PathMap Planted
 
 abbrev pub no_faults : Planted
-no_faults = record { lstat = None; opening = None; read_link = None; reads = [] }
+no_faults = record { lstat = None; opening = None; read_link = None; reads = map.empty }
 
 abbrev pub planted_or_none : Option Planted → Planted
 planted_or_none (Some p) = p
@@ -90,18 +90,22 @@ lstat_of_node tree path None = if has_below tree path then Ok bare_directory els
 abbrev pub lstat_in : Tree → List ℕ → Result Metadata Fault
 lstat_in tree path = or_planted (planted_at tree path).lstat (lstat_of_node tree path (map.get tree.nodes path))
 
--- bytes, then the first fault that is planted behind some of them (or in place of the end), or the end
+-- bytes, then the first of some faults, each behind a number of them (or in place of the end), or the end
 abbrev pub content_of : List ℕ → List (ℕ × Fault) → Content
 content_of bytes [] = record { bytes = bytes; fault = None }
 content_of bytes (p ∷ ps) = record { bytes = take p.0 bytes; fault = Some p.1 }
+
+-- a file's bytes, and the fault that is planted behind the fewest of them
+abbrev pub planted_content : List ℕ → Planted → Content
+planted_content bytes planted = content_of bytes (map.entries planted.reads)
 
 abbrev pub fault_or : Option Fault → Fault → Fault
 fault_or (Some f) other = f
 fault_or None other = other
 
 -- the fault of a call for content on a path that has no node: Other(0) of a directory, else as lstat
-abbrev pub without_node : {A : Type 0} → Tree → List ℕ → Result A Fault
-without_node tree path = Err (if has_below tree path then faults.Other 0 else fault_or (planted_at tree path).lstat (absence tree path))
+abbrev pub fault_without_node : Tree → List ℕ → Fault
+fault_without_node tree path = if has_below tree path then faults.Other 0 else fault_or (planted_at tree path).lstat (absence tree path)
 
 abbrev pub open_of_kind : Content → NodeKind → Result Content Fault
 open_of_kind content kinds.File = Ok content
@@ -110,8 +114,8 @@ open_of_kind content kinds.Directory = Err (faults.Other 0)
 open_of_kind content kinds.Other = Err (faults.Other 0)
 
 abbrev pub open_of_node : Tree → List ℕ → Option Placed → Result Content Fault
-open_of_node tree path (Some p) = open_of_kind (content_of p.bytes (planted_at tree path).reads) p.metadata.kind
-open_of_node tree path None = without_node tree path
+open_of_node tree path (Some p) = open_of_kind (planted_content p.bytes (planted_at tree path)) p.metadata.kind
+open_of_node tree path None = Err (fault_without_node tree path)
 
 -- opening: the planted fault, else a file's content; what is no file gives Other(0), and where nothing is, lstat's fault
 abbrev pub open_in : Tree → List ℕ → Result Content Fault
@@ -125,7 +129,7 @@ target_of_kind target kinds.Other = Err (faults.Other 0)
 
 abbrev pub target_of_node : Tree → List ℕ → Option Placed → Result (List ℕ) Fault
 target_of_node tree path (Some p) = target_of_kind p.bytes p.metadata.kind
-target_of_node tree path None = without_node tree path
+target_of_node tree path None = Err (fault_without_node tree path)
 
 -- reading a link: the planted fault, else a link's target; what is no link gives Other(0), and where nothing is, lstat's fault
 abbrev pub target_in : Tree → List ℕ → Result (List ℕ) Fault

@@ -2,11 +2,10 @@
 use Rattle.std.specs.Prelude.{◌≡◌, ◌⊎◌, ℕ, Bool, ◌==◌, ◌&&◌, ◌||◌, List, map, length, Option, Some, None, is_some, Result, Ok, Err, if◌then◌else◌}
 use Rattle.std.specs.FinMap as paths
 use Rattle.std.specs.Global.{Vec}
-use Rattle.status_index.specs.declared.fault.Fault.{Fault}
-use Rattle.status_index.specs.declared.fault.Fault.TheVariants.{Other}
 use Rattle.status_index.specs.declared.metadata.NodeKind.{NodeKind}
 use Rattle.status_base.specs.Paths.{odd_component}
-use Rattle.status_base.specs.MemoryTree.{Placed, PathMap, Tree, has_below, has_file_above, absence, is_no_directory_kind}
+use Rattle.status_base.specs.MemoryTree.{Placed, Planted, PathMap, Tree, has_below, has_file_above, is_no_directory_kind}
+use Rattle.status_base.specs.PathTables.{map_of}
 use Rattle.status_base.specs.declared.worktree.memory.Node.{Node}
 use Rattle.status_base.specs.declared.worktree.memory.TreeError.{TreeError}
 use Rattle.status_base.specs.declared.worktree.memory.TreeError.TheVariants.{BadPath, InTheWay, Memory}
@@ -36,9 +35,9 @@ placed_entries = map (λ e. (e.0.items, placed_of e.1))
 abbrev pub placed_nodes : List (Vec ℕ × Node) → PathMap Placed
 placed_nodes entries = paths.from_entries (placed_entries entries)
 
--- a tree of nodes, where no fault is planted
-abbrev pub tree_of : List (Vec ℕ × Node) → Tree
-tree_of entries = record { nodes = placed_nodes entries; planted = paths.empty }
+-- a tree of nodes and planted faults, by the entries of their maps
+abbrev pub tree_of : List (Vec ℕ × Node) → List (Vec ℕ × Planted) → Tree
+tree_of nodes planted = record { nodes = placed_nodes nodes; planted = map_of planted }
 
 -- whether nothing can be put at a path: it is empty, or a component is empty, `.` or `..`
 abbrev pub is_bad_path : List ℕ → Bool
@@ -52,10 +51,6 @@ is_in_the_way tree path kind = has_file_above tree path || (is_no_directory_kind
 abbrev pub put_fault : Tree → List ℕ → NodeKind → Option TreeError
 put_fault tree path kind =
     if is_bad_path path then Some BadPath else (if is_in_the_way tree path kind then Some InTheWay else None)
-
--- the fault of a call for content on a path that has no node, where no fault is planted
-abbrev pub fault_without_node : Tree → List ℕ → Fault
-fault_without_node tree path = if has_below tree path then Other 0 else absence tree path
 
 -- the node is put, or the tree stays for the fault that is meant or for want of memory
 abbrev pub IsPut : {A : Type 0} → Tree → List ℕ → Placed → Result A TreeError → Tree → Type 0

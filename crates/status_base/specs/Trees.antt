@@ -1,6 +1,7 @@
 -- The tree with nothing in it, and how a tree is stored.
 use Rattle.std.specs.Prelude.{ℕ, List, Option, refl}
 use Rattle.std.specs.Coded.{Coded, code_by, coded×, coded_ℕ, coded_list, coded_option}
+use Rattle.std.specs.Ordering.{nat_cmp}
 use Rattle.std.specs.FinMap as map
 use Rattle.status_index.specs.contracts.fault.Fault as fault
 use Rattle.status_index.specs.contracts.metadata.Metadata as metadata
@@ -21,8 +22,8 @@ placed_code =
 
 abbrev pub planted_code : Coded Planted
 planted_code =
-    code_by (Option Fault × (Option Fault × (Option Fault × List (ℕ × Fault))))
-    (coded× (coded_option fault_code) (coded× (coded_option fault_code) (coded× (coded_option fault_code) (coded_list (coded× coded_ℕ fault_code)))))
+    code_by (Option Fault × (Option Fault × (Option Fault × map.FinMap nat_cmp Fault)))
+    (coded× (coded_option fault_code) (coded× (coded_option fault_code) (coded× (coded_option fault_code) (map.code coded_ℕ fault_code))))
     (λ p. (p.lstat, (p.opening, (p.read_link, p.reads)))) (λ p. record { lstat = p.0; opening = p.1.0; read_link = p.1.1.0; reads = p.1.1.1 }) (λ _. refl)
 
 abbrev pub tree_code : Coded Tree

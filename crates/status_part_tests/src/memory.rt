@@ -4,8 +4,8 @@ ghost use Rattle.status_base.specs.Lawful.{CloneKeeps};
 
 use bstr::BStr;
 use status_base::worktree::{
-    Fault, Find, FindError, MemoryObjects, MemoryWorktree, Metadata, Node, NodeKind, ReadBytes,
-    TreeError, Worktree,
+    Fault, Find, FindError, MemoryObjects, MemoryWorktree, Metadata, Node, NodeKind, Point,
+    ReadBytes, TreeError, Worktree,
 };
 use status_index::{ObjectId, Time};
 use std::alloc::{AllocError, Global};
@@ -146,6 +146,157 @@ fn puts_and_removes(rt: HostRuntime) -> Result<(), Fail> {
     );
     assert!(rt; tree.node(path).is_none());
     assert!(rt; tree.remove(path).is_none());
+    Ok(())
+}
+
+fn link_read<W: Worktree>(tree: &W, path: &[u8], target: &mut Vec<u8>) -> Result<(), Fault> {
+    tree.read_link(BStr::new(path), target)
+}
+
+#[test]
+fn a_planted_fault_answers_its_call_alone(rt: HostRuntime) -> Result<(), Fail> {
+    let alloc = rt.alloc();
+    let mut tree = small(alloc)?;
+    let mut target = Vec::from_slice(alloc, b"before")?;
+    tree.plant(BStr::new(b"f"), Point::Lstat, Fault::PermissionDenied)?;
+    tree.plant(BStr::new(b"l"), Point::Open, Fault::Interrupted)?;
+    tree.plant(BStr::new(b"l"), Point::ReadLink, Fault::Other(9))?;
+    assert_eq!(rt; looked_up(&tree, b"f"), Err(Fault::PermissionDenied));
+    assert!(rt; opened(&tree, b"f").is_ok());
+    assert_eq!(rt; link_read(&tree, b"f", &mut target), Err(Fault::Other(0)));
+    assert_eq!(rt;
+        looked_up(&tree, b"l").map(|link| link.kind),
+        Ok(NodeKind::Link)
+    );
+    assert_eq!(rt; opened(&tree, b"l").err(), Some(Fault::Interrupted));
+    target.extend_from_slice(b"before")?;
+    assert_eq!(rt; link_read(&tree, b"l", &mut target), Err(Fault::Other(9)));
+    assert!(rt; target.is_empty());
+    Ok(())
+}
+
+#[test]
+fn planting_replaces_and_clearing_takes_out(rt: HostRuntime) -> Result<(), Fail> {
+    let alloc = rt.alloc();
+    let mut tree = small(alloc)?;
+    let path = BStr::new(b"f");
+    tree.plant(path, Point::Open, Fault::NotFound)?;
+    tree.plant(path, Point::Lstat, Fault::NotFound)?;
+    tree.plant(path, Point::Open, Fault::Interrupted)?;
+    assert_eq!(rt; opened(&tree, b"f").err(), Some(Fault::Interrupted));
+    assert_eq!(rt; looked_up(&tree, b"f"), Err(Fault::NotFound));
+    tree.plant(BStr::new(b"l"), Point::Lstat, Fault::Other(3))?;
+    tree.clear(path);
+    assert!(rt; opened(&tree, b"f").is_ok());
+    assert!(rt; looked_up(&tree, b"f").is_ok());
+    assert_eq!(rt; looked_up(&tree, b"l"), Err(Fault::Other(3)));
+    Ok(())
+}
+
+#[test]
+fn planted_faults_outlast_nodes(rt: HostRuntime) -> Result<(), Fail> {
+    let alloc = rt.alloc();
+    let mut tree = small(alloc)?;
+    let path = BStr::new(b"f");
+    tree.plant(path, Point::Open, Fault::Interrupted)?;
+    let _replaced = tree.put(path, node(alloc, NodeKind::File, b"other")?);
+    assert_eq!(rt; opened(&tree, b"f").err(), Some(Fault::Interrupted));
+    assert!(rt; tree.remove(path).is_some());
+    assert_eq!(rt; opened(&tree, b"f").err(), Some(Fault::Interrupted));
+    assert_eq!(rt; looked_up(&tree, b"f"), Err(Fault::NotFound));
+    tree.clear(path);
+    assert_eq!(rt; opened(&tree, b"f").err(), Some(Fault::NotFound));
+    Ok(())
+}
+
+/// Where nothing is at a path, opening and reading a link answer as `lstat` does; of a directory they answer `Other(0)`.
+/// What is planted above a path doesn't touch calls on it.
+#[test]
+fn planted_where_no_node_is(rt: HostRuntime) -> Result<(), Fail> {
+    let alloc = rt.alloc();
+    let mut tree = small(alloc)?;
+    let mut target = Vec::from_slice(alloc, b"before")?;
+    for path in [&b"d"[..], b"e", b"f/x"] {
+        tree.plant(BStr::new(path), Point::Lstat, Fault::PermissionDenied)?;
+        assert_eq!(rt; looked_up(&tree, path), Err(Fault::PermissionDenied));
+    }
+    for (path, fault) in [
+        (&b"d"[..], Fault::Other(0)),
+        (b"e", Fault::PermissionDenied),
+        (b"f/x", Fault::PermissionDenied),
+        (b"e/x", Fault::NotFound),
+        (b"d/x/y", Fault::NotADirectory),
+    ] {
+        assert_eq!(rt; opened(&tree, path).err(), Some(fault));
+        assert_eq!(rt; link_read(&tree, path, &mut target), Err(fault));
+    }
+    assert_eq!(rt;
+        looked_up(&tree, b"d/x").map(|file| file.kind),
+        Ok(NodeKind::File)
+    );
+    assert!(rt; opened(&tree, b"d/x").is_ok());
+    Ok(())
+}
+
+/// What the short file at a path delivers, and the fault that ends it, if one does.
+fn read_through<W: Worktree>(
+    alloc: Global,
+    tree: &W,
+    path: &[u8],
+) -> Result<(Vec<u8>, Option<Fault>), Fault> {
+    let mut file = opened(tree, path)?;
+    let mut bytes = Vec::new(alloc);
+    let mut buffer = [0u8; 4];
+    for _ in 0..9 {
+        match file.read_bytes(&mut buffer) {
+            Ok(0) => return Ok((bytes, None)),
+            Ok(count) => bytes.extend_from_slice(&buffer[..count])?,
+            Err(fault) => return Ok((bytes, Some(fault))),
+        }
+    }
+    Ok((bytes, None))
+}
+
+#[test]
+fn reading_ends_at_a_planted_fault(rt: HostRuntime) -> Result<(), Fail> {
+    let alloc = rt.alloc();
+    let mut tree = small(alloc)?;
+    let path = BStr::new(b"f");
+    for (count, delivered) in [
+        (0, &b""[..]),
+        (3, b"con"),
+        (4, b"cont"),
+        (7, b"content"),
+        (8, b"content"),
+        (u64::MAX, b"content"),
+    ] {
+        tree.plant(path, Point::Read(count), Fault::Interrupted)?;
+        tree.plant(path, Point::Read(count), Fault::Other(5))?;
+        let Ok((bytes, fault)) = read_through(alloc, &tree, b"f") else {
+            assert!(rt; false);
+            return Ok(());
+        };
+        assert_eq!(rt; bytes.as_slice(), delivered);
+        assert_eq!(rt; fault, Some(Fault::Other(5)));
+        tree.clear(path);
+    }
+    Ok(())
+}
+
+#[test]
+fn the_planted_read_behind_the_fewest_bytes_decides(rt: HostRuntime) -> Result<(), Fail> {
+    let alloc = rt.alloc();
+    let mut tree = small(alloc)?;
+    let path = BStr::new(b"f");
+    tree.plant(path, Point::Read(6), Fault::Other(6))?;
+    tree.plant(path, Point::Read(2), Fault::Other(2))?;
+    tree.plant(path, Point::Read(4), Fault::Other(4))?;
+    let Ok((bytes, fault)) = read_through(alloc, &tree, b"f") else {
+        assert!(rt; false);
+        return Ok(());
+    };
+    assert_eq!(rt; bytes.as_slice(), &b"co"[..]);
+    assert_eq!(rt; fault, Some(Fault::Other(2)));
     Ok(())
 }
 

@@ -1,5 +1,5 @@
 -- What a run reads of a node, where no fault is planted.
-use Rattle.std.proofs.Common.{◌≡◌, ◌∙◌, refl, ap, ℕ, Bool, true, false, List, length, Option, Some, None, Result, IsTrue}
+use Rattle.std.proofs.Common.{◌≡◌, ◌∙◌, refl, ap, ℕ, Bool, true, false, List, length, Option, Some, None, Result, Err, IsTrue}
 use Rattle.std.specs.FinMap as paths
 use Rattle.std.specs.Ordering.{nat_cmp}
 use Rattle.std.specs.Cmp.Lexicographic.{slice_cmp}
@@ -10,7 +10,8 @@ use Rattle.status_index.specs.declared.fault.Fault.{Fault}
 use Rattle.status_index.specs.declared.metadata.NodeKind.{NodeKind}
 use Rattle.status_index.specs.declared.metadata.NodeKind.TheVariants.{File, Link, Directory, Other}
 use Rattle.status_base.specs.Converted.{Converted, same}
-use Rattle.status_base.specs.MemoryTree.{Tree, Placed, Planted, planted_or_none, or_planted, content_of, open_of_kind, target_of_kind, without_node, open_of_node, target_of_node, open_in, target_in}
+use Rattle.status_base.specs.MemoryTree.{Tree, Placed, Planted, planted_or_none, or_planted, content_of, planted_content, open_of_kind, target_of_kind, fault_without_node, open_of_node, target_of_node, open_in, target_in}
+use Rattle.status_base.proofs.PlantedReads.{entries-empty}
 use Rattle.status_compare.specs.FastAgrees.{IsWholly}
 use Rattle.status_compare.specs.Reading.{node_reading}
 use Rattle.status_call.specs.Status.{reading, reads_link}
@@ -19,12 +20,12 @@ use Rattle.status_world.specs.StampedWorld.{StampedWorld, node_at, query_of, is_
 
 -- opening and reading by the planted faults and the node
 abbrev open_by : Tree → List ℕ → Option Planted → Option Placed → Result Content Fault
-open_by tree path p (Some n) = or_planted (planted_or_none p).opening (open_of_kind (content_of n.bytes (planted_or_none p).reads) n.metadata.kind)
-open_by tree path p None = or_planted (planted_or_none p).opening (without_node tree path)
+open_by tree path p (Some n) = or_planted (planted_or_none p).opening (open_of_kind (planted_content n.bytes (planted_or_none p)) n.metadata.kind)
+open_by tree path p None = or_planted (planted_or_none p).opening (Err (fault_without_node tree path))
 
 abbrev target_by : Tree → List ℕ → Option Planted → Option Placed → Result (List ℕ) Fault
 target_by tree path p (Some n) = or_planted (planted_or_none p).read_link (target_of_kind n.bytes n.metadata.kind)
-target_by tree path p None = or_planted (planted_or_none p).read_link (without_node tree path)
+target_by tree path p None = or_planted (planted_or_none p).read_link (Err (fault_without_node tree path))
 
 open_is : (tree : Tree) (path : List ℕ) (n : Option Placed) → paths.get tree.nodes path ≡ n → open_in tree path ≡ open_by tree path (paths.get tree.planted path) n
 open_is tree path (Some n) e = ap (λ o. or_planted (planted_or_none (paths.get tree.planted path)).opening (open_of_node tree path o)) e
@@ -40,7 +41,9 @@ none_planted tree path e = ap (λ m. paths.get m path) e ∙ paths.get-empty (sl
 -- a node is opened as its kind allows, and read as a link as its kind allows
 pub opened_node : (tree : Tree) (path : List ℕ) (n : Placed) → tree.planted ≡ paths.empty → paths.get tree.nodes path ≡ Some n
     → open_in tree path ≡ open_of_kind (record { bytes = n.bytes; fault = None }) n.metadata.kind
-opened_node tree path n unplanted there = open_is tree path (Some n) there ∙ ap (λ p. open_by tree path p (Some n)) (none_planted tree path unplanted)
+opened_node tree path n unplanted there =
+    open_is tree path (Some n) there ∙ ap (λ p. open_by tree path p (Some n)) (none_planted tree path unplanted)
+    ∙ ap (λ reads. open_of_kind (content_of n.bytes reads) n.metadata.kind) (entries-empty nat_cmp Fault)
 
 pub linked_node : (tree : Tree) (path : List ℕ) (n : Placed) → tree.planted ≡ paths.empty → paths.get tree.nodes path ≡ Some n
     → target_in tree path ≡ target_of_kind n.bytes n.metadata.kind

@@ -7,12 +7,16 @@ ghost use Rattle.std.specs.Option.{option_map};
 ghost use Rattle.std.specs.FinMap as paths;
 ghost use Rattle.bstr.specs.BStr.{bstr_bytes};
 ghost use Rattle.status_base.specs.Paths.{is_odd, odd_component};
-ghost use Rattle.status_base.specs.MemoryTree.{is_no_directory, has_below, has_file_above, absence, bare_directory, planted_at, no_faults};
-ghost use Rattle.status_base.specs.Nodes.{placed_of, placed_entries, is_bad_path, put_fault, fault_without_node, IsPut};
+ghost use Rattle.status_base.specs.MemoryTree.{is_no_directory, has_below, has_file_above, absence, bare_directory, planted_or_none, planted_at, planted_content, fault_without_node};
+ghost use Rattle.status_base.specs.Nodes.{placed_of, placed_entries, is_bad_path, put_fault, IsPut};
+ghost use Rattle.status_base.specs.Points.{IsPlanted};
 ghost use Rattle.status_base.specs.declared.worktree.memory.Node.{Node as NodeValue};
 ghost use Rattle.status_base.specs.Trees.{empty_tree};
 
 use crate::worktree::Worktree;
+use crate::worktree::planted::{
+    PlantedFaults, Point, first_read_fault, lstat_fault, open_fault, read_link_fault,
+};
 use bstr::BStr;
 use status_index::{Fault, Metadata, NodeKind, ReadBytes, Time};
 use std::alloc::{AllocError, AllocFailed, Global};
@@ -95,6 +99,7 @@ impl From<AllocError> for TreeError {
 pub struct MemoryWorktree {
     alloc: Global,
     nodes: BTreeMap<Vec<u8>, Node>,
+    planted: BTreeMap<Vec<u8>, PlantedFaults>,
 }
 
 impl Model for MemoryWorktree {
@@ -107,7 +112,7 @@ impl Model for MemoryWorktree {
 
     ghost use Rattle.status_base.specs.Nodes.{tree_of};
 
-    ghost view = { λ a. tree_of a.nodes.entries };
+    ghost view = { λ a. tree_of a.nodes.entries a.planted.entries };
 }
 
 impl MemoryWorktree {
@@ -118,6 +123,7 @@ impl MemoryWorktree {
         MemoryWorktree {
             alloc,
             nodes: BTreeMap::new(alloc),
+            planted: BTreeMap::new(alloc),
         }
     }
 
@@ -128,7 +134,7 @@ impl MemoryWorktree {
         self.node_at(path.as_bytes())
     }
 
-    /// Puts a node at a path, in place of the one that was there.
+    /// Puts a node at a path, in place of the one that was there. Faults that are planted there stay.
     ///
     /// # Errors
     /// A bad path, something in the way, or want of memory. The worktree is then as it was.
@@ -160,12 +166,40 @@ impl MemoryWorktree {
         }
     }
 
-    /// Takes the node at a path out.
+    /// Takes the node at a path out. Faults that are planted there stay.
     pub fn remove(&mut self, path: BStr<'_>) -> Option<Node>
         ensures value { option_map placed_of result ≡ paths.get self.old.nodes (bstr_bytes path.entry) }
         ensures after { self.new ≡ record self.old { nodes = paths.remove self.old.nodes (bstr_bytes path.entry) } }
     {
         self.nodes.remove(path.as_bytes())
+    }
+
+    /// Plants a fault at a call on a path, in place of the one that was planted there. The call answers it before
+    /// anything else, whether or not a node is at the path. Calls on the paths below aren't touched.
+    ///
+    /// # Errors
+    /// Want of memory. The worktree is then as it was.
+    pub fn plant(&mut self, path: BStr<'_>, point: Point, fault: Fault) -> Result<(), AllocError>
+        ensures { IsPlanted self.old (bstr_bytes path.entry) point fault result self.new }
+    {
+        let path = path.as_bytes();
+        if let Some(faults) = self.planted.get_mut(path) {
+            return faults.plant(point, fault);
+        }
+        let mut faults = PlantedFaults::new(self.alloc);
+        faults.plant(point, fault)?;
+        let path = Vec::from_slice(self.alloc, path)?;
+        match self.planted.insert(path, faults) {
+            Ok(_replaced) => Ok(()),
+            Err(_refused) => Err(AllocError),
+        }
+    }
+
+    /// Takes out all faults that are planted at a path.
+    pub fn clear(&mut self, path: BStr<'_>)
+        ensures { self.new ≡ record self.old { planted = paths.remove self.old.planted (bstr_bytes path.entry) } }
+    {
+        self.planted.remove(path.as_bytes());
     }
 
     /// The nodes that were put, with their paths, in ascending order of the paths' bytes.
@@ -178,10 +212,16 @@ impl MemoryWorktree {
     }
 
     fn node_at(&self, path: &[u8]) -> Option<&Node>
-        ensures unplanted { planted_at self.now path.now ≡ no_faults }
-        ensures value { option_map (λ n. placed_of n.now) result ≡ paths.get self.now.nodes path.now }
+        ensures { option_map (λ n. placed_of n.now) result ≡ paths.get self.now.nodes path.now }
     {
         self.nodes.get(path)
+    }
+
+    /// The faults that are planted at a path, if any are.
+    fn planted_at(&self, path: &[u8]) -> Option<&PlantedFaults>
+        ensures { planted_or_none (option_map (λ p. p.now) result) ≡ planted_at self.now path.now }
+    {
+        self.planted.get(path)
     }
 
     /// Whether a node lies below a path. The first of the paths from `path/` on decides.
@@ -251,9 +291,11 @@ impl MemoryWorktree {
         ensures { IfOk result (λ fault. fault ≡ fault_without_node self.now path.now) }
     {
         if self.has_below(path)? {
-            Ok(Fault::Other(0))
-        } else {
-            Ok(self.absence(path))
+            return Ok(Fault::Other(0));
+        }
+        match lstat_fault(self.planted_at(path)) {
+            Some(fault) => Ok(fault),
+            None => Ok(self.absence(path)),
         }
     }
 }
@@ -319,12 +361,20 @@ impl Model for MemoryFile {
 }
 
 impl MemoryFile {
-    /// A file of a copy of these bytes, to be read from the front.
-    fn new(alloc: Global, bytes: &[u8], fault: Option<Fault>) -> Result<MemoryFile, AllocError>
-        ensures { IfOk result (λ file. file ≡ record { bytes = bytes.now; fault = fault }) }
+    /// A file of a copy of these bytes, up to the first read at which a fault is planted.
+    fn new(
+        alloc: Global,
+        bytes: &[u8],
+        planted: Option<&PlantedFaults>,
+    ) -> Result<MemoryFile, AllocError>
+        ensures { IfOk result (λ file. file ≡ planted_content bytes.now (planted_or_none (option_map (λ p. p.now) planted.entry))) }
     {
+        let (end, fault) = match first_read_fault(planted) {
+            Some((count, fault)) => (count.min(bytes.len() as u64) as usize, Some(fault)),
+            None => (bytes.len(), None),
+        };
         Ok(MemoryFile {
-            bytes: Vec::from_slice(alloc, bytes)?,
+            bytes: Vec::from_slice(alloc, &bytes[..end])?,
             position: 0,
             fault,
         })
@@ -374,6 +424,9 @@ impl Worktree for MemoryWorktree {
 
     fn lstat(&self, path: BStr<'_>) -> Result<Metadata, Fault> {
         let path = path.as_bytes();
+        if let Some(fault) = lstat_fault(self.planted_at(path)) {
+            return Err(fault);
+        }
         if let Some(node) = self.node_at(path) {
             return Ok(node.metadata());
         }
@@ -385,11 +438,15 @@ impl Worktree for MemoryWorktree {
 
     fn open(&self, path: BStr<'_>) -> Result<MemoryFile, Fault> {
         let path = path.as_bytes();
+        let planted = self.planted_at(path);
+        if let Some(fault) = open_fault(planted) {
+            return Err(fault);
+        }
         let Some(node) = self.node_at(path) else {
             return Err(self.without_node(path)?);
         };
         match node.kind {
-            NodeKind::File => Ok(MemoryFile::new(self.alloc, &node.bytes, None)?),
+            NodeKind::File => Ok(MemoryFile::new(self.alloc, &node.bytes, planted)?),
             _ => Err(Fault::Other(0)),
         }
     }
@@ -397,6 +454,9 @@ impl Worktree for MemoryWorktree {
     fn read_link(&self, path: BStr<'_>, target: &mut Vec<u8>) -> Result<(), Fault> {
         target.clear();
         let path = path.as_bytes();
+        if let Some(fault) = read_link_fault(self.planted_at(path)) {
+            return Err(fault);
+        }
         let Some(node) = self.node_at(path) else {
             return Err(self.without_node(path)?);
         };

@@ -9,12 +9,12 @@ use Rattle.status_base.proofs.worktree.memory.MemoryWorktree.put.Goals.{in-Ok+in
 pub returns : goal.returns
 returns c =
     let tree = c.args.self.now in let path = bstr_bytes c.args.path in let node = c.args.node in
-    let new = c.insert.new.self.entries in
+    let new = c.insert.new.self.entries in let faults = c.self.inside.planted.entries in
     let free : put_fault tree path node.kind ≡ None = ap (λ q. put_fault tree q node.kind) (sym c.as_bytes-path.ensures) ∙ sym c.in_ok-fault.ensures ∙ c.in_default.is in
     let at = c.in_ok-path.ensures.items ∙ c.as_bytes-path.ensures in
-    let to : Result (Unit {0}) TreeError → Type 0 = λ r. IsPut tree path (placed_of node) r (tree_of new) in
+    let to : Result (Unit {0}) TreeError → Type 0 = λ r. IsPut tree path (placed_of node) r (tree_of new faults) in
     elim c.match-insert.branch [
-      | in-Ok+in-Some-1 w ↦ subst to (sym w.result-is) (free, tree-insert c.self.inside.nodes.entries new tree _ path node c.self.view_is at w.in-Ok.ensures.updates.1 w.in-Ok.ensures.updates.3)
-      | in-Ok+in-None-1 w ↦ subst to (sym w.result-is) (free, tree-insert c.self.inside.nodes.entries new tree _ path node c.self.view_is at w.in-Ok.ensures.updates.1 w.in-Ok.ensures.updates.3)
-      | in-Err w ↦ subst to (sym w.result-is) (inl refl, ap tree_of w.in-Err.ensures.err ∙ c.self.view_is)
+      | in-Ok+in-Some-1 w ↦ subst to (sym w.result-is) (free, tree-insert c.self.inside.nodes.entries new faults tree _ path node c.self.view_is at w.in-Ok.ensures.updates.1 w.in-Ok.ensures.updates.3)
+      | in-Ok+in-None-1 w ↦ subst to (sym w.result-is) (free, tree-insert c.self.inside.nodes.entries new faults tree _ path node c.self.view_is at w.in-Ok.ensures.updates.1 w.in-Ok.ensures.updates.3)
+      | in-Err w ↦ subst to (sym w.result-is) (inl refl, ap (λ nodes. tree_of nodes faults) w.in-Err.ensures.err ∙ c.self.view_is)
     ]

@@ -6,8 +6,8 @@ use Rattle.status_base.proofs.worktree.memory.MemoryWorktree.remove.Goals as goa
 
 pub returns-clause-value : goal.returns-clause-value
 returns-clause-value c =
-    ap (option_map placed_of) c.remove.ensures.value ∙ tree-get c.self.inside.nodes.entries _ _ _ c.self.view_is c.as_bytes.ensures
+    ap (option_map placed_of) c.remove.ensures.value ∙ tree-get c.self.inside.nodes.entries _ _ _ _ c.self.view_is c.as_bytes.ensures
 
 pub returns-clause-after : goal.returns-clause-after
 returns-clause-after c =
-    tree-remove c.self.inside.nodes.entries _ _ _ _ c.self.view_is c.as_bytes.ensures c.remove.ensures.updates.1 c.remove.ensures.updates.3
+    tree-remove c.self.inside.nodes.entries _ _ _ _ _ c.self.view_is c.as_bytes.ensures c.remove.ensures.updates.1 c.remove.ensures.updates.3

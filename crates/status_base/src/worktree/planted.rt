@@ -1,0 +1,116 @@
+//! Faults that are planted in a worktree in memory.
+
+ghost use Rattle.std.specs.Prelude.{◌≡◌, OnOk, OnErr, slice_get};
+ghost use Rattle.std.specs.FinMap as map;
+ghost use Rattle.std.specs.Option.{option_map};
+ghost use Rattle.status_base.specs.MemoryTree.{no_faults, planted_or_none};
+ghost use Rattle.status_base.specs.Points.{with_fault};
+
+use status_index::Fault;
+use std::alloc::{AllocError, Global};
+use std::collections::BTreeMap;
+use std::marker::Model;
+
+/// A call on a path, at which a fault is planted.
+#[derive(Clone, Copy, Debug, PartialEq, Eq)]
+pub enum Point {
+    /// `lstat`. Where nothing is at the path, opening and reading a link answer this fault too.
+    Lstat,
+    /// Opening a file for reading.
+    Open,
+    /// Reading a link's target.
+    ReadLink,
+    /// Reading on, once this many bytes were delivered. Of a shorter file it is in place of the end.
+    Read(u64),
+}
+
+/// The faults that are planted at one path.
+#[derive(Drop)]
+pub(crate) struct PlantedFaults {
+    lstat: Option<Fault>,
+    opening: Option<Fault>,
+    read_link: Option<Fault>,
+    reads: BTreeMap<u64, Fault>,
+}
+
+impl Model for PlantedFaults {
+    ghost use Rattle.std.specs.FinMap as map;
+    ghost use Rattle.status_base.specs.MemoryTree.{Planted};
+    ghost use Rattle.status_base.specs.Trees.{planted_code};
+
+    ghost Value = { Planted };
+
+    ghost coded = { planted_code };
+
+    ghost view = { λ a. record { lstat = a.lstat; opening = a.opening; read_link = a.read_link; reads = map.from_entries a.reads.entries } };
+}
+
+impl PlantedFaults {
+    /// No faults.
+    pub(crate) fn new(alloc: Global) -> PlantedFaults
+        ensures { result ≡ no_faults }
+    {
+        PlantedFaults {
+            lstat: None,
+            opening: None,
+            read_link: None,
+            reads: BTreeMap::new(alloc),
+        }
+    }
+
+    /// Plants a fault, in place of the one at its point.
+    ///
+    /// # Errors
+    /// Want of memory. The faults are then as they were.
+    pub(crate) fn plant(&mut self, point: Point, fault: Fault) -> Result<(), AllocError>
+        ensures ok { OnOk result (self.new ≡ with_fault self.old point fault) }
+        ensures err { OnErr result (self.new ≡ self.old) }
+    {
+        match point {
+            Point::Lstat => self.lstat = Some(fault),
+            Point::Open => self.opening = Some(fault),
+            Point::ReadLink => self.read_link = Some(fault),
+            Point::Read(count) => match self.reads.insert(count, fault) {
+                Ok(_replaced) => {}
+                Err(_refused) => return Err(AllocError),
+            },
+        }
+        Ok(())
+    }
+
+    /// The first fault of reading, and the number of bytes before it.
+    fn first_read(&self) -> Option<(u64, Fault)>
+        ensures { result ≡ slice_get (map.entries self.now.reads) 0 }
+    {
+        let (count, fault) = self.reads.iter().next()?;
+        Some((*count, *fault))
+    }
+}
+
+/// The fault of `lstat`, of what is planted at a path.
+pub(crate) fn lstat_fault(planted: Option<&PlantedFaults>) -> Option<Fault>
+    ensures { result ≡ (planted_or_none (option_map (λ p. p.now) planted.entry)).lstat }
+{
+    planted?.lstat
+}
+
+/// The fault of opening, of what is planted at a path.
+pub(crate) fn open_fault(planted: Option<&PlantedFaults>) -> Option<Fault>
+    ensures { result ≡ (planted_or_none (option_map (λ p. p.now) planted.entry)).opening }
+{
+    planted?.opening
+}
+
+/// The fault of reading a link, of what is planted at a path.
+pub(crate) fn read_link_fault(planted: Option<&PlantedFaults>) -> Option<Fault>
+    ensures { result ≡ (planted_or_none (option_map (λ p. p.now) planted.entry)).read_link }
+{
+    planted?.read_link
+}
+
+/// The first fault of reading, of what is planted at a path, and the number of bytes before it.
+pub(crate) fn first_read_fault(planted: Option<&PlantedFaults>) -> Option<(u64, Fault)>
+    ensures { result ≡ slice_get (map.entries (planted_or_none (option_map (λ p. p.now) planted.entry)).reads) 0 }
+{
+    planted?.first_read()
+}
