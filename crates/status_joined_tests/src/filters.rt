@@ -4,14 +4,19 @@ ghost use Rattle.std.specs.Prelude.{◌≡◌};
 ghost use Rattle.status_base.specs.Converted.{refused};
 
 use crate::faults::FAULTS;
-use crate::given::{Asked, file, foo_index, link, tell_handed, worktree};
+use crate::given::{Asked, Report, file, foo_index, link, tell_handed, worktree};
 use bstr::BStr;
-use status_base::worktree::{Fault, NoLister, NoSubmodules, ReadBytes, ToGit, ToGitOutcome};
+use status_base::index::State;
+use status_base::worktree::{
+    Fault, NoLister, NoSubmodules, ReadBytes, ToGit, ToGitOutcome, Worktree,
+};
 use status_joined::index_as_worktree_with_renames::{Error, Recorder};
-use status_tracker::IdentityTracker;
-use status_walk::UntrackedWalk;
+use status_tracker::{IdentityTracker, Tracker};
+use status_walk::{UntrackedWalk, Walk};
 use std::alloc::AllocError;
+use std::sync::Wait;
 use std::test::Fail;
+use std::thread::Threads;
 
 /// Refuses each file by the same fault.
 #[derive(Debug, Drop)]
@@ -42,6 +47,42 @@ impl ToGit for RefusesFiles {
     }
 }
 
+// What is told where the filter refuses each file.
+fn refused_by<
+    'index,
+    R: AllocGlobal + Threads + Wait,
+    W: Worktree + Sync,
+    K: Walk<W> + Send + Drop,
+    X: Tracker + Drop,
+>(
+    rt: &R,
+    index: &'index State,
+    worktree: &W,
+    filter: RefusesFiles,
+    asked: Asked<'_, K, X>,
+) -> Report<'index>
+where
+    W::File: Send,
+{
+    let alloc = rt.alloc();
+    let mut recorder = Recorder::new(alloc);
+    let answer = tell_handed(
+        rt,
+        alloc,
+        index,
+        worktree,
+        &mut recorder,
+        NoSubmodules,
+        filter,
+        NoLister,
+        asked,
+    );
+    Report {
+        records: recorder.records,
+        answer,
+    }
+}
+
 #[test]
 fn a_filter_that_refuses_a_node_ends_the_status(rt: HostRuntime) -> Result<(), Fail> {
     let alloc = rt.alloc();
@@ -49,27 +90,15 @@ fn a_filter_that_refuses_a_node_ends_the_status(rt: HostRuntime) -> Result<(), F
     // The link is no file, so the filter isn't asked of it.
     let worktree = worktree(alloc, &[link("b", b"foo"), file("c", b"foo")])?;
     for fault in FAULTS {
-        let mut recorder = Recorder::new(alloc);
         let asked = Asked::rewritten(UntrackedWalk::new(alloc), IdentityTracker::new(alloc));
-        let filter = RefusesFiles(fault);
-        let answer = tell_handed(
-            &rt,
-            alloc,
-            &index,
-            &worktree,
-            &mut recorder,
-            NoSubmodules,
-            filter,
-            NoLister,
-            asked,
-        );
-        let is_wanted = match answer {
+        let report = refused_by(&rt, &index, &worktree, RefusesFiles(fault), asked);
+        let is_wanted = match report.answer {
             Err(Error::Memory) => fault == Fault::Memory,
             Err(Error::ConvertToGit(found)) => found == fault && fault != Fault::Memory,
             _ => false,
         };
         assert!(rt; is_wanted, "{fault:?}");
-        assert!(rt; recorder.records.is_empty(), "{fault:?}");
+        assert!(rt; report.records.is_empty(), "{fault:?}");
     }
     Ok(())
 }

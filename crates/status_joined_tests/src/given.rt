@@ -16,8 +16,8 @@
 use bstr::{BStr, BString};
 use status_base::index::{Flags, IndexError, Mode, Moment, NewEntry, ObjectId, Stat, State, Time};
 use status_base::worktree::{
-    AllPaths, Lister, MemoryObjects, MemoryWorktree, NoFilter, NoLister, NoSubmodules, Node,
-    NodeKind, SubmoduleStatus, ToGit, TreeError, Worktree,
+    AllPaths, Fault, Lister, MemoryObjects, MemoryWorktree, NoFilter, NoLister, NoSubmodules, Node,
+    NodeKind, Point, SubmoduleStatus, ToGit, TreeError, Worktree,
 };
 use status_call::index_as_worktree::{self, Capabilities};
 use status_compare::HashEq;
@@ -204,6 +204,18 @@ pub fn worktree(alloc: Global, nodes: &[GivenNode<'_>]) -> Result<MemoryWorktree
     let mut worktree = MemoryWorktree::new(alloc);
     for given in nodes {
         worktree.put(BStr::from(given.path), node(alloc, given)?)?;
+    }
+    Ok(worktree)
+}
+
+/// The worktree with faults planted at calls on some paths.
+pub fn failing(
+    worktree: MemoryWorktree,
+    faults: &[(Point, &str, Fault)],
+) -> Result<MemoryWorktree, TreeError> {
+    let mut worktree = worktree;
+    for (point, path, fault) in faults {
+        worktree.plant(BStr::from(*path), *point, *fault)?;
     }
     Ok(worktree)
 }

@@ -8,61 +8,6 @@ use status_base::worktree::{Fault, MemoryFile, MemoryWorktree, Metadata, Worktre
 use std::sync::atomic::{AtomicBool, Ordering};
 use std::thread;
 
-/// A call of a worktree that has a fault.
-#[derive(Clone, Copy, PartialEq, Eq)]
-pub enum Call {
-    Lstat,
-    Open,
-    ReadLink,
-}
-
-/// A worktree in memory with faults in place of what calls at some paths answer.
-#[derive(Drop)]
-pub struct Planted<'a> {
-    pub worktree: MemoryWorktree,
-    pub faults: &'a [(Call, &'a str, Fault)],
-}
-
-impl<'a> Planted<'a> {
-    // The fault of a call, where it has one.
-    fn check(&self, call: Call, path: BStr<'_>) -> Result<(), Fault> {
-        for (planted, at, fault) in self.faults {
-            if *planted == call && at.as_bytes() == path.as_bytes() {
-                return Err(*fault);
-            }
-        }
-        Ok(())
-    }
-}
-
-impl<'a> Worktree for Planted<'a> {
-    type File = MemoryFile;
-
-    ghost modelled = { λ _. false };
-
-    ghost lstat_of = { λ _ _. Err NotFound };
-
-    ghost open_of = { λ _ _. Err NotFound };
-
-    ghost target_of = { λ _ _. Err NotFound };
-
-    fn lstat(&self, path: BStr<'_>) -> Result<Metadata, Fault> {
-        self.check(Call::Lstat, path)?;
-        self.worktree.lstat(path)
-    }
-
-    fn open(&self, path: BStr<'_>) -> Result<MemoryFile, Fault> {
-        self.check(Call::Open, path)?;
-        self.worktree.open(path)
-    }
-
-    fn read_link(&self, path: BStr<'_>, target: &mut Vec<u8>) -> Result<(), Fault> {
-        target.clear();
-        self.check(Call::ReadLink, path)?;
-        self.worktree.read_link(path, target)
-    }
-}
-
 /// A worktree in memory where a look at one path says so, and ends only once a flag was set, or after very many turns by
 /// a fault.
 #[derive(Drop)]

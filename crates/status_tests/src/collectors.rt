@@ -50,3 +50,46 @@ where
             .visit_entry(entries, entry, entry_index, rela_path, status)
     }
 }
+
+/// Hands so many records on, and has no memory for the next.
+#[derive(Drop)]
+pub struct Full<V> {
+    pub collector: V,
+    pub room: usize,
+}
+
+impl<'index, V: VisitEntry<'index>> VisitEntry<'index> for Full<V>
+where
+    V::ContentChange: Drop,
+    V::SubmoduleStatus: Drop,
+{
+    ghost use Rattle.std.specs.Prelude.{◌≡◌, ◌++◌, ◌∷◌, [], Some, OnOk, OnErr, slice_get};
+    ghost use Rattle.bstr.specs.BStr.{bstr_bytes};
+    ghost use Rattle.status_call.specs.Visits.{visit};
+
+    type ContentChange = V::ContentChange;
+
+    type SubmoduleStatus = V::SubmoduleStatus;
+
+    ghost visits = { λ s. V.visits s.collector };
+
+    fn visit_entry(
+        &mut self,
+        entries: &'index [Entry],
+        entry: &'index Entry,
+        entry_index: usize,
+        rela_path: BStr<'index>,
+        status: EntryStatus<V::ContentChange, V::SubmoduleStatus>,
+    ) -> Result<(), AllocError>
+        requires { slice_get entries.now entry_index ≡ Some entry.now }
+        ensures ok { OnOk result (V.visits self.new.collector ≡ V.visits self.old.collector ++ visit entries.now entry.now entry_index (bstr_bytes rela_path.entry) status ∷ []) }
+        ensures err { OnErr result (V.visits self.new.collector ≡ V.visits self.old.collector) }
+    {
+        if self.room == 0 {
+            return Err(AllocError);
+        }
+        self.room -= 1;
+        self.collector
+            .visit_entry(entries, entry, entry_index, rela_path, status)
+    }
+}

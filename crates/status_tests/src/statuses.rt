@@ -435,6 +435,16 @@ impl<'index, T, U> Report<'index, T, U> {
         }
     }
 
+    /// Whether the status failed by this fault, as the status call tells it.
+    pub fn ended_by(&self, wanted: Fault) -> bool {
+        match (&self.answer, wanted) {
+            (Err(Error::IllformedUtf8), Fault::IllformedUtf8)
+            | (Err(Error::Memory), Fault::Memory) => true,
+            (Err(Error::Io(fault)), _) => *fault == wanted && !is_told_apart(wanted),
+            _ => false,
+        }
+    }
+
     /// Whether each record has the entry that stands at its place of this index, and that entry's path.
     pub fn is_of(&self, index: &State) -> bool {
         for record in &self.records {
@@ -448,6 +458,11 @@ impl<'index, T, U> Report<'index, T, U> {
         }
         true
     }
+}
+
+// Whether a fault of a worktree is an error of its own.
+fn is_told_apart(fault: Fault) -> bool {
+    matches!(fault, Fault::IllformedUtf8 | Fault::Memory)
 }
 
 // Whether two entries of an index are the same one.

@@ -1,10 +1,9 @@
 //! Faults of the parts, and which of them is answered.
 
-use crate::given::{Asked, Report, file, foo_index, joined, later_file, worktree};
+use crate::given::{Asked, Report, failing, file, foo_index, joined, later_file, worktree};
 use crate::trackers::{Answers, Refuses, rename};
 use crate::walks::{Fails, HandsOut, untracked};
-use crate::worktrees::{Call, Planted};
-use status_base::worktree::Fault;
+use status_base::worktree::{Fault, MemoryWorktree, Point};
 use status_call::index_as_worktree;
 use status_joined::index_as_worktree_with_renames::Error;
 use status_tracker::TrackerError;
@@ -13,16 +12,13 @@ use std::alloc::Global;
 use std::test::Fail;
 
 // A worktree where the tracked `a` was written anew and the untracked `b` and `c` lie, with faults.
-fn planted<'a>(alloc: Global, faults: &'a [(Call, &'a str, Fault)]) -> Result<Planted<'a>, Fail> {
+fn planted(alloc: Global, faults: &[(Point, &str, Fault)]) -> Result<MemoryWorktree, Fail> {
     let nodes = [
         later_file("a", b"bar"),
         file("b", b"foo"),
         file("c", b"foo"),
     ];
-    Ok(Planted {
-        worktree: worktree(alloc, &nodes)?,
-        faults,
-    })
+    Ok(failing(worktree(alloc, &nodes)?, faults)?)
 }
 
 // Whether the walk's fault at `d` ended the status, and nothing was told.
@@ -57,7 +53,7 @@ fn is_open_fault(report: &Report<'_>, wanted: Fault) -> bool {
 fn a_fault_of_the_walk_comes_before_one_of_an_entry(rt: HostRuntime) -> Result<(), Fail> {
     let alloc = rt.alloc();
     let index = foo_index(alloc, &["a"])?;
-    let worktree = planted(alloc, &[(Call::Open, "a", Fault::PermissionDenied)])?;
+    let worktree = planted(alloc, &[(Point::Open, "a", Fault::PermissionDenied)])?;
     let nodes = [untracked("b")];
     let walk = Fails {
         alloc,
@@ -82,8 +78,8 @@ fn a_fault_of_an_entry_comes_before_one_of_a_node(rt: HostRuntime) -> Result<(),
     let alloc = rt.alloc();
     let index = foo_index(alloc, &["a"])?;
     let both = [
-        (Call::Open, "a", Fault::PermissionDenied),
-        (Call::Open, "b", Fault::Other(7)),
+        (Point::Open, "a", Fault::PermissionDenied),
+        (Point::Open, "b", Fault::Other(7)),
     ];
     let worktree = planted(alloc, &both)?;
     let nodes = [untracked("b")];
@@ -102,8 +98,8 @@ fn the_first_node_of_the_list_has_the_fault(rt: HostRuntime) -> Result<(), Fail>
     let alloc = rt.alloc();
     let index = foo_index(alloc, &["a"])?;
     let both = [
-        (Call::Open, "c", Fault::Other(8)),
-        (Call::Open, "b", Fault::Other(7)),
+        (Point::Open, "c", Fault::Other(8)),
+        (Point::Open, "b", Fault::Other(7)),
     ];
     let worktree = planted(alloc, &both)?;
     // The list is sorted before ids are computed.
@@ -122,7 +118,7 @@ fn the_first_node_of_the_list_has_the_fault(rt: HostRuntime) -> Result<(), Fail>
 fn a_fault_of_a_node_comes_before_one_of_the_tracker(rt: HostRuntime) -> Result<(), Fail> {
     let alloc = rt.alloc();
     let index = foo_index(alloc, &["a"])?;
-    let worktree = planted(alloc, &[(Call::Open, "b", Fault::Other(7))])?;
+    let worktree = planted(alloc, &[(Point::Open, "b", Fault::Other(7))])?;
     let nodes = [untracked("b")];
     let walk = HandsOut {
         alloc,
@@ -158,7 +154,7 @@ fn want_of_memory_in_any_part_is_one_error(rt: HostRuntime) -> Result<(), Fail> 
     assert!(rt; matches!(report.answer, Err(Error::Memory)));
     assert!(rt; report.records.is_empty());
     for path in ["a", "b"] {
-        let faults = [(Call::Open, path, Fault::Memory)];
+        let faults = [(Point::Open, path, Fault::Memory)];
         let worktree = planted(alloc, &faults)?;
         let walk = HandsOut {
             alloc,

@@ -1,14 +1,13 @@
 //! Ids of nodes, as a tracker sees them, and faults on the way to them.
 
 use crate::given::{
-    Asked, BAR, FOO, file, foo_entry, foo_index, index, joined, later_file, link, mode_entry,
-    short_file, worktree,
+    Asked, BAR, FOO, failing, file, foo_entry, foo_index, index, joined, later_file, link,
+    mode_entry, short_file, worktree,
 };
 use crate::trackers::{Answers, Notes, Seen};
 use crate::walks::{Found, HandsOut, untracked};
-use crate::worktrees::{Call, Planted};
 use status_base::index::{EntryKind, Mode, ObjectId};
-use status_base::worktree::{Fault, TreeError};
+use status_base::worktree::{Fault, MemoryWorktree, Point, TreeError};
 use status_joined::index_as_worktree_with_renames::Error;
 use status_tracker::ChangeKind;
 use status_walk::Kind;
@@ -29,17 +28,9 @@ fn added(id: ObjectId) -> Seen {
 }
 
 // A worktree with the file `b`, which has faults.
-fn planted<'a>(
-    alloc: Global,
-    faults: &'a [(Call, &'a str, Fault)],
-) -> Result<Planted<'a>, TreeError> {
-    Ok(Planted {
-        worktree: worktree(
-            alloc,
-            &[file("b", b"foo"), link("l", b"foo"), short_file("s")],
-        )?,
-        faults,
-    })
+fn planted(alloc: Global, faults: &[(Point, &str, Fault)]) -> Result<MemoryWorktree, TreeError> {
+    let nodes = [file("b", b"foo"), link("l", b"foo"), short_file("s")];
+    failing(worktree(alloc, &nodes)?, faults)
 }
 
 #[test]
@@ -48,7 +39,7 @@ fn a_file_that_is_gone_or_may_not_be_read_has_the_null_id(rt: HostRuntime) -> Re
     let index = foo_index(alloc, &[])?;
     let nodes = [untracked("b")];
     for fault in [Fault::PermissionDenied, Fault::NotFound, Fault::Interrupted] {
-        let faults = [(Call::Open, "b", fault)];
+        let faults = [(Point::Open, "b", fault)];
         let worktree = planted(alloc, &faults)?;
         let mut seen = Vec::new(alloc);
         let walk = HandsOut {
@@ -70,7 +61,7 @@ fn a_file_that_is_gone_or_may_not_be_read_has_the_null_id(rt: HostRuntime) -> Re
 fn answer<R: AllocGlobal + Threads + Wait>(
     rt: &R,
     node: Found<'_>,
-    faults: &[(Call, &str, Fault)],
+    faults: &[(Point, &str, Fault)],
 ) -> Result<Option<Error>, Fail> {
     let alloc = rt.alloc();
     let index = foo_index(alloc, &[])?;
@@ -90,10 +81,10 @@ fn answer<R: AllocGlobal + Threads + Wait>(
 
 #[test]
 fn a_fault_on_the_way_to_an_id_ends_the_status(rt: HostRuntime) -> Result<(), Fail> {
-    let open = answer(&rt, untracked("b"), &[(Call::Open, "b", Fault::Other(7))])?;
+    let open = answer(&rt, untracked("b"), &[(Point::Open, "b", Fault::Other(7))])?;
     assert!(rt; matches!(open, Some(Error::OpenWorktreeFile(Fault::Other(7)))));
     // The length of a file is asked for as well, and here a missing file is a fault.
-    let lstat = answer(&rt, untracked("b"), &[(Call::Lstat, "b", Fault::NotFound)])?;
+    let lstat = answer(&rt, untracked("b"), &[(Point::Lstat, "b", Fault::NotFound)])?;
     assert!(rt; matches!(lstat, Some(Error::OpenWorktreeFile(Fault::NotFound))));
     let short = answer(&rt, untracked("s"), &[])?;
     assert!(rt; matches!(short, Some(Error::HashFile(Fault::UnexpectedEnd))));
@@ -101,7 +92,7 @@ fn a_fault_on_the_way_to_an_id_ends_the_status(rt: HostRuntime) -> Result<(), Fa
         disk_kind: Some(Kind::Symlink),
         ..untracked("l")
     };
-    let target = answer(&rt, link, &[(Call::ReadLink, "l", Fault::NotFound)])?;
+    let target = answer(&rt, link, &[(Point::ReadLink, "l", Fault::NotFound)])?;
     assert!(rt; matches!(target, Some(Error::ReadLink(Fault::NotFound))));
     Ok(())
 }
@@ -110,7 +101,7 @@ fn a_fault_on_the_way_to_an_id_ends_the_status(rt: HostRuntime) -> Result<(), Fa
 fn without_rewrites_no_id_is_computed(rt: HostRuntime) -> Result<(), Fail> {
     let alloc = rt.alloc();
     let index = foo_index(alloc, &[])?;
-    let worktree = planted(alloc, &[(Call::Open, "b", Fault::Other(7))])?;
+    let worktree = planted(alloc, &[(Point::Open, "b", Fault::Other(7))])?;
     let nodes = [untracked("b")];
     let walk = HandsOut {
         alloc,

@@ -3,12 +3,15 @@
 use crate::given::{Asked, Report, STAGED, file, foo_index, tell_handed, worktree};
 use bstr::{BStr, BString};
 use status_base::fscache::Stat;
-use status_base::worktree::{Lister, Listing, NoFilter, NoSubmodules};
+use status_base::index::State;
+use status_base::worktree::{Lister, Listing, NoFilter, NoSubmodules, Worktree};
 use status_joined::index_as_worktree_with_renames::{Options, Recorder};
-use status_tracker::IdentityTracker;
-use status_walk::UntrackedWalk;
+use status_tracker::{IdentityTracker, Tracker};
+use status_walk::{UntrackedWalk, Walk};
 use std::alloc::{AllocError, Global};
+use std::sync::Wait;
 use std::test::Fail;
+use std::thread::Threads;
 
 /// Lists the root as if one file lay in it, as it was staged with the content `foo`.
 #[derive(Clone, Copy)]
@@ -47,6 +50,42 @@ impl Lister for OneFile<'_> {
     }
 }
 
+// What is told where a directory is listed.
+fn listed_by<
+    'index,
+    R: AllocGlobal + Threads + Wait,
+    W: Worktree + Sync,
+    K: Walk<W> + Send + Drop,
+    X: Tracker + Drop,
+>(
+    rt: &R,
+    index: &'index State,
+    worktree: &W,
+    lister: OneFile<'_>,
+    asked: Asked<'_, K, X>,
+) -> Report<'index>
+where
+    W::File: Send,
+{
+    let alloc = rt.alloc();
+    let mut recorder = Recorder::new(alloc);
+    let answer = tell_handed(
+        rt,
+        alloc,
+        index,
+        worktree,
+        &mut recorder,
+        NoSubmodules,
+        NoFilter,
+        lister,
+        asked,
+    );
+    Report {
+        records: recorder.records,
+        answer,
+    }
+}
+
 #[test]
 fn entries_are_looked_up_in_listings_and_nodes_arent(rt: HostRuntime) -> Result<(), Fail> {
     let alloc = rt.alloc();
@@ -65,22 +104,7 @@ fn entries_are_looked_up_in_listings_and_nodes_arent(rt: HostRuntime) -> Result<
             ..asked
         };
         let lister = OneFile { alloc, name: "a" };
-        let mut recorder = Recorder::new(alloc);
-        let answer = tell_handed(
-            &rt,
-            alloc,
-            &index,
-            &worktree,
-            &mut recorder,
-            NoSubmodules,
-            NoFilter,
-            lister,
-            asked,
-        );
-        let report = Report {
-            records: recorder.records,
-            answer,
-        };
+        let report = listed_by(&rt, &index, &worktree, lister, asked);
         assert_eq!(rt; report.told(alloc)?.as_str(), told);
         assert!(rt; report.answer.is_ok());
     }

@@ -2,15 +2,17 @@
 
 use crate::given::{Asked, index, mode_entry, tell_handed};
 use bstr::BStr;
-use status_base::index::{Entry, Mode};
+use status_base::index::{Entry, Mode, ObjectId, State};
 use status_base::worktree::{
-    MemoryWorktree, NoFilter, NoLister, Node, NodeKind, SubmoduleFault, SubmoduleStatus,
+    MemoryWorktree, NoFilter, NoLister, Node, NodeKind, SubmoduleFault, SubmoduleStatus, Worktree,
 };
 use status_call::index_as_worktree::{Change, EntryStatus};
-use status_joined::index_as_worktree_with_renames::{self as joined, Recorder};
-use status_tracker::IdentityTracker;
-use status_walk::UntrackedWalk;
+use status_joined::index_as_worktree_with_renames::{self as joined, Outcome, Recorder};
+use status_tracker::{IdentityTracker, Tracker};
+use status_walk::{UntrackedWalk, Walk};
+use std::sync::Wait;
 use std::test::Fail;
+use std::thread::Threads;
 
 /// Every submodule changed, and it is known in how many places.
 #[derive(Clone, Copy)]
@@ -41,6 +43,30 @@ impl SubmoduleStatus for Changed {
     }
 }
 
+// Tells of an index whose submodules changed so.
+fn tell_changed<
+    'index,
+    R: AllocGlobal + Threads + Wait,
+    W: Worktree + Sync,
+    K: Walk<W> + Send + Drop,
+    X: Tracker + Drop,
+>(
+    rt: &R,
+    index: &'index State,
+    worktree: &W,
+    collector: &mut Recorder<'index, ObjectId, Option<u64>>,
+    submodule: Changed,
+    asked: Asked<'_, K, X>,
+) -> Result<Outcome, joined::Error>
+where
+    W::File: Send,
+{
+    let alloc = rt.alloc();
+    tell_handed(
+        rt, alloc, index, worktree, collector, submodule, NoFilter, NoLister, asked,
+    )
+}
+
 #[test]
 fn a_submodule_reports_a_type_of_the_callers(rt: HostRuntime) -> Result<(), Fail> {
     let alloc = rt.alloc();
@@ -61,16 +87,14 @@ fn a_submodule_reports_a_type_of_the_callers(rt: HostRuntime) -> Result<(), Fail
     worktree.put(BStr::from("sub"), directory)?;
     for places in [None, Some(7)] {
         let mut recorder = Recorder::new(alloc);
-        let answer = tell_handed(
+        let asked = Asked::sorted(UntrackedWalk::new(alloc), IdentityTracker::new(alloc));
+        let answer = tell_changed(
             &rt,
-            alloc,
             &index,
             &worktree,
             &mut recorder,
             Changed { places },
-            NoFilter,
-            NoLister,
-            Asked::sorted(UntrackedWalk::new(alloc), IdentityTracker::new(alloc)),
+            asked,
         );
         assert!(rt; answer.is_ok());
         assert_eq!(rt; recorder.records.len(), 1);

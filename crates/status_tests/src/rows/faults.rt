@@ -1,12 +1,16 @@
 //! Faults of a worktree.
 
-use crate::given::{BAR, foo_index};
-use crate::statuses::{Report, changed, one_file_read, options, request_with, status_of};
+use crate::collectors::Full;
+use crate::given::{BAR, foo_index, later_file, worktree};
+use crate::statuses::{
+    Report, changed, one_file_read, options, plain_request, report_to, request_with, status_of,
+};
 use crate::worktrees::{Counted, Files, Piece};
+use bstr::BStr;
 use gix_status::index::{ObjectId, State};
-use gix_status::index_as_worktree::Options;
 use gix_status::index_as_worktree::traits::HashEq;
-use gix_status::worktree::{Fault, Worktree};
+use gix_status::index_as_worktree::{Error, Options, Recorder};
+use gix_status::worktree::{Fault, Node, Point, Worktree};
 use std::sync::Wait;
 use std::sync::atomic::{AtomicUsize, Ordering};
 use std::test::Fail;
@@ -36,22 +40,104 @@ where
     status_of(rt, index, worktree, HashEq, request)
 }
 
+// How often a call that fails at `d` looks at `d` and opens it, and then the same of `e`, where it ends the status.
+fn calls_until<R: AllocGlobal + Threads + Wait>(rt: &R, point: Point) -> Result<[usize; 4], Fail> {
+    let alloc = rt.alloc();
+    let paths = ["a", "b", "c", "d", "e"];
+    let mut files = worktree(alloc, &paths.map(|path| later_file(path, b"bar")))?;
+    files.plant(BStr::from("d"), point, Fault::PermissionDenied)?;
+    let (looks, opens) = (AtomicUsize::new(0), AtomicUsize::new(0));
+    let (later_looks, later_opens) = (AtomicUsize::new(0), AtomicUsize::new(0));
+    let failing = Counted {
+        worktree: files,
+        path: "d",
+        looks: &looks,
+        opens: &opens,
+    };
+    let counted = Counted {
+        worktree: failing,
+        path: "e",
+        looks: &later_looks,
+        opens: &later_opens,
+    };
+    let index = foo_index(alloc, &paths)?;
+    let report = status_one_by_one(rt, &index, &counted);
+    if !report.is_each(&["a", "b", "c"], &changed(BAR))
+        || !report.failed_by(Fault::PermissionDenied)
+    {
+        return Err(Fail::new("other records, or another fault"));
+    }
+    Ok([
+        looks.load(Ordering::SeqCst),
+        opens.load(Ordering::SeqCst),
+        later_looks.load(Ordering::SeqCst),
+        later_opens.load(Ordering::SeqCst),
+    ])
+}
+
 #[test]
-fn a_file_that_does_not_open_ends_the_status(rt: HostRuntime) -> Result<(), Fail> {
-    let reads = AtomicUsize::new(0);
-    let bar = Piece::new(b"bar", &reads);
-    let files = [
-        ("a", Ok(bar)),
-        ("b", Ok(bar)),
-        ("c", Ok(bar)),
-        ("d", Err(Fault::PermissionDenied)),
-        ("e", Ok(bar)),
-    ];
-    let index = foo_index(rt.alloc(), &["a", "b", "c", "d", "e"])?;
-    let report = status_one_by_one(&rt, &index, &Files::new(&files));
-    assert!(rt; report.is_each(&["a", "b", "c"], &changed(BAR)));
-    assert!(rt; report.failed_by(Fault::PermissionDenied));
-    assert_eq!(rt; reads.load(Ordering::SeqCst), 3);
+fn a_call_that_fails_ends_the_status_and_is_not_tried_again(rt: HostRuntime) -> Result<(), Fail> {
+    assert_eq!(rt; calls_until(&rt, Point::Lstat)?, [1, 0, 0, 0]);
+    assert_eq!(rt; calls_until(&rt, Point::Open)?, [1, 1, 0, 0]);
+    assert_eq!(rt; calls_until(&rt, Point::Read(2))?, [1, 1, 0, 0]);
+    Ok(())
+}
+
+// The status by a collector that has room for so many records.
+fn status_with_room<'index, R: AllocGlobal + Threads + Wait, W: Worktree + Sync>(
+    rt: &R,
+    index: &'index State,
+    worktree: &W,
+    room: usize,
+) -> Report<'index, ObjectId, ()>
+where
+    W::File: Send,
+{
+    let alloc = rt.alloc();
+    let mut full = Full {
+        collector: Recorder::new(alloc),
+        room,
+    };
+    let request = plain_request(alloc);
+    let answer = report_to(rt, alloc, index, worktree, &mut full, HashEq, request, None);
+    Report {
+        records: full.collector.records,
+        answer,
+    }
+}
+
+#[test]
+fn a_collector_that_is_refused_memory_ends_the_status(rt: HostRuntime) -> Result<(), Fail> {
+    let alloc = rt.alloc();
+    let paths = ["a", "b", "c", "d"];
+    let files = worktree(alloc, &paths.map(|path| later_file(path, b"bar")))?;
+    let index = foo_index(alloc, &paths)?;
+    let report = status_with_room(&rt, &index, &files, 2);
+    assert!(rt; report.is_each(&["a", "b"], &changed(BAR)));
+    assert!(rt; matches!(&report.answer, Err(Error::Memory)));
+    assert!(rt; status_with_room(&rt, &index, &files, 4).answer.is_ok());
+    Ok(())
+}
+
+#[test]
+fn a_file_of_an_unknown_time_ends_the_status(rt: HostRuntime) -> Result<(), Fail> {
+    let alloc = rt.alloc();
+    let paths = ["a", "b", "c"];
+    let mut files = worktree(alloc, &paths.map(|path| later_file(path, b"bar")))?;
+    let Some(node) = files.remove(BStr::from("b")) else {
+        return Err(Fail::new("the file isn't there"));
+    };
+    files.put(
+        BStr::from("b"),
+        Node {
+            mtime: None,
+            ..node
+        },
+    )?;
+    let index = foo_index(alloc, &paths)?;
+    let report = status_one_by_one(&rt, &index, &files);
+    assert!(rt; report.is_each(&["a"], &changed(BAR)));
+    assert!(rt; matches!(&report.answer, Err(Error::Time)));
     Ok(())
 }
 

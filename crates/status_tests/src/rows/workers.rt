@@ -1,14 +1,15 @@
 //! Workers, and a status that ends early.
 
-use crate::given::{BAR, foo_index};
+use crate::given::{BAR, foo_index, later_file, worktree};
 use crate::statuses::{
     changed, files_read, options, plain_request, request_with, status_noting, status_of,
     status_until,
 };
 use crate::worktrees::{Counted, Files, Looked, Meeting, Piece, SetsFlag};
+use bstr::BStr;
 use gix_status::index_as_worktree::traits::HashEq;
 use gix_status::index_as_worktree::{Options, Outcome};
-use gix_status::worktree::Fault;
+use gix_status::worktree::{Fault, Point};
 use std::sync::atomic::{AtomicBool, AtomicUsize, Ordering};
 use std::test::Fail;
 
@@ -162,20 +163,14 @@ fn two_workers_run_at_the_same_time(rt: HostRuntime) -> Result<(), Fail> {
 
 #[test]
 fn the_first_fault_is_reported_by_any_number_of_workers(rt: HostRuntime) -> Result<(), Fail> {
-    let reads = AtomicUsize::new(0);
-    let bar = Piece::new(b"bar", &reads);
-    let files = [
-        ("a", Ok(bar)),
-        ("b", Ok(bar)),
-        ("c", Ok(bar)),
-        ("d", Err(Fault::PermissionDenied)),
-        ("e", Err(Fault::Interrupted)),
-    ];
-    let worktree = Files::new(&files);
-    let index = foo_index(rt.alloc(), &FIVE)?;
+    let alloc = rt.alloc();
+    let mut worktree = worktree(alloc, &FIVE.map(|path| later_file(path, b"bar")))?;
+    worktree.plant(BStr::from("d"), Point::Open, Fault::PermissionDenied)?;
+    worktree.plant(BStr::from("e"), Point::Open, Fault::Interrupted)?;
+    let index = foo_index(alloc, &FIVE)?;
     for workers in [1, 2, 3, 8] {
         for chunk_size in [1, 2, 500] {
-            let request = request_with(rt.alloc(), shared(chunk_size, workers));
+            let request = request_with(alloc, shared(chunk_size, workers));
             let report = status_of(&rt, &index, &worktree, HashEq, request);
             assert!(rt; report.is_each(&["a", "b", "c"], &changed(BAR)));
             assert!(rt; report.failed_by(Fault::PermissionDenied));
