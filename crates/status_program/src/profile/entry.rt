@@ -7,7 +7,7 @@ use crate::profile::stat::StatFields;
 use crate::profile::value::{FieldValue, Word};
 use bstr::BStr;
 use gix_status::index::{Flags, IndexError, Mode, Moment, ObjectId, State};
-use hex::FromHex;
+use status_stored::words::{flag_of_word, id_of_word, mode_of_word};
 use std::alloc::Global;
 use std::mem;
 
@@ -134,37 +134,19 @@ fn stage_of(number: u32) -> Result<u32, FieldError> {
 /// The number of hexadecimal digits says how the id was made.
 impl Word for ObjectId {
     fn of_word(digits: &str) -> Option<ObjectId> {
-        match digits.len() {
-            40 => <[u8; 20]>::from_hex(digits).ok().map(ObjectId::Sha1),
-            64 => <[u8; 32]>::from_hex(digits).ok().map(ObjectId::Sha256),
-            _ => None,
-        }
+        id_of_word(digits)
     }
 }
 
 impl Word for Mode {
     fn of_word(word: &str) -> Option<Mode> {
-        match word {
-            "040000" => Some(Mode::Dir),
-            "100644" => Some(Mode::File),
-            "100755" => Some(Mode::FileExecutable),
-            "120000" => Some(Mode::Symlink),
-            "160000" => Some(Mode::Commit),
-            _ => None,
-        }
+        mode_of_word(word)
     }
 }
 
 /// One flag.
 impl Word for Flags {
     fn of_word(word: &str) -> Option<Flags> {
-        match word {
-            "uptodate" => Some(Flags::UPTODATE),
-            "skip-worktree" => Some(Flags::SKIP_WORKTREE),
-            "assume-valid" => Some(Flags::ASSUME_VALID),
-            "fsmonitor-valid" => Some(Flags::FSMONITOR_VALID),
-            "intent-to-add" => Some(Flags::INTENT_TO_ADD),
-            _ => None,
-        }
+        flag_of_word(word)
     }
 }

@@ -1,0 +1,6 @@
+-- A front of a list, put before what is read of the rest.
+use Rattle.std.proofs.Common.{List, ◌++◌, Option, Some, None}
+
+abbrev pub with_front : {A : Type 0} → List A → Option (List A) → Option (List A)
+with_front front None = None
+with_front front (Some rest) = Some (front ++ rest)

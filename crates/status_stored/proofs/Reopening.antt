@@ -1,0 +1,40 @@
+-- What is loaded of a stored index.
+use Rattle.std.proofs.Common.{◌≡◌, List, Some, None, Err, sym, ap, ◌∙◌}
+use Rattle.serde_json.specs.Data.{Data}
+use Rattle.status_index.specs.declared.stat.Moment.{Moment}
+use Rattle.status_index.specs.declared.state.IndexError.{IndexError}
+use Rattle.status_index.specs.Entries.{IndexEntry, IsIndex}
+use Rattle.status_stored.specs.declared.error.ReopenError.{ReopenError}
+use Rattle.status_stored.specs.declared.error.ReopenError.TheVariants.{NotUtf8, Unreadable, Memory}
+use Rattle.status_stored.specs.Loading.{IsRefusedIndex}
+use Rattle.status_stored.specs.Reading.{index_in}
+use Rattle.status_stored.specs.Reopened.{IsReadAgain, IsReopened}
+use Rattle.status_stored.specs.Storable.{AreKnown, IsStorableIndex}
+use Rattle.status_stored.specs.StoredIndex.{stored_index}
+use Rattle.status_stored.proofs.Back.{index_back}
+
+-- what isn't parsed is refused for want of memory
+pub parse_refused : (es : List IndexEntry) (t : Moment) (d : Data) (e : ReopenError) → IsReadAgain d (Err e) → IsReopened es t (Err e)
+parse_refused es t d (NotUtf8 at) h = absurd h
+parse_refused es t d Unreadable h = absurd h
+parse_refused es t d Memory h = tt
+
+one_pair : (a b : List IndexEntry × Moment) → Some a ≡ Some b → a ≡ b
+one_pair a b h = cc
+
+module _ (es : List IndexEntry) (t : Moment) (d : Data) (is : d ≡ stored_index es t) (h : IsStorableIndex es t) where
+  said : AreKnown es → index_in d ≡ Some (es, t)
+  said known = rw is (index_back es t h known)
+
+  pub loaded_same : (read : List IndexEntry) (at : Moment) → index_in d ≡ Some (read, at) → AreKnown es → (read ≡ es) × (at ≡ t)
+  loaded_same read at loaded known =
+      let same = one_pair (read, at) (es, t) (sym loaded ∙ said known) in
+      (ap (λ pair. pair.0) same, ap (λ pair. pair.1) same)
+
+  pub never_form : index_in d ≡ None → AreKnown es → ⊥
+  never_form none known = cc (said known)
+
+  pub never_refused : (e : IndexError) → IsIndex es → IsRefusedIndex (index_in d) e → AreKnown es → ⊥
+  never_refused e index refused known =
+      let refusal = rw (said known) at refused in
+      refusal.1 index

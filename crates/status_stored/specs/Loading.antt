@@ -1,0 +1,36 @@
+-- What reading an index gives.
+use Rattle.std.specs.Prelude.{◌≡◌, List, Option, Some, None, Result, Ok, Err, ⊤}
+use Rattle.status_index.specs.declared.stat.Moment.{Moment}
+use Rattle.status_index.specs.declared.state.IndexError.{IndexError}
+use Rattle.status_index.specs.declared.state.IndexError.TheVariants as refusals
+use Rattle.status_index.specs.declared.state.State.{State}
+use Rattle.status_index.specs.Entries.{IndexEntry, IsIndex, IsRefusal}
+use Rattle.status_index.specs.States.{index_of, timestamp_of}
+use Rattle.status_stored.specs.declared.error.FieldError.{FieldError}
+use Rattle.status_stored.specs.declared.error.FieldError.TheVariants as fields
+use Rattle.status_stored.specs.declared.error.LoadError.{LoadError}
+use Rattle.status_stored.specs.declared.error.LoadError.TheVariants.{Form, Index, Memory}
+
+-- the error for a list of entries that isn't made an index
+abbrev pub error_of_index : IndexError → LoadError
+error_of_index refusals.Memory = Memory
+error_of_index (refusals.EmptyPath at) = Index (refusals.EmptyPath at)
+error_of_index (refusals.NotAscending at) = Index (refusals.NotAscending at)
+error_of_index (refusals.MixedHash at) = Index (refusals.MixedHash at)
+
+abbrev pub error_of_field : FieldError → LoadError
+error_of_field fields.Form = Form
+error_of_field fields.Memory = Memory
+
+-- something is meant, whose entries are no index, for this reason
+abbrev pub IsRefusedIndex : Option (List IndexEntry × Moment) → IndexError → Type 0
+IsRefusedIndex None e = ⊥
+IsRefusedIndex (Some meant) e = IsRefusal meant.0 e × (IsIndex meant.0 → ⊥)
+
+-- by what is meant: Ok where it is an index, which then is the one that is given; Form just where nothing is meant; and
+-- else why the entries are no index, or want of memory
+abbrev pub IsLoaded : Option (List IndexEntry × Moment) → Result State LoadError → Type 0
+IsLoaded meant (Ok s) = meant ≡ Some (index_of s, timestamp_of s)
+IsLoaded meant (Err Form) = meant ≡ None
+IsLoaded meant (Err (Index e)) = IsRefusedIndex meant e
+IsLoaded meant (Err Memory) = ⊤

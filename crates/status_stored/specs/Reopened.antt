@@ -1,0 +1,30 @@
+-- What an index is after it was stored, written as text, parsed and loaded.
+use Rattle.std.specs.Prelude.{◌≡◌, List, Result, Ok, Err, ⊤}
+use Rattle.serde_json.specs.Data.{Data}
+use Rattle.serde_json.specs.View.{view}
+use Rattle.serde_json.specs.declared.value.Value.{Value}
+use Rattle.status_index.specs.declared.stat.Moment.{Moment}
+use Rattle.status_index.specs.declared.state.State.{State}
+use Rattle.status_index.specs.Entries.{IndexEntry}
+use Rattle.status_index.specs.States.{index_of, timestamp_of}
+use Rattle.status_stored.specs.declared.error.ReopenError.{ReopenError}
+use Rattle.status_stored.specs.declared.error.ReopenError.TheVariants.{NotUtf8, Unreadable, Memory}
+use Rattle.status_stored.specs.Storable.{AreKnown, IsNotUtf8At, IsStorableIndex}
+
+-- the entries and the timestamp of an index are these
+abbrev pub IsStateOf : List IndexEntry → Moment → State → Type 0
+IsStateOf es t s = (index_of s ≡ es) × (timestamp_of s ≡ t)
+
+-- the same index, where all its flags are known; what was written is then never unreadable
+abbrev pub IsReopened : List IndexEntry → Moment → Result State ReopenError → Type 0
+IsReopened es t (Ok s) = IsStorableIndex es t × (AreKnown es → IsStateOf es t s)
+IsReopened es t (Err (NotUtf8 at)) = IsNotUtf8At es at
+IsReopened es t (Err Unreadable) = AreKnown es → ⊥
+IsReopened es t (Err Memory) = ⊤
+
+-- a value that was written and parsed is the same
+abbrev pub IsReadAgain : Data → Result Value ReopenError → Type 0
+IsReadAgain d (Ok value) = view value ≡ d
+IsReadAgain d (Err (NotUtf8 at)) = ⊥
+IsReadAgain d (Err Unreadable) = ⊥
+IsReadAgain d (Err Memory) = ⊤

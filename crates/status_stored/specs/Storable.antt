@@ -1,0 +1,75 @@
+-- Which indexes can be stored, and what storing gives.
+use Rattle.std.specs.Prelude.{◌≡◌, ℕ, ◌+◌, ◌*◌, ◌%◌, ◌<◌, ◌^◌, List, length, take, All, Result, Ok, Err, ⊤}
+use Rattle.std.specs.List.{slice_index_or}
+use Rattle.std.specs.Str.{IsUtf8}
+use Rattle.hex.specs.Hex.{IsBytes}
+use Rattle.serde_json.specs.View.{view}
+use Rattle.serde_json.specs.declared.value.Value.{Value}
+use Rattle.status_index.specs.declared.id.ObjectId.{ObjectId}
+use Rattle.status_index.specs.declared.id.ObjectId.TheVariants.{Sha1, Sha256}
+use Rattle.status_index.specs.declared.stat.Moment.{Moment}
+use Rattle.status_index.specs.declared.stat.Stat.{Stat}
+use Rattle.status_index.specs.declared.stat.Time.{Time}
+use Rattle.status_index.specs.Entries.{IndexEntry}
+use Rattle.status_index.specs.FlagBits.{stage_of_bits}
+use Rattle.status_stored.specs.declared.error.StoreError.{StoreError}
+use Rattle.status_stored.specs.declared.error.StoreError.TheVariants.{NotUtf8, Memory}
+use Rattle.status_stored.specs.StoredIndex.{stored_index}
+
+-- a number that an index has room for
+abbrev pub Fits32 : ℕ → Type 0
+Fits32 n = n < 2 ^ 32
+
+pub record FitsTime (time : Time) : Type 0 where
+  pub secs : Fits32 time.secs
+  pub nsecs : Fits32 time.nsecs
+
+pub record FitsStat (stat : Stat) : Type 0 where
+  pub mtime : FitsTime stat.mtime
+  pub ctime : FitsTime stat.ctime
+  pub dev : Fits32 stat.dev
+  pub ino : Fits32 stat.ino
+  pub uid : Fits32 stat.uid
+  pub gid : Fits32 stat.gid
+  pub size : Fits32 stat.size
+
+-- a digest has as many bytes as its kind wants
+abbrev pub FitsId : ObjectId → Type 0
+FitsId (Sha1 digest) = (length digest ≡ 20) × IsBytes digest
+FitsId (Sha256 digest) = (length digest ≡ 32) × IsBytes digest
+
+-- an entry whose path is UTF-8; the rest holds of every entry in memory
+pub record IsStorable (e : IndexEntry) : Type 0 where
+  pub path : IsUtf8 e.path
+  pub stat : FitsStat e.stat
+  pub id : FitsId e.id
+
+-- an index of such entries
+pub record IsStorableIndex (es : List IndexEntry) (t : Moment) : Type 0 where
+  pub entries : All IsStorable es
+  pub secs : Fits32 t.secs
+  pub nsecs : Fits32 t.nsecs
+
+-- bits that name no flag aren't stored: there are none but the stage's two and the five lowest, which are the flags'
+abbrev pub IsKnown : ℕ → Type 0
+IsKnown bits = bits ≡ stage_of_bits bits * 0x1000 + bits % 32
+
+-- all flags of an index are known
+abbrev pub AreKnown : List IndexEntry → Type 0
+AreKnown es = All (λ e. IsKnown e.flags.0) es
+
+-- the entry at a place is the first whose path isn't UTF-8
+pub record IsNotUtf8At (es : List IndexEntry) (at : ℕ) : Type 0 where
+  pub inside : at < length es
+  pub before : All (λ e. IsUtf8 e.path) (take at es)
+  pub here : (d : IndexEntry) → IsUtf8 (slice_index_or es at d).path → ⊥
+
+-- why an index isn't stored
+abbrev pub IsStoreRefusal : List IndexEntry → StoreError → Type 0
+IsStoreRefusal es (NotUtf8 at) = IsNotUtf8At es at
+IsStoreRefusal es Memory = ⊤
+
+-- Ok where all paths are UTF-8, with the value of the index, and else a refusal
+abbrev pub IsStored : List IndexEntry → Moment → Result Value StoreError → Type 0
+IsStored es t (Ok value) = IsStorableIndex es t × (view value ≡ stored_index es t)
+IsStored es t (Err e) = IsStoreRefusal es e

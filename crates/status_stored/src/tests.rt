@@ -1,0 +1,182 @@
+//! The text of a stored index, and what is read of one.
+
+use crate::{LoadError, ReopenError, StoreError, load_index, reopened, store_index};
+use bstr::BStr;
+use serde_json::Value;
+use status_index::{Flags, HashKind, IndexError, Mode, Moment, ObjectId, Stat, State};
+use std::alloc::Global;
+use std::test::Fail;
+
+// The entries `foo` at "a" and `bar` at "b", with what has no default but in `size` and `mtime`.
+const GIVEN: &str = r#"{"timestamp":[10,0],"other":null,"index":[
+{"path":"a","id":"19102815663d23f8b75a47e7a01965dcdc96468c","size":3,"mtime":[5,0],"kind":1},
+{"path":"b","id":"BA0E162E1C47469E3FE4B393A8BF8C569F302116","size":3,"mtime":[5,0]}]}"#;
+
+// The same with all keys.
+const STORED: &str = concat!(
+    r#"{"index":[{"ctime":[5,0],"dev":0,"flags":[],"gid":0,"#,
+    r#""id":"19102815663d23f8b75a47e7a01965dcdc96468c","ino":0,"mode":"100644","#,
+    r#""mtime":[5,0],"path":"a","size":3,"stage":0,"uid":0},"#,
+    r#"{"ctime":[5,0],"dev":0,"flags":[],"gid":0,"#,
+    r#""id":"ba0e162e1c47469e3fe4b393a8bf8c569f302116","ino":0,"mode":"100644","#,
+    r#""mtime":[5,0],"path":"b","size":3,"stage":0,"uid":0}],"timestamp":[10,0]}"#
+);
+
+// An entry of which each key is told, by SHA-256 the empty blob.
+const FULL: &str = concat!(
+    r#"{"index":[{"ctime":[5,7],"dev":1,"flags":["assume-valid","fsmonitor-valid"],"gid":2,"#,
+    r#""id":"473a0f4c3be8a93681a267e3b1e9a7dcda1185436fe141f7749120a303721813","ino":3,"#,
+    r#""mode":"120000","mtime":[5,999999999],"path":"é","size":4294967295,"stage":2,"#,
+    r#""uid":4}],"timestamp":[6,8]}"#
+);
+
+// Members behind an entry's path and id that have a wrong form.
+const WRONG_MEMBERS: [&str; 18] = [
+    r#""path":1"#,
+    r#""path":null"#,
+    r#""id":"19102815663d23f8b75a47e7a01965dcdc96468""#,
+    r#""id":"g9102815663d23f8b75a47e7a01965dcdc96468c""#,
+    r#""id":"1910281566""#,
+    r#""stage":4"#,
+    r#""mode":"100600""#,
+    r#""mode":100644"#,
+    r#""size":-1"#,
+    r#""size":1.0"#,
+    r#""size":1e2"#,
+    r#""dev":4294967296"#,
+    r#""uid":null"#,
+    r#""mtime":[5]"#,
+    r#""mtime":[5,0,0]"#,
+    r#""ctime":5"#,
+    r#""flags":"uptodate""#,
+    r#""flags":["uptodate","stage"]"#,
+];
+
+// Values that are no index.
+const WRONG_VALUES: [&str; 8] = [
+    "[]",
+    r#"{"timestamp":[9,0]}"#,
+    r#"{"index":[]}"#,
+    r#"{"timestamp":9,"index":[]}"#,
+    r#"{"timestamp":[9,0],"index":{}}"#,
+    r#"{"timestamp":[9,0],"index":[1]}"#,
+    r#"{"timestamp":[9,0],"index":[{"path":"a"}]}"#,
+    r#"{"timestamp":[9,0],"index":[{"id":"19102815663d23f8b75a47e7a01965dcdc96468c"}]}"#,
+];
+
+// Entries that are no index, by what is wrong with them.
+const NO_INDEX: [(&str, IndexError); 3] = [
+    (
+        r#"{"path":"","id":"19102815663d23f8b75a47e7a01965dcdc96468c"}"#,
+        IndexError::EmptyPath { at: 0 },
+    ),
+    (
+        r#"{"path":"a","id":"19102815663d23f8b75a47e7a01965dcdc96468c"},
+        {"path":"a","id":"19102815663d23f8b75a47e7a01965dcdc96468c"}"#,
+        IndexError::NotAscending { at: 1 },
+    ),
+    (
+        r#"{"path":"a","id":"19102815663d23f8b75a47e7a01965dcdc96468c"},{"path":"b",
+        "id":"473a0f4c3be8a93681a267e3b1e9a7dcda1185436fe141f7749120a303721813"}"#,
+        IndexError::MixedHash { at: 1 },
+    ),
+];
+
+// What is read of a JSON text.
+fn loaded(alloc: Global, text: &str) -> Result<Result<State, LoadError>, Fail> {
+    let value = Value::from_str(alloc, text)?;
+    Ok(load_index(alloc, &value))
+}
+
+// The text that an index is stored as.
+fn stored(alloc: Global, state: &State) -> Result<String, Fail> {
+    Ok(store_index(alloc, state)?.to_string(alloc)?)
+}
+
+#[test]
+fn all_keys_are_stored_in_their_order(rt: HostRuntime) -> Result<(), Fail> {
+    let alloc = rt.alloc();
+    let state = loaded(alloc, GIVEN)??;
+    assert_eq!(rt; stored(alloc, &state)?.as_str(), STORED);
+    Ok(())
+}
+
+#[test]
+fn what_is_stored_is_read(rt: HostRuntime) -> Result<(), Fail> {
+    let alloc = rt.alloc();
+    for text in [STORED, FULL] {
+        let state = loaded(alloc, text)??;
+        assert_eq!(rt; stored(alloc, &reopened(alloc, &state)?)?.as_str(), text);
+    }
+    Ok(())
+}
+
+#[test]
+fn an_entry_says_its_flags_and_stage(rt: HostRuntime) -> Result<(), Fail> {
+    let state = loaded(rt.alloc(), FULL)??;
+    let flags = state.entries().first().map(|entry| entry.flags);
+    let wanted = Flags::ASSUME_VALID | Flags::FSMONITOR_VALID | Flags::from_stage(2);
+    assert_eq!(rt; flags, Some(wanted));
+    Ok(())
+}
+
+#[test]
+fn wrong_forms_are_refused(rt: HostRuntime) -> Result<(), Fail> {
+    let alloc = rt.alloc();
+    for members in &WRONG_MEMBERS {
+        let id = "19102815663d23f8b75a47e7a01965dcdc96468c";
+        let entry = format!(in alloc; r#"{{"path":"a","id":"{id}",{members}}}"#)?;
+        let text = format!(in alloc; r#"{{"timestamp":[9,0],"index":[{entry}]}}"#)?;
+        let refused = loaded(alloc, text.as_str())?.err();
+        assert_eq!(rt; refused, Some(LoadError::Form), "{members}");
+    }
+    for text in &WRONG_VALUES {
+        assert_eq!(rt; loaded(alloc, text)?.err(), Some(LoadError::Form), "{text}");
+    }
+    Ok(())
+}
+
+#[test]
+fn entries_that_are_no_index_are_refused(rt: HostRuntime) -> Result<(), Fail> {
+    let alloc = rt.alloc();
+    for (entries, error) in &NO_INDEX {
+        let text = format!(in alloc; r#"{{"timestamp":[9,0],"index":[{entries}]}}"#)?;
+        let refused = loaded(alloc, text.as_str())?.err();
+        assert_eq!(rt; refused, Some(LoadError::Index(*error)), "{entries}");
+    }
+    Ok(())
+}
+
+#[test]
+fn the_first_path_that_is_no_text_is_named(rt: HostRuntime) -> Result<(), Fail> {
+    let alloc = rt.alloc();
+    let mut state = State::new(alloc, Moment::default());
+    for path in [b"a".as_slice(), b"b\xff", b"c\xff"] {
+        let id = ObjectId::null(HashKind::Sha1);
+        let path = BStr::new(path);
+        state.push_entry(Stat::default(), id, Flags::default(), Mode::File, path)?;
+    }
+    let refused = store_index(alloc, &state).err();
+    assert_eq!(rt; refused, Some(StoreError::NotUtf8 { at: 1 }));
+    let refused = reopened(alloc, &state).err();
+    assert_eq!(rt; refused, Some(ReopenError::NotUtf8 { at: 1 }));
+    Ok(())
+}
+
+#[test]
+fn errors_are_told(rt: HostRuntime) -> Result<(), Fail> {
+    let alloc = rt.alloc();
+    let stored = StoreError::NotUtf8 { at: 1 };
+    let text = format!(in alloc; "{stored}, {}", StoreError::Memory)?;
+    assert_eq!(rt;
+        text.as_str(),
+        "the path of entry 1 isn't UTF-8, Out of memory"
+    );
+    let no_index = LoadError::Index(IndexError::MixedHash { at: 2 });
+    let text = format!(in alloc; "{}, {no_index}, {}", LoadError::Form, LoadError::Memory)?;
+    assert_eq!(rt;
+        text.as_str(),
+        "a key is missing or has a wrong form, mixed hash at 2, Out of memory"
+    );
+    Ok(())
+}
