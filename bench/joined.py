@@ -7,31 +7,12 @@ It copies the crates to a folder of its own, puts the program of bench/joined be
 that. Each time is the least of several.
 """
 
-import pathlib
-import shutil
-import subprocess
-import tempfile
+import beside
 
-ROOT = pathlib.Path(__file__).resolve().parent.parent
-LINE = (
-    "joined_bench: gix_status status_joined status_disk_walk status_halves status_rewrites status_tracker status_walk "
-    "status_world status_call status_compare status_base status_index bstr\n"
+LIBRARIES = (
+    "gix_status status_joined status_disk_walk status_halves status_rewrites status_tracker status_walk status_world "
+    "status_call status_compare status_base status_index bstr"
 )
 
-
-def main() -> None:
-    with tempfile.TemporaryDirectory() as folder:
-        copy = pathlib.Path(folder)
-        shutil.copytree(ROOT / "crates", copy / "crates")
-        source = copy / "crates" / "joined_bench" / "src"
-        source.mkdir(parents=True)
-        for module in (ROOT / "bench" / "joined").glob("*.rt.txt"):
-            shutil.copy(module, source / module.name.removesuffix(".txt"))
-        shutil.copy(ROOT / "HANDLES", copy)
-        (copy / "crates.txt").write_text((ROOT / "crates.txt").read_text() + LINE)
-        subprocess.run(["git", "init", "--quiet"], cwd=copy, check=True)
-        subprocess.run(["rt", "run"], cwd=copy / "crates" / "joined_bench", check=True)
-
-
 if __name__ == "__main__":
-    main()
+    beside.run("joined_bench", LIBRARIES, ["joined/*.rt.txt", "given/*.rt.txt"])

@@ -1,7 +1,7 @@
 #!/usr/bin/env python3
 """Times the program over a git repository's folder beside git, libgit2 and a bare loop of lstat, in turns.
 
-    python3 bench/peers.py crates/status_program/out/status_program FOLDER [--runs 11]
+    python3 bench/peers.py crates/status_program/out/status_program FOLDER [--runs 11] [--floor PROGRAM]
 
 FOLDER is a repository that bench/folder.py made. It is measured twice: clean, and touched, with another time of
 modification at each file, so that each is hashed. The loop and the driver of libgit2 are in bench/peers and are built with
@@ -10,7 +10,8 @@ what the program compares.
 
 Each row has the least and the middle processor time of the runs, in milliseconds, and the least beside the loop's and
 beside that of `git status -uno`. The status alone is the program's time without that of a run with a prefix that no path
-has, and the loop's is without that of a loop over no path: so no start of a process is in either.
+has, and the loop's is without that of a loop over no path: so no start of a process is in either. With --floor there is
+a row for a loop of nothing but the library's own lstat, by the program of bench/floor.py.
 """
 
 import argparse
@@ -63,7 +64,7 @@ def timed(command):
     return (spent() - before) * 1000
 
 
-def commands(program, top, folder):
+def commands(program, floor, top, folder):
     """What is run, by name."""
     paths = os.path.join(folder, "paths")
     with open(paths, "wb") as out:
@@ -80,6 +81,9 @@ def commands(program, top, folder):
         "no status": [program, "status", profile_of(folder, top, "none", prefix="no path/")],
         "program": [program, "status", profile_of(folder, top, "all")],
     }
+    if floor is not None:
+        rows["no floor"] = [floor, top, os.path.join(folder, "no_paths")]
+        rows["floor"] = [floor, top, paths]
     libgit2 = build(folder, "libgit2_status", "-lgit2")
     if libgit2 is not None:
         rows["libgit2"] = [libgit2, top]
@@ -102,13 +106,16 @@ def report(times):
     def without(whole, rest):
         return tuple(a - b for a, b in zip(spans[whole], spans[rest]))
 
-    lines = {"the loop": without("loop", "no loop"), "the status alone": without("program", "no status")}
+    lines = {"the loop": without("loop", "no loop")}
+    if "floor" in spans:
+        lines["the library's lstat"] = without("floor", "no floor")
+    lines["the status alone"] = without("program", "no status")
     lines["the whole program"] = spans["program"]
     lines.update({name: spans[name] for name in ("git status", "git diff-files", "libgit2") if name in spans})
-    print(f"{'':18} {'least':>7} {'middle':>7} {'loops':>6} {'gits':>6}")
+    print(f"{'':19} {'least':>7} {'middle':>7} {'loops':>6} {'gits':>6}")
     for name, (least, middle) in lines.items():
         loops, gits = least / lines["the loop"][0], least / lines["git status"][0]
-        print(f"{name:18} {least:7.1f} {middle:7.1f} {loops:6.2f} {gits:6.2f}")
+        print(f"{name:19} {least:7.1f} {middle:7.1f} {loops:6.2f} {gits:6.2f}")
 
 
 def touch(top):
@@ -124,19 +131,21 @@ def main():
     parser.add_argument("program", help="the built program")
     parser.add_argument("folder", help="a repository that bench/folder.py made; its files are touched")
     parser.add_argument("--runs", type=int, default=11, help="how many runs of each row (11)")
+    parser.add_argument("--floor", help="the program of bench/floor.py")
     arguments = parser.parse_args()
     if arguments.runs < 1:
         parser.error("--runs above 0 is wanted")
     if shutil.which("git") is None:
         sys.exit("refused: there is no git")
     top, program = os.path.abspath(arguments.folder), os.path.abspath(arguments.program)
+    floor = arguments.floor and os.path.abspath(arguments.floor)
     for state in ("clean", "touched"):
         if state == "touched":
             touch(top)
         else:
             subprocess.run(["git", "-C", top, "update-index", "-q", "--refresh"], check=False)
         with tempfile.TemporaryDirectory() as folder:
-            rows = commands(program, top, folder)
+            rows = commands(program, floor, top, folder)
             print(f"\n{state}, {arguments.runs} runs, processor time in milliseconds")
             report(measure(rows, arguments.runs))
 
