@@ -10,7 +10,8 @@ what a stat needs: `s` behind the `c` of a change of content, and `update` where
 to say `refused N: WORDS` where the last event can't happen, and else nothing.
 
 STATUS_PROGRAM names the built program; without it crates/status_program/out/status_program is run. Where a history
-differs its profile stays, in the folder --keep, and the exit status is 1.
+differs its profile stays, in the folder --keep, and the exit status is 1. It is 2 for what can't be done, with one line
+on standard error.
 """
 
 import argparse
@@ -18,11 +19,9 @@ import json
 import os
 import random
 import subprocess
-import sys
 import tempfile
 
-TOP = os.path.dirname(os.path.dirname(os.path.abspath(__file__)))
-BUILT = os.path.join(TOP, "crates", "status_program", "out", "status_program")
+from shared import end, program_of
 
 # Some paths are above others, or sort otherwise by bytes than by components.
 PATHS = ["a", "a-", "a/b", "a/b/c", "a/bc", "a0", "b", "c", "c/a", "c/b", "d/a", "d/b/a", "d/b/b", "e", "f", "g"]
@@ -221,7 +220,12 @@ def compare(program, seed, events, keep):
     name = os.path.join(keep, f"history-{seed}.json")
     with open(name, "w", encoding="utf-8") as file:
         json.dump(drawn.profile, file)
-    found = difference(drawn, *run_program(program, name))
+    try:
+        found = difference(drawn, *run_program(program, name))
+    except subprocess.TimeoutExpired as late:
+        found = f"no answer within {late.timeout} seconds"
+    except UnicodeDecodeError:
+        found = "what was printed isn't UTF-8"
     if found is None:
         os.remove(name)
         return None
@@ -235,9 +239,7 @@ def main():
     parser.add_argument("--events", type=int, default=2000, help="the events of a history (2000)")
     parser.add_argument("--keep", help="where profiles of differing histories stay (a new folder)")
     options = parser.parse_args()
-    program = os.path.abspath(os.environ.get("STATUS_PROGRAM") or BUILT)
-    if not os.path.isfile(program):
-        parser.error(f"{program} isn't there: build the program, or name it by STATUS_PROGRAM")
+    program = program_of()
     keep = options.keep or tempfile.mkdtemp(prefix="histories-")
     os.makedirs(keep, exist_ok=True)
     seeds = range(options.first, options.first + options.seeds)
@@ -249,4 +251,4 @@ def main():
 
 
 if __name__ == "__main__":
-    sys.exit(main())
+    end(main, 2)

@@ -4,8 +4,9 @@
     python3 tools/profile_from_git.py [--counts] [FOLDER] > profile.json
 
 FOLDER is in the repository's worktree; without it the working folder is taken. Nothing is written but the profile, to
-standard output, and the git command to compare with, to standard error. What a profile can't say is refused with a line
-on standard error and the exit status 1. It needs git.
+standard output, and what the program doesn't see there and the git command to compare with, to standard error. What a
+profile can't say is refused with a line on standard error and the exit status 1, and so is a fault of git's or of the
+output's. It needs git.
 
 Over a folder the program sees a file's kind, its length and when its content last changed. So the profile has
 `trust_ctime` and `check_stat` off, and git needs the same settings: it must not compare the time of the last change of
@@ -20,8 +21,9 @@ metadata (core.trustctime=false), nor inode, owner and nanoseconds (core.checkSt
 The program prints `-cs` where the content changed and the stat agrees. Such a stat is racy: the file's time isn't before
 that of the index, in seconds.
 
-What the program doesn't know differs: conversions (line ends and filters; a note says how many paths have any), the
-content of submodules, and the kinds of files for which git has no mode.
+What the program doesn't know differs: conversions (line ends and filters), the heads and contents of submodules, and the
+kinds of files for which git has no mode. An entry whose node the program can't read, which would end the whole status, is
+left out. Notes say where that is so (unseen.py).
 """
 
 import argparse
@@ -29,11 +31,15 @@ import json
 import os
 import re
 import shlex
-import subprocess
-import sys
+
+from repository import git, line_of, setting, top_of
+from shared import Refused, end, say
+from unseen import unseen_of
 
 # The settings under which git compares what the program compares.
 COMPARABLE = ["-c", "core.trustctime=false", "-c", "core.checkStat=minimal", "-c", "core.fileMode=false"]
+COMPARABLE += ["-c", "core.fsmonitor=false"]
+STATUS = ["status", "--porcelain", "--untracked-files=no", "--no-renames", "--ignore-submodules=dirty"]
 
 ENTRY = re.compile(
     rb"(?P<mode>[0-7]{6}) (?P<id>[0-9a-f]{40}|[0-9a-f]{64}) (?P<stage>[0-3])\t(?P<path>[^\0]+)\0"
@@ -55,34 +61,6 @@ FLAGS = {
     "intent-to-add": 1 << 29,
 }
 
-CONVERSIONS = ["text", "eol", "crlf", "filter", "ident", "working-tree-encoding"]
-
-
-class Refused(Exception):
-    """What a profile can't say."""
-
-
-def git(folder, *words, given=None):
-    """What git prints."""
-    try:
-        ran = subprocess.run(["git", "-C", folder, *words], input=given, capture_output=True)
-    except FileNotFoundError:
-        raise Refused("git isn't installed") from None
-    if ran.returncode != 0:
-        raise Refused(f"git {words[0]}: {ran.stderr.decode(errors='replace').strip()}")
-    return ran.stdout
-
-
-def line_of(folder, *words):
-    """The one line that git prints, as a path or a word."""
-    return os.fsdecode(git(folder, *words).rstrip(b"\n"))
-
-
-def setting(folder, name, otherwise):
-    """A setting of git's that is true or false."""
-    said = git(folder, "config", "--type=bool", "--default", otherwise, name).strip()
-    return said == b"true"
-
 
 def text(raw, what):
     """Bytes as text, which JSON has to be."""
@@ -95,8 +73,8 @@ def text(raw, what):
 def number(raw, what):
     """A number of 32 bits."""
     value = int(raw)
-    if value >= 1 << 32:
-        raise Refused(f"{what} takes more than 32 bits: {value}")
+    if not 0 <= value < 1 << 32:
+        raise Refused(f"{what} is no number of 32 bits: {value}")
     return value
 
 
@@ -147,25 +125,9 @@ def moment_of(index):
     return [number(secs, "the time of the index"), nsecs]
 
 
-def converts_lines(folder):
-    """Whether git converts line ends where no attribute says so: by `input`, or by what git takes as true."""
-    said = git(folder, "config", "--default", "false", "core.autocrlf").strip()
-    return said.lower() == b"input" or setting(folder, "core.autocrlf", "false")
-
-
-def converted(folder, entries):
-    """How many paths git converts before it stores them."""
-    if converts_lines(folder):
-        return len(entries)
-    paths = b"".join(entry["path"].encode() + b"\0" for entry in entries)
-    said = git(folder, "check-attr", "-z", "--stdin", *CONVERSIONS, given=paths).split(b"\0")
-    found = {path for path, value in zip(said[0::3], said[2::3]) if value not in (b"unspecified", b"unset")}
-    return len(found)
-
-
 def profile_of(folder, counts=False):
-    """The profile of the repository whose worktree a folder is in, and how many of its paths git converts."""
-    top = line_of(folder, "rev-parse", "--show-toplevel")
+    """The profile of the repository whose worktree a folder is in, and what of it the program doesn't see."""
+    top = top_of(folder)
     named = text(os.fsencode(top), "the folder's path")
     kind = line_of(folder, "rev-parse", "--show-object-format")
     if kind not in ("sha1", "sha256"):
@@ -175,17 +137,18 @@ def profile_of(folder, counts=False):
     entries = entries_of(git(top, "ls-files", "--stage", "--debug", "-z"))
     if moment_of(index) != before:
         raise Refused("the index was written meanwhile")
+    timestamp = before or [0, 0]
+    unseen = unseen_of(top, timestamp, entries)
     options = {"symlink": setting(top, "core.symlinks", "true"), "trust_ctime": False, "check_stat": False}
     if counts:
         options["counts"] = True
-    profile = {"hash": kind, "timestamp": before or [0, 0], "options": options, "index": entries, "folder": named}
-    return profile, converted(top, entries)
+    kept = [entry for entry in entries if entry["path"] not in unseen.left_out]
+    return {"hash": kind, "timestamp": timestamp, "options": options, "index": kept, "folder": named}, unseen
 
 
 def comparable(folder):
     """The git command whose answer the program's is compared with."""
-    words = ["git", "--no-optional-locks", "-C", folder, *COMPARABLE]
-    return [*words, "status", "--porcelain", "--untracked-files=no", "--no-renames", "--ignore-submodules=dirty"]
+    return ["git", "--no-optional-locks", "-C", folder, *COMPARABLE, *STATUS]
 
 
 def main():
@@ -193,18 +156,13 @@ def main():
     parser.add_argument("--counts", action="store_true", help="have the program print its total line too")
     parser.add_argument("folder", nargs="?", default=".", help="a folder of the repository's worktree")
     arguments = parser.parse_args()
-    try:
-        profile, conversions = profile_of(arguments.folder, arguments.counts)
-    except Refused as refusal:
-        print(f"refused: {refusal}", file=sys.stderr)
-        return 1
-    json.dump(profile, sys.stdout, separators=(",", ":"))
-    print()
-    if conversions:
-        print(f"note: git converts {conversions} of the paths, and the program none", file=sys.stderr)
-    print("compare with:", shlex.join(comparable(profile["folder"])), file=sys.stderr)
+    profile, unseen = profile_of(arguments.folder, arguments.counts)
+    print(json.dumps(profile, separators=(",", ":")), flush=True)
+    for note in unseen.notes():
+        say(f"note: {note}")
+    say(f"compare with: {shlex.join(comparable(profile['folder']))}")
     return 0
 
 
 if __name__ == "__main__":
-    sys.exit(main())
+    end(main, 1)

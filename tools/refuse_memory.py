@@ -1,101 +1,190 @@
 #!/usr/bin/env python3
-"""Runs a crate with one allocation refused: the first, then in another run the second, and so on.
+"""Runs the program with one allocation refused: the first, then in another run the second, and so on.
 
-    python3 tools/refuse_memory.py crates/status_program -- status data/row1.json
-    python3 tools/refuse_memory.py crates/status_round
+    python3 tools/refuse_memory.py [--program PATH] [--limits 1 2] [--repeat 3] [--rows modified history]
 
-In the crate's folder it calls `rt try --fail-alloc N`: with arguments on the program, without any on all of the crate's
-tests, since `rt try` has no filter. A first run, in which nothing is refused, has to pass. Each later run may pass (a
-program with the same output), or fail by want of memory (each failure says one of the words of --want). Every other end
-is wrong, and is printed with its N and the run's output: a fault, another answer, or more than --seconds. `rt` builds
-anew for each run, and doesn't say whether there was an Nth allocation: --calm passes in a row end the sweep, or --last.
-Sweeps by --step share the work, each in a clone of its own. The exit status is 0 where no run ended wrongly, 1 where one
-did, and 2 where there is no sweep.
+tools/refuse_malloc.c is compiled and preloaded into the built program. It counts the calls for memory and for threads,
+and refuses the Nth; and in a second sweep the Nth and all behind it. A sweep ends with the first N that no run has. The
+profiles are those of tools/small_profiles.py, each with each limit of threads. How a run may end:
+
+- If nothing was refused, as the profile's row says. It may end so in any case.
+- Else with exit status 1 and `out of memory` as the one line of standard error. Where a thread was refused, or memory
+  to start one, it may also be `status failed: no thread`, or `refused N: run failed` for a run of a replay. For a start
+  the program takes memory right before it asks for the thread, and the C library takes some too. Where more than one
+  call was refused there may be no line, since it takes memory to write one.
+- Standard output has a beginning of the lines that the row has. A status with untracked files, renames or sorted lines
+  has printed nothing where it failed, and some lines where a later one was refused memory: N is then among the last
+  calls. A replay's refused run leaves all lines of the runs before it.
+
+All else is wrong, and printed: another line or output, a signal, a hang. The exit status is 0 where no run ended
+wrongly, 1 where one did, and 2 where there is no sweep. It needs Linux with glibc, and a C compiler.
 """
 
 import argparse
+import json
 import os
 import re
+import shutil
 import subprocess
 import sys
 import tempfile
+from dataclasses import dataclass
+
+from quick_runs import Runner, content, empty
+from small_profiles import ROWS
+
+HERE = os.path.dirname(os.path.abspath(__file__))
+BUILT = os.path.join(os.path.dirname(HERE), "crates", "status_program", "out", "status_program")
+MEMORY, THREAD, RUN = "out of memory\n", "status failed: no thread\n", r"refused (\d+): run failed\n"
+# More calls than a line takes.
+LINE_CALLS = 6
 
 
-def run(folder, words, seconds):
-    """The exit status, the output and the error output of `rt try`. No status where it didn't end in time."""
-    with tempfile.TemporaryFile() as out, tempfile.TemporaryFile() as err:
-        how = {"stdin": subprocess.DEVNULL, "stdout": out, "stderr": err, "cwd": folder}
-        child = subprocess.Popen(["rt", "try", *words], **how)
-        try:
-            status = child.wait(seconds)
-        except subprocess.TimeoutExpired:
-            status = None
-        finally:
-            end(child)
-        texts = [os.pread(file.fileno(), 1 << 22, 0).decode(errors="replace") for file in (out, err)]
-        return status, *texts
+def compiler():
+    """The C compiler that is there, if any."""
+    return next(filter(None, map(shutil.which, (os.environ.get("CC") or "cc", "gcc", "clang"))), None)
 
 
-def end(child):
-    """Ends a run that goes on. `rt` ends what it started where it is asked to end."""
-    if child.poll() is None:
-        child.terminate()
-        try:
-            child.wait(30)
-        except subprocess.TimeoutExpired:
-            child.kill()
+def compile_library(folder):
+    """Compiles what is preloaded, and gives its path."""
+    library = os.path.join(folder, "refuse_malloc.so")
+    words = [compiler(), "-O2", "-fPIC", "-shared", "-o", library, os.path.join(HERE, "refuse_malloc.c")]
+    subprocess.run(words, check=True)
+    return library
 
 
-def judged(status, out, err, wanted, want):
-    """How a run ended, in capitals where that is wrong."""
-    if status is None:
-        return "HANGS"
-    if re.search(r"^run=(?!ended)|^checked: fault", out + err, re.M):
-        return "FAULT"
-    if status == 0:
-        return "pass" if wanted is None or out == wanted else "OTHER OUTPUT"
-    failures = max(1, len(re.findall(r"\.\.\. FAILED", out + err)))
-    wants = [line for line in (out + err).splitlines() if re.search(want, line)]
-    return "want of memory" if len(wants) >= failures else "OTHER FAILURE"
+@dataclass(frozen=True)
+class Refused:
+    """What was refused in a run: a letter for each call, as tools/refuse_malloc.c has them."""
+
+    letters: str
+    # The first call that was refused, counted from 1, and the letters of all calls where none is.
+    at: int
+    calls: str
+
+    @property
+    def has_thread(self):
+        """Whether a thread was refused, or memory to start one. Where more than one is started, the calls behind the
+        first start come in any order.
+        """
+        starts = [at for at, letter in enumerate(self.calls) if letter == "t"]
+        late = len(starts) > 1 and self.at >= starts[0]
+        return bool(set(self.letters) & set("tc")) or self.at in starts or late
 
 
-def sweep(options, arguments):
-    """The exit status of the sweep."""
-    words = ["--", *arguments] if arguments else ["--test"]
-    status, out, err = run(options.folder, words, options.seconds)
-    if status != 0:
-        print(f"{out}{err}refused: where nothing is refused, rt try ends with {status}", file=sys.stderr)
-        return 2
-    wanted, ended, calm, at = out if arguments else None, 0, 0, options.first
-    while calm < options.calm and (options.last is None or at <= options.last):
-        status, out, err = run(options.folder, ["--fail-alloc", str(at), *words], options.seconds)
-        how = judged(status, out, err, wanted, options.want)
-        print(f"{at}: {how}", flush=True)
-        if how.isupper():
-            ended = 1
-            print(f"status {status}\n{out}{err}", flush=True)
-        calm, at = (calm + 1 if how == "pass" else 0), at + options.step
-    return ended
+def runs_before(row, place):
+    """The lines of the runs before an event of a replay. None where the event is no run."""
+    events = row.profile["events"]
+    if place >= len(events) or events[place][0] != "run":
+        return None
+    runs = sum(event[0] == "run" for event in events[:place])
+    end = row.out.find(f"run {runs + 1}\n")
+    return row.out[:end]
 
 
-def main():
-    parser = argparse.ArgumentParser(epilog="Behind -- come the program's arguments.")
-    parser.add_argument("folder", help="a crate's folder")
-    parser.add_argument("--first", type=int, default=1, help="the first N (1)")
-    parser.add_argument("--last", type=int, help="the last N")
-    parser.add_argument("--step", type=int, default=1, help="from one N to the next (1)")
-    parser.add_argument("--calm", type=int, default=3, help="how many passes in a row are the end (3)")
-    parser.add_argument("--seconds", type=float, default=300, help="a run's limit, its build included (300)")
-    parser.add_argument("--want", default=r"AllocError|AllocFailed|Memory|[Oo]ut of memory", help="a pattern")
-    words = sys.argv[1:]
-    cut = words.index("--") if "--" in words else len(words)
-    options = parser.parse_args(words[:cut])
-    if min(options.first, options.calm, options.step) < 1 or not os.path.isdir(f"{options.folder}/src"):
-        parser.error("a crate's folder is wanted, and --first, --step and --calm above 0")
+def wrong_fault(row, refused, out, fault):
+    """What is wrong with the line on standard error, if anything."""
+    if fault == MEMORY or (fault == "" and len(refused.letters) > 1):
+        return None
+    if refused.has_thread and row.command != "replay" and fault == THREAD:
+        return None
+    run = re.fullmatch(RUN, fault)
+    if refused.has_thread and row.command == "replay" and run:
+        return None if out == runs_before(row, int(run[1])) else "other runs than those before the refused one"
+    return "another line on standard error"
+
+
+def wrong(row, refused, ended):
+    """What is wrong with how a run ended, if anything."""
     try:
-        return sweep(options, words[cut + 1 :])
-    except FileNotFoundError:
-        return parser.error("rt isn't there")
+        out, fault = ended.out.decode(), ended.fault.decode()
+    except UnicodeDecodeError:
+        return "text that isn't UTF-8"
+    if (ended.status, out, fault) == (row.status, row.out, row.fault):
+        return None
+    if not refused.letters:
+        return "another answer, and nothing was refused"
+    if ended.status != 1:
+        return ended.end()
+    if not row.out.startswith(out) or out[-1:] not in ("", "\n"):
+        return "output that is no beginning of the lines"
+    unprinted = row.out.count("\n") - out.count("\n")
+    if row.is_joined and out and refused.at <= len(refused.calls) - LINE_CALLS * unprinted:
+        return "lines of a joined status that failed"
+    return wrong_fault(row, refused, out, fault)
+
+
+class Sweeper:
+    """Runs the program on one row's profile, with calls refused."""
+
+    def __init__(self, runner, library, row, file, report):
+        self.runner, self.library, self.row, self.file, self.report = runner, library, row, file, report
+
+    def run(self, at, on):
+        """How a run ends in which this call is refused, and those behind it, and what was refused."""
+        number = self.report.fileno()
+        empty(number)
+        settings = {"LD_PRELOAD": self.library, "REFUSE_AT": str(at), "REFUSE_ON": str(int(on))}
+        ended = self.runner.run([self.row.command, self.file], settings | {"REFUSE_REPORT": str(number)})
+        return ended, content(number).decode()
+
+    def sweep(self, on, repeat):
+        """Gives the number of runs, the last call that came, and the wrong runs: which call was refused, what is wrong,
+        and how the run ended.
+        """
+        calls, found, runs, at = self.run(0, False)[1], [], 0, 0
+        while True:
+            at, runs = at + 1, runs + repeat
+            ends = [self.run(at, on) for _ in range(repeat)]
+            for ended, letters in ends:
+                said = wrong(self.row, Refused(letters, at, calls), ended)
+                found += [(at, said, ended)] if said else []
+            if not any(letters for _, letters in ends):
+                found += [(at, "no call is counted", ends[0][0])] if at == 1 else []
+                return runs, at - 1, found
+
+
+def sweep_row(program, library, name, limit, on, options):
+    """Sweeps one row with one limit, prints what came of it, and gives the number of wrong runs."""
+    row = ROWS[name]
+    with tempfile.TemporaryDirectory() as room, tempfile.TemporaryFile() as report:
+        os.set_inheritable(report.fileno(), True)
+        profile = row.with_limit(limit)
+        if row.files:
+            profile |= {"folder": os.path.join(room, profile["folder"])}
+            row.make_files(profile["folder"])
+        file = os.path.join(room, "profile.json")
+        with open(file, "w", encoding="utf-8") as out:
+            json.dump(profile, out)
+        with Runner(program, options.seconds) as runner:
+            runs, last, found = Sweeper(runner, library, row, file, report).sweep(on, options.repeat)
+    which = "each from one on" if on else "one"
+    print(f"{name}, limit {limit}, {which}: {last} calls, {runs} runs, {len(found)} wrong", flush=True)
+    for at, said, ended in found[: options.show]:
+        print(f"  call {at}: {said}: {ended.text()}", flush=True)
+    return runs, len(found)
+
+
+def main(arguments=None):
+    parser = argparse.ArgumentParser()
+    parser.add_argument("--program", default=os.environ.get("STATUS_PROGRAM") or BUILT, help="the built program")
+    parser.add_argument("--rows", nargs="+", choices=ROWS, default=list(ROWS), help="the profiles (all)")
+    parser.add_argument("--limits", nargs="+", type=int, default=[1, 2], help="the limits of threads (1 2)")
+    parser.add_argument("--repeat", type=int, default=3, help="how many runs for each N (3)")
+    parser.add_argument("--seconds", type=float, default=10, help="a run's limit (10)")
+    parser.add_argument("--show", type=int, default=5, help="how many wrong runs of a sweep are printed (5)")
+    options = parser.parse_args(arguments)
+    if not os.access(options.program, os.X_OK) or options.repeat < 1:
+        parser.error(f"{options.program} isn't there to run, or --repeat is below 1")
+    if compiler() is None:
+        parser.error("no C compiler")
+    with tempfile.TemporaryDirectory() as folder:
+        library = compile_library(folder)
+        sweeps = [(name, limit, on) for name in options.rows for limit in options.limits for on in (False, True)]
+        ends = [sweep_row(options.program, library, *it, options) for it in sweeps]
+    wrongs = sum(found for _, found in ends)
+    print(f"{sum(runs for runs, _ in ends)} runs, {wrongs} ended wrongly")
+    return int(wrongs > 0)
 
 
 if __name__ == "__main__":

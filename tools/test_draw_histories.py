@@ -5,15 +5,11 @@ Where STATUS_PROGRAM names the built program, twenty drawn histories are run thr
 """
 
 import os
-import sys
 import tempfile
 import unittest
 
-HERE = os.path.dirname(os.path.abspath(__file__))
-sys.path.insert(0, HERE)
 import draw_histories as tool
-
-PROGRAM = os.path.abspath(os.environ["STATUS_PROGRAM"]) if os.environ.get("STATUS_PROGRAM") else None
+from cases import PROGRAM, Ends, run_tool
 
 
 def lines_of(drawn):
@@ -88,6 +84,24 @@ class Judging(unittest.TestCase):
         words = {it.fault.split(": ")[-1].strip() for it in all_drawn}
         wanted = {"", "clock end", "bad path", "in the way", "not a file", "bad moment", "stamp later"}
         self.assertEqual(words, wanted)
+
+
+class Faults(Ends):
+    def test_a_full_disk_and_a_closed_pipe_are_refused(self):
+        self.assert_unwritten(2, "draw_histories.py", "--seeds", "0", STATUS_PROGRAM="/bin/true")
+
+    def test_a_missing_program_is_refused(self):
+        ran = run_tool("draw_histories.py", "--seeds", "1", STATUS_PROGRAM="/nowhere")
+        self.assert_refused(ran, 2, "there is no built program at /nowhere")
+
+    def test_a_folder_that_cannot_be_made_is_refused(self):
+        ran = run_tool("draw_histories.py", "--seeds", "1", "--keep", "/dev/null/x", STATUS_PROGRAM="/bin/true")
+        self.assert_refused(ran, 2, "/dev/null/x: Not a directory")
+
+    def test_a_program_that_says_nothing_differs(self):
+        with tempfile.TemporaryDirectory() as room:
+            ran = run_tool("draw_histories.py", "--seeds", "1", "--keep", room, STATUS_PROGRAM="/bin/true")
+            self.assertEqual((ran.returncode, os.listdir(room)), (1, ["history-0.json"]))
 
 
 @unittest.skipUnless(PROGRAM, "no built program")

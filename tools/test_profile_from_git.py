@@ -10,58 +10,23 @@ import shlex
 import shutil
 import socket
 import subprocess
-import sys
 import tempfile
 import time
 import unittest
 
-HERE = os.path.dirname(os.path.abspath(__file__))
-sys.path.insert(0, HERE)
 import profile_from_git as tool
+import unseen
+from cases import FOO, PROGRAM, Case, run_tool
+from repository import quoted
 
-FOO = "19102815663d23f8b75a47e7a01965dcdc96468c"
-PROGRAM = os.path.abspath(os.environ["STATUS_PROGRAM"]) if os.environ.get("STATUS_PROGRAM") else None
 # git's letters for the program's words. None where git prints no line.
 LETTERS = {"removed": "D", "modified": "M", "type": "T", "intent": "A", "update": None}
 
-# No setting of the user's and none of a hook's changes what git does here.
-for name in [name for name in os.environ if name.startswith("GIT_")]:
-    del os.environ[name]
-os.environ.update(GIT_CONFIG_GLOBAL=os.devnull, GIT_CONFIG_NOSYSTEM="1")
 
-
-@unittest.skipUnless(shutil.which("git"), "no git")
-class Case(unittest.TestCase):
-    def setUp(self):
-        room = tempfile.TemporaryDirectory()
-        self.addCleanup(room.cleanup)
-        self.top = os.path.join(os.path.realpath(room.name), "top")
-        os.mkdir(self.top)
-        self.git("init", "-q")
-
-    def git(self, *words, given=None):
-        named = ["-c", "user.name=n", "-c", "user.email=e", "-c", "core.hooksPath=/dev/null"]
-        ran = subprocess.run(["git", "-C", self.top, *named, *words], input=given, capture_output=True, check=True)
-        return ran.stdout
-
-    def path(self, name):
-        return os.path.join(self.top, name)
-
-    def write(self, name, text):
-        os.makedirs(os.path.dirname(self.path(name)), exist_ok=True)
-        with open(self.path(name), "w", encoding="utf-8", newline="") as file:
-            file.write(text)
-
-    def run_tool(self, **settings):
-        """What the tool prints when it is run by itself, with these settings in its environment."""
-        words = [sys.executable, tool.__file__, self.top]
-        return subprocess.run(words, capture_output=True, env={**os.environ, **settings})
-
+class Profiles(Case):
     def entries(self):
         return {(it["path"], it.get("stage", 0)): it for it in tool.profile_of(self.top)[0]["index"]}
 
-
-class Profiles(Case):
     def test_an_entry_has_what_lstat_reported(self):
         self.write("a", "foo")
         os.chmod(self.path("a"), 0o755)
@@ -80,8 +45,8 @@ class Profiles(Case):
     def test_the_folder_the_moment_and_the_options_are_those_of_the_repository(self):
         self.write("d/a", "foo")
         self.git("add", ".")
-        profile, conversions = tool.profile_of(self.path("d"))
-        self.assertEqual((profile["folder"], profile["hash"], conversions), (self.top, "sha1", 0))
+        profile, found = tool.profile_of(self.path("d"))
+        self.assertEqual((profile["folder"], profile["hash"], found.notes()), (self.top, "sha1", []))
         written = os.stat(self.path(".git/index")).st_mtime_ns
         self.assertEqual(profile["timestamp"], list(divmod(written, 10**9)))
         wanted = {"symlink": True, "trust_ctime": False, "check_stat": False}
@@ -110,26 +75,10 @@ class Profiles(Case):
         profile, _ = tool.profile_of(self.top)
         self.assertEqual((profile["index"], profile["timestamp"]), ([], [0, 0]))
 
-    def test_conversions_are_counted(self):
-        for name in ("a.txt", "b.txt", "c"):
-            self.write(name, "foo")
-        self.write(".gitattributes", "*.txt text\n")
-        self.git("add", ".")
-        self.assertEqual(tool.profile_of(self.top)[1], 2)
-
-    def test_line_ends_are_converted_as_the_setting_has_it(self):
-        for name in ("a", "b"):
-            self.write(name, "foo")
-        self.git("add", ".")
-        for value in ("input", "Input", "true", "yes", "on", "1", "false", "no", "off", "0"):
-            self.git("config", "core.autocrlf", value)
-            wanted = 0 if value in ("false", "no", "off", "0") else 2
-            self.assertEqual(tool.profile_of(self.top)[1], wanted, value)
-
     def test_a_profile_can_be_printed_in_any_encoding(self):
         self.write("é", "foo")
         self.git("add", ".")
-        ran = self.run_tool(PYTHONIOENCODING="ascii")
+        ran = run_tool("profile_from_git.py", self.top, PYTHONIOENCODING="ascii")
         self.assertEqual(ran.returncode, 0, ran.stderr)
         self.assertEqual([entry["path"] for entry in json.loads(ran.stdout)["index"]], ["é"])
 
@@ -140,7 +89,7 @@ class Profiles(Case):
         self.write("a", "foo")
         self.git("add", "a")
         os.remove(self.path("a"))
-        said = self.run_tool().stderr.decode().splitlines()[-1]
+        said = run_tool("profile_from_git.py", self.top).stderr.decode().splitlines()[-1]
         self.assertTrue(said.startswith("compare with: "), said)
         command = said[len("compare with: ") :]
         self.assertNotIn("-z", shlex.split(command))
@@ -148,22 +97,142 @@ class Profiles(Case):
         self.assertEqual(ran.stdout, b"AD a\n")
 
 
+class Unseen(Case):
+    def unseen(self):
+        return tool.profile_of(self.top)[1]
+
+    def test_conversions_are_counted(self):
+        for name in ("a.txt", "b.txt", "c"):
+            self.write(name, "foo")
+        self.write(".gitattributes", "*.txt text\n")
+        self.git("add", ".")
+        self.assertEqual(self.unseen().conversions, 2)
+
+    def test_line_ends_are_converted_as_the_setting_has_it(self):
+        for name in ("a", "b"):
+            self.write(name, "foo")
+        self.git("add", ".")
+        for value in ("input", "Input", "true", "yes", "on", "1", "false", "no", "off", "0"):
+            self.git("config", "core.autocrlf", value)
+            wanted = 0 if value in ("false", "no", "off", "0") else 2
+            self.assertEqual(self.unseen().conversions, wanted, value)
+
+    def test_executability_counts_where_git_compares_it(self):
+        for name in ("a", "b", "c"):
+            self.write(name, "foo")
+        self.git("add", ".")
+        os.chmod(self.path("a"), 0o755)
+        self.git("update-index", "--chmod=+x", "b")
+        self.git("config", "core.fileMode", "true")
+        self.assertEqual(self.unseen().executable, 2)
+        self.git("config", "core.fileMode", "false")
+        self.assertEqual(self.unseen().executable, 0)
+
+    def test_a_time_that_was_put_back_is_told(self):
+        names = ["a", "longer", "later", "racy"]
+        for name in names:
+            self.write(name, "foo")
+            os.utime(self.path(name), (9, 9) if name == "racy" else (5, 5))
+        self.git("add", ".")
+        os.utime(self.path(".git/index"), (9, 9))
+        found = self.unseen()
+        self.assertEqual((found.restored, found.notes()), (0, []))
+        times = {"later": 6, "racy": 9}
+        for name in names:
+            os.rename(self.path(name), self.path("old " + name))
+            self.write(name, "longer" if name == "longer" else "bar")
+            os.utime(self.path(name), (times.get(name, 5), times.get(name, 5)))
+        # Each has another inode, but all except `a` are compared by their content.
+        found = self.unseen()
+        self.assertEqual(found.restored, 1)
+        self.assertIn("1 file with the index's length", found.notes()[0])
+
+    def test_submodules_are_counted(self):
+        self.git("update-index", "--add", "--cacheinfo", f"160000,{FOO},sub")
+        found = self.unseen()
+        self.assertEqual((found.submodules, len(found.notes())), (1, 1))
+
+    def test_what_the_program_cannot_read_is_left_out(self):
+        for name in ("a", "early", "late", "file"):
+            self.write(name, "foo")
+        os.symlink(b"\xff", self.path("odd"))
+        os.symlink("d", self.path("plain"))
+        self.git("add", ".")
+        os.remove(self.path("file"))
+        os.symlink(b"\xff", self.path("file"))
+        os.utime(self.path("early"), (-5, -5))
+        os.utime(self.path("late"), (1 << 32, 1 << 32))
+        wanted = ["a", "file", "plain"]
+        if os.stat(self.path("late")).st_mtime < 1 << 32:
+            wanted.insert(2, "late")  # The file system has no such time.
+        if os.stat(self.path("early")).st_mtime >= 0:
+            wanted.insert(1, "early")
+        profile, found = tool.profile_of(self.top)
+        self.assertEqual([entry["path"] for entry in profile["index"]], wanted)
+        self.assertIn("left out, since the link's target isn't UTF-8: odd", found.notes())
+
+    def test_what_lies_behind_a_link_is_not_looked_at(self):
+        self.write("d/a", "foo")
+        self.write("e/a", "foo")
+        self.git("add", "d")
+        shutil.rmtree(self.path("d"))
+        os.symlink("e", self.path("d"))
+        self.assertIsNone(unseen.node_at(os.fsencode(self.top), b"d/a", {}))
+        self.assertIsNotNone(unseen.node_at(os.fsencode(self.top), b"e/a", {}))
+
+    def test_paths_are_quoted_as_git_quotes_them(self):
+        names = [bytes([byte]) + b"x" for byte in range(1, 256) if byte != ord("/")] + [b"plain", "é x".encode()]
+        lines = b"".join(b"100644 " + FOO.encode() + b" 0\t" + name + b"\0" for name in names)
+        self.git("update-index", "-z", "--index-info", given=lines)
+        wanted = [line[3:] for line in self.git("status", "--porcelain").decode("ascii").splitlines()]
+        self.assertEqual([quoted(name) for name in sorted(names)], wanted)
+
+
 class Refusals(Case):
+    def refused(self, words, folder=None, **settings):
+        ran = run_tool("profile_from_git.py", folder or self.top, **settings)
+        self.assertEqual(ran.stdout, b"")
+        self.assert_refused(ran, 1, words)
+
     def test_a_path_that_is_no_text_is_refused(self):
         line = b"100644 " + FOO.encode() + b" 0\tx\xff\n"
         self.git("update-index", "--index-info", given=line)
-        with self.assertRaisesRegex(tool.Refused, "isn't UTF-8"):
-            tool.profile_of(self.top)
+        self.refused("isn't UTF-8")
 
     def test_a_folder_without_a_repository_is_refused(self):
-        room = os.path.dirname(self.top)
-        tried = subprocess.run([sys.executable, tool.__file__, room], capture_output=True, text=True)
-        self.assertEqual((tried.returncode, tried.stdout), (1, ""))
-        self.assertTrue(tried.stderr.startswith("refused: git rev-parse: "), tried.stderr)
+        self.refused("git rev-parse: fatal: not a git repository", self.room)
+
+    def test_a_folder_that_is_not_there_is_refused(self):
+        self.refused("gone is no folder", self.path("gone"))
+        self.git("config", "core.worktree", self.path("gone"))
+        self.refused("gone", self.top)
+
+    def test_a_bare_repository_is_refused(self):
+        self.git("config", "core.bare", "true")
+        self.refused("is a bare repository")
+        self.refused("is a bare repository", self.path(".git"))
 
     def test_a_missing_git_is_refused(self):
-        ran = self.run_tool(PATH=os.path.dirname(self.top))
-        self.assertEqual((ran.returncode, ran.stdout, ran.stderr), (1, b"", b"refused: git isn't installed\n"))
+        self.refused("git isn't installed", PATH=self.room)
+
+    def test_a_full_disk_and_a_closed_pipe_are_refused(self):
+        self.assert_unwritten(1, "profile_from_git.py", self.top)
+
+    def test_an_index_that_git_cannot_read_is_refused(self):
+        self.write("a", "foo")
+        self.git("add", "a")
+        with open(self.path(".git/index"), "rb") as file:
+            index = file.read()
+        for broken in (index[:4] + b"\0\0\0\x63" + index[8:], b"X" + index[1:], index[:4]):
+            with open(self.path(".git/index"), "wb") as file:
+                file.write(broken)
+            self.refused("git ls-files: ")
+
+    def test_a_locked_index_is_read(self):
+        self.write("a", "foo")
+        self.git("add", "a")
+        self.write(".git/index.lock", "")
+        self.assertEqual(run_tool("profile_from_git.py", self.top).returncode, 0)
 
     def test_an_unknown_listing_is_refused(self):
         with self.assertRaisesRegex(tool.Refused, "isn't known"):
@@ -181,7 +250,7 @@ class Comparison(Case):
             # A pipe that is opened would never answer.
             ran = subprocess.run([PROGRAM, "status", file.name], capture_output=True, text=True, timeout=30)
         self.assertEqual((ran.returncode, ran.stderr), (0, ""))
-        return ran.stdout.splitlines()
+        return ran.stdout.split("\n")[:-1]
 
     def program(self):
         """What the program reports of each path: a letter as git's, or that there is a conflict."""

@@ -1,0 +1,269 @@
+#!/usr/bin/env python3
+"""Runs the program on truncated and mutated profiles, and judges each end by docs/FORMATS.md.
+
+    python3 tools/fuzz_profiles.py --seeds 0 100000 --jobs 2
+    python3 tools/fuzz_profiles.py --show status 17 > profile.json
+
+Each seed is run for each command of the table COMMANDS. A command's name and a seed give the same profile and arguments
+each time. The profile is one of tools/mutations.py, tools/small_profiles.py or crates/status_program/data, mutated as a
+JSON value, as tokens or as bytes. How a run has to end:
+
+- with exit status 0, 1 or 2, without a signal, and within --seconds;
+- with status 0 nothing is on standard error; with 1 one of the lines that docs/FORMATS.md has, want of memory and
+  refused threads aside; with 2, which only other arguments give, the usage;
+- standard output has lines of the forms there, places ascend, runs are numbered, and a total line ends its run;
+- `not JSON` is said just where Python's reader refuses the text too, or where it has what no text can be: half of a
+  surrogate pair, a number past the range of floats, or more than 127 levels.
+
+Prints the seeds of other ends, and how often each exit status and fault line came. The exit status is 0 where no run
+ended otherwise, 1 where one did, and 2 where nothing was run.
+"""
+
+import argparse
+import collections
+import json
+import multiprocessing
+import os
+import random
+import re
+import sys
+import tempfile
+from dataclasses import dataclass
+
+from mutations import mutated
+from quick_runs import Runner
+
+TOP = os.path.dirname(os.path.dirname(os.path.abspath(__file__)))
+BUILT = os.path.join(TOP, "crates", "status_program", "out", "status_program")
+DATA = os.path.join(TOP, "crates", "status_program", "data")
+USAGE = "usage: status_program status FILE | replay FILE\n"
+# How many seeds a process is given at once.
+CHUNK = 100
+# How deep the program's reader goes.
+MOST_LEVELS = 127
+
+FAULT = r"not found|not a directory|permission denied|interrupted|unexpected end|not normal|time|other 0"
+MOMENTS = r"stamp later|bad moment"
+REFUSAL = rf"clock end|bad path|in the way|too large|not a file|{MOMENTS}"
+
+
+@dataclass(frozen=True)
+class Command:
+    """What a command may say on standard error with status 1, beside that the file can't be read or isn't JSON."""
+
+    faults: str
+
+    def is_fault(self, line):
+        return re.fullmatch(rf"(?:cannot read [^\n]*|not JSON|{self.faults})\n", line) is not None
+
+
+COMMANDS = {
+    "status": Command(
+        r"bad profile: (?:hash|timestamp|options|index|worktree)"
+        r"|bad index: (?:empty path|not ascending|mixed hash) at \d+"
+        r"|bad worktree: (?:bad path|in the way) at \d+"
+        rf"|status failed: (?:{FAULT})"
+    ),
+    "replay": Command(
+        r"bad profile: (?:hash|clock|timestamp|options|events)"
+        rf"|refused start: (?:{MOMENTS})"
+        rf"|refused \d+: (?:{REFUSAL})"
+    ),
+}
+
+PATH = r'"(?:[^"\\\x00-\x1f]|\\["\\bfnrt]|\\u00[01][0-9a-f])*"'
+CONFLICT = "both-deleted 1|added-by-us 2|deleted-by-them 12|added-by-them 3|deleted-by-us 13"
+CONFLICT += "|both-added 23|both-modified 123"
+STATUS = rf"removed|type (?:100644|100755|120000)|modified (?:x--|[x-]c[s-])|update|intent|conflict (?:{CONFLICT})"
+RECORD = re.compile(rf"(\d+) (?:{STATUS}) {PATH}")
+BESIDE = re.compile(rf"- (?:added {PATH}|renamed {PATH} {PATH})")
+TOTAL = re.compile(
+    r"total: to process \d+, processed \d+, skipped \d+, lstat \d+, to update \d+, racy \d+, read \d+, bytes \d+"
+)
+
+
+class NotJson(ValueError):
+    """What the program's reader refuses and Python's doesn't."""
+
+
+def plain_number(text):
+    if abs(float(text)) == float("inf"):
+        raise NotJson(text)
+    return 0
+
+
+def refuse_constant(text):
+    raise NotJson(text)
+
+
+def check_text(text):
+    text.encode()
+
+
+def check_pairs(pairs):
+    for name, value in pairs:
+        check_text(name)
+        check_item(value)
+    return {}
+
+
+def check_item(value):
+    if isinstance(value, str):
+        check_text(value)
+    elif isinstance(value, list):
+        for item in value:
+            check_item(item)
+
+
+def levels(text):
+    """How deep lists and objects stand in each other, of text that is JSON."""
+    depth = most = 0
+    for token in re.findall(r'"(?:[^"\\]|\\.)*"|[][{}]', text):
+        depth += {"[": 1, "{": 1, "]": -1, "}": -1}.get(token, 0)
+        most = max(most, depth)
+    return most
+
+
+READER = json.JSONDecoder(
+    object_pairs_hook=check_pairs, parse_float=plain_number, parse_int=plain_number, parse_constant=refuse_constant
+)
+
+
+def is_json(content):
+    """Whether the program's reader has to take this for JSON."""
+    try:
+        text = content.decode()
+        value = READER.decode(text)
+        check_item(value)
+    except (ValueError, RecursionError):
+        return False
+    return levels(text) <= MOST_LEVELS
+
+
+def wrong_lines(command, status, out):
+    """What is wrong with the lines of standard output, if anything."""
+    if out and not out.endswith("\n"):
+        return "a line without end"
+    runs, last, closed = 0, -1, command == "replay"
+    for line in out.split("\n")[:-1]:
+        record = RECORD.fullmatch(line)
+        if command == "replay" and line == f"run {runs + 1}":
+            runs, last, closed = runs + 1, -1, False
+        elif closed:
+            return f"a line behind the total line, or before the first run: {line}"
+        elif TOTAL.fullmatch(line):
+            closed = True
+        elif record and int(record[1]) > last:
+            last = int(record[1])
+        elif command == "replay" or not BESIDE.fullmatch(line):
+            return f"another line: {line}"
+    return "a status that failed has a total line" if closed and status == 1 and command == "status" else None
+
+
+def wrong(case, ended):
+    """What is wrong with how a run ended, if anything."""
+    if ended.status not in (0, 1, 2):
+        return ended.end()
+    try:
+        out, fault = ended.out.decode(), ended.fault.decode()
+    except UnicodeDecodeError:
+        return "text that isn't UTF-8"
+    if case.is_usage or ended.status == 2:
+        right = case.is_usage and (ended.status, out, fault) == (2, "", USAGE)
+        return None if right else "usage, or none where it is due"
+    if (ended.status == 0) != (fault == ""):
+        return "a line on standard error and status 0, or none and status 1"
+    if fault and not COMMANDS[case.command].is_fault(fault):
+        return "another line on standard error"
+    if fault.startswith("cannot read ") != case.is_missing:
+        return "a file that is there can't be read, or one that isn't is read"
+    if not case.is_missing and (fault == "not JSON\n") == is_json(case.content):
+        return "another opinion of what JSON is"
+    return wrong_lines(case.command, ended.status, out)
+
+
+@dataclass(frozen=True)
+class Case:
+    """What the program is run on."""
+
+    command: str
+    content: bytes
+    # The arguments, in which {} stands for the profile's file.
+    words: tuple
+    is_usage: bool = False
+    is_missing: bool = False
+
+
+def case_of(command, seed):
+    """The case of a seed."""
+    draw = random.Random(f"{command} {seed}")
+    content = mutated(draw, command)
+    if draw.random() > 0.01:
+        return Case(command, content, (command, "{}"))
+    if draw.random() < 0.3:
+        return Case(command, content, (command, draw.choice(["{}.gone", "{}/a", "", "/"])), is_missing=True)
+    words = [(), (command,), (command, "{}", "{}"), ("{}", command), (command.upper(), "{}"), ("", "{}"), ("--help",)]
+    return Case(command, content, draw.choice(words), is_usage=True)
+
+
+def run_seed(runner, file, command, seed):
+    """The case of a seed, how its run ended, and what is wrong with that, if anything."""
+    case = case_of(command, seed)
+    with open(file, "wb") as out:
+        out.write(case.content)
+    ended = runner.run([word.replace("{}", file) for word in case.words])
+    return case, ended, wrong(case, ended)
+
+
+def form_of(ended):
+    """The exit status, and the words of the line on standard error."""
+    line = ended.fault.decode(errors="replace").strip()
+    words = "cannot read" if line.startswith("cannot read ") else re.sub(r"\d+", "N", line.split(": status_program")[0])
+    return f"{ended.status} {words}".strip()
+
+
+def run_seeds(job):
+    """Runs some seeds, and gives how often each end came, and the wrong ones."""
+    program, seconds, commands, seeds = job
+    forms, found = collections.Counter(), []
+    os.chdir(DATA)
+    with tempfile.TemporaryDirectory() as room, Runner(program, seconds) as runner:
+        file = os.path.join(room, "profile.json")
+        for command in commands:
+            for seed in seeds:
+                _, ended, said = run_seed(runner, file, command, seed)
+                forms[f"{command}: {form_of(ended)}"] += 1
+                found += [f"{command} {seed}: {said}: {ended.text()}"] if said else []
+    return forms, found
+
+
+def main(arguments=None):
+    parser = argparse.ArgumentParser()
+    parser.add_argument("--program", default=os.environ.get("STATUS_PROGRAM") or BUILT, help="the built program")
+    parser.add_argument("--seeds", nargs=2, type=int, default=[0, 1000], metavar=("FIRST", "COUNT"), help="(0 1000)")
+    parser.add_argument("--commands", nargs="+", choices=COMMANDS, default=list(COMMANDS), help="(all)")
+    parser.add_argument("--jobs", type=int, default=1, help="how many processes (1)")
+    parser.add_argument("--seconds", type=float, default=5, help="a run's limit (5)")
+    parser.add_argument("--show", nargs=2, metavar=("COMMAND", "SEED"), help="print a seed's profile, and run nothing")
+    options = parser.parse_args(arguments)
+    if options.show:
+        sys.stdout.buffer.write(case_of(options.show[0], int(options.show[1])).content)
+        return 0
+    (first, count), program = options.seeds, os.path.abspath(options.program)
+    if not os.access(program, os.X_OK) or count < 1 or options.jobs < 1:
+        parser.error(f"{program} isn't there to run, or a number is below 1")
+    seeds = range(first, first + count)
+    jobs = [(program, options.seconds, options.commands, seeds[at : at + CHUNK]) for at in range(0, count, CHUNK)]
+    forms, wrongs = collections.Counter(), 0
+    with multiprocessing.Pool(options.jobs) as pool:
+        for counted, found in pool.imap(run_seeds, jobs):
+            forms, wrongs = forms + counted, wrongs + len(found)
+            print(*found, sep="\n", end="\n" * bool(found), flush=True)
+    for form, times in sorted(forms.items()):
+        print(f"{times:8} {form}")
+    print(f"{sum(forms.values())} runs, {wrongs} ended wrongly")
+    return int(wrongs > 0)
+
+
+if __name__ == "__main__":
+    sys.exit(main())

@@ -1,0 +1,141 @@
+"""Small profiles with what the program has to say to them, for the scripts that run it under stress."""
+
+import hashlib
+import os
+from dataclasses import dataclass, field
+
+# The second in which the entries and their files were last changed.
+OLD = 4
+
+
+@dataclass(frozen=True)
+class Row:
+    """A command's profile, and how its run ends."""
+
+    command: str
+    profile: dict
+    out: str = ""
+    fault: str = ""
+    # What lies below the profile's folder, where it has one: the texts of files and the targets of links.
+    files: dict = field(default_factory=dict)
+    links: dict = field(default_factory=dict)
+
+    @property
+    def status(self):
+        return int(self.fault != "")
+
+    @property
+    def is_joined(self):
+        options = self.profile.get("options", {})
+        return any(options.get(name) for name in ("untracked", "renames", "sort"))
+
+    def make_files(self, top):
+        """Makes what lies below the folder. The files are as old as the entries of the index."""
+        places = [(path, os.path.join(top, path)) for path in {**self.files, **self.links}]
+        for path, place in places:
+            os.makedirs(os.path.dirname(place), exist_ok=True)
+            if path in self.links:
+                os.symlink(self.links[path], place)
+                continue
+            with open(place, "w", encoding="utf-8") as file:
+                file.write(self.files[path])
+            os.utime(place, (OLD, OLD))
+
+    def with_limit(self, limit):
+        """The profile with this limit of threads in its options, or in its runs."""
+        if self.command != "replay":
+            return self.profile | {"options": self.profile.get("options", {}) | {"thread_limit": limit}}
+        return self.profile | {"events": [limited(event, limit) for event in self.profile["events"]]}
+
+
+def limited(event, limit):
+    return [*event[:3], limit, event[4]] if event[0] == "run" else event
+
+
+def id_of(text):
+    """git's id of a content."""
+    content = text.encode()
+    return hashlib.sha1(b"blob %d\0" % len(content) + content).hexdigest()
+
+
+def entry(path, text, **more):
+    return {"path": path, "id": id_of(text), "size": len(text), "mtime": [OLD, 0], **more}
+
+
+def node(path, text, **more):
+    return {"path": path, "text": text, "mtime": [7, 0], **more}
+
+
+MODIFIED = {
+    "timestamp": [9, 0],
+    "options": {"chunk_size": 1},
+    "index": [entry("a", "foo", mtime=[5, 0]), entry("b", "bar", mtime=[5, 0])],
+    "worktree": [node("a", "bars"), node("b", "bar", mtime=[5, 0])],
+}
+CONFLICT = {
+    "timestamp": [9, 0],
+    "options": {"chunk_size": 2, "counts": True},
+    "index": [
+        entry("a", "foo"),
+        *(entry("f", "foo", stage=stage) for stage in (1, 2, 3)),
+        entry("g", "foo"),
+    ],
+    "worktree": [node(path, "foo", mtime=[OLD, 0]) for path in ("a", "f", "g")],
+}
+HISTORY = {
+    "clock": 5,
+    "timestamp": 5,
+    "options": {"trust_ctime": False},
+    "events": [
+        ["write", "a", "foo"],
+        ["stage", "a"],
+        ["write", "b", "foo"],
+        ["stage", "b"],
+        ["write", "a", "bar"],
+        ["tick", 1],
+        ["run", "hash", 1, 2, 6],
+        ["tick", 1],
+        ["run", "hash", 1, 2, 7],
+    ],
+}
+RENAMES = {
+    "timestamp": [9, 0],
+    "options": {"chunk_size": 1, "untracked": True, "renames": True, "sort": True},
+    "index": [entry("a", "foo"), entry("m", "foo")],
+    "worktree": [node("b", "foo"), node("c", "foo"), node("m", "bars")],
+}
+# Names that are longer than a path that the program keeps without memory.
+LONG = "/".join(["long" * 20] * 4)
+FOLDER = {
+    "timestamp": [9, 0],
+    "options": {"trust_ctime": False, "check_stat": False, "chunk_size": 1},
+    "index": [
+        entry("d/changed", "foo"),
+        entry("gone", "foo"),
+        entry("link", "away", mode="120000"),
+        entry(LONG, "foo"),
+        entry("same", "foo"),
+    ],
+    "folder": "folder",
+}
+MALFORMED = {"timestamp": [9, 0], "index": [entry("a", "foo"), {"path": "b", "id": "c0ffee"}], "worktree": []}
+
+ROWS = {
+    "modified": Row("status", MODIFIED, '0 modified -c- "a"\n'),
+    "conflict": Row(
+        "status",
+        CONFLICT,
+        '1 conflict both-modified 123 "f"\n'
+        "total: to process 5, processed 3, skipped 0, lstat 2, to update 0, racy 0, read 0, bytes 0\n",
+    ),
+    "history": Row("replay", HISTORY, 'run 1\n0 modified -cs "a"\n1 update "b"\nrun 2\n0 modified -c- "a"\n'),
+    "renames": Row("status", RENAMES, '- renamed "a" "b"\n- added "c"\n1 modified -c- "m"\n'),
+    "folder": Row(
+        "status",
+        FOLDER,
+        f'0 modified -c- "d/changed"\n1 removed "gone"\n2 modified -c- "link"\n3 modified -c- "{LONG}"\n',
+        files={"d/changed": "bars", LONG: "bars", "same": "foo"},
+        links={"link": "elsewhere"},
+    ),
+    "malformed": Row("status", MALFORMED, fault="bad profile: index\n"),
+}

@@ -1,0 +1,54 @@
+#!/usr/bin/env python3
+"""Tests of the pages' links, and of the picture of their figures:  python3 tools/test_docs.py"""
+
+import glob
+import os
+import re
+import subprocess
+import sys
+import unittest
+
+TOP = os.path.dirname(os.path.dirname(os.path.abspath(__file__)))
+
+
+def text_of(*path):
+    with open(os.path.join(TOP, *path), encoding="utf-8") as file:
+        return file.read()
+
+
+def anchors(page):
+    """What a link may name behind a page: its headings in small letters, with dashes and without marks."""
+    headings = re.findall(r"^#+ (.*)$", page, re.M)
+    return {re.sub(r"[^\w\- ]", "", heading.lower()).replace(" ", "-") for heading in headings}
+
+
+class Docs(unittest.TestCase):
+    def pages(self):
+        paths = [os.path.join(TOP, "README.md"), *glob.glob(os.path.join(TOP, "docs", "*.md"))]
+        return {os.path.relpath(path, TOP): text_of(path) for path in paths}
+
+    def test_links_lead_to_files_and_headings(self):
+        for name, page in self.pages().items():
+            for link in re.findall(r"\]\(([^)\s]+)\)", page):
+                if re.match(r"\w+://", link):
+                    continue
+                with self.subTest(page=name, link=link):
+                    path, _, heading = link.partition("#")
+                    target = os.path.normpath(os.path.join(os.path.dirname(name), path)) if path else name
+                    self.assertTrue(os.path.exists(os.path.join(TOP, target)))
+                    if heading:
+                        self.assertIn(heading, anchors(text_of(target)))
+
+    def test_the_index_page_names_each_page(self):
+        named = set(re.findall(r"^- \[[^]]*\]\(([^)]+)\)", text_of("docs", "README.md"), re.M))
+        there = {os.path.basename(path) for path in glob.glob(os.path.join(TOP, "docs", "*.md"))} - {"README.md"}
+        self.assertEqual(named, there | {"../README.md"})
+
+    def test_the_picture_has_the_figures_of_the_page(self):
+        command = [sys.executable, os.path.join(TOP, "bench", "plot.py"), "--check"]
+        ran = subprocess.run(command, capture_output=True, text=True)
+        self.assertEqual((ran.returncode, ran.stderr), (0, ""))
+
+
+if __name__ == "__main__":
+    unittest.main()

@@ -1,0 +1,170 @@
+#!/usr/bin/env python3
+"""Tests of refuse_memory.py:  python3 tools/test_refuse_memory.py
+
+Small C programs stand for the program, good and bad. Where STATUS_PROGRAM names the built program, one row is swept.
+"""
+
+import contextlib
+import io
+import os
+import subprocess
+import sys
+import tempfile
+import unittest
+
+HERE = os.path.dirname(os.path.abspath(__file__))
+sys.path.insert(0, HERE)
+import refuse_memory as tool
+from quick_runs import Ended
+from small_profiles import ROWS
+
+PROGRAM = os.path.abspath(os.environ["STATUS_PROGRAM"]) if os.environ.get("STATUS_PROGRAM") else None
+LINE = '0 modified -c- "a"\n'
+
+# Takes memory twice and starts a thread, which takes memory too, and then prints the line of the first row.
+STAND_IN = r"""
+#include <pthread.h>
+#include <stdio.h>
+#include <stdlib.h>
+#include <string.h>
+#include <unistd.h>
+static void say(int to, const char *text) { if (write(to, text, strlen(text)) < 0) _exit(9); }
+static int refused(void) { REFUSED; say(2, "out of memory\n"); return 1; }
+static void *work(void *unused) { void *got = malloc(7); free(got); return got ? unused : &say; }
+int main(void) {
+    void *one = malloc(1), *two = realloc(one, 2), *end;
+    if (!one || !two) return refused();
+    pthread_t thread;
+    if (pthread_create(&thread, 0, work, 0)) { say(2, "status failed: no thread\n"); return 1; }
+    pthread_join(thread, &end);
+    if (end) return refused();
+    say(1, "0 modified -c- \"a\"\n");
+    free(two);
+    return 0;
+}
+"""
+WRONG = {
+    "ignores the refusal": "return 0",
+    "prints another record": 'say(1, "0 removed \\"a\\"\\n")',
+    "prints half a line": 'say(1, "0 modified")',
+    "prints too much": 'say(1, "0 modified -c- \\"a\\"\\n1 removed \\"b\\"\\n")',
+    "says something else": 'say(2, "status failed: not found\\n"); return 1',
+    "says no thread where memory was refused": 'say(2, "status failed: no thread\\n"); return 1',
+    "says nothing": "return 1",
+    "says it twice": 'say(2, "out of memory\\n")',
+    "has another exit status": 'say(2, "out of memory\\n"); return 2',
+    "crashes": "*(volatile int *)0 = 0",
+    "aborts": "abort()",
+    "hangs": "for (;;) pause()",
+}
+
+
+class Judging(unittest.TestCase):
+    def said(self, name, letters, status, out, fault, at=1, calls="m" * 100):
+        ended = Ended(status, out.encode(), fault.encode())
+        return tool.wrong(ROWS[name], tool.Refused(letters, at, calls), ended)
+
+    def test_a_calm_answer_is_right_whatever_was_refused(self):
+        for name, row in ROWS.items():
+            for letters in ("", "m", "c", "mtm"):
+                self.assertIsNone(self.said(name, letters, row.status, row.out, row.fault), name)
+
+    def test_without_a_refusal_no_other_answer_is_right(self):
+        self.assertIsNotNone(self.said("modified", "", 1, "", "out of memory\n"))
+        self.assertIsNotNone(self.said("malformed", "", 1, "", "out of memory\n"))
+
+    def test_want_of_memory_leaves_a_beginning(self):
+        lines = ROWS["folder"].out.splitlines(keepends=True)
+        for count in range(len(lines) + 1):
+            self.assertIsNone(self.said("folder", "m", 1, "".join(lines[:count]), "out of memory\n"))
+        for out in (lines[1], lines[0] + lines[2], lines[0][:-1], "\n"):
+            self.assertIsNotNone(self.said("folder", "m", 1, out, "out of memory\n"), out)
+
+    def test_a_joined_status_that_fails_has_no_line(self):
+        line = ROWS["renames"].out.splitlines(keepends=True)[0]
+        self.assertIsNone(self.said("renames", "m", 1, "", "out of memory\n", 10))
+        self.assertIsNotNone(self.said("renames", "m", 1, line, "out of memory\n", 10))
+        self.assertIsNone(self.said("renames", "m", 1, line, "out of memory\n", 89))
+        self.assertIsNotNone(self.said("renames", "m", 1, line + line, "out of memory\n", 89))
+
+    def test_a_thread_is_refused_where_one_was(self):
+        for letters, right in (("m", False), ("t", True), ("c", True), ("mt", True), ("mm", False)):
+            said = self.said("modified", letters, 1, "", "status failed: no thread\n")
+            self.assertEqual(said is None, right, letters)
+        for at, right in ((1, False), (2, True), (3, False)):
+            said = self.said("modified", "m", 1, "", "status failed: no thread\n", at, "mmtcm")
+            self.assertEqual(said is None, right, at)
+        for at, right in ((1, False), (2, True), (4, True), (6, True)):
+            said = self.said("modified", "m", 1, "", "status failed: no thread\n", at, "mmtcmmtc")
+            self.assertEqual(said is None, right, at)
+        self.assertIsNotNone(self.said("history", "t", 1, "", "status failed: no thread\n"))
+
+    def test_a_refused_run_leaves_the_runs_before_it(self):
+        first = 'run 1\n0 modified -cs "a"\n1 update "b"\n'
+        for at, out, right in ((6, "", True), (8, first, True), (8, "", False), (6, first, False), (7, first, False)):
+            said = self.said("history", "t", 1, out, f"refused {at}: run failed\n")
+            self.assertEqual(said is None, right, (at, out))
+        self.assertIsNotNone(self.said("history", "m", 1, "", "refused 6: run failed\n"))
+        self.assertIsNotNone(self.said("history", "t", 1, "", "refused 99: run failed\n"))
+
+    def test_no_line_is_right_where_more_was_refused(self):
+        self.assertIsNone(self.said("modified", "mm", 1, "", ""))
+        self.assertIsNotNone(self.said("modified", "m", 1, "", ""))
+
+    def test_other_ends_are_wrong(self):
+        memory = "out of memory\n"
+        for status, fault in ((0, ""), (0, memory), (2, memory), (-11, ""), (None, ""), (1, "x\n")):
+            self.assertIsNotNone(self.said("modified", "m", status, "", fault), (status, fault))
+        self.assertIsNotNone(self.said("malformed", "m", 1, "", "bad profile: worktree\n"))
+        self.assertIsNotNone(tool.wrong(ROWS["modified"], tool.Refused("m", 1, 9), Ended(1, b"", b"\xff\n")))
+
+
+@unittest.skipUnless(tool.compiler() and sys.platform == "linux", "no C compiler")
+class StandIns(unittest.TestCase):
+    def swept(self, refused, source=STAND_IN, seconds=10):
+        """How a sweep over a stand-in with this answer to a refusal ends, and what it prints."""
+        with tempfile.TemporaryDirectory() as room:
+            program = os.path.join(room, "stand_in")
+            with open(program + ".c", "w", encoding="ascii") as file:
+                file.write(source.replace("REFUSED", refused))
+            subprocess.run([tool.compiler(), "-pthread", "-o", program, program + ".c"], check=True)
+            words = ["--program", program, "--rows", "modified", "--limits", "1", "--repeat", "1"]
+            with contextlib.redirect_stdout(io.StringIO()) as printed:
+                status = tool.main([*words, "--seconds", str(seconds)])
+        return status, printed.getvalue()
+
+    def test_one_that_answers_rightly_passes(self):
+        status, printed = self.swept("")
+        self.assertEqual(status, 0, printed)
+        # Two calls of its own, the thread, what the C library takes for that, and the thread's own.
+        self.assertIn("modified, limit 1, one: 5 calls, 6 runs, 0 wrong\n", printed)
+        self.assertIn("modified, limit 1, each from one on: 5 calls, 6 runs, 0 wrong\n", printed)
+
+    def test_each_wrong_one_is_noticed(self):
+        for name, refused in WRONG.items():
+            with self.subTest(name):
+                status, printed = self.swept(refused, seconds=0.2)
+                self.assertEqual(status, 1, printed)
+                self.assertIn("  call 1: ", printed)
+
+    def test_one_that_says_nothing_and_takes_no_memory_is_noticed(self):
+        status, printed = self.swept("", source="int main(void) { return 0; }")
+        self.assertEqual(status, 1)
+        self.assertIn("call 1: another answer, and nothing was refused", printed)
+        self.assertIn("call 1: no call is counted", printed)
+
+
+@unittest.skipUnless(PROGRAM, "no built program")
+@unittest.skipUnless(tool.compiler() and sys.platform == "linux", "no C compiler")
+class Program(unittest.TestCase):
+    def test_the_first_row_with_each_call_refused(self):
+        with contextlib.redirect_stdout(io.StringIO()) as printed:
+            status = tool.main(["--program", PROGRAM, "--rows", "modified", "--limits", "1", "2", "--repeat", "2"])
+        self.assertEqual(status, 0, printed.getvalue())
+        calls = [int(words.split(" calls")[0].split(" ")[-1]) for words in printed.getvalue().splitlines()[:4]]
+        # The profile, the index, the worktree and the lines take more than a call for each entry.
+        self.assertGreater(min(calls), 10, printed.getvalue())
+
+
+if __name__ == "__main__":
+    unittest.main()

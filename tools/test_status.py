@@ -1,0 +1,351 @@
+#!/usr/bin/env python3
+"""Tests of status.py, on repositories that git makes here:  python3 tools/test_status.py
+
+What git says is what is wanted. Without git no test is run; those of lines need the built program, which STATUS_PROGRAM
+names.
+"""
+
+import io
+import os
+import random
+import shutil
+import stat
+import subprocess
+import unittest
+from contextlib import redirect_stderr, redirect_stdout
+from unittest import mock
+
+import status as tool
+from cases import PROGRAM, Case, run_tool
+from profile_from_git import COMPARABLE
+
+# Names that sort otherwise by bytes than by components, and names that git quotes.
+NAMES = ["a", "a-", "a0", "b c", "d\te", "f\ng", 'h"i', "j\\k", "\x01l\x7f", "é", "\u2028m", "\x85n", "\U00010000"]
+NAMES += [" o ", "\\", "-p", "p"]
+FOLDERS = ["", "", "p/", "p/q/", "p-/", "r s/", "é/"]
+CONTENTS = ["", "foo", "bar", "foobar"]
+# The stages of each conflict.
+CONFLICTS = [(1,), (2,), (1, 2), (3,), (1, 3), (2, 3), (1, 2, 3)]
+THEN = 1_600_000_000
+
+
+class Drawn(Case):
+    """A repository of a seed: an index, and then edits of the worktree."""
+
+    def draw(self, seed, kind):
+        self.random = random.Random(seed)
+        self.make(f"{seed}-{kind}", kind)
+        paths = {self.random.choice(FOLDERS) + self.random.choice(NAMES) for _ in range(60)}
+        self.paths = sorted(path for path in paths if not any(other.startswith(path + "/") for other in paths))
+        for path in self.paths:
+            self.put(path)
+        self.git("add", "-A")
+        self.flag()
+        self.conflict(kind)
+        for path in self.random.sample(self.paths, len(self.paths) * 2 // 3):
+            self.edit(path)
+        # What was written in the second of the index, or after it, is racy.
+        os.utime(self.path(".git/index"), (THEN, THEN))
+
+    def put(self, path):
+        """A file or a link, of a second around that of the index."""
+        if self.random.random() < 0.2:
+            os.makedirs(os.path.dirname(self.path(path)), exist_ok=True)
+            os.symlink(self.random.choice(["foo", "bar", "é"]), self.path(path))
+        else:
+            self.write(path, self.random.choice(CONTENTS))
+        second = THEN + self.random.choice([-2, -2, -1, 0, 0, 1])
+        os.utime(self.path(path), (second, second), follow_symlinks=False)
+
+    def flag(self):
+        for word in ("--assume-unchanged", "--skip-worktree"):
+            self.git("update-index", word, "--", *self.random.sample(self.paths, 3))
+        for name in ("intended", "intended é"):
+            self.write(name, "foo")
+            self.git("add", "-N", name)
+            self.paths.append(name)
+
+    def conflict(self, kind):
+        blob = self.git("hash-object", "-w", "--stdin", given=b"foo").decode().strip()
+        lines = ""
+        for number, stages in enumerate(CONFLICTS):
+            lines += "".join(f"100644 {blob} {stage}\tconflict {number}\0" for stage in stages)
+            if self.random.random() < 0.5:
+                self.write(f"conflict {number}", "bar")
+        self.git("update-index", "-z", "--index-info", given=lines.encode())
+
+    def edit(self, path):
+        """An edit that may leave the path as it was."""
+        if not os.path.lexists(self.path(path)):
+            return
+        how = self.random.choice(["put", "put", "same stat", "touch", "chmod", "remove", "folder", "link above"])
+        if how == "same stat" and not os.path.islink(self.path(path)):
+            found = os.stat(self.path(path))
+            self.write(path, "x" * found.st_size)
+            os.utime(self.path(path), ns=(found.st_mtime_ns, found.st_mtime_ns))
+        elif how == "chmod" and not os.path.islink(self.path(path)):
+            os.chmod(self.path(path), 0o755)
+        elif how == "touch":
+            os.utime(self.path(path), (5, 5), follow_symlinks=False)
+        elif how == "link above" and "/" in path and self.random.random() < 0.3:
+            above, moved = self.path(os.path.dirname(path)), self.path(f"moved {self.random.random()}")
+            shutil.move(above, moved)
+            os.symlink(self.random.choice([moved, "nowhere"]), above)
+        elif how in ("put", "remove", "folder") and self.is_reached(path):
+            os.remove(self.path(path))
+            if how == "put":
+                self.put(path)
+            elif how == "folder":
+                self.write(path + "/x", "foo")
+
+    def is_reached(self, path):
+        return os.path.realpath(os.path.dirname(self.path(path))) == os.path.dirname(self.path(path))
+
+
+def git_lines(case, *words):
+    """git's lines in the tool's form: the first column is a space where there is no conflict."""
+    command = ["git", "--no-optional-locks", "-C", case.top, *COMPARABLE, "status", "--porcelain", "--no-renames"]
+    said = subprocess.run([*command, "-uno", *words], capture_output=True, check=True).stdout.decode("ascii")
+    lines = []
+    for line in said.splitlines():
+        if line[0] != "U" and line[1] != "U" and line[:2] not in ("AA", "DD", "??"):
+            line = " " + line[1:]
+        lines += [line] if line[1] != " " else []
+    return sorted(lines)
+
+
+@unittest.skipUnless(PROGRAM, "no built program")
+class Comparison(Drawn):
+    def said(self, *words):
+        """The tool's lines, and its exit status."""
+        printed = io.StringIO()
+        command = ["status.py", "--program", PROGRAM, self.top, *words]
+        with mock.patch("sys.argv", command), redirect_stdout(printed), redirect_stderr(io.StringIO()):
+            status = tool.main()
+        return sorted(printed.getvalue().split("\n")[:-1]), status
+
+    def assert_as_git(self):
+        """The tool's lines are git's, and it says itself that they are. Gives them."""
+        lines, status = self.said("--exit-code")
+        self.assertEqual((lines, status), (git_lines(self), int(lines != [])))
+        as_git = f"as git: {len(lines)} path" + "s" * (len(lines) != 1)
+        self.assertEqual(self.said("--compare"), ([as_git], 0))
+        return lines
+
+    def test_drawn_repositories_are_told_as_git_tells_them(self):
+        columns = set()
+        for seed in range(6):
+            for kind in ("sha1", "sha256"):
+                with self.subTest(seed=seed, kind=kind):
+                    self.draw(seed, kind)
+                    columns |= {line[:2] for line in self.assert_as_git()}
+        wanted = {" M", " D", " T", " A", "DD", "AU", "UD", "UA", "DU", "AA", "UU"}
+        self.assertEqual(columns, wanted)
+
+    def test_untracked_paths_are_told_as_git_tells_them(self):
+        for seed in range(4):
+            with self.subTest(seed=seed):
+                self.draw(seed, "sha1")
+                self.write(".gitignore", "ign*\n!ignored not\n/p/\n")
+                for name in ("ignored", "ignored not", "ign/x", "new/ignored", "new/x", "new folder/é", "p/new"):
+                    if self.is_reached(name):
+                        self.write(name, "foo")
+                os.mkfifo(self.path("new/pipe"))
+                subprocess.run(["git", "init", "-q", self.path("another")], check=True)
+                self.assertEqual(self.said("--untracked")[0], git_lines(self, "-uall"))
+                self.assertEqual(self.said("--untracked", "--compare")[1], 0)
+
+    def test_a_clean_repository_is_told_so(self):
+        self.write("a", "foo")
+        self.assertEqual(self.said("--exit-code"), ([], 0))
+        self.git("add", "a")
+        os.utime(self.path("a"), (5, 5))
+        self.assertEqual(self.said("--exit-code"), ([], 0))
+        self.assertEqual(self.said("--exit-code", "--updates"), ([" ~ a"], 0))
+        self.write("a", "bar")
+        self.assertEqual(self.said(), ([" M a"], 0))
+        self.assertEqual(self.said("--exit-code"), ([" M a"], 1))
+
+    def test_a_sparse_checkout_is_told_as_git_tells_it(self):
+        for name in ("in/a", "in/b", "out/a", "out/d/b", "top"):
+            self.write(name, "foo")
+        self.git("add", ".")
+        self.git("commit", "-q", "-m", "all")
+        self.git("sparse-checkout", "set", "--cone", "--sparse-index", "in")
+        self.assertFalse(os.path.exists(self.path("out")))
+        self.assertEqual(self.assert_as_git(), [])
+        self.write("in/a", "bars")
+        self.write("out/a", "bars")
+        os.remove(self.path("top"))
+        self.assertEqual(len(self.assert_as_git()), 3)
+
+    def test_a_split_index_is_told_as_git_tells_it(self):
+        for name in ("a", "b", "c"):
+            self.write(name, "foo")
+        self.git("add", ".")
+        self.git("update-index", "--split-index")
+        self.git("rm", "-q", "--cached", "b")
+        self.write("d", "foo")
+        self.git("add", "d")
+        for name in ("a", "d"):
+            self.write(name, "bars")
+        self.assertEqual(self.assert_as_git(), [" M a", " M d"])
+
+    def test_a_linked_worktree_is_told_as_git_tells_it(self):
+        for name in ("a", "b"):
+            self.write(name, "foo")
+        self.git("add", ".")
+        self.git("commit", "-q", "-m", "all")
+        self.git("worktree", "add", "-q", "--detach", os.path.join(self.room, "linked"))
+        self.write("b", "bars")
+        self.top = os.path.join(self.room, "linked")
+        self.assertEqual(self.assert_as_git(), [])
+        os.remove(self.path("a"))
+        self.assertEqual(self.assert_as_git(), [" D a"])
+
+    def test_submodules_are_entries(self):
+        names = ["as it is", "gone", "a file", "empty"]
+        for name in names:
+            self.git("init", "-q", name)
+            self.git("-C", name, "commit", "-q", "--allow-empty", "-m", "one")
+        self.git("add", *names)
+        for name in names[1:]:
+            shutil.rmtree(self.path(name))
+        self.write("a file", "foo")
+        os.mkdir(self.path("empty"))
+        self.assertEqual(self.assert_as_git(), [' D gone', ' T "a file"'])
+        self.write("as it is/new", "foo")
+        self.assertEqual(self.said("--untracked")[0], [' D gone', ' T "a file"'])
+        # What isn't seen is told where git is compared with.
+        self.git("-C", "as it is", "commit", "-q", "--allow-empty", "-m", "two")
+        told, status = self.said("--compare")
+        self.assertEqual((told, status), (['program     git  M  "as it is"'], 1))
+
+    def test_settings_of_the_repository_change_no_line(self):
+        self.draw(99, "sha1")
+        wanted = self.assert_as_git()
+        values = {"core.quotePath": "false", "core.fsmonitor": "/bin/false", "status.branch": "true"}
+        values |= {"status.short": "true", "status.renames": "copies", "status.relativePaths": "true"}
+        values |= {"status.showUntrackedFiles": "all"}
+        for name, value in values.items():
+            self.git("config", name, value)
+        self.assertEqual(self.said()[0], wanted)
+        self.assertEqual(self.said("--compare")[1], 0)
+        self.top = self.path("p")
+        os.makedirs(self.top, exist_ok=True)
+        self.assertEqual(self.said()[0], wanted)
+
+    def test_files_in_place_of_links_are_told_as_git_tells_them(self):
+        self.git("config", "core.symlinks", "false")
+        blob = self.git("hash-object", "-w", "--stdin", given=b"foo").decode().strip()
+        for name, content in (("a", "foo"), ("b", "bar")):
+            self.git("update-index", "--add", "--cacheinfo", f"120000,{blob},{name}")
+            self.write(name, content)
+        self.assertEqual(self.assert_as_git(), [" M b"])
+
+    def test_nothing_of_the_repository_is_written(self):
+        self.draw(7, "sha1")
+        before = kept(self.top)
+        for words in (["--untracked"], ["--compare", "--untracked"], ["--updates"]):
+            self.said(*words)
+        self.assertEqual(kept(self.top), before)
+
+    def test_an_unreadable_link_is_left_out(self):
+        self.write("a", "foo")
+        os.symlink(b"\xff", self.path("odd"))
+        self.git("add", ".")
+        for name in ("a", "odd"):
+            os.remove(self.path(name))
+        os.symlink(b"\xfe", self.path("odd"))
+        ran = run_tool("status.py", "--program", PROGRAM, self.top)
+        self.assertEqual((ran.stdout, ran.returncode), (b" D a\n", 0))
+        self.assertIn(b"note: left out, since the link's target isn't UTF-8: odd\n", ran.stderr)
+        self.assertEqual(self.said("--compare", "--untracked"), (["as git: 1 path"], 0))
+
+    def test_a_full_disk_and_a_closed_pipe_are_refused(self):
+        self.write("a", "foo")
+        self.git("add", "a")
+        os.remove(self.path("a"))
+        self.assert_unwritten(2, "status.py", self.top, STATUS_PROGRAM=PROGRAM)
+
+
+def kept(top):
+    """What each file of a folder holds, and when it was written."""
+    found = {}
+    for folder, _, names in os.walk(top):
+        for name in names:
+            path = os.path.join(folder, name)
+            node = os.lstat(path)
+            content = None
+            if stat.S_ISREG(node.st_mode):
+                with open(path, "rb") as file:
+                    content = file.read()
+            found[path] = (node.st_mtime_ns, node.st_ino, content)
+    return found
+
+
+class Faults(Case):
+    """What the tool says where something is wrong, with programs of the test's own in place of the built one."""
+
+    def program(self, *lines):
+        name = os.path.join(self.room, "program")
+        with open(name, "w", encoding="utf-8") as file:
+            file.write("\n".join(["#!/bin/sh", *lines, ""]))
+        os.chmod(name, 0o755)
+        return name
+
+    def refused(self, words, *arguments, program=None, **settings):
+        program = program or self.program("exit 0")
+        ran = run_tool("status.py", *(arguments or [self.top]), "--program", program, **settings)
+        self.assert_refused(ran, 2, words)
+        return ran.stdout.decode()
+
+    def test_a_program_that_is_not_built_is_named_with_how_to_build_it(self):
+        self.refused("build it by (cd crates/status_program && rt run", program=self.path("none"))
+        self.write("none", "")
+        self.refused("build it by (cd crates/status_program && rt run", program=self.path("none"))
+
+    def test_a_program_that_cannot_be_run_is_refused(self):
+        self.write("text", "foo")
+        os.chmod(self.path("text"), 0o755)
+        self.refused("can't be run", program=self.path("text"))
+
+    def test_a_fault_of_the_program_comes_behind_its_lines(self):
+        program = self.program("echo '0 removed \"a\"'", "echo 'status failed: other 0' >&2", "exit 1")
+        printed = self.refused("the program ended early: status failed: other 0", program=program)
+        self.assertEqual(printed, " D a\n")
+        self.refused("it ended with status 9", program=self.program("exit 9"))
+
+    def test_lines_of_another_form_are_refused(self):
+        for line in ("0", "0 removed", "0 moved \"a\"", "0 conflict none 1 \"a\"", "0 removed \"a", "0 removed a"):
+            program = self.program(f"printf '%s\\n' '{line}'")
+            self.refused("the program prints what isn't known here: " + line, program=program)
+
+    def test_a_folder_that_is_not_there_is_refused(self):
+        self.refused("gone is no folder", self.path("gone"))
+
+    def test_a_folder_without_a_repository_is_refused(self):
+        self.refused("git rev-parse: fatal: not a git repository", self.room)
+
+    def test_a_bare_repository_is_refused(self):
+        self.git("config", "core.bare", "true")
+        self.refused("is a bare repository")
+
+    def test_a_missing_git_is_refused(self):
+        self.refused("git isn't installed", PATH=self.room)
+
+    def test_a_corrupt_index_is_refused(self):
+        self.write(".git/index", "DIRC")
+        self.refused("git ls-files: ")
+
+    def test_a_locked_index_is_read(self):
+        self.write(".git/index.lock", "")
+        ran = run_tool("status.py", self.top, "--program", self.program("exit 0"))
+        self.assertEqual((ran.returncode, ran.stdout, ran.stderr), (0, b"", b""))
+
+    def test_wrong_arguments_have_the_status_of_a_fault(self):
+        self.assertEqual(run_tool("status.py", "--nothing").returncode, 2)
+
+
+if __name__ == "__main__":
+    unittest.main()
