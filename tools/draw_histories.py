@@ -5,9 +5,10 @@
 
 Seed N draws the profile of a replay: options (of four of them all sixteen settings in turn), events, and for half of
 the seeds a last event that can't happen. `Plain` keeps what is there and what was staged, in two dicts: it knows no
-clock, no stat and no timestamp. Each run has to print just the changes that the dicts have. Beside them it may print
-what a stat needs: `s` behind the `c` of a change of content, and `update` where nothing changed. And standard error has
-to say `refused N: WORDS` where the last event can't happen, and else nothing.
+clock, no stat and no timestamp, and that the index is stored and opened again changes nothing there. Each run has to
+print just the changes that the dicts have. Beside them it may print what a stat needs: `s` behind the `c` of a change of
+content, and `update` where nothing changed. And standard error has to say `refused N: WORDS` where the last event can't
+happen, and else nothing.
 
 STATUS_PROGRAM names the built program; without it crates/status_program/out/status_program is run. Where a history
 differs its profile stays, in the folder --keep, and the exit status is 1. It is 2 for what can't be done, with one line
@@ -42,7 +43,7 @@ class Plain:
 
     def refusal(self, event):
         """Why the event can't happen, as far as paths say."""
-        word, path = event[:2]
+        word, path = (*event, None)[:2]
         if word not in ("write", "link", "chmod", "remove", "stage"):
             return None
         if any(part in ("", ".", "..") for part in path.split("/")):
@@ -55,7 +56,7 @@ class Plain:
 
     def follow(self, event):
         """Lets an event happen."""
-        word, path = event[:2]
+        word, path = (*event, None)[:2]
         if word == "write":
             self.files[path] = ("file", event[2], self.files.get(path, (None, None, False))[2])
         elif word == "link":
@@ -136,7 +137,7 @@ class Drawn:
     def event(self):
         """An event that the clock allows. Most ticks are 0, so that writes, stagings and runs share a second."""
         choose, path = self.draw.choice, self.draw.choice(PATHS)
-        words = ["write"] * 4 + ["link", "chmod", "chmod", "remove"] + ["stage"] * 5 + ["tick", "nanos", "run"]
+        words = ["write"] * 4 + ["link", "chmod", "chmod", "remove"] + ["stage"] * 5 + ["tick", "nanos", "run", "reopen"]
         word = choose(words)
         if word in ("write", "link"):
             return [word, path, choose(CONTENTS)]
@@ -146,6 +147,8 @@ class Drawn:
             return [word, path]
         if word == "run":
             return self.run(self.stamp())
+        if word == "reopen":
+            return [word]
         return [word, choose([0, 0, 0, 0, 0, 1]) if word == "tick" else choose(NANOS)]
 
     def refused(self):

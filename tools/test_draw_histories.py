@@ -78,7 +78,7 @@ class Judging(unittest.TestCase):
         settings = {tuple(it.profile["options"][name] for name in tool.SETTINGS) for it in all_drawn}
         self.assertEqual(len(settings), 16)
         events = [event for it in all_drawn for event in it.profile["events"]]
-        wanted = {"tick", "nanos", "write", "link", "chmod", "remove", "stage", "run"}
+        wanted = {"tick", "nanos", "write", "link", "chmod", "remove", "stage", "run", "reopen"}
         self.assertEqual({event[0] for event in events}, wanted)
         self.assertEqual({event[1] for event in events if event[0] == "run"}, {"hash", "fast"})
         words = {it.fault.split(": ")[-1].strip() for it in all_drawn}

@@ -44,6 +44,8 @@ pub enum Failure {
     },
     /// The output can't be written.
     Output,
+    /// The file of a refreshed profile can't be written.
+    Unwritable,
     /// Memory ran out.
     Memory,
 }
@@ -81,7 +83,8 @@ impl Failure {
         Failure::Event { refusal, at }
     }
 
-    /// Writes the failure in one line, and gives the exit status. `name` is the name of the profile's file.
+    /// Writes the failure in one line, and gives the exit status. `name` is the name of the file
+    /// that is read or written.
     pub fn report<E: io::Write>(&self, alloc: Global, name: &str, faults: &mut E) -> u8 {
         // Where the line can't be written there is nowhere left to say that.
         let _ = self.write_line(alloc, name, faults);
@@ -110,6 +113,7 @@ impl Failure {
                 writeln!(faults, "refused {at}: {words}")
             }
             Failure::Output => Ok(()),
+            Failure::Unwritable => writeln!(faults, "cannot write {name}"),
             Failure::Memory => writeln!(faults, "out of memory"),
         }
     }
@@ -171,6 +175,7 @@ fn refusal_words(refusal: &Refusal) -> &'static str {
         Refusal::Run(_) => "run failed",
         Refusal::Memory => "out of memory",
         Refusal::BadMoment => "bad moment",
+        Refusal::OtherIndex => "other index",
     }
 }
 

@@ -8,12 +8,15 @@ mod input;
 pub mod lines;
 mod output;
 pub mod profile;
+pub mod refresh;
 pub mod replay;
 pub mod status;
 #[cfg(test)]
 mod tests;
 
 use crate::failure::Failure;
+use crate::output::write_whole;
+use crate::refresh::run_refresh;
 use crate::replay::run_replay;
 use crate::status::run_status;
 use std::convert::AsStr;
@@ -24,26 +27,20 @@ use std::sync::Wait;
 use std::thread::Threads;
 use std::{env, fs, io};
 
-const USAGE: &str = "usage: status_program status FILE | replay FILE";
+const USAGE: &str = "usage: status_program status FILE | replay FILE | refresh FILE OUT SECS NSECS";
+
+/// How many nanoseconds there are at most beside seconds.
+const MAX_NANOSECONDS: u32 = 999_999_999;
 
 /// What is done with a profile.
-#[derive(Clone, Copy, Debug, PartialEq, Eq)]
-enum Command {
+#[derive(Debug, PartialEq, Eq, Drop)]
+enum Command<W> {
     /// Its status is printed.
     Status,
     /// Its events happen.
     Replay,
-}
-
-impl Command {
-    /// The command that this word names, if any.
-    fn of_word(word: &str) -> Option<Command> {
-        match word {
-            "status" => Some(Command::Status),
-            "replay" => Some(Command::Replay),
-            _ => None,
-        }
-    }
+    /// Its index is refreshed at this moment, and all of it written to the file of this name.
+    Refresh { out: W, secs: u32, nsecs: u32 },
 }
 
 fn main(rt: HostRuntime) -> ExitCode {
@@ -86,13 +83,32 @@ where
     }
 }
 
-/// The command that these words are, and the name of its profile's file. None where they are no command and one name.
-fn command_of<W: AsStr + Drop, I: Iterator<Item = W>>(mut words: I) -> Option<(Command, W)>
+/// The command that these words are, and the name of its profile's file. None where they are no command and its words.
+fn command_of<W: AsStr + Drop, I: Iterator<Item = W>>(mut words: I) -> Option<(Command<W>, W)>
     requires { I.can_next words }
 {
-    let command = Command::of_word(words.next()?.as_str())?;
+    let word = words.next()?;
     let file = words.next()?;
+    let command = match word.as_str() {
+        "status" => Command::Status,
+        "replay" => Command::Replay,
+        "refresh" => Command::Refresh {
+            out: words.next()?,
+            secs: number_of(words.next()?.as_str(), u32::MAX)?,
+            nsecs: number_of(words.next()?.as_str(), MAX_NANOSECONDS)?,
+        },
+        _ => return None,
+    };
     words.next().is_none().then_some((command, file))
+}
+
+/// The number that decimal digits are, where it is at most `max`.
+fn number_of(digits: &str, max: u32) -> Option<u32> {
+    if !digits.bytes().all(|digit| digit.is_ascii_digit()) {
+        return None;
+    }
+    let number: u32 = digits.parse().ok()?;
+    (number <= max).then_some(number)
 }
 
 /// Prints how the program is called, and gives the exit status.
@@ -102,12 +118,11 @@ fn print_usage<E: io::Write>(faults: &mut E) -> u8 {
     2
 }
 
-fn run_on_file<R: AllocGlobal + Files + Print + Sync + Threads + Wait, E: io::Write>(
-    rt: &R,
-    command: Command,
-    file: &str,
-    faults: &mut E,
-) -> u8
+fn run_on_file<
+    R: AllocGlobal + Files + Print + Sync + Threads + Wait,
+    W: AsStr + Drop,
+    E: io::Write,
+>(rt: &R, command: Command<W>, file: &str, faults: &mut E) -> u8
 where
     R::File: Send,
     R::Dir: Send,
@@ -120,7 +135,37 @@ where
         Ok(mut output) => match command {
             Command::Status => run_status(rt, file, &mut profile, &mut output, faults),
             Command::Replay => run_replay(rt, file, &mut profile, &mut output, faults),
+            Command::Refresh { out, secs, nsecs } => {
+                let mut refreshed = Vec::new(rt.alloc());
+                let status = run_refresh(
+                    rt,
+                    file,
+                    secs,
+                    nsecs,
+                    &mut profile,
+                    &mut output,
+                    faults,
+                    &mut refreshed,
+                );
+                match status {
+                    0 => finish_refresh(rt, out.as_str(), &refreshed, faults),
+                    failed => failed,
+                }
+            }
         },
         Err(_) => Failure::Memory.report(rt.alloc(), file, faults),
+    }
+}
+
+/// Writes what a refresh gave to the file of this name, and gives the exit status.
+fn finish_refresh<R: AllocGlobal + Files, E: io::Write>(
+    rt: &R,
+    out: &str,
+    refreshed: &[u8],
+    faults: &mut E,
+) -> u8 {
+    match write_whole(rt, out, refreshed) {
+        Ok(()) => 0,
+        Err(failure) => failure.report(rt.alloc(), out, faults),
     }
 }

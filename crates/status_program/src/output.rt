@@ -9,7 +9,8 @@ use bstr::BStr;
 use gix_status::index_as_worktree::{EntryStatus, Outcome};
 use gix_status::index_as_worktree_with_renames::Entry;
 use std::alloc::Global;
-use std::io;
+use std::rt::Files;
+use std::{fs, io};
 
 /// Writes a line that has its line feed.
 pub fn print<O: io::Write>(line: &str, output: &mut O) -> Result<(), Failure> {
@@ -53,6 +54,25 @@ pub fn print_totals<O: io::Write>(
         print(total_line(alloc, outcome)?.as_str(), output)?;
     }
     Ok(())
+}
+
+/// Writes a file whole, or leaves it as it was: the bytes go to a new file beside it, of its name and `.lock`, which then
+/// takes its place.
+pub fn write_whole<R: AllocGlobal + Files>(
+    rt: &R,
+    name: &str,
+    bytes: &[u8],
+) -> Result<(), Failure> {
+    let lock = format!(in rt.alloc(); "{name}.lock")?;
+    let mut file = fs::create_new(rt, lock.as_str()).map_err(|_| Failure::Unwritable)?;
+    let written = file.write_all(bytes).and_then(|()| file.sync_all());
+    drop(file);
+    if written.is_ok() && fs::rename(rt, lock.as_str(), name).is_ok() {
+        return Ok(());
+    }
+    // Where the new file can't be removed it stays, and there is nowhere left to say that.
+    let _ = fs::remove_file(rt, lock.as_str());
+    Err(Failure::Unwritable)
 }
 
 /// Sees to it that all lines are out.

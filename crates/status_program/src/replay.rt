@@ -11,7 +11,8 @@ use crate::input::read_all;
 use crate::lines::run_line;
 use crate::output::{flush, print, print_record, print_totals};
 use crate::profile::History;
-use gix_status::world::{Replay, Report, World, replay};
+use gix_status::world::{Event, Report, World};
+use status_reopening::{ReopenedReplay, Stop, replay_reopening};
 use std::alloc::Global;
 use std::io;
 use std::sync::Wait;
@@ -44,16 +45,40 @@ fn print_replay<R: AllocGlobal + Threads + Wait, I: io::Read, O: io::Write>(
     let text = read_all(alloc, profile)?;
     let history = History::from_json(alloc, text.as_slice())?;
     let world = begin(alloc, &history)?;
-    let Replay {
+    let ReopenedReplay {
         reports,
         stopped,
         ..
-    } = replay(rt, alloc, world, &history.events);
+    } = replay_reopening(rt, alloc, world, &history.stretches);
     print_reports(alloc, &reports, history.options.counts, output)?;
     match stopped {
-        Some((at, refusal)) => Err(Failure::of_event(refusal, at)),
+        Some(stop) => Err(failure_of(stop, &history.stretches)),
         None => Ok(()),
     }
+}
+
+/// Why a replay was stopped, with a place in the profile's list of events.
+fn failure_of(stop: Stop, stretches: &[Vec<Event>]) -> Failure {
+    match stop {
+        Stop::Event {
+            stretch,
+            at,
+            refusal,
+        } => Failure::of_event(refusal, first_place(stretches, stretch).saturating_add(at)),
+        Stop::Opening { stretch, refusal } => {
+            Failure::of_event(refusal, first_place(stretches, stretch).saturating_sub(1))
+        }
+        Stop::Reports { .. } => Failure::Memory,
+    }
+}
+
+/// The place of a stretch's first event in the profile's list, where each reopening before it is an event too.
+fn first_place(stretches: &[Vec<Event>], stretch: usize) -> usize {
+    let mut place: usize = 0;
+    for events in stretches.iter().take(stretch) {
+        place = place.saturating_add(events.len()).saturating_add(1);
+    }
+    place
 }
 
 /// The world that a history begins with.

@@ -21,24 +21,25 @@ use crate::status::joined::print_joined;
 use crate::status::no_walk::NoWalk;
 use crate::status::request::Request;
 use bstr::BString;
-use gix_status::index::State;
-use gix_status::index_as_worktree::traits::{CompareBlobs, FastEq, HashEq};
+use gix_status::index::{ObjectId, State};
+use gix_status::index_as_worktree::traits::CompareBlobs;
 use gix_status::index_as_worktree::{
-    Context, Error, Options, Outcome, Record, Recorder, VisitEntry, index_as_worktree,
+    Context, EntryStatus, Error, Options, Outcome, Record, Recorder, VisitEntry, index_as_worktree,
 };
-use gix_status::index_as_worktree_with_renames::ExactClone;
 use gix_status::walk::{UntrackedWalk, Walk};
 use gix_status::worktree::{
     AllPaths, DiskWorktree, MemoryObjects, MemoryWorktree, NoFilter, NoLister, NoSubmodules, Node,
     Pathspec, Prefix, Worktree,
 };
-use gix_status::world::Comparer;
-use std::alloc::Global;
+use std::alloc::{AllocError, Global};
 use std::io;
 use std::path::Path;
 use std::rt::Files;
 use std::sync::Wait;
 use std::thread::Threads;
+
+/// What a status says of entries, each with its place in the index.
+pub type Statuses = Vec<(usize, EntryStatus<Option<ObjectId>, ()>)>;
 
 /// Reads a profile, computes its status, and prints a line a record to `output`, and with `counts` a line
 /// of totals. `name` is the name of the profile's file.
@@ -70,13 +71,31 @@ where
     R::File: Send,
     R::Dir: Send,
 {
+    let text = read_all(rt.alloc(), profile)?;
+    let profile = Profile::from_json(rt.alloc(), text.as_slice())?;
+    print_profile(rt, profile, output, None)?;
+    Ok(())
+}
+
+/// Prints the status of a profile, and gives its index back. What a status without untracked files, renames and sorted
+/// lines says of entries goes to `statuses`.
+pub fn print_profile<R: AllocGlobal + Files + Sync + Threads + Wait, O: io::Write>(
+    rt: &R,
+    profile: Profile,
+    output: &mut O,
+    statuses: Option<&mut Statuses>,
+) -> Result<State, Failure>
+where
+    R::File: Send,
+    R::Dir: Send,
+{
     let alloc = rt.alloc();
     let Profile {
         hash,
         options,
         index,
         place,
-    } = read_profile(alloc, profile)?;
+    } = profile;
     match place {
         Place::Nodes(nodes) => {
             let request = Request {
@@ -86,7 +105,7 @@ where
                 hash,
                 options,
             };
-            print_request(rt, request, output)
+            print_request(rt, request, output, statuses)?;
         }
         Place::Folder(folder) => {
             let request = Request {
@@ -96,14 +115,10 @@ where
                 hash,
                 options,
             };
-            print_request(rt, request, output)
+            print_request(rt, request, output, statuses)?;
         }
     }
-}
-
-fn read_profile<I: io::Read>(alloc: Global, profile: &mut I) -> Result<Profile, Failure> {
-    let text = read_all(alloc, profile)?;
-    Ok(Profile::from_json(alloc, text.as_slice())?)
+    Ok(index)
 }
 
 /// The worktree of these nodes.
@@ -123,60 +138,45 @@ fn print_request<
     W: Worktree + Sync,
     K: Walk<W> + Send + Drop,
     O: io::Write,
->(rt: &R, request: Request<'_, W, K>, output: &mut O) -> Result<(), Failure>
+>(
+    rt: &R,
+    request: Request<'_, W, K>,
+    output: &mut O,
+    statuses: Option<&mut Statuses>,
+) -> Result<(), Failure>
 where
     W::File: Send,
 {
     let prefix = request.options.prefix.as_bstr();
     if prefix.as_bytes().is_empty() {
-        return print_paths(rt, request, AllPaths, output);
+        return print_paths(rt, request, AllPaths, output, statuses);
     }
     let prefix = Prefix::new(rt.alloc(), prefix)?;
-    print_paths(rt, request, prefix, output)
+    print_paths(rt, request, prefix, output, statuses)
 }
 
-/// Prints the status of these paths, by the comparer that the options name.
+/// Prints the status of these paths: with untracked files, renames or sorted lines where the options have one of these.
 fn print_paths<
     R: AllocGlobal + Threads + Wait,
     W: Worktree + Sync,
     K: Walk<W> + Send + Drop,
     P: Pathspec + Send,
     O: io::Write,
->(rt: &R, request: Request<'_, W, K>, pathspec: P, output: &mut O) -> Result<(), Failure>
-where
-    W::File: Send,
-{
-    match request.options.comparer {
-        Comparer::Hash => print_compared(rt, request, pathspec, HashEq, output),
-        Comparer::Fast => print_compared(rt, request, pathspec, FastEq, output),
-    }
-}
-
-/// Prints the status of these paths by this comparer: with untracked files, renames or sorted lines where the options
-/// have one of these.
-fn print_compared<
-    'a,
-    R: AllocGlobal + Threads + Wait,
-    W: Worktree + Sync,
-    K: Walk<W> + Send + Drop,
-    P: Pathspec + Send,
-    C: CompareBlobs + Send,
-    O: io::Write,
 >(
     rt: &R,
-    request: Request<'a, W, K>,
+    request: Request<'_, W, K>,
     pathspec: P,
-    compare: C,
     output: &mut O,
+    statuses: Option<&mut Statuses>,
 ) -> Result<(), Failure>
 where
     W::File: Send,
-    C::Output: Send + ExactClone + 'a,
 {
+    let comparer = request.options.comparer;
     if request.options.is_joined() {
-        return print_joined(rt, request, pathspec, compare, output);
+        return print_joined(rt, request, pathspec, comparer, output);
     }
-    print_plain(rt, request, pathspec, compare, output)
+    print_plain(rt, request, pathspec, comparer, output, statuses)
 }
 
 /// Prints the status of these paths by this comparer. The records before a fault are printed too.
@@ -193,6 +193,7 @@ fn print_plain<
     pathspec: P,
     compare: C,
     output: &mut O,
+    statuses: Option<&mut Vec<(usize, EntryStatus<C::Output, ()>)>>,
 ) -> Result<(), Failure>
 where
     W::File: Send,
@@ -221,10 +222,26 @@ where
     match answer {
         Ok(outcome) => {
             print_totals(alloc, &outcome, counts, output)?;
-            flush(output)
+            flush(output)?;
         }
-        Err(error) => Err(Failure::from(error)),
+        Err(error) => return Err(Failure::from(error)),
     }
+    if let Some(statuses) = statuses {
+        keep_statuses(recorder.records, statuses)?;
+    }
+    Ok(())
+}
+
+/// Keeps what records say, without their paths.
+fn keep_statuses<T: Drop>(
+    records: Vec<Record<'_, T, ()>>,
+    statuses: &mut Vec<(usize, EntryStatus<T, ()>)>,
+) -> Result<(), AllocError> {
+    statuses.reserve(records.len())?;
+    for record in records {
+        statuses.push((record.entry_index, record.status))?;
+    }
+    Ok(())
 }
 
 /// Reports the status to a collector, with no filter, listing, submodule or blob.

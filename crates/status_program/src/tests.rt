@@ -9,6 +9,47 @@ fn the_words_are_a_command_and_a_file(rt: HostRuntime) {
         ("replay f", Some((Command::Replay, "f"))),
         ("replay f g", None),
         ("other f", None),
+        (
+            "refresh f o 7 8",
+            Some((
+                Command::Refresh {
+                    out: "o",
+                    secs: 7,
+                    nsecs: 8,
+                },
+                "f",
+            )),
+        ),
+        (
+            "refresh f o 4294967295 999999999",
+            Some((
+                Command::Refresh {
+                    out: "o",
+                    secs: 4294967295,
+                    nsecs: 999999999,
+                },
+                "f",
+            )),
+        ),
+        (
+            "refresh f o 007 0",
+            Some((
+                Command::Refresh {
+                    out: "o",
+                    secs: 7,
+                    nsecs: 0,
+                },
+                "f",
+            )),
+        ),
+        ("refresh f o 4294967296 0", None),
+        ("refresh f o 7 1000000000", None),
+        ("refresh f o +7 0", None),
+        ("refresh f o -7 0", None),
+        ("refresh f o 7 0x1", None),
+        ("refresh f o 7", None),
+        ("refresh f o 7 8 9", None),
+        ("refresh f", None),
     ];
     for (words, wanted) in cases {
         let found = command_of(words.split_whitespace());
@@ -23,7 +64,7 @@ fn words_that_name_no_profile_are_answered(rt: HostRuntime) {
         (
             "status",
             2,
-            "usage: status_program status FILE | replay FILE\n",
+            "usage: status_program status FILE | replay FILE | refresh FILE OUT SECS NSECS\n",
         ),
         ("status /dev/null/f", 1, "cannot read /dev/null/f\n"),
         ("replay /dev/null/f", 1, "cannot read /dev/null/f\n"),

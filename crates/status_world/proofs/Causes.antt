@@ -76,6 +76,7 @@ outside refusals.StampLater e w f h = tt
 outside refusals.Interrupted e w f h = tt
 outside refusals.Memory e w f h = tt
 outside refusals.BadMoment e w f h = tt
+outside refusals.OtherIndex e w f h = tt
 outside (refusals.Run errors.Memory) e w f h = tt
 outside (refusals.Run errors.SpawnThread) e w f h = tt
 outside (refusals.Run errors.IllformedUtf8) e w f h = due (refusals.Run errors.IllformedUtf8) e w f h

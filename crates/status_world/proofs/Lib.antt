@@ -19,6 +19,7 @@ pub mod Readings
 pub mod Replays
 pub mod RunAnswers
 pub mod RunReports
+pub mod SameEntries
 pub mod Shown
 pub mod SoundWorlds
 pub mod StagedMaps

@@ -5,6 +5,7 @@ pub mod Laws
 pub mod Moments
 pub mod PlainWorld
 pub mod Refusals
+pub mod Reopened
 pub mod Reports
 pub mod RunStatus
 pub mod Sound

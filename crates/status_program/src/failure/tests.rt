@@ -137,6 +137,7 @@ fn each_refusal_has_its_words(rt: HostRuntime) {
         (Refusal::Interrupted, "refused 3: interrupted\n"),
         (Refusal::Run(Error::SpawnThread), "refused 3: run failed\n"),
         (Refusal::BadMoment, "refused 3: bad moment\n"),
+        (Refusal::OtherIndex, "refused 3: other index\n"),
     ];
     for (refusal, line) in cases {
         assert_reported(&rt, Failure::of_event(refusal, 3), line);

@@ -8,14 +8,29 @@ use bstr::BString;
 use gix_status::world::{Event, Run};
 use serde_json::Value;
 use std::alloc::Global;
+use std::mem;
 
-/// Reads the events.
-pub fn read_events(alloc: Global, profile: Fields<'_>) -> Result<Vec<Event>, FieldError> {
+/// Reads the events, in stretches between which the index is opened again.
+pub fn read_stretches(alloc: Global, profile: Fields<'_>) -> Result<Vec<Vec<Event>>, FieldError> {
+    let mut stretches = Vec::new(alloc);
     let mut events = Vec::new(alloc);
     for event in profile.required("events").and_then(list_of)? {
-        events.push(read_event(alloc, list_of(event)?)?)?;
+        let items = list_of(event)?;
+        if is_reopening(items) {
+            stretches.push(mem::replace(&mut events, Vec::new(alloc)))?;
+        } else {
+            events.push(read_event(alloc, items)?)?;
+        }
     }
-    Ok(events)
+    stretches.push(events)?;
+    Ok(stretches)
+}
+
+fn is_reopening(items: &[Value]) -> bool {
+    match items {
+        [word] => word.as_str() == Some("reopen"),
+        _ => false,
+    }
 }
 
 /// Reads the event that a list is: it has just the items of the event's form.

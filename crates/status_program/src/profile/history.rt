@@ -1,7 +1,7 @@
 //! The profile of a replay.
 
 use crate::profile::error::{FieldError, Key, ProfileError};
-use crate::profile::event::read_events;
+use crate::profile::event::read_stretches;
 use crate::profile::field::{Fields, moment_of};
 use crate::profile::hash::read_hash;
 use crate::profile::options::{HistoryOptions, read_history_options};
@@ -21,8 +21,8 @@ pub struct History {
     pub timestamp: Moment,
     /// What counts in a run, and what is printed of it.
     pub options: HistoryOptions,
-    /// What happens, in order.
-    pub events: Vec<Event>,
+    /// What happens, in order: stretches of events, between which the index is opened again.
+    pub stretches: Vec<Vec<Event>>,
 }
 
 impl History {
@@ -43,7 +43,7 @@ fn read_history(alloc: Global, fields: Fields<'_>) -> Result<History, ProfileErr
         clock: read_moment(fields, "clock").map_err(|error| error.under(Key::Clock))?,
         timestamp: read_moment(fields, "timestamp").map_err(|error| error.under(Key::Timestamp))?,
         options: read_options(fields).map_err(|error| error.under(Key::Options))?,
-        events: read_events(alloc, fields).map_err(|error| error.under(Key::Events))?,
+        stretches: read_stretches(alloc, fields).map_err(|error| error.under(Key::Events))?,
     })
 }
 

@@ -52,14 +52,35 @@ impl Profile {
     /// Text that isn't JSON, else the first key that is missing or has a wrong form, else the first
     /// entry that can't stand where it is. Or want of memory.
     pub fn from_json(alloc: Global, text: &[u8]) -> Result<Profile, ProfileError> {
+        Profile::read(alloc, text, Kind::Any)
+    }
+
+    /// Reads a profile whose status has neither untracked files nor renames nor sorted lines.
+    ///
+    /// # Errors
+    /// The same. Options that ask for one of these have a wrong form.
+    pub fn plain_from_json(alloc: Global, text: &[u8]) -> Result<Profile, ProfileError> {
+        Profile::read(alloc, text, Kind::Plain)
+    }
+
+    fn read(alloc: Global, text: &[u8], kind: Kind) -> Result<Profile, ProfileError> {
         match Members::from_json(alloc, text)? {
-            Some(members) => profile_of(alloc, members),
+            Some(members) => profile_of(alloc, members, kind),
             None => Err(ProfileError::Bad(Key::Hash)),
         }
     }
 }
 
-fn profile_of(alloc: Global, members: Members) -> Result<Profile, ProfileError> {
+/// The statuses that a profile may ask for.
+#[derive(Clone, Copy, Debug, PartialEq, Eq)]
+enum Kind {
+    /// Each that there is.
+    Any,
+    /// One without untracked files, renames and sorted lines.
+    Plain,
+}
+
+fn profile_of(alloc: Global, members: Members, kind: Kind) -> Result<Profile, ProfileError> {
     let Members {
         entries,
         nodes,
@@ -69,6 +90,9 @@ fn profile_of(alloc: Global, members: Members) -> Result<Profile, ProfileError> 
     let hash = read_hash(fields).map_err(|error| error.under(Key::Hash))?;
     let timestamp = read_timestamp(fields).map_err(|error| error.under(Key::Timestamp))?;
     let options = read_options(alloc, fields).map_err(|error| error.under(Key::Options))?;
+    if kind == Kind::Plain && options.is_joined() {
+        return Err(ProfileError::Bad(Key::Options));
+    }
     let entries = entries.map_err(|error| error.under(Key::Index))?;
     let place = read_place(alloc, fields, nodes).map_err(|error| error.under(Key::Worktree))?;
     Ok(Profile {

@@ -1,7 +1,7 @@
 use crate::profile::ProfileError::{self, Bad, Index, NotJson};
 use crate::profile::list::Way;
 use crate::profile::members::Members;
-use crate::profile::{Key, Place, Profile, profile_of};
+use crate::profile::{Key, Kind, Place, Profile, profile_of};
 use gix_status::index::{
     Entry, Flags, HashKind, IndexError, Mode, Moment, ObjectId, Stat, Time, stat,
 };
@@ -759,7 +759,7 @@ fn read_in(alloc: Global, way: Way, text: &[u8]) -> Result<Profile, ProfileError
         Way::Careful => Members::carefully(alloc, text)?,
     };
     match members {
-        Some(members) => profile_of(alloc, members),
+        Some(members) => profile_of(alloc, members, Kind::Any),
         None => Err(Bad(Key::Hash)),
     }
 }

@@ -13,7 +13,7 @@ const RACY: &str = r#"{"clock":5,"timestamp":5,"options":{"trust_ctime":false},
 "events":[["write","a","foo"],["stage","a"],["write","a","bar"],
 ["tick",1],["run","hash",1,2,6],["tick",1],["run","hash",1,2,7]]}"#;
 
-static HISTORIES: [Case; 16] = [
+static HISTORIES: [Case; 21] = [
     (
         RACY,
         "run 1\n0 modified -cs \"a\"\nrun 2\n0 modified -c- \"a\"\n",
@@ -101,6 +101,33 @@ static HISTORIES: [Case; 16] = [
 "events":[["nanos",1],["run","hash",0,null,[6,0]],["run","hash",0,null,[6,1]]]}"#,
         "run 1\n",
         "refused 2: stamp later\n",
+    ),
+    // The index is stored and opened again between any two events: the lines stay.
+    (
+        r#"{"clock":5,"timestamp":5,"options":{"trust_ctime":false},"events":[["reopen"],["write","a","foo"],["reopen"],["stage","a"],["reopen"],["write","a","bar"],["reopen"],["tick",1],["reopen"],["run","hash",1,2,6],["reopen"],["tick",1],["reopen"],["run","hash",1,2,7],["reopen"]]}"#,
+        "run 1\n0 modified -cs \"a\"\nrun 2\n0 modified -c- \"a\"\n",
+        "",
+    ),
+    (
+        r#"{"clock":5,"timestamp":5,"options":{"trust_ctime":false},"events":[["write","a","foo"],["reopen"],["stage","a"],["reopen"],["tick",1],["reopen"],["run","hash",1,2,6],["reopen"],["tick",1],["reopen"],["run","hash",1,2,7]]}"#,
+        "run 1\n0 update \"a\"\nrun 2\n",
+        "",
+    ),
+    (
+        r#"{"clock":5,"timestamp":5,"options":{"trust_ctime":false},"events":[["write","a","foo"],["reopen"],["stage","a"],["reopen"],["write","a","bar"],["reopen"],["run","hash",1,2,5],["reopen"],["write","a",""],["reopen"],["tick",1],["reopen"],["run","hash",1,2,6],["reopen"],["tick",1],["reopen"],["run","hash",1,2,7]]}"#,
+        "run 1\n0 modified -cs \"a\"\nrun 2\n0 modified -c- \"a\"\nrun 3\n0 modified -c- \"a\"\n",
+        "",
+    ),
+    (
+        r#"{"clock":5,"timestamp":5,"options":{"trust_ctime":false},"events":[["write","a","foo"],["reopen"],["stage","a"],["reopen"],["write","a","bar"],["reopen"],["chmod","a",true],["reopen"],["tick",1],["reopen"],["run","hash",1,2,6],["reopen"],["tick",1],["reopen"],["chmod","a",false],["reopen"],["run","hash",1,2,7]]}"#,
+        "run 1\n0 modified xcs \"a\"\nrun 2\n0 modified -c- \"a\"\n",
+        "",
+    ),
+    // A reopening counts as an event where one is refused, and nanoseconds are stored.
+    (
+        r#"{"clock":[5,7],"timestamp":[5,7],"options":{"use_nsec":true,"trust_ctime":false},"events":[["reopen"],["reopen"],["write","l/é","foo"],["stage","l/é"],["run","hash",0,null,[5,7]],["nanos",1],["run","hash",0,null,[5,8]],["reopen"],["run","hash",0,null,[5,8]],["reopen"],["remove","b"]]}"#,
+        "run 1\n0 update \"l/é\"\nrun 2\nrun 3\n",
+        "refused 10: not a file\n",
     ),
     // What only a status has is ignored.
     (
@@ -239,7 +266,7 @@ static REFUSED: [Case; 25] = [
 ];
 
 // Events of a wrong form.
-static WRONG_EVENTS: [&str; 30] = [
+static WRONG_EVENTS: [&str; 32] = [
     "3",
     "[]",
     r#"{"tick":1}"#,
@@ -270,6 +297,8 @@ static WRONG_EVENTS: [&str; 30] = [
     r#"["run","hash",1,"2",5]"#,
     r#"["run","hash",1,2,[5]]"#,
     r#"["run","hash",1,2,null]"#,
+    r#"["reopen",1]"#,
+    r#"["reopened"]"#,
 ];
 
 // Outputs for the racy history that have room for so many bytes, and what stands there in the end.

@@ -9,6 +9,7 @@ pub mod laws;
 mod nodes;
 mod outcome;
 mod refusal;
+mod reopening;
 mod report;
 mod run;
 mod staged;

@@ -26,6 +26,8 @@ pub enum Refusal {
     Memory,
     /// A stamp has 1,000,000,000 nanoseconds or more.
     BadMoment,
+    /// The index that is opened isn't the world's own. No event is refused for it.
+    OtherIndex,
 }
 
 impl From<AllocError> for Refusal {

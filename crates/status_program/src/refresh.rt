@@ -1,0 +1,128 @@
+//! The refresh of a profile's index.
+
+#[cfg(test)]
+mod tests;
+
+use crate::failure::Failure;
+use crate::input::read_all;
+use crate::profile::{Key, Profile, ProfileError};
+use crate::status::{Statuses, print_profile};
+use gix_status::index::{Moment, State};
+use gix_status::index_as_worktree::{Change, EntryStatus};
+use serde_json::Value;
+use status_stored::{StoreError, store_index};
+use std::alloc::Global;
+use std::io;
+use std::rt::Files;
+use std::sync::Wait;
+use std::thread::Threads;
+
+/// Reads a profile, prints its status as the command `status` does, stores in the index what it says, with the moment of
+/// these seconds and nanoseconds as its timestamp, and puts the profile with that index behind `refreshed`, as compact
+/// text and a line feed. All other keys stay as they were. `name` is the name of the profile's file.
+///
+/// Gives the exit status: 0, or 1 after a failure, which is one line on `faults`. Then `refreshed` stays as it was.
+pub fn run_refresh<
+    R: AllocGlobal + Files + Sync + Threads + Wait,
+    I: io::Read,
+    O: io::Write,
+    E: io::Write,
+>(
+    rt: &R,
+    name: &str,
+    secs: u32,
+    nsecs: u32,
+    profile: &mut I,
+    output: &mut O,
+    faults: &mut E,
+    refreshed: &mut Vec<u8>,
+) -> u8
+where
+    R::File: Send,
+    R::Dir: Send,
+{
+    match refresh(rt, Moment { secs, nsecs }, profile, output) {
+        Ok(text) => match refreshed.extend_from_slice(text.as_bytes()) {
+            Ok(()) => 0,
+            Err(_) => Failure::Memory.report(rt.alloc(), name, faults),
+        },
+        Err(failure) => failure.report(rt.alloc(), name, faults),
+    }
+}
+
+/// Refreshes a profile, and gives its new text.
+fn refresh<R: AllocGlobal + Files + Sync + Threads + Wait, I: io::Read, O: io::Write>(
+    rt: &R,
+    timestamp: Moment,
+    profile: &mut I,
+    output: &mut O,
+) -> Result<String, Failure>
+where
+    R::File: Send,
+    R::Dir: Send,
+{
+    let alloc = rt.alloc();
+    let text = read_all(alloc, profile)?;
+    let profile = Profile::plain_from_json(alloc, text.as_slice())?;
+    let mut statuses = Vec::new(alloc);
+    let mut index = print_profile(rt, profile, output, Some(&mut statuses))?;
+    store_statuses(&mut index, &statuses);
+    index.set_timestamp(timestamp);
+    text_with_index(alloc, text.as_slice(), &index)
+}
+
+/// Stores in an index what a status says of its entries.
+fn store_statuses(index: &mut State, statuses: &Statuses) {
+    for (place, status) in statuses.iter() {
+        store_status(index, *place, status);
+    }
+}
+
+/// Stores what a status says of an entry: a new stat, or that the size is to be 0.
+fn store_status<T, U>(index: &mut State, place: usize, status: &EntryStatus<T, U>) {
+    if place >= index.entries().len() {
+        return;
+    }
+    match status {
+        EntryStatus::NeedsUpdate(stat) => index.set_stat(place, *stat),
+        EntryStatus::Change(
+            Change::Modification {
+                set_entry_stat_size_zero: true,
+                ..
+            },
+        ) => index.smudge(place),
+        _ => {}
+    }
+}
+
+/// The text of a profile with another index, and with all other keys as they were.
+fn text_with_index(alloc: Global, text: &[u8], index: &State) -> Result<String, Failure> {
+    let mut profile = Value::from_slice(alloc, text).map_err(ProfileError::from)?;
+    put_index(alloc, &mut profile, index)?;
+    let mut text = profile.to_string(alloc)?;
+    text.push('\n')?;
+    Ok(text)
+}
+
+/// Puts an index into a profile.
+fn put_index(alloc: Global, profile: &mut Value, index: &State) -> Result<(), Failure> {
+    let Some(members) = profile.as_object_mut() else {
+        return Err(Failure::Profile(ProfileError::Bad(Key::Hash)));
+    };
+    // The old entries go first, so that they don't stand in memory beside the new ones.
+    drop(members.remove("index"));
+    let stored = match store_index(alloc, index) {
+        Ok(stored) => stored,
+        Err(StoreError::Memory) => return Err(Failure::Memory),
+        // A profile's paths are texts.
+        Err(StoreError::NotUtf8 { .. }) => {
+            return Err(Failure::Profile(ProfileError::Bad(Key::Index)));
+        }
+    };
+    if let Value::Object(stored) = stored {
+        for (key, value) in stored {
+            members.insert(key, value)?;
+        }
+    }
+    Ok(())
+}

@@ -1,0 +1,3 @@
+pub mod Glued
+pub mod Opened
+pub mod Stretches

@@ -1,0 +1,67 @@
+//! An index that is opened again, as after it was stored.
+
+ghost use Rattle.std.specs.Prelude.{◌≡◌, Decides};
+ghost use Rattle.status_index.specs.Entries.{index_entry};
+ghost use Rattle.status_index.specs.States.{index_of, timestamp_of};
+ghost use Rattle.status_world.specs.Reopened.{IsReopened, IsSameIndex};
+
+use crate::world::refusal::Refusal;
+use crate::world::state::World;
+use status_base::index::{Entry, PathStorage, State};
+
+impl World {
+    /// Puts an index in the place of the world's own, which says the same: the entries, their stats and flags, and the
+    /// timestamp. So a world goes on with an index that was stored and loaded.
+    ///
+    /// # Errors
+    /// [`Refusal::OtherIndex`] where the two differ. The world is then as it was, and the index that was handed in is
+    /// given up.
+    pub fn reopen(&mut self, index: State) -> Result<(), Refusal>
+        ensures { IsReopened (index_of index) (timestamp_of index) self.old result self.new }
+    {
+        if !is_same_index(&self.parts.index, &index) {
+            return Err(Refusal::OtherIndex);
+        }
+        self.parts.index = index;
+        Ok(())
+    }
+}
+
+/// Whether two indexes say the same.
+fn is_same_index(a: &State, b: &State) -> bool
+    ensures { Decides result (IsSameIndex (index_of a.now) (timestamp_of a.now) (index_of b.now) (timestamp_of b.now)) }
+{
+    a.timestamp() == b.timestamp() && are_same_entries(a, b)
+}
+
+/// Whether the entries of two indexes say the same.
+fn are_same_entries(a: &State, b: &State) -> bool
+    ensures { Decides result ((index_of a.now) ≡ index_of b.now) }
+{
+    let (entries, others) = (a.entries(), b.entries());
+    if entries.len() != others.len() {
+        return false;
+    }
+    for at in 0..entries.len() {
+        if !is_same_entry(
+            &entries[at],
+            a.path_backing(),
+            &others[at],
+            b.path_backing(),
+        ) {
+            return false;
+        }
+    }
+    true
+}
+
+/// Whether two entries say the same, each with its path in its own index's storage.
+fn is_same_entry(a: &Entry, paths: &PathStorage, b: &Entry, other_paths: &PathStorage) -> bool
+    ensures { Decides result (index_entry paths.now a.now ≡ index_entry other_paths.now b.now) }
+{
+    a.stat == b.stat
+        && a.id == b.id
+        && a.flags == b.flags
+        && a.mode == b.mode
+        && a.path_in(paths) == b.path_in(other_paths)
+}
