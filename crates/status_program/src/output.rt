@@ -9,8 +9,9 @@ use bstr::BStr;
 use gix_status::index_as_worktree::{EntryStatus, Outcome};
 use gix_status::index_as_worktree_with_renames::Entry;
 use std::alloc::Global;
+use std::fs::{self, File, OpenFile as _};
+use std::io::{self, Write as _};
 use std::rt::Files;
-use std::{fs, io};
 
 /// Writes a line that has its line feed.
 pub fn print<O: io::Write>(line: &str, output: &mut O) -> Result<(), Failure> {
@@ -64,7 +65,7 @@ pub fn write_whole<R: AllocGlobal + Files>(
     bytes: &[u8],
 ) -> Result<(), Failure> {
     let lock = format!(in rt.alloc(); "{name}.lock")?;
-    let mut file = fs::create_new(rt, lock.as_str()).map_err(|_| Failure::Unwritable)?;
+    let mut file = File::create_new(rt, lock.as_str()).map_err(|_| Failure::Unwritable)?;
     let written = file.write_all(bytes).and_then(|()| file.sync_all());
     drop(file);
     if written.is_ok() && fs::rename(rt, lock.as_str(), name).is_ok() {

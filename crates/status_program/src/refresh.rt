@@ -121,7 +121,7 @@ fn put_index(alloc: Global, profile: &mut Value, index: &State) -> Result<(), Fa
     };
     if let Value::Object(stored) = stored {
         for (key, value) in stored {
-            members.insert(key, value)?;
+            members.insert(key, value).map_err(|_| Failure::Memory)?;
         }
     }
     Ok(())
