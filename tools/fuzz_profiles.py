@@ -32,11 +32,12 @@ from dataclasses import dataclass
 
 from mutations import mutated
 from quick_runs import Runner
+from small_profiles import more_words, wrong_files
 
 TOP = os.path.dirname(os.path.dirname(os.path.abspath(__file__)))
 BUILT = os.path.join(TOP, "crates", "status_program", "out", "status_program")
 DATA = os.path.join(TOP, "crates", "status_program", "data")
-USAGE = "usage: status_program status FILE | replay FILE\n"
+USAGE = "usage: status_program status FILE | replay FILE | refresh FILE OUT SECS NSECS\n"
 # How many seeds a process is given at once.
 CHUNK = 100
 # How deep the program's reader goes.
@@ -57,18 +58,20 @@ class Command:
         return re.fullmatch(rf"(?:cannot read [^\n]*|not JSON|{self.faults})\n", line) is not None
 
 
+STATUS = Command(
+    r"bad profile: (?:hash|timestamp|options|index|worktree)"
+    r"|bad index: (?:empty path|not ascending|mixed hash) at \d+"
+    r"|bad worktree: (?:bad path|in the way) at \d+"
+    rf"|status failed: (?:{FAULT})"
+)
 COMMANDS = {
-    "status": Command(
-        r"bad profile: (?:hash|timestamp|options|index|worktree)"
-        r"|bad index: (?:empty path|not ascending|mixed hash) at \d+"
-        r"|bad worktree: (?:bad path|in the way) at \d+"
-        rf"|status failed: (?:{FAULT})"
-    ),
+    "status": STATUS,
     "replay": Command(
         r"bad profile: (?:hash|clock|timestamp|options|events)"
         rf"|refused start: (?:{MOMENTS})"
         rf"|refused \d+: (?:{REFUSAL})"
     ),
+    "refresh": STATUS,
 }
 
 PATH = r'"(?:[^"\\\x00-\x1f]|\\["\\bfnrt]|\\u00[01][0-9a-f])*"'
@@ -157,7 +160,7 @@ def wrong_lines(command, status, out):
             last = int(record[1])
         elif command == "replay" or not BESIDE.fullmatch(line):
             return f"another line: {line}"
-    return "a status that failed has a total line" if closed and status == 1 and command == "status" else None
+    return "a status that failed has a total line" if closed and status == 1 and command != "replay" else None
 
 
 def wrong(case, ended):
@@ -199,9 +202,10 @@ def case_of(command, seed):
     draw = random.Random(f"{command} {seed}")
     content = mutated(draw, command)
     if draw.random() > 0.01:
-        return Case(command, content, (command, "{}"))
+        return Case(command, content, (command, "{}", *more_words(command, "{}")))
     if draw.random() < 0.3:
-        return Case(command, content, (command, draw.choice(["{}.gone", "{}/a", "", "/"])), is_missing=True)
+        words = (command, draw.choice(["{}.gone", "{}/a", "", "/"]), *more_words(command, "{}"))
+        return Case(command, content, words, is_missing=True)
     words = [(), (command,), (command, "{}", "{}"), ("{}", command), (command.upper(), "{}"), ("", "{}"), ("--help",)]
     return Case(command, content, draw.choice(words), is_usage=True)
 
@@ -212,7 +216,7 @@ def run_seed(runner, file, command, seed):
     with open(file, "wb") as out:
         out.write(case.content)
     ended = runner.run([word.replace("{}", file) for word in case.words])
-    return case, ended, wrong(case, ended)
+    return case, ended, wrong(case, ended) or (command == "refresh" and wrong_files(file, ended.status))
 
 
 def form_of(ended):

@@ -105,7 +105,8 @@ LEXED = re.compile(rb'"(?:[^"\\]|\\.)*"|-?\d+(?:\.\d+)?(?:[eE][+-]?\d+)?|true|fa
 @functools.cache
 def bases(command):
     """The profiles of a command that are mutated."""
-    found = [row.profile for row in ROWS.values() if row.command == command]
+    kind = "replay" if command == "replay" else "status"
+    found = [row.profile for row in ROWS.values() if row.command == kind]
     if command == "replay":
         return [*found, EVENTS]
     for name in sorted(glob.glob(os.path.join(DATA, "*.json"))):

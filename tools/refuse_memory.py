@@ -31,7 +31,7 @@ import tempfile
 from dataclasses import dataclass
 
 from quick_runs import Runner, content, empty
-from small_profiles import ROWS
+from small_profiles import ROWS, wrong_files
 
 HERE = os.path.dirname(os.path.abspath(__file__))
 BUILT = os.path.join(os.path.dirname(HERE), "crates", "status_program", "out", "status_program")
@@ -125,8 +125,14 @@ class Sweeper:
         number = self.report.fileno()
         empty(number)
         settings = {"LD_PRELOAD": self.library, "REFUSE_AT": str(at), "REFUSE_ON": str(int(on))}
-        ended = self.runner.run([self.row.command, self.file], settings | {"REFUSE_REPORT": str(number)})
+        ended = self.runner.run(self.row.words(self.file), settings | {"REFUSE_REPORT": str(number)})
         return ended, content(number).decode()
+
+    def judged(self, at, on, calls):
+        """Runs once. Gives how that ends, what was refused, and what is wrong, if anything."""
+        ended, letters = self.run(at, on)
+        said = wrong(self.row, Refused(letters, at, calls), ended)
+        return ended, letters, said or (self.row.command == "refresh" and wrong_files(self.file, ended.status))
 
     def sweep(self, on, repeat):
         """Gives the number of runs, the last call that came, and the wrong runs: which call was refused, what is wrong,
@@ -135,11 +141,9 @@ class Sweeper:
         calls, found, runs, at = self.run(0, False)[1], [], 0, 0
         while True:
             at, runs = at + 1, runs + repeat
-            ends = [self.run(at, on) for _ in range(repeat)]
-            for ended, letters in ends:
-                said = wrong(self.row, Refused(letters, at, calls), ended)
-                found += [(at, said, ended)] if said else []
-            if not any(letters for _, letters in ends):
+            ends = [self.judged(at, on, calls) for _ in range(repeat)]
+            found += [(at, said, ended) for ended, _, said in ends if said]
+            if not any(letters for _, letters, _ in ends):
                 found += [(at, "no call is counted", ends[0][0])] if at == 1 else []
                 return runs, at - 1, found
 

@@ -29,6 +29,10 @@ class Row:
         options = self.profile.get("options", {})
         return any(options.get(name) for name in ("untracked", "renames", "sort"))
 
+    def words(self, file):
+        """The program's arguments where the profile is in this file."""
+        return [self.command, file, *more_words(self.command, file)]
+
     def make_files(self, top):
         """Makes what lies below the folder. The files are as old as the entries of the index."""
         places = [(path, os.path.join(top, path)) for path in {**self.files, **self.links}]
@@ -46,6 +50,19 @@ class Row:
         if self.command != "replay":
             return self.profile | {"options": self.profile.get("options", {}) | {"thread_limit": limit}}
         return self.profile | {"events": [limited(event, limit) for event in self.profile["events"]]}
+
+
+def more_words(command, file):
+    """The arguments behind the profile's file: a refresh writes to another one beside it."""
+    return (f"{file}.out", "10", "0") if command == "refresh" else ()
+
+
+def wrong_files(file, status):
+    """What is wrong with the files that a refresh leaves beside a profile's, if anything. They are removed."""
+    found = [name for name in (f"{file}.out", f"{file}.out.lock") if os.path.exists(name)]
+    for name in found:
+        os.remove(name)
+    return None if found == ([f"{file}.out"] if status == 0 else []) else f"other files are left: {found}"
 
 
 def limited(event, limit):
@@ -98,6 +115,7 @@ HISTORY = {
         ["run", "hash", 1, 2, 7],
     ],
 }
+REOPENED = HISTORY | {"events": [part for event in HISTORY["events"] for part in (event, ["reopen"])]}
 RENAMES = {
     "timestamp": [9, 0],
     "options": {"chunk_size": 1, "untracked": True, "renames": True, "sort": True},
@@ -129,6 +147,8 @@ ROWS = {
         "total: to process 5, processed 3, skipped 0, lstat 2, to update 0, racy 0, read 0, bytes 0\n",
     ),
     "history": Row("replay", HISTORY, 'run 1\n0 modified -cs "a"\n1 update "b"\nrun 2\n0 modified -c- "a"\n'),
+    "reopened": Row("replay", REOPENED, 'run 1\n0 modified -cs "a"\n1 update "b"\nrun 2\n0 modified -c- "a"\n'),
+    "refreshed": Row("refresh", MODIFIED, '0 modified -c- "a"\n'),
     "renames": Row("status", RENAMES, '- renamed "a" "b"\n- added "c"\n1 modified -c- "m"\n'),
     "folder": Row(
         "status",

@@ -135,7 +135,7 @@ class Runs(unittest.TestCase):
                 os.chmod(program, 0o755)
                 status, printed = self.ran(program, 5)
             self.assertEqual(status, 1, script)
-            self.assertIn("10 runs, 10 ended wrongly", printed)
+            self.assertIn("15 runs, 15 ended wrongly", printed)
             self.assertIn("\nreplay 4: ", printed)
 
     @unittest.skipUnless(PROGRAM, "no built program")

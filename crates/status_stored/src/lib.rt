@@ -6,8 +6,6 @@ pub mod laws;
 mod load;
 mod read;
 mod store;
-#[cfg(test)]
-mod tests;
 mod text;
 pub mod words;
 

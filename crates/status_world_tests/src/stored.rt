@@ -1,9 +1,9 @@
 //! The text of a stored index, and what is read of one.
 
-use crate::{LoadError, ReopenError, StoreError, load_index, reopened, store_index};
 use bstr::BStr;
+use gix_status::index::{Flags, HashKind, IndexError, Mode, Moment, ObjectId, Stat, State};
 use serde_json::Value;
-use status_index::{Flags, HashKind, IndexError, Mode, Moment, ObjectId, Stat, State};
+use status_stored::{LoadError, ReopenError, StoreError, load_index, reopened, store_index};
 use std::alloc::Global;
 use std::test::Fail;
 

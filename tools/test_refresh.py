@@ -1,0 +1,119 @@
+#!/usr/bin/env python3
+"""Tests of the program's command `refresh`, of what it leaves in its file:  python3 tools/test_refresh.py
+
+They run where STATUS_PROGRAM names the built program.
+"""
+
+import json
+import os
+import subprocess
+import tempfile
+import unittest
+
+from cases import FOO, HERE, PROGRAM
+from small_profiles import MALFORMED, MODIFIED, RENAMES, entry, node
+
+ROW_1 = os.path.join(os.path.dirname(HERE), "crates", "status_program", "data", "row1.json")
+# What row1.json is after a refresh with the moment 10 0.
+ROW_1_LEFT = (
+    '{"hash":"sha1","index":[{"ctime":[5,0],"dev":0,"flags":[],"gid":0,'
+    '"id":"19102815663d23f8b75a47e7a01965dcdc96468c","ino":0,"mode":"100644","mtime":[5,0],"path":"a","size":3,'
+    '"stage":0,"uid":0},{"ctime":[5,0],"dev":0,"flags":[],"gid":0,"id":"ba0e162e1c47469e3fe4b393a8bf8c569f302116",'
+    '"ino":0,"mode":"100644","mtime":[5,0],"path":"b","size":3,"stage":0,"uid":0}],'
+    '"options":{"chunk_size":1,"comparer":"hash","thread_limit":2},"timestamp":[10,0],'
+    '"worktree":[{"mtime":[7,0],"path":"a","text":"bars"},{"mtime":[5,0],"path":"b","text":"bar"}]}\n'
+)
+TOUCHED = {
+    "timestamp": [9, 0],
+    "options": {"counts": True},
+    "index": [entry("a", "foo"), entry("b", "foo")],
+    "worktree": [node("a", "foo", mtime=[7, 1]), node("b", "bars")],
+}
+
+
+@unittest.skipUnless(PROGRAM, "no built program")
+class Refreshed(unittest.TestCase):
+    def setUp(self):
+        room = tempfile.TemporaryDirectory()
+        self.addCleanup(room.cleanup)
+        self.room, self.file, self.out = (os.path.join(room.name, name) for name in ("", "profile.json", "out.json"))
+
+    def write(self, profile):
+        with open(self.file, "w", encoding="utf-8") as file:
+            json.dump(profile, file)
+
+    def run_program(self, *words):
+        ran = subprocess.run([PROGRAM, *words], capture_output=True, timeout=60)
+        return ran.returncode, ran.stdout.decode(), ran.stderr.decode()
+
+    def refresh(self, file=None, out=None, secs="10", nsecs="0"):
+        return self.run_program("refresh", file or self.file, out or self.out, secs, nsecs)
+
+    def content(self, name):
+        with open(name, encoding="utf-8") as file:
+            return file.read()
+
+    def left(self):
+        return sorted(os.listdir(self.room))
+
+    def test_the_first_row_is_left_byte_for_byte(self):
+        self.assertEqual(self.refresh(ROW_1), (0, '0 modified -c- "a"\n', ""))
+        self.assertEqual(self.content(self.out), ROW_1_LEFT)
+        self.assertEqual(self.left(), ["out.json"])
+
+    def test_a_touched_file_is_read_once(self):
+        self.write(TOUCHED)
+        lines = '0 update "a"\n1 modified -c- "b"\ntotal: to process 2, processed 2, skipped 0, lstat 2, to update 1, '
+        self.assertEqual(self.refresh(), (0, lines + "racy 0, read 2, bytes 7\n", ""))
+        lines = '1 modified -c- "b"\ntotal: to process 2, processed 2, skipped 0, lstat 2, to update 0, racy 0, '
+        self.assertEqual(self.run_program("status", self.out), (0, lines + "read 1, bytes 4\n", ""))
+        first = json.loads(self.content(self.out))["index"][0]
+        self.assertEqual((first["mtime"], first["size"], first["id"]), ([7, 1], 3, FOO))
+
+    def test_the_profile_itself_can_be_written(self):
+        self.write(MODIFIED)
+        self.assertEqual(self.refresh(out=self.file, secs="4294967295", nsecs="999999999")[0], 0)
+        again = json.loads(self.content(self.file))
+        self.assertEqual((again["timestamp"], again["worktree"]), ([4294967295, 999999999], MODIFIED["worktree"]))
+        self.assertEqual(self.left(), ["profile.json"])
+
+    def test_a_status_that_fails_leaves_the_file(self):
+        unread = {"path": "l", "id": FOO, "mode": "120000"}
+        failing = {"timestamp": [9, 0], "index": [unread], "worktree": [{"path": "l", "kind": "link", "hex": "ff"}]}
+        for profile, said in [
+            (failing, "status failed: ill-formed UTF-8\n"),
+            (MALFORMED, "bad profile: index\n"),
+            (RENAMES, "bad profile: options\n"),
+        ]:
+            self.write(profile)
+            with open(self.out, "w", encoding="utf-8") as file:
+                file.write("old")
+            self.assertEqual(self.refresh(), (1, "", said))
+            self.assertEqual((self.content(self.out), self.left()), ("old", ["out.json", "profile.json"]))
+
+    def test_a_file_that_cannot_be_written_is_named(self):
+        self.write(MODIFIED)
+        os.mkdir(self.out)
+        for out in (self.out, os.path.join(self.room, "gone", "out.json"), os.path.join(self.file, "out.json")):
+            self.assertEqual(self.refresh(out=out), (1, '0 modified -c- "a"\n', f"cannot write {out}\n"))
+            self.assertEqual(self.left(), ["out.json", "profile.json"])
+
+    def test_a_lock_of_another_is_respected(self):
+        self.write(MODIFIED)
+        before = self.content(self.file)
+        with open(self.file + ".lock", "w", encoding="utf-8") as file:
+            file.write("another's")
+        self.assertEqual(self.refresh(out=self.file)[::2], (1, f"cannot write {self.file}\n"))
+        self.assertEqual((self.content(self.file), self.content(self.file + ".lock")), (before, "another's"))
+
+    def test_other_arguments_are_answered_with_the_usage(self):
+        self.write(MODIFIED)
+        wrong = [("10",), ("10", "0", "0"), ("4294967296", "0"), ("10", "1000000000"), ("+10", "0"), ("10", "")]
+        for words in wrong:
+            status, out, said = self.run_program("refresh", self.file, self.out, *words)
+            self.assertEqual((status, out, said[:31]), (2, "", "usage: status_program status FI"), words)
+        self.assertEqual(self.left(), ["profile.json"])
+
+
+if __name__ == "__main__":
+    unittest.main()
