@@ -142,7 +142,7 @@ class Runs(unittest.TestCase):
     def test_300_seeds(self):
         status, printed = self.ran(PROGRAM, 300)
         self.assertEqual(status, 0, printed)
-        self.assertIn("600 runs, 0 ended wrongly", printed)
+        self.assertIn("900 runs, 0 ended wrongly", printed)
         for form in ("status: 0\n", "replay: 0\n", "status: 1 not JSON\n", "replay: 1 bad profile: events\n"):
             self.assertIn(form, printed)
 

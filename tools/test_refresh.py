@@ -78,17 +78,16 @@ class Refreshed(unittest.TestCase):
         self.assertEqual(self.left(), ["profile.json"])
 
     def test_a_status_that_fails_leaves_the_file(self):
-        unread = {"path": "l", "id": FOO, "mode": "120000"}
-        failing = {"timestamp": [9, 0], "index": [unread], "worktree": [{"path": "l", "kind": "link", "hex": "ff"}]}
-        for profile, said in [
-            (failing, "status failed: ill-formed UTF-8\n"),
-            (MALFORMED, "bad profile: index\n"),
-            (RENAMES, "bad profile: options\n"),
+        failing = {"timestamp": [9, 0], "index": [entry("a", "foo"), entry("a//b", "foo")], "worktree": []}
+        for profile, lines, said in [
+            (failing, '0 removed "a"\n', "status failed: not normal\n"),
+            (MALFORMED, "", "bad profile: index\n"),
+            (RENAMES, "", "bad profile: options\n"),
         ]:
             self.write(profile)
             with open(self.out, "w", encoding="utf-8") as file:
                 file.write("old")
-            self.assertEqual(self.refresh(), (1, "", said))
+            self.assertEqual(self.refresh(), (1, lines, said))
             self.assertEqual((self.content(self.out), self.left()), ("old", ["out.json", "profile.json"]))
 
     def test_a_file_that_cannot_be_written_is_named(self):

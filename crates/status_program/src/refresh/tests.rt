@@ -86,13 +86,12 @@ static REFUSED: [Refused; 8] = [
         "",
         "bad index: empty path at 0\n",
     ),
-    // The status fails behind a record, since a target isn't UTF-8.
+    // The status fails behind a record.
     (
         r#"{"timestamp":[9,0],"index":[{"path":"a","id":"19102815663d23f8b75a47e7a01965dcdc96468c"},
-{"path":"l","mode":"120000","size":1,"id":"19102815663d23f8b75a47e7a01965dcdc96468c"}],
-"worktree":[{"path":"l","kind":"link","hex":"ff"}]}"#,
+{"path":"a//b","id":"19102815663d23f8b75a47e7a01965dcdc96468c"}],"worktree":[]}"#,
         "0 removed \"a\"\n",
-        "status failed: ill-formed UTF-8\n",
+        "status failed: not normal\n",
     ),
 ];
 
