@@ -123,10 +123,11 @@ static HISTORIES: [Case; 21] = [
         "run 1\n0 modified xcs \"a\"\nrun 2\n0 modified -c- \"a\"\n",
         "",
     ),
-    // A reopening counts as an event where one is refused, and nanoseconds are stored.
+    // A reopening counts as an event where one is refused, and nanoseconds are stored: the file is racy up to the
+    // timestamp of the second run.
     (
         r#"{"clock":[5,7],"timestamp":[5,7],"options":{"use_nsec":true,"trust_ctime":false},"events":[["reopen"],["reopen"],["write","l/é","foo"],["stage","l/é"],["run","hash",0,null,[5,7]],["nanos",1],["run","hash",0,null,[5,8]],["reopen"],["run","hash",0,null,[5,8]],["reopen"],["remove","b"]]}"#,
-        "run 1\n0 update \"l/é\"\nrun 2\nrun 3\n",
+        "run 1\n0 update \"l/é\"\nrun 2\n0 update \"l/é\"\nrun 3\n",
         "refused 10: not a file\n",
     ),
     // What only a status has is ignored.
