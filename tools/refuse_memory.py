@@ -138,7 +138,8 @@ class Sweeper:
         """Gives the number of runs, the last call that came, and the wrong runs: which call was refused, what is wrong,
         and how the run ended.
         """
-        calls, found, runs, at = self.run(0, False)[1], [], 0, 0
+        _, calls, _ = self.judged(0, False, "")
+        found, runs, at = [], 0, 0
         while True:
             at, runs = at + 1, runs + repeat
             ends = [self.judged(at, on, calls) for _ in range(repeat)]
