@@ -1,5 +1,5 @@
 #!/usr/bin/env python3
-"""Tests of the pages' links, and of the picture of their figures:  python3 tools/test_docs.py"""
+"""Tests of the pages' links and examples, and of the picture of their figures:  python3 tools/test_docs.py"""
 
 import glob
 import os
@@ -43,6 +43,17 @@ class Docs(unittest.TestCase):
         named = set(re.findall(r"^- \[[^]]*\]\(([^)]+)\)", text_of("docs", "README.md"), re.M))
         there = {os.path.basename(path) for path in glob.glob(os.path.join(TOP, "docs", "*.md"))} - {"README.md"}
         self.assertEqual(named, there | {"../README.md"})
+
+    def test_the_examples_for_callers_are_quoted_from_the_tests(self):
+        page = text_of("docs", "CALLERS.md")
+        examples = re.findall(r"^```rust\n(.*?)^```$.*?\]\(([^)\s]+)\)", page, re.M | re.S)
+        self.assertGreater(len(examples), 0)
+        self.assertEqual(len(examples), page.count("```rust"))
+        for example, link in examples:
+            with self.subTest(link=link, example=example):
+                path = os.path.normpath(os.path.join("docs", link))
+                self.assertRegex(path, r"^crates/\w+_tests/src/")
+                self.assertIn("\n" + example, "\n" + text_of(path))
 
     def test_the_picture_has_the_figures_of_the_page(self):
         command = [sys.executable, os.path.join(TOP, "bench", "plot.py"), "--check"]
