@@ -1,0 +1,148 @@
+"""A git index as a file: where the stats of its entries stand, and how it is written anew, as git does.
+
+The format is that of git's gitformat-index: a header, the entries in order, extensions, and a checksum of all of it.
+Versions 2 and 3 pad an entry with NULs, and version 4 says of a path how much of the one before it goes. Only stats are
+written here, each in its place, so that the extensions stay right, also those that say where entries begin.
+"""
+
+import hashlib
+import os
+import stat
+import struct
+from dataclasses import dataclass, field
+
+from shared import Refused
+
+HEADER = struct.Struct(">4sII")
+EXTENSION = struct.Struct(">4sI")
+FLAGS = struct.Struct(">H")
+# The times of the last change of metadata and of content, device, inode, mode, owner, group and size.
+STAT = struct.Struct(">10I")
+MTIME, MODE, SIZE = 2, 6, 9
+EXTENDED = 1 << 14
+GITLINK = 0o160000
+MASK = (1 << 32) - 1
+
+
+@dataclass
+class Index:
+    """An index's bytes, when it was written, and where stats begin, by paths: not of conflicts and submodules."""
+
+    path: str
+    kind: str
+    content: bytes
+    written: int
+    places: dict = field(default_factory=dict)
+
+    def stat_of(self, path):
+        return STAT.unpack_from(self.content, self.places[path])
+
+    def with_stats(self, stats):
+        """The bytes with other stats, by their paths. Where there is no checksum there is none (index.skipHash)."""
+        width = hashlib.new(self.kind).digest_size
+        content = bytearray(self.content[:-width])
+        for path, numbers in stats.items():
+            STAT.pack_into(content, self.places[path], *numbers)
+        has_checksum = any(self.content[-width:])
+        return bytes(content) + (checksum_of(content, self.kind) if has_checksum else bytes(width))
+
+
+def read(path):
+    """An index's bytes and its time."""
+    try:
+        with open(path, "rb") as file:
+            return file.read(), os.fstat(file.fileno()).st_mtime_ns
+    except FileNotFoundError:
+        raise Refused(f"there is no index at {path}") from None
+
+
+def index_at(path, kind):
+    """The index at a path that git told, of a repository whose ids are of a kind. It has to be whole, and not split."""
+    index = Index(path, kind, *read(path))
+    width = hashlib.new(kind).digest_size
+    if len(index.content) < HEADER.size + width:
+        raise Refused(f"{path}: index file smaller than expected")
+    sign, version, count = HEADER.unpack_from(index.content)
+    if sign != b"DIRC":
+        raise Refused(f"{path}: bad signature {sign!r}")
+    if version not in (2, 3, 4):
+        raise Refused(f"{path}: bad index version {version}")
+    content, checksum = index.content[:-width], index.content[-width:]
+    if checksum not in (checksum_of(content, kind), bytes(width)):
+        raise Refused(f"{path}: bad index file checksum")
+    try:
+        refuse_split(content, put_places(index, content, width, version, count))
+    except (IndexError, ValueError, struct.error):
+        raise Refused(f"{path}: index file corrupt, or truncated") from None
+    return index
+
+
+def checksum_of(content, kind):
+    return hashlib.new(kind, content).digest()
+
+
+def put_places(index, content, width, version, count):
+    """Notes where the stats begin, and gives where the entries end. Conflicts and submodules aren't noted."""
+    at, path = HEADER.size, b""
+    for _ in range(count):
+        flags_at = at + STAT.size + width
+        flags = FLAGS.unpack_from(content, flags_at)[0]
+        start = flags_at + FLAGS.size * (2 if version > 2 and flags & EXTENDED else 1)
+        kept = b""
+        if version == 4:
+            gone, start = varint_at(content, start)
+            if gone > len(path):
+                raise ValueError(gone)
+            kept = path[: len(path) - gone]
+        end = content.index(b"\0", start)
+        path = kept + content[start:end]
+        is_conflict = flags >> 12 & 3 != 0
+        if not is_conflict and STAT.unpack_from(content, at)[MODE] != GITLINK:
+            index.places[path] = at
+        at = end + 1 if version == 4 else at + ((end - at + 8) & ~7)
+    return at
+
+
+def varint_at(content, at):
+    """The number of variable width at a place, as in packs (OFS_DELTA), and what stands behind it."""
+    byte = content[at]
+    value = byte & 127
+    while byte & 128:
+        at += 1
+        byte = content[at]
+        value = ((value + 1) << 7) + (byte & 127)
+    return value, at + 1
+
+
+def refuse_split(content, at):
+    """Goes through the extensions. A split index has most of its entries in another file."""
+    while at != len(content):
+        sign, length = EXTENSION.unpack_from(content, at)
+        if sign == b"link":
+            raise Refused("the index is split: join it by git update-index --no-split-index")
+        at += EXTENSION.size + length
+
+
+def replace(index, content, moment, before_it):
+    """Puts other bytes in an index's place, by its lock, with a moment as its time. `before_it` is called just before.
+
+    Where that fails, or the index was written since it was read, the lock goes and the index is as it was.
+    """
+    lock = index.path + ".lock"
+    try:
+        held = os.open(lock, os.O_WRONLY | os.O_CREAT | os.O_EXCL | os.O_CLOEXEC, 0o666)
+    except FileExistsError:
+        running = "Another git process seems to be running in this repository"
+        raise Refused(f"Unable to create '{lock}': File exists. {running}") from None
+    try:
+        with open(held, "wb") as file:
+            if read(index.path) != (index.content, index.written):
+                raise Refused("the index was written meanwhile")
+            os.fchmod(held, stat.S_IMODE(os.stat(index.path).st_mode))
+            file.write(content)
+        os.utime(lock, ns=(moment, moment))
+        before_it()
+        os.rename(lock, index.path)
+    except BaseException:
+        os.unlink(lock)
+        raise
