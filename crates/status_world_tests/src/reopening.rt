@@ -4,10 +4,12 @@ use crate::given::{BAR, FOO, SECONDS, Step, at, events, history, new_world, run}
 use crate::reports::{are, changed, one_read, racy};
 use bstr::{BStr, BString};
 use gix_status::index::{Flags, Mode, Moment, ObjectId, Stat, State, Time};
-use gix_status::world::{Event, Refusal, Replay};
+use gix_status::world::{Event, Refusal, Replay, World};
 use status_reopening::{ReopenedReplay, Stop, replay_reopening};
 use std::alloc::Global;
+use std::sync::Wait;
 use std::test::Fail;
+use std::thread::Threads;
 
 // What an index says of its one entry.
 #[derive(Clone, Copy, Debug)]
@@ -18,6 +20,8 @@ struct Said {
     flags: Flags,
     mode: Mode,
     written: Moment,
+    // Whether the same is said of `b` too.
+    has_more: bool,
 }
 
 // What it says of a file of three bytes at `a` that was staged in second 5.
@@ -29,11 +33,11 @@ fn staged() -> Said {
         flags: Flags::default(),
         mode: Mode::File,
         written: at(5, 0),
+        has_more: false,
     }
 }
 
-// An index with as many entries of the kind as there are names.
-fn index_of(alloc: Global, said: Said, more: &[&str]) -> Result<State, Fail> {
+fn index_of(alloc: Global, said: Said) -> Result<State, Fail> {
     let time = Time { secs: 5, nsecs: 0 };
     let stat = Stat {
         mtime: time,
@@ -43,26 +47,31 @@ fn index_of(alloc: Global, said: Said, more: &[&str]) -> Result<State, Fail> {
     };
     let mut index = State::new(alloc, said.written);
     index.push_entry(stat, said.id, said.flags, said.mode, BStr::from(said.path))?;
-    for path in more {
-        index.push_entry(stat, said.id, said.flags, said.mode, BStr::from(*path))?;
+    if said.has_more {
+        index.push_entry(stat, said.id, said.flags, said.mode, BStr::from("b"))?;
     }
     Ok(index)
+}
+
+// A world in which a file of three bytes is staged.
+fn staged_world<R: AllocGlobal + Threads + Wait>(rt: &R) -> Result<World, Refusal> {
+    let Replay { world, .. } = history(rt, SECONDS, &[Step::Write("a", "foo"), Step::Stage("a")])?;
+    Ok(world)
 }
 
 #[test]
 fn only_an_index_that_says_the_same_is_opened(rt: HostRuntime) -> Result<(), Fail> {
     let same = staged();
     let cases = [
-        (same, &[][..], true),
-        (Said { path: "b", ..same }, &[], false),
-        (Said { size: 0, ..same }, &[], false),
-        (Said { id: BAR, ..same }, &[], false),
+        (same, true),
+        (Said { path: "b", ..same }, false),
+        (Said { size: 0, ..same }, false),
+        (Said { id: BAR, ..same }, false),
         (
             Said {
                 flags: Flags::UPTODATE,
                 ..same
             },
-            &[],
             false,
         ),
         (
@@ -70,7 +79,6 @@ fn only_an_index_that_says_the_same_is_opened(rt: HostRuntime) -> Result<(), Fai
                 mode: Mode::FileExecutable,
                 ..same
             },
-            &[],
             false,
         ),
         (
@@ -78,18 +86,20 @@ fn only_an_index_that_says_the_same_is_opened(rt: HostRuntime) -> Result<(), Fai
                 written: at(5, 1),
                 ..same
             },
-            &[],
             false,
         ),
-        (same, &["b"], false),
+        (
+            Said {
+                has_more: true,
+                ..same
+            },
+            false,
+        ),
     ];
-    let Replay { mut world, .. } = history(
-        &rt,
-        SECONDS,
-        &[Step::Write("a", "foo"), Step::Stage("a")],
-    )?;
-    for (said, more, is_opened) in cases {
-        match world.reopen(index_of(rt.alloc(), said, more)?) {
+    let mut world = staged_world(&rt)?;
+    for (said, is_opened) in cases {
+        let index = index_of(rt.alloc(), said)?;
+        match world.reopen(index) {
             Ok(()) => assert!(rt; is_opened, "{said:?}"),
             Err(Refusal::OtherIndex) => assert!(rt; !is_opened, "{said:?}"),
             Err(refusal) => assert!(rt; false, "{refusal:?}"),
