@@ -21,7 +21,8 @@ pub enum Stop {
         /// [`Refusal::Memory`]; or [`Refusal::OtherIndex`], where a path isn't UTF-8.
         refusal: Refusal,
     },
-    /// There was no memory for the reports of a stretch. They are lost.
+    /// There was no memory for the reports of a stretch. They are lost, though the stretch's events have happened, up to
+    /// the first that was refused, if one was.
     Reports {
         /// The stretch.
         stretch: usize,

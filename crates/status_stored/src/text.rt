@@ -14,10 +14,12 @@ use serde_json::Value;
 use status_index::State;
 use std::alloc::Global;
 
-/// The index that is loaded of the compact text of what `state` is stored as. It is the same index.
+/// The index that is loaded of the compact text of what `state` is stored as. It is the same index, where its flags are
+/// those that have words.
 ///
 /// # Errors
-/// Where a path isn't UTF-8: the first of these. Or where memory runs out.
+/// Where a path isn't UTF-8: the first of these. Or where memory runs out. With other flags also
+/// [`ReopenError::Unreadable`].
 pub fn reopened(alloc: Global, state: &State) -> Result<State, ReopenError>
     ensures { IsReopened (index_of state.now) (timestamp_of state.now) result }
 {

@@ -7,7 +7,7 @@ use gix_status::world::ReportRecord;
 use std::alloc::{AllocError, Global};
 use std::collections::BTreeMap;
 
-/// A file or a link, which is never executable.
+/// A file, or a link. No link is executable.
 #[derive(Clone, Copy, Debug)]
 struct Plain {
     kind: NodeKind,

@@ -82,7 +82,8 @@ fn chunk_size_of(chunk_size: usize) -> usize
 ///
 /// # Errors
 /// The fault of the first entry that has one, once the records before it were reported. A refused thread, or want of
-/// memory; then a beginning of the records was reported.
+/// memory; then a beginning of the records was reported. Just these records are promised where all that is handed in is
+/// modelled; else they ascend, and each is of the index's own entry.
 pub fn index_as_worktree<
     'index,
     'w,

@@ -15,8 +15,9 @@ use std::thread::Threads;
 
 /// Lets the events happen in turn, up to the first that is refused.
 ///
-/// **No change is missed**: where contents that have one id are one, the paths that a run reports a change of are just
-/// those that were staged and now differ from it, in kind, in bytes or, where that counts, in executability.
+/// **No change is missed**: where the world's index can be trusted, as in a world that [`World::new`] gave and events
+/// made, and contents that have one id are one, the paths that a run reports a change of are just those that were staged
+/// and now differ from it, in kind, in bytes or, where that counts, in executability.
 pub fn replay<R: Threads + Wait>(rt: &R, alloc: Global, world: World, events: &[Event]) -> Replay
     ensures replay { IsReplay world events.now result.world (map report_value result.reports.items) result.stopped }
     ensures formed { IsFormed world → IsFormed result.world }
