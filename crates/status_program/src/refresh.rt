@@ -5,13 +5,14 @@ mod tests;
 
 use crate::failure::Failure;
 use crate::input::read_all;
-use crate::profile::{Key, Profile, ProfileError};
+use crate::profile::{Key, Profile, ProfileError, Texts, put_value};
 use crate::status::{Statuses, print_profile};
 use gix_status::index::{Moment, State};
 use gix_status::index_as_worktree::{Change, EntryStatus};
 use serde_json::Value;
-use status_stored::{StoreError, store_index};
+use status_stored::{StoreError, store_one};
 use std::alloc::Global;
+use std::collections::BTreeMap;
 use std::io;
 use std::rt::Files;
 use std::sync::Wait;
@@ -95,34 +96,69 @@ fn store_status<T, U>(index: &mut State, place: usize, status: &EntryStatus<T, U
     }
 }
 
-/// The text of a profile with another index, and with all other keys as they were.
+/// The text of a profile with another index, and with all other keys as they were. Neither the old entries nor the new
+/// ones stand in memory as JSON values, and no more than one node does.
 fn text_with_index(alloc: Global, text: &[u8], index: &State) -> Result<String, Failure> {
-    let mut profile = Value::from_slice(alloc, text).map_err(ProfileError::from)?;
-    put_index(alloc, &mut profile, index)?;
-    let mut text = profile.to_string(alloc)?;
-    text.push('\n')?;
+    let Texts(mut members) = serde_json::from_slice(alloc, text).map_err(ProfileError::from)?;
+    let Moment { secs, nsecs } = index.timestamp();
+    let timestamp = format!(in alloc; "[{secs},{nsecs}]")?;
+    put_member(alloc, &mut members, "index", String::new(alloc))?;
+    put_member(alloc, &mut members, "timestamp", timestamp)?;
+    object_with_index(alloc, members, index)
+}
+
+/// Puts a member's text in the place of the one that is there, if any.
+fn put_member(
+    alloc: Global,
+    members: &mut BTreeMap<String, String>,
+    key: &str,
+    text: String,
+) -> Result<(), Failure> {
+    let key = String::from_str(alloc, key)?;
+    match members.insert(key, text) {
+        Ok(_) => Ok(()),
+        Err(_) => Err(Failure::Memory),
+    }
+}
+
+/// The text of an object with these members' texts, where the index's stands for its entries, and a line feed.
+fn object_with_index(
+    alloc: Global,
+    members: BTreeMap<String, String>,
+    index: &State,
+) -> Result<String, Failure> {
+    let mut text = String::new(alloc);
+    for (at, (key, member)) in members.into_iter().enumerate() {
+        let is_index = key.as_str() == "index";
+        let before = if at == 0 { "{" } else { "," };
+        put_value(alloc, &Value::String(key), before, &mut text)?;
+        text.push(':')?;
+        if is_index {
+            put_entries(alloc, index, &mut text)?;
+        } else {
+            text.push_str(member.as_str())?;
+        }
+    }
+    text.push_str("}\n")?;
     Ok(text)
 }
 
-/// Puts an index into a profile.
-fn put_index(alloc: Global, profile: &mut Value, index: &State) -> Result<(), Failure> {
-    let Some(members) = profile.as_object_mut() else {
-        return Err(Failure::Profile(ProfileError::Bad(Key::Hash)));
-    };
-    // The old entries go first, so that they don't stand in memory beside the new ones.
-    drop(members.remove("index"));
-    let stored = match store_index(alloc, index) {
-        Ok(stored) => stored,
-        Err(StoreError::Memory) => return Err(Failure::Memory),
-        // A profile's paths are texts.
-        Err(StoreError::NotUtf8 { .. }) => {
-            return Err(Failure::Profile(ProfileError::Bad(Key::Index)));
-        }
-    };
-    if let Value::Object(stored) = stored {
-        for (key, value) in stored {
-            members.insert(key, value).map_err(|_| Failure::Memory)?;
-        }
+/// Puts the list of an index's entries behind a text.
+fn put_entries(alloc: Global, index: &State, text: &mut String) -> Result<(), Failure> {
+    text.push('[')?;
+    let mut before = "";
+    for (at, entry) in index.entries().iter().enumerate() {
+        let value = match store_one(alloc, entry, index.path_backing(), at) {
+            Ok(value) => value,
+            Err(StoreError::Memory) => return Err(Failure::Memory),
+            // A profile's paths are texts.
+            Err(StoreError::NotUtf8 { .. }) => {
+                return Err(Failure::Profile(ProfileError::Bad(Key::Index)));
+            }
+        };
+        put_value(alloc, &value, before, text)?;
+        before = ",";
     }
+    text.push(']')?;
     Ok(())
 }

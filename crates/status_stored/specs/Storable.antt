@@ -14,7 +14,7 @@ use Rattle.status_index.specs.Entries.{IndexEntry}
 use Rattle.status_index.specs.FlagBits.{stage_of_bits}
 use Rattle.status_stored.specs.declared.error.StoreError.{StoreError}
 use Rattle.status_stored.specs.declared.error.StoreError.TheVariants.{NotUtf8, Memory}
-use Rattle.status_stored.specs.StoredIndex.{stored_index}
+use Rattle.status_stored.specs.StoredIndex.{stored_entry, stored_index}
 
 -- a number that an index has room for
 abbrev pub Fits32 : ℕ → Type 0
@@ -63,6 +63,12 @@ pub record IsNotUtf8At (es : List IndexEntry) (at : ℕ) : Type 0 where
   pub inside : at < length es
   pub before : All (λ e. IsUtf8 e.path) (take at es)
   pub here : (d : IndexEntry) → IsUtf8 (slice_index_or es at d).path → ⊥
+
+-- the value of one entry, or that its path isn't UTF-8, with its place
+abbrev pub IsOneStored : IndexEntry → ℕ → Result Value StoreError → Type 0
+IsOneStored e at (Ok value) = IsStorable e × (view value ≡ stored_entry e)
+IsOneStored e at (Err (NotUtf8 place)) = (place ≡ at) × (IsUtf8 e.path → ⊥)
+IsOneStored e at (Err Memory) = ⊤
 
 -- why an index isn't stored
 abbrev pub IsStoreRefusal : List IndexEntry → StoreError → Type 0

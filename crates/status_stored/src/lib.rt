@@ -11,5 +11,5 @@ pub mod words;
 
 pub use error::{LoadError, ReopenError, StoreError};
 pub use load::load_index;
-pub use store::store_index;
+pub use store::{store_index, store_one};
 pub use text::reopened;

@@ -7,7 +7,7 @@ ghost use Rattle.serde_json.specs.View.{view, items_view};
 ghost use Rattle.status_index.specs.Entries.{entry_at, index_entry, index_entries};
 ghost use Rattle.status_index.specs.States.{index_of, timestamp_of};
 ghost use Rattle.status_stored.specs.Steps.{IsEntryStored, AreStored};
-ghost use Rattle.status_stored.specs.Storable.{Fits32, FitsStat, FitsId, IsStored};
+ghost use Rattle.status_stored.specs.Storable.{Fits32, FitsStat, FitsId, IsOneStored, IsStored};
 ghost use Rattle.status_stored.specs.StoredIndex.{stored_stamp, stored_entry, members_with};
 
 use crate::error::{FieldError, StoreError};
@@ -74,6 +74,26 @@ fn store_at(
     ensures { HoldsAt (λ e. IsEntryStored (index_entry backing.now e) result) entries.now at }
 {
     store_entry(alloc, &entries[at], backing)
+}
+
+/// The object of an entry, as it stands in the value of its index, where its place is `at` and which keeps its path. So
+/// an index can be written entry by entry.
+///
+/// # Errors
+/// Where the path isn't UTF-8, with this place. Or where memory runs out.
+pub fn store_one(
+    alloc: Global,
+    entry: &Entry,
+    backing: &PathStorage,
+    at: usize,
+) -> Result<Value, StoreError>
+    ensures { IsOneStored (index_entry backing.now entry.now) at result }
+{
+    match store_entry(alloc, entry, backing) {
+        Ok(value) => Ok(value),
+        Err(FieldError::Form) => Err(StoreError::NotUtf8 { at }),
+        Err(FieldError::Memory) => Err(StoreError::Memory),
+    }
 }
 
 /// The object of an entry.

@@ -18,6 +18,7 @@ mod options;
 mod stat;
 #[cfg(test)]
 mod tests;
+mod texts;
 mod value;
 
 use crate::profile::field::{Fields, stamped_moment_of};
@@ -31,6 +32,7 @@ pub use history::History;
 pub use node::Place;
 pub use options::{HistoryOptions, ProfileOptions};
 use std::alloc::Global;
+pub use texts::{Texts, put_value};
 
 /// What the profile of a status says.
 #[derive(Drop)]
