@@ -1,17 +1,21 @@
 #!/usr/bin/env python3
 """Times the program over a git repository's folder beside git, libgit2 and a bare loop of lstat, in turns.
 
-    python3 bench/peers.py crates/status_program/out/status_program FOLDER [--runs 11] [--floor PROGRAM]
+    python3 bench/peers.py crates/status_program/out/status_program FOLDER... [--runs 11] [--cells]
+        [--floor PROGRAM]
 
-FOLDER is a repository that bench/folder.py made. It is measured twice: clean, and touched, with another time of
-modification at each file, so that each is hashed. The loop and the driver of libgit2 are in bench/peers and are built with
-cc; without libgit2 (Debian's libgit2-dev) that row is left out. git runs on one thread and writes nothing, and compares
-what the program compares.
+FOLDER is a repository that bench/folder.py made. Each is measured twice: clean, and touched, with another time of
+modification at each file, so that each is hashed. The loop and the driver of libgit2 are in bench/peers and are built
+with cc; without libgit2 (Debian's libgit2-dev) that row is left out. git runs on one thread and writes nothing, and
+compares what the program compares.
 
 Each row has the least and the middle processor time of the runs, in milliseconds, and the least beside the loop's and
-beside that of `git status -uno`. The status alone is the program's time without that of a run with a prefix that no path
-has, and the loop's is without that of a loop over no path: so no start of a process is in either. With --floor there is
-a row for a loop of nothing but the library's own lstat, by the program of bench/floor.py.
+beside that of `git status -uno`. The status alone is the program's time without that of a run with a prefix that no
+path has, and the loop's is without that of a loop over no path: so no start of a process is in either. With --floor
+there is a row for a loop of nothing but the library's own lstat, by the program of bench/floor.py.
+
+With --cells the last lines are the rows of docs/BENCHMARKS.md's table by the number of entries, where the folders have
+the sizes of its columns: the least time in each clean folder, and then in each touched one.
 """
 
 import argparse
@@ -29,6 +33,14 @@ HERE = os.path.dirname(os.path.abspath(__file__))
 TOOL = os.path.join(HERE, os.pardir, "tools", "profile_from_git.py")
 GIT = ["git", "-c", "core.preloadIndex=false", "-c", "core.trustctime=false", "-c", "core.checkStat=minimal"]
 GIT += ["-c", "core.fileMode=false"]
+# What the page's table calls the rows that --cells prints, by what a report calls them, in the table's order.
+ROWS = {
+    "the loop": "the loop",
+    "the status alone": "the status alone",
+    "the whole program": "the whole program, with its profile",
+    "git status": "`git status -uno`",
+    "libgit2": "libgit2",
+}
 
 
 def build(folder, name, *words):
@@ -99,8 +111,8 @@ def measure(rows, runs):
     return times
 
 
-def report(times):
-    """Prints a line for each thing that is compared."""
+def lines_of(times):
+    """The least and the middle time of each thing that is compared, by name."""
     spans = {name: (min(all_times), statistics.median(all_times)) for name, all_times in times.items()}
 
     def without(whole, rest):
@@ -112,10 +124,28 @@ def report(times):
     lines["the status alone"] = without("program", "no status")
     lines["the whole program"] = spans["program"]
     lines.update({name: spans[name] for name in ("git status", "git diff-files", "libgit2") if name in spans})
+    return lines
+
+
+def report(lines):
+    """Prints a line for each thing that is compared."""
     print(f"{'':19} {'least':>7} {'middle':>7} {'loops':>6} {'gits':>6}")
     for name, (least, middle) in lines.items():
         loops, gits = least / lines["the loop"][0], least / lines["git status"][0]
         print(f"{name:19} {least:7.1f} {middle:7.1f} {loops:6.2f} {gits:6.2f}")
+
+
+def cell(least):
+    """A time with three digits, or with all that are before the point."""
+    return f"{least:.{2 if least < 10 else 1 if least < 100 else 0}f}"
+
+
+def print_cells(measured):
+    """Prints the least times of all that was measured, a row for each thing that the page's table compares."""
+    print()
+    for name, row in ROWS.items():
+        if all(name in lines for lines in measured):
+            print("| " + " | ".join([row, *(cell(lines[name][0]) for lines in measured)]) + " |")
 
 
 def touch(top):
@@ -126,28 +156,39 @@ def touch(top):
         os.utime(os.path.join(os.fsencode(top), path), (later, later))
 
 
+def compared(program, floor, top, state, runs):
+    """What is compared over a folder that is brought into this state; it is printed, too."""
+    if state == "touched":
+        touch(top)
+    else:
+        subprocess.run(["git", "-C", top, "update-index", "-q", "--refresh"], check=False)
+    with tempfile.TemporaryDirectory() as folder:
+        rows = commands(program, floor, top, folder)
+        print(f"\n{top}, {state}, {runs} runs, processor time in milliseconds")
+        lines = lines_of(measure(rows, runs))
+    report(lines)
+    return lines
+
+
 def main():
     parser = argparse.ArgumentParser(description=__doc__.splitlines()[0])
     parser.add_argument("program", help="the built program")
-    parser.add_argument("folder", help="a repository that bench/folder.py made; its files are touched")
+    parser.add_argument("folder", nargs="+", help="a repository that bench/folder.py made; its files are touched")
     parser.add_argument("--runs", type=int, default=11, help="how many runs of each row (11)")
+    parser.add_argument("--cells", action="store_true", help="print the rows of the page's table by size, too")
     parser.add_argument("--floor", help="the program of bench/floor.py")
     arguments = parser.parse_args()
     if arguments.runs < 1:
         parser.error("--runs above 0 is wanted")
     if shutil.which("git") is None:
         sys.exit("refused: there is no git")
-    top, program = os.path.abspath(arguments.folder), os.path.abspath(arguments.program)
-    floor = arguments.floor and os.path.abspath(arguments.floor)
-    for state in ("clean", "touched"):
-        if state == "touched":
-            touch(top)
-        else:
-            subprocess.run(["git", "-C", top, "update-index", "-q", "--refresh"], check=False)
-        with tempfile.TemporaryDirectory() as folder:
-            rows = commands(program, floor, top, folder)
-            print(f"\n{state}, {arguments.runs} runs, processor time in milliseconds")
-            report(measure(rows, arguments.runs))
+    program, floor = os.path.abspath(arguments.program), arguments.floor and os.path.abspath(arguments.floor)
+    measured = {"clean": [], "touched": []}
+    for top in map(os.path.abspath, arguments.folder):
+        for state, lines in measured.items():
+            lines.append(compared(program, floor, top, state, arguments.runs))
+    if arguments.cells:
+        print_cells(measured["clean"] + measured["touched"])
 
 
 if __name__ == "__main__":

@@ -1,22 +1,24 @@
 #!/usr/bin/env python3
-"""Draws docs/benchmarks.svg from the figures of bench/figures.json:  python3 bench/plot.py [--check]
+"""Draws docs/benchmarks.svg and docs/benchmarks-growth.svg from bench/figures.json:  python3 bench/plot.py [--check]
 
-Each figure was measured and stands in docs/BENCHMARKS.md: a bar names the row that it is from, and a row that isn't
-there, or has other figures, is refused. With --check nothing is written: the exit status is 1 where the picture isn't
-the one that would be drawn.
+Each figure was measured and stands in docs/BENCHMARKS.md: a bar or a line names the row that it is from, and a row that
+isn't there, or has other figures, is refused. With --check nothing is written: the exit status is 1 where a picture
+isn't the one that would be drawn.
 """
 
 import argparse
 import html
 import json
+import math
 import os
 import sys
 
 TOP = os.path.dirname(os.path.dirname(os.path.abspath(__file__)))
-PICTURE = os.path.join(TOP, "docs", "benchmarks.svg")
 
 WIDTH, MARGIN, NAMES, VALUES = 760, 20, 200, 90
 BAR, STEP, HEAD = 16, 26, 34
+# Of a panel of lines: its height, how far apart labels are, the grid's sides, and how far in the first point is.
+PLOT, LABEL, LEFT, RIGHT, INSET = 170, 16, 50, 520, 30
 # The card has its own ground, so that it can be read on a page of either kind.
 STYLE = """
   .card { fill: #ffffff; stroke: #d0d7de; }
@@ -34,17 +36,37 @@ STYLE = """
     .own { fill: #4493f8; }
   }
 """
+LINES = """
+  .grid { fill: none; stroke: #d0d7de; }
+  .own-line { fill: none; stroke: #0969da; stroke-width: 2; }
+  .other-line { fill: none; stroke: #818b98; stroke-width: 2; }
+  @media (prefers-color-scheme: dark) {
+    .grid { stroke: #3d444d; }
+    .own-line { stroke: #4493f8; }
+  }
+"""
+
+
+def check_row(rows, row, told):
+    """Refuses a row that isn't one of the page's, or whose cells aren't these in this order, behind its name."""
+    cells = [cell.strip() for cell in row.split("|")]
+    left = iter(cells[2:])
+    if row not in rows or not all(words in left for words in told):
+        sys.exit(f"refused: the page has no such row with these figures: {row}")
 
 
 def checked(figures):
-    """The figures, each of which stands in the page's row that its bar names."""
+    """The figures, each of which stands in the page's row that its bar or line names, and in its column."""
     with open(os.path.join(TOP, *figures["page"].split("/")), encoding="utf-8") as file:
         rows = file.read().split("\n")
+    keys, growth = [panel["key"] for panel in figures["panels"]], figures["growth"]
     for bar in figures["bars"]:
-        cells = [cell.strip() for cell in bar["source"].split("|")]
-        told = [", ".join(bar[panel["key"]]) for panel in figures["panels"]]
-        if bar["source"] not in rows or not all(words in cells for words in told):
-            sys.exit(f"refused: {figures['page']} has no such row: {bar['source']}")
+        check_row(rows, bar["source"], [", ".join(bar[key]) for key in keys])
+    check_row(rows, growth["source"], [f"{key}, {size:,}" for key in keys for size in growth["sizes"]])
+    for line in growth["lines"]:
+        if any(len(line[key]) != len(growth["sizes"]) for key in keys):
+            sys.exit(f"refused: not a figure for each size: {line['name']}")
+        check_row(rows, line["source"], [it for key in keys for it in line[key]])
     return figures
 
 
@@ -57,11 +79,19 @@ def rectangle(x, y, width, kind):
     return f'<rect x="{x:.1f}" y="{y}" width="{width:.1f}" height="{BAR}" class="{kind}"/>'
 
 
-def panel_of(panel, bars, top):
-    """The lines of a panel, whose scale is its own."""
-    left = MARGIN + NAMES
+def polyline(points, kind):
+    return f'<polyline points="{" ".join(f"{x:.1f},{y:.1f}" for x, y in points)}" class="{kind}"/>'
+
+
+def circle(x, y, kind):
+    return f'<circle cx="{x:.1f}" cy="{y:.1f}" r="3.5" class="{kind}"/>'
+
+
+def bars_of(figures, panel, top):
+    """A panel of bars, whose scale is its own."""
+    bars, left = figures["bars"], MARGIN + NAMES
     scale = (WIDTH - MARGIN - VALUES - left) / max(float(it) for bar in bars for it in bar[panel["key"]])
-    lines = [text(MARGIN, top, panel["title"], "panel")]
+    lines = []
     for number, bar in enumerate(bars):
         y = top + 14 + number * STEP
         least, most = sorted(float(it) * scale for it in bar[panel["key"]])
@@ -74,34 +104,98 @@ def panel_of(panel, bars, top):
     return lines
 
 
-def picture_of(figures):
-    bars, panels = figures["bars"], figures["panels"]
-    each = HEAD + len(bars) * STEP
+def spread(group):
+    """The heights of a group of labels, one right below the other, whose middle is that of what they label."""
+    first = sum(group) / len(group) - (len(group) - 1) * LABEL / 2
+    return [first + number * LABEL for number in range(len(group))]
+
+
+def apart(heights, bottom):
+    """For each of these ascending heights one near it for its label, none lower than the bottom and none too near."""
+    groups = []
+    for height in heights:
+        group = [height]
+        while groups and spread(groups[-1])[-1] + LABEL > spread(group)[0]:
+            group = groups.pop() + group
+        groups.append(group)
+    places = [place for group in groups for place in spread(group)]
+    return [min(place, bottom - LABEL * below) for below, place in zip(reversed(range(len(places))), places)]
+
+
+def scale_of(most):
+    """The step of a scale from 0, which is 1, 2 or 5 with zeros, and how many of them hold the greatest value."""
+    power = 10.0 ** math.floor(math.log10(most / 5))
+    step = next(it * power for it in (1, 2, 5, 10) if 5 * it * power >= most)
+    return step, math.ceil(most / step)
+
+
+def grid(step, steps, places, bottom):
+    """The lines of the scale with their values, and the sizes with their places below."""
+    lines = []
+    for number in range(steps + 1):
+        y = round(bottom - PLOT * number / steps)
+        lines.append(polyline([(LEFT, y), (RIGHT, y)], "grid"))
+        lines.append(text(LEFT - 6, y + 4, f"{number * step:g}", "small", "end"))
+    return lines + [text(x, bottom + 16, f"{size:,}", "small", "middle") for size, x in places.items()]
+
+
+def curves_of(growth, panel, top):
+    """A panel of lines by the number of entries, whose scale is its own: microseconds an entry."""
+    sizes, bottom = growth["sizes"], top + 18 + PLOT
+    wide = (RIGHT - LEFT - 2 * INSET) / math.log(sizes[-1] / sizes[0])
+    places = {size: LEFT + INSET + wide * math.log(size / sizes[0]) for size in sizes}
+    curves = []
+    for line in growth["lines"]:
+        times = [float(it) * 1000 / size for it, size in zip(line[panel["key"]], sizes)]
+        curves.append((times, line))
+    step, steps = scale_of(max(max(times) for times, _ in curves))
+    curves.sort(key=lambda curve: -curve[0][-1])
+    heights = [[bottom - PLOT * it / (steps * step) for it in times] for times, _ in curves]
+    lines = grid(step, steps, places, bottom)
+    for (_, line), ys, label in zip(curves, heights, apart([ys[-1] for ys in heights], bottom)):
+        points, kind = list(zip(places.values(), ys)), line["kind"]
+        lines.append(polyline([points[-1], (RIGHT + 10, ys[-1]), (RIGHT + 22, label)], "grid"))
+        lines.append(polyline(points, f"{kind}-line"))
+        lines += [circle(x, y, kind) for x, y in points]
+        lines.append(text(RIGHT + 26, round(label + 4), line["name"]))
+    return lines
+
+
+def picture_of(part, panels, panel_of, each, style):
+    """The card of a part of the figures: its title, and below it panels of this height."""
     height = 80 + len(panels) * each
-    lines = [text(MARGIN, 32, figures["title"], "title"), text(MARGIN, 52, figures["unit"], "small")]
+    lines = [text(MARGIN, 32, part["title"], "title"), text(MARGIN, 52, part["unit"], "small")]
     for number, panel in enumerate(panels):
-        lines += panel_of(panel, bars, 84 + number * each)
+        top = 84 + number * each
+        lines += [text(MARGIN, top, panel["title"], "panel"), *panel_of(part, panel, top)]
     size = f'width="{WIDTH}" height="{height}" viewBox="0 0 {WIDTH} {height}"'
     front = [f'<svg xmlns="http://www.w3.org/2000/svg" {size} role="img">']
-    front += [f"<title>{html.escape(figures['title'])}</title>", f"<style>{STYLE}</style>"]
+    front += [f"<title>{html.escape(part['title'])}</title>", f"<style>{style}</style>"]
     front.append(f'<rect x="0.5" y="0.5" width="{WIDTH - 1}" height="{height - 1}" rx="6" class="card"/>')
     return "\n".join([*front, *lines, "</svg>", ""])
 
 
+def pictures_of(figures):
+    """The pictures, by path."""
+    panels, growth = figures["panels"], figures["growth"]
+    bars = picture_of(figures, panels, bars_of, HEAD + len(figures["bars"]) * STEP, STYLE)
+    curves = picture_of(growth, panels, curves_of, HEAD + PLOT + 32, STYLE.rstrip() + LINES)
+    return {"docs/benchmarks.svg": bars, "docs/benchmarks-growth.svg": curves}
+
+
 def main():
     parser = argparse.ArgumentParser()
-    parser.add_argument("--check", action="store_true", help="only say whether the picture is up to date")
+    parser.add_argument("--check", action="store_true", help="only say whether the pictures are up to date")
     arguments = parser.parse_args()
     with open(os.path.join(TOP, "bench", "figures.json"), encoding="utf-8") as file:
-        picture = picture_of(checked(json.load(file)))
-    if not arguments.check:
-        with open(PICTURE, "w", encoding="utf-8") as file:
-            file.write(picture)
-        return 0
-    with open(PICTURE, encoding="utf-8") as file:
-        if file.read() == picture:
-            return 0
-    sys.exit("docs/benchmarks.svg isn't what bench/plot.py draws")
+        pictures = pictures_of(checked(json.load(file)))
+    for path, picture in pictures.items():
+        with open(os.path.join(TOP, *path.split("/")), "r" if arguments.check else "w", encoding="utf-8") as file:
+            if not arguments.check:
+                file.write(picture)
+            elif file.read() != picture:
+                sys.exit(f"{path} isn't what bench/plot.py draws")
+    return 0
 
 
 if __name__ == "__main__":

@@ -1,5 +1,5 @@
 #!/usr/bin/env python3
-"""Tests of the pages' links and examples, and of the picture of their figures:  python3 tools/test_docs.py"""
+"""Tests of the pages' links and examples, and of the pictures of their figures:  python3 tools/test_docs.py"""
 
 import glob
 import os
@@ -55,7 +55,7 @@ class Docs(unittest.TestCase):
                 self.assertRegex(path, r"^crates/\w+_tests/src/")
                 self.assertIn("\n" + example, "\n" + text_of(path))
 
-    def test_the_picture_has_the_figures_of_the_page(self):
+    def test_the_pictures_have_the_figures_of_the_page(self):
         command = [sys.executable, os.path.join(TOP, "bench", "plot.py"), "--check"]
         ran = subprocess.run(command, capture_output=True, text=True)
         self.assertEqual((ran.returncode, ran.stderr), (0, ""))
