@@ -1,5 +1,5 @@
 -- Replays in turn, each from the world that the one before it left.
-use Rattle.std.proofs.Common.{◌≡◌, refl, sym, ap, subst, ◌∙◌, ℕ, zero, suc, ◌+◌, ◌≤◌, List, [], ◌∷◌, ◌++◌, length, length-append, take, drop, Option, Some, None, append_assoc, arith}
+use Rattle.std.proofs.Common.{◌≡◌, refl, sym, ap, subst, ◌∙◌, ℕ, zero, suc, ◌+◌, ◌≤◌, ◌<◌, List, [], ◌∷◌, ◌++◌, length, length-append, take, drop, Option, Some, None, append_assoc, arith}
 use Rattle.std.proofs.Math.Seq.{take-append-add, take-append-le, drop-append-add, drop-append-le}
 use Rattle.std.proofs.lemmas.List.{take_all}
 use Rattle.status_world.specs.declared.world.event.Event.{Event}
@@ -73,8 +73,8 @@ glued es fs w between final first later stop before replay =
 
 -- ---- events behind the one that was refused
 
-stop_inside : (es : List Event) (n : ℕ) (w : StampedWorld) (stop : ℕ × Refusal) → IsStop (drop n es) w (Some stop) → n ≤ length es
-stop_inside [] zero w stop h = omega arith
+pub stop_inside : (es : List Event) (n : ℕ) (w : StampedWorld) (stop : ℕ × Refusal) → IsStop (drop n es) w (Some stop) → n < length es
+stop_inside [] zero w stop h = absurd h
 stop_inside [] (suc n) w stop h = absurd h
 stop_inside (e ∷ es) zero w stop h = omega arith
 stop_inside (e ∷ es) (suc n) w stop h = let inside = stop_inside es n w stop h in omega (arith, inside)
@@ -86,7 +86,8 @@ stop_before (e ∷ rest) fs w stop h = h
 pub with_later : (es fs : List Event) (w final : StampedWorld) (reports : List RunReport) (stop : ℕ × Refusal) → IsReplay w es final reports (Some stop)
     → IsReplay w (es ++ fs) final reports (Some stop)
 with_later es fs w final reports stop replay =
-    let inside : stop.0 ≤ length es = stop_inside es stop.0 final stop replay.stop in
+    let before : stop.0 < length es = stop_inside es stop.0 final stop replay.stop in
+    let inside : stop.0 ≤ length es = omega (arith, before) in
     let taken : take stop.0 (es ++ fs) ≡ take stop.0 es = take-append-le stop.0 es fs inside in
     let dropped : drop stop.0 (es ++ fs) ≡ drop stop.0 es ++ fs = drop-append-le stop.0 es fs inside in
     record {

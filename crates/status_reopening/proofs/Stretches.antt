@@ -1,15 +1,15 @@
 -- One stretch of events behind others.
 use Rattle.std.proofs.Common.{◌≡◌, refl, sym, ap, subst, ◌∙◌, ℕ, ◌+◌, ◌<◌, List, [], ◌∷◌, ◌++◌, length, take, drop, Option, Some, None, Vec, slice_index_or, append_assoc, append-nil, take-append-drop}
 use Rattle.std.specs.declared.alloc.Global.{Global}
-use Rattle.std.proofs.lemmas.List.{take_more}
-use Rattle.status_reopening.specs.Reopening.{events_in}
+use Rattle.std.proofs.lemmas.List.{get_or_default, take_more}
+use Rattle.status_reopening.specs.Reopening.{IsPlaceIn, events_in}
 use Rattle.status_world.specs.declared.world.event.Event.{Event}
 use Rattle.status_world.specs.declared.world.refusal.Refusal.{Refusal}
 use Rattle.status_world.specs.History.{IsReplay}
 use Rattle.status_world.specs.Reports.{RunReport}
 use Rattle.status_world.specs.StampedWorld.{StampedWorld}
 use Rattle.status_world.proofs.Replays.{AreReplayed}
-use Rattle.status_reopening.proofs.Glued.{shifted, glued, with_later, all_replayed}
+use Rattle.status_reopening.proofs.Glued.{shifted, glued, with_later, all_replayed, stop_inside}
 
 events_all : (ss ts : List (Vec Event Global)) → events_in (ss ++ ts) ≡ events_in ss ++ events_in ts
 events_all [] ts = refl
@@ -47,3 +47,12 @@ module _ (w : StampedWorld) (ss : List (Vec Event Global)) (k : ℕ) (s : Vec Ev
       (with_later (events_in (take (k + 1) ss)) (events_in (drop (k + 1) ss)) w new (told ++ more) place
       (subst (λ o. IsReplay w (events_in (take (k + 1) ss)) new (told ++ more) (shifted (length (events_in (take k ss))) o)) some
       (next_stretch so_far same these replay)))
+
+-- where a stretch stops
+pub stop_place : (ss : List (Vec Event Global)) (k : ℕ) (s : Vec Event Global) (before new : StampedWorld) (more : List RunReport) (stop : Option (ℕ × Refusal))
+    (events : List Event) (at : ℕ) (r : Refusal) → k < length ss → s ≡ slice_index_or ss k s → events ≡ s.items → IsReplay before events new more stop → stop ≡ Some (at, r)
+    → IsPlaceIn ss k at
+stop_place ss k s before new more stop events at r inside here these replay some =
+    let stopped : IsReplay before events new more (Some (at, r)) = subst (λ o. IsReplay before events new more o) some replay in
+    let within : at < length s.items = subst (λ l. at < length l) these (stop_inside events at new (at, r) stopped.stop) in
+    (inside, λ d. subst (λ (v : Vec Event Global). at < length v.items) (here ∙ get_or_default ss k s d inside) within)

@@ -1,6 +1,6 @@
 //! The index of a world, stored and opened again.
 
-ghost use Rattle.std.specs.Prelude.{◌≡◌, IfErr};
+ghost use Rattle.std.specs.Prelude.{◌≡◌, ◌<◌, IfErr};
 ghost use Rattle.status_reopening.specs.Reopening.{IsOpeningRefusal};
 
 use status_stored::{ReopenError, reopened};
@@ -29,6 +29,7 @@ fn open_again(alloc: Global, world: &mut World) -> Result<(), Refusal>
 pub(crate) fn open_before(alloc: Global, world: &mut World, stretch: usize) -> Result<(), Refusal>
     ensures kept { world.new ≡ world.old }
     ensures refused { IfErr result (IsOpeningRefusal world.old) }
+    ensures later { IfErr result (λ _. 0 < stretch) }
 {
     if stretch == 0 {
         return Ok(());

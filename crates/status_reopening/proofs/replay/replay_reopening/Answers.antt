@@ -3,7 +3,7 @@ use Rattle.std.proofs.lemmas.List.{map-append}
 use Rattle.std.proofs.lemmas.List.Elements.{All-append}
 use Rattle.status_reopening.specs.Reopening.{events_in}
 use Rattle.status_reopening.proofs.Glued.{shifted}
-use Rattle.status_reopening.proofs.Stretches.{next_stretch, goes_on, stops}
+use Rattle.status_reopening.proofs.Stretches.{next_stretch, goes_on, stops, stop_place}
 use Rattle.status_reopening.proofs.replay.replay_reopening.Goals as goal
 use Rattle.status_world.specs.History.{IsReplay}
 use Rattle.status_world.specs.Reports.{HasSum, report_value}
@@ -16,6 +16,7 @@ returns-then-is_err-clause-replay g c =
     let stretches = c.args.stretches.now in
     let more = map report_value c.replay-next.result.reports.items in
     let stop = shifted (length (events_in (take c.loop-stretch.stretch stretches))) c.replay-next.result.stopped in (
+      c.loop-stretch-test.true,
       more,
       stop,
       subst (λ l. IsReplay c.args.world (events_in (take (c.loop-stretch.stretch + 1) stretches)) c.replay-next.result.world (l ++ more) stop)
@@ -32,7 +33,8 @@ returns-in-Some-clause-replay g c =
     let told : map report_value c.append.new.self.items ≡ map report_value c.loop-stretch.reports.items ++ map report_value c.replay-next.result.reports.items =
     ap (map report_value) items ∙ map-append report_value _ _ in
     let stopped = stops _ _ _ _ c.loop-stretch-test.true c.index-stretches-stretch.is _ _ _ _ _ _ _ _ _ c.loop-stretch.invariant.replayed c.open_before.ensures.kept c.deref.ensures.value c.replay-next.ensures.replay c.in-Some.is in
-    rw told stopped
+    let place = stop_place _ _ _ _ _ _ _ _ _ _ c.loop-stretch-test.true c.index-stretches-stretch.is c.deref.ensures.value c.replay-next.ensures.replay c.in-Some.is in
+    (place, rw told stopped)
 
 pub returns-in-Some-clause-sums : goal.returns-in-Some-clause-sums
 returns-in-Some-clause-sums g c =
