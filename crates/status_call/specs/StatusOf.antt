@@ -11,9 +11,9 @@ use Rattle.status_call.specs.Query.{Query}
 use Rattle.status_call.specs.StatusTheorem.{IsMet, NeverSpawns}
 use Rattle.status_call.specs.Visits.{Visit}
 
-module _ {T U : Type 0} (query : Settings → Query T U) (options : Options) (index : State) where
+module _ {I T U : Type 0} (query : I → Settings → Query T U) (given : I) (options : Options) (index : State) where
   abbrev query_of : Query T U
-  query_of = query (settings options index)
+  query_of = query given (settings options index)
 
   -- what the collector was given, by its meaning, and what the call answered
   abbrev pub IsStatus : {V : Type 0} → (V → List (Visit T U)) → V → Result Outcome Error → V → Type 0

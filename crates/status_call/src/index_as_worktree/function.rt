@@ -5,7 +5,7 @@ ghost use Rattle.status_index.specs.States.{entries_of, backing_of, index_of};
 ghost use Rattle.bstr.specs.BStr.{bstr_bytes};
 ghost use Rattle.status_index.specs.Stretch.{part_of};
 ghost use Rattle.status_call.specs.Considered.{considered, considered_start};
-ghost use Rattle.status_call.specs.Inputs.{inputs};
+ghost use Rattle.status_call.specs.Inputs.{given};
 ghost use Rattle.status_call.specs.StatusOf.{IsAlone, IsStatus};
 ghost use Rattle.status_call.specs.Workers.{chunk_size_of};
 
@@ -112,12 +112,12 @@ where
     W::File: Send,
     C::Output: Send,
     S::Output: Send,
-    ensures all { IsStatus (⟦<Inputs<'w, W, C, S, O, P, T, L> as Means>⟧.query
-        (inputs worktree.entry compare submodule objects context.entry))
+    ensures all { IsStatus ⟦<Inputs<'w, W, C, S, O, P, T, L> as Means>⟧.query
+        (given worktree.entry compare submodule objects context.entry)
         options index.now V.visits collector.old result collector.new }
     ensures uninterrupted { context.entry.should_interrupt ≡ None → IfOk result (λ o. o.interrupted ≡ false) }
-    ensures alone { IsAlone (⟦<Inputs<'w, W, C, S, O, P, T, L> as Means>⟧.query
-        (inputs worktree.entry compare submodule objects context.entry)) options index.now result }
+    ensures alone { IsAlone ⟦<Inputs<'w, W, C, S, O, P, T, L> as Means>⟧.query
+        (given worktree.entry compare submodule objects context.entry) options index.now result }
 {
     let Context {
         pathspec,
