@@ -18,7 +18,7 @@ pub(crate) fn join(
     requires came { AreByKey came.now }
     ensures { IfOk result (λ pairs. IsJoin gone.now came.now pairs.items) }
 {
-    let mut pairs = Vec::new(alloc);
+    let mut pairs = Vec::with_capacity(alloc, gone.len().min(came.len()))?;
     let mut source = 0;
     let mut destination = 0;
     while source < gone.len() && destination < came.len() {

@@ -58,7 +58,7 @@ fn see<C: Change>(place: usize, item: &C) -> Seen<'_>
 pub(crate) fn see_all<C: Change>(alloc: Global, items: &[C]) -> Result<Vec<Seen<'_>>, AllocError>
     ensures { IfOk result (λ seen. map standing seen.items ≡ enumerate_from 0 (map C.changed items.entry.now)) }
 {
-    let mut seen = Vec::new(alloc);
+    let mut seen = Vec::with_capacity(alloc, items.len())?;
     for (place, item) in items.iter().enumerate() {
         seen.push(see(place, item))?;
     }
