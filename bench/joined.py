@@ -1,11 +1,21 @@
 #!/usr/bin/env python3
 """Times the status with untracked files, renames and copies in memory: the walk, sorting, the tracker's pairs and the call.
 
-    python3 bench/joined.py
+    python3 bench/joined.py [PROGRAM]
+    python3 bench/joined.py --instructions PROGRAM
 
 It copies the crates to a folder of its own, puts the program of bench/joined beside them, and proves, builds and runs
-that. Each time is the least of several.
+that. Each time is the least of several. The built program is copied to PROGRAM, where that is named.
+
+With --instructions a program that was built so is run by valgrind's callgrind, and the instructions a record or node are
+printed, for each part and number of them: those of two calls less those of one, so that what makes the index and the
+worktree isn't in them.
 """
+
+import os
+import re
+import subprocess
+import sys
 
 import beside
 
@@ -13,6 +23,28 @@ LIBRARIES = (
     "gix_status status_joined status_disk_walk status_halves status_rewrites status_tracker status_walk status_world "
     "status_call status_compare status_base status_index bstr"
 )
+PARTS = ("pairs", "unsorted", "sorted", "renames")
+SIZES = (10_000, 100_000, 1_000_000)
+
+
+def instructions(program, part, size, times):
+    """How many instructions the program takes for a part, so many times."""
+    words = ["valgrind", "--tool=callgrind", f"--callgrind-out-file={os.devnull}", program, part, str(size), str(times)]
+    ran = subprocess.run(words, capture_output=True, text=True, check=True)
+    return int(re.search(r"Collected : (\d+)", ran.stderr)[1])
+
+
+def count(program):
+    for part in PARTS:
+        for size in SIZES:
+            more = instructions(program, part, size, 2) - instructions(program, part, size, 1)
+            print(f"{part} of {size}: {more / size:.0f} instructions each", flush=True)
+
 
 if __name__ == "__main__":
-    beside.run("joined_bench", LIBRARIES, ["joined/*.rt.txt", "given/*.rt.txt"])
+    if sys.argv[1:2] == ["--instructions"] and len(sys.argv) == 3:
+        count(sys.argv[2])
+    elif len(sys.argv) <= 2:
+        beside.run("joined_bench", LIBRARIES, ["joined/*.rt.txt", "given/*.rt.txt"], kept=(sys.argv + [None])[1])
+    else:
+        sys.exit("usage: joined.py [PROGRAM] | --instructions PROGRAM")
