@@ -55,11 +55,10 @@ enum Node<'a> {
 }
 
 // Puts these into a folder, in order.
-fn fill<R: Files + AllocGlobal>(
-    rt: &R,
-    folder: &str,
-    nodes: &[(&str, Node<'_>)],
-) -> io::Result<()> {
+fn fill<R: Files + AllocGlobal>(rt: &R, folder: &str, nodes: &[(&str, Node<'_>)]) -> io::Result<()>
+where
+    R::File: Drop,
+{
     for (name, node) in nodes {
         let path = within(rt, folder, *name)?;
         match *node {
@@ -294,7 +293,10 @@ fn read_to<W: Worktree>(
 }
 
 // Writes a file of this many bytes `x`.
-fn write_long<R: Files + AllocGlobal>(rt: &R, path: &str, len: u64) -> io::Result<()> {
+fn write_long<R: Files + AllocGlobal>(rt: &R, path: &str, len: u64) -> io::Result<()>
+where
+    R::File: Drop,
+{
     let content = Vec::from_elem(rt.alloc(), b'x', len as usize)?;
     fs::write(rt, path, content.as_slice())
 }
