@@ -85,7 +85,10 @@ fn index_of_foo(alloc: Global, size: u32) -> Result<State, Error> {
         flags: Flags::default(),
         mode: Mode::File,
     })?;
-    State::from_entries(alloc, entries, Moment::default()).map_err(|_refused| Error::Memory)
+    match State::from_entries(alloc, entries, Moment::default()) {
+        Ok(index) => Ok(index),
+        Err(_refused) => Err(Error::Memory),
+    }
 }
 
 // A file or link of these bytes, whose length is said to be `len`, against `foo` with this size.
@@ -202,8 +205,10 @@ fn streams_count_what_they_give(rt: HostRuntime) -> Result<(), Fail> {
     );
     assert_eq!(rt; file.as_bytes(), None);
     let mut all = Vec::new(rt.alloc());
-    let failed = file.read_to_end(&mut all);
-    assert_eq!(rt; failed.map_err(|e| e.kind()), Err(ErrorKind::UnexpectedEof));
+    match file.read_to_end(&mut all) {
+        Ok(count) => panic!(rt; "{count} bytes were read to an end"),
+        Err(error) => assert_eq!(rt; error.kind(), ErrorKind::UnexpectedEof),
+    }
     assert_eq!(rt; all.as_slice(), b"foo".as_slice());
     assert_eq!(rt; (file.size(), Stream::bytes(&file)), (Some(4), 3));
     Ok(())

@@ -46,10 +46,50 @@ where
     file.set_times(fs::FileTimes::new().set_modified(time))
 }
 
+// What is put into a folder: a file with this text, a link to this target, or a folder.
+#[derive(Clone, Copy)]
+enum Node<'a> {
+    File(&'a str),
+    Link(&'a str),
+    Folder,
+}
+
+// Puts these into a folder, in order.
+fn fill<R: Files + AllocGlobal>(rt: &R, folder: &str, nodes: &[(&str, Node<'_>)]) -> io::Result<()>
+where
+    R::File: Drop,
+{
+    for (name, node) in nodes {
+        let path = within(rt, folder, *name)?;
+        match *node {
+            Node::File(text) => fs::write(rt, path.as_str(), text)?,
+            Node::Link(target) => symlink(rt, target, path.as_str())?,
+            Node::Folder => fs::create_dir(rt, path.as_str())?,
+        }
+    }
+    Ok(())
+}
+
+fn set_mode<R: Files + AllocGlobal>(rt: &R, folder: &str, name: &str, mode: u32) -> io::Result<()> {
+    let path = within(rt, folder, name)?;
+    fs::set_permissions(rt, path.as_str(), Permissions::from_mode(mode))
+}
+
 // What lstat reports of a node, its stamps aside. A folder may be shared by threads.
 fn kind_and_len<W: Worktree + Sync>(worktree: &W, path: &[u8]) -> Result<(NodeKind, u64), Fault> {
     let found = worktree.lstat(BStr::new(path))?;
     Ok((found.kind, found.len))
+}
+
+fn kind_of<W: Worktree>(worktree: &W, path: &[u8]) -> Result<NodeKind, Fault> {
+    let found = worktree.lstat(BStr::new(path))?;
+    Ok(found.kind)
+}
+
+// The stamps of a node's content and of the node.
+fn stamps<W: Worktree>(worktree: &W, path: &[u8]) -> Result<(Option<Time>, Option<Time>), Fault> {
+    let found = worktree.lstat(BStr::new(path))?;
+    Ok((found.mtime, found.ctime))
 }
 
 fn open_fault<W: Worktree>(worktree: &W, path: &[u8]) -> Option<Fault> {
@@ -67,25 +107,26 @@ fn link_fault<W: Worktree>(worktree: &W, path: &[u8], buffer: &mut Vec<u8>) -> O
 fn stamps_are_reported(rt: HostRuntime) -> Result<(), Fail> {
     let folder = new_folder(&rt, "stamps_are_reported", process::id(rt.process()))?;
     let root = folder.as_str();
-    let first = Duration::from_secs(5) + Duration::from_nanos(7);
     let last = Duration::from_secs(4294967295);
-    write_at(&rt, root, "a", "foo", first)?;
-    write_at(&rt, root, "late", "", last)?;
-    write_at(&rt, root, "later", "", last + Duration::from_secs(1))?;
-
-    let worktree = DiskWorktree::new(&rt, Path::new(root))?;
-    let stamps = |path: &[u8]| {
-        let found = worktree.lstat(BStr::new(path));
-        found.map(|found| (found.mtime, found.ctime))
-    };
-    let early = Some(Time { secs: 5, nsecs: 7 });
-    assert_eq!(rt; stamps(b"a"), Ok((early, early)));
-    let late = Some(Time {
+    let early_stamp = Some(Time { secs: 5, nsecs: 7 });
+    let last_stamp = Some(Time {
         secs: 4294967295,
         nsecs: 0,
     });
-    assert_eq!(rt; stamps(b"late"), Ok((late, late)));
-    assert_eq!(rt; stamps(b"later"), Ok((None, None)));
+    let early = Duration::from_secs(5) + Duration::from_nanos(7);
+    let cases = [
+        ("a", "foo", early, early_stamp),
+        ("late", "", last, last_stamp),
+        ("later", "", last + Duration::from_secs(1), None),
+    ];
+    for (name, text, time, _stamp) in cases {
+        write_at(&rt, root, name, text, time)?;
+    }
+    let worktree = DiskWorktree::new(&rt, Path::new(root))?;
+    for (name, _text, _time, stamp) in cases {
+        let found = stamps(&worktree, name.as_bytes());
+        assert_eq!(rt; found, Ok((stamp, stamp)), "at {name}");
+    }
     fs::remove_dir_all(&rt, root)?;
     Ok(())
 }
@@ -94,14 +135,15 @@ fn stamps_are_reported(rt: HostRuntime) -> Result<(), Fail> {
 fn nodes_are_reported(rt: HostRuntime) -> Result<(), Fail> {
     let folder = new_folder(&rt, "nodes_are_reported", process::id(rt.process()))?;
     let root = folder.as_str();
-    write_at(&rt, root, "a", "foo", Duration::from_secs(5))?;
-    let path = within(&rt, root, "a")?;
-    fs::set_permissions(&rt, path.as_str(), Permissions::from_mode(0o755))?;
-    symlink(&rt, "a", within(&rt, root, "l")?)?;
-    fs::create_dir(&rt, within(&rt, root, "d")?)?;
     let name = "control\n\x01 é";
-    fs::write(&rt, within(&rt, root, name)?, "x")?;
-
+    write_at(&rt, root, "a", "foo", Duration::from_secs(5))?;
+    set_mode(&rt, root, "a", 0o755)?;
+    let others = [
+        ("l", Node::Link("a")),
+        ("d", Node::Folder),
+        (name, Node::File("x")),
+    ];
+    fill(&rt, root, &others)?;
     let worktree = DiskWorktree::new(&rt, Path::new(root))?;
     let changed = Some(Time { secs: 5, nsecs: 0 });
     let file = Metadata {
@@ -116,16 +158,13 @@ fn nodes_are_reported(rt: HostRuntime) -> Result<(), Fail> {
         gid: 0,
     };
     assert_eq!(rt; worktree.lstat(BStr::new(b"a")), Ok(file));
-    assert_eq!(rt; kind_and_len(&worktree, b"l"), Ok((NodeKind::Link, 1)));
-    let directory = worktree.lstat(BStr::new(b"d"));
-    assert_eq!(rt; directory.map(|found| found.kind), Ok(NodeKind::Directory));
-    assert_eq!(rt;
-        kind_and_len(&worktree, name.as_bytes()),
-        Ok((NodeKind::File, 1))
-    );
+    for (path, kind) in [("l", NodeKind::Link), (name, NodeKind::File)] {
+        let found = kind_and_len(&worktree, path.as_bytes());
+        assert_eq!(rt; found, Ok((kind, 1)), "at {path}");
+    }
+    assert_eq!(rt; kind_of(&worktree, b"d"), Ok(NodeKind::Directory));
     let devices = DiskWorktree::new(&rt, Path::new("/dev"))?;
-    let null = devices.lstat(BStr::new(b"null"));
-    assert_eq!(rt; null.map(|found| found.kind), Ok(NodeKind::Other));
+    assert_eq!(rt; kind_of(&devices, b"null"), Ok(NodeKind::Other));
     let mut target = Vec::from_slice(rt.alloc(), b"before")?;
     assert_eq!(rt; worktree.read_link(BStr::new(b"l"), &mut target), Ok(()));
     assert_eq!(rt; target.as_slice(), b"a".as_slice());
@@ -143,11 +182,10 @@ fn long_paths_lead_below_the_folder(rt: HostRuntime) -> Result<(), Fail> {
         name.push_str("long name_")?;
     }
     let name = name.as_str();
-    fs::create_dir(&rt, within(&rt, root, name)?)?;
     // Of more bytes than a path for which no memory is taken.
     let path = format!(in alloc; "{name}/{name}")?;
-    fs::write(&rt, within(&rt, root, path.as_str())?, "foo")?;
-
+    let nodes = [(name, Node::Folder), (path.as_str(), Node::File("foo"))];
+    fill(&rt, root, &nodes)?;
     let worktree = DiskWorktree::new(&rt, Path::new(root))?;
     assert_eq!(rt;
         kind_and_len(&worktree, path.as_bytes()),
@@ -163,10 +201,13 @@ fn faults_are_named(rt: HostRuntime) -> Result<(), Fail> {
     let alloc = rt.alloc();
     let folder = new_folder(&rt, "faults_are_named", process::id(rt.process()))?;
     let root = folder.as_str();
-    fs::write(&rt, within(&rt, root, "a")?, "foo")?;
-    symlink(&rt, "loop", within(&rt, root, "loop")?)?;
-    symlink(&rt, "gone", within(&rt, root, "dangling")?)?;
-    fs::create_dir(&rt, within(&rt, root, "d")?)?;
+    let nodes = [
+        ("a", Node::File("foo")),
+        ("loop", Node::Link("loop")),
+        ("dangling", Node::Link("gone")),
+        ("d", Node::Folder),
+    ];
+    fill(&rt, root, &nodes)?;
     let worktree = DiskWorktree::new(&rt, Path::new(root))?;
     let too_long = [b'x'; 300];
     let far_too_long = [b'x'; 5000];
@@ -212,12 +253,15 @@ fn unreadable_nodes_are_refused(rt: HostRuntime) -> Result<(), Fail> {
     let folder = new_folder(&rt, "unreadable", process::id(rt.process()))?;
     let root = folder.as_str();
     let is_root = fs::symlink_metadata(&rt, root)?.uid() == 0;
-    fs::write(&rt, within(&rt, root, "a")?, "foo")?;
-    fs::create_dir(&rt, within(&rt, root, "d")?)?;
-    fs::write(&rt, within(&rt, root, "d/b")?, "bar")?;
-    let (locked_file, locked_folder) = (within(&rt, root, "a")?, within(&rt, root, "d")?);
-    fs::set_permissions(&rt, locked_file.as_str(), Permissions::from_mode(0))?;
-    fs::set_permissions(&rt, locked_folder.as_str(), Permissions::from_mode(0))?;
+    let nodes = [
+        ("a", Node::File("foo")),
+        ("d", Node::Folder),
+        ("d/b", Node::File("bar")),
+    ];
+    fill(&rt, root, &nodes)?;
+    for locked in ["a", "d"] {
+        set_mode(&rt, root, locked, 0)?;
+    }
     let worktree = DiskWorktree::new(&rt, Path::new(root))?;
     assert_eq!(rt; kind_and_len(&worktree, b"a"), Ok((NodeKind::File, 3)));
     let refused = if is_root {
@@ -225,18 +269,50 @@ fn unreadable_nodes_are_refused(rt: HostRuntime) -> Result<(), Fail> {
     } else {
         Some(Fault::PermissionDenied)
     };
-    assert_eq!(rt; open_fault(&worktree, b"a"), refused);
+    for path in ["a", "d/b"] {
+        assert_eq!(rt;
+            open_fault(&worktree, path.as_bytes()),
+            refused,
+            "at {path}"
+        );
+    }
     assert_eq!(rt; kind_and_len(&worktree, b"d/b").err(), refused);
-    assert_eq!(rt; open_fault(&worktree, b"d/b"), refused);
-    fs::set_permissions(&rt, locked_folder.as_str(), Permissions::from_mode(0o700))?;
+    set_mode(&rt, root, "d", 0o700)?;
     fs::remove_dir_all(&rt, root)?;
     Ok(())
+}
+
+// The id of the first `len` bytes of the file `a`, and then what one more read says.
+fn read_to<W: Worktree>(
+    worktree: &W,
+    len: u64,
+) -> Result<(Result<ObjectId, Fault>, Result<usize, Fault>), Fault> {
+    let mut file = worktree.open(BStr::new(b"a"))?;
+    let hashed = compute_stream_hash(HashKind::Sha1, &mut file, len);
+    Ok((hashed, file.read_bytes(&mut [0; 8])))
+}
+
+// Writes a file of this many bytes `x`.
+fn write_long<R: Files + AllocGlobal>(rt: &R, path: &str, len: u64) -> io::Result<()>
+where
+    R::File: Drop,
+{
+    let content = Vec::from_elem(rt.alloc(), b'x', len as usize)?;
+    fs::write(rt, path, content.as_slice())
+}
+
+// Takes bytes away from the end of a file, so that this many are left.
+fn shorten<R: Files>(rt: &R, path: &str, len: u64) -> io::Result<()>
+where
+    R::File: Drop,
+{
+    let writer = File::options().write(true).open(rt, path)?;
+    writer.set_len(len)
 }
 
 // The ids are git's.
 #[test]
 fn files_are_read_in_pieces(rt: HostRuntime) -> Result<(), Fail> {
-    let alloc = rt.alloc();
     let folder = new_folder(&rt, "files_are_read", process::id(rt.process()))?;
     let root = folder.as_str();
     let path = within(&rt, root, "a")?;
@@ -258,17 +334,13 @@ fn files_are_read_in_pieces(rt: HostRuntime) -> Result<(), Fail> {
         ),
     ];
     for (len, id) in cases {
-        let content = Vec::from_elem(alloc, b'x', len as usize)?;
-        fs::write(&rt, path.as_str(), content.as_slice())?;
-        let mut file = worktree.open(BStr::new(b"a"))?;
-        let hashed = compute_stream_hash(HashKind::Sha1, &mut file, len);
-        assert_eq!(rt; hashed, Ok(ObjectId::Sha1(id)));
-        assert_eq!(rt; file.read_bytes(&mut [0; 8]), Ok(0));
+        write_long(&rt, path.as_str(), len)?;
+        let read = read_to(&worktree, len)?;
+        assert_eq!(rt; read, (Ok(ObjectId::Sha1(id)), Ok(0)), "at {len}");
     }
     // A file that shrinks once it is open.
     let mut file = worktree.open(BStr::new(b"a"))?;
-    let writer = File::options().write(true).open(&rt, path.as_str())?;
-    writer.set_len(70000)?;
+    shorten(&rt, path.as_str(), 70000)?;
     assert_eq!(rt;
         compute_stream_hash(HashKind::Sha1, &mut file, 200000),
         Err(Fault::UnexpectedEnd)

@@ -153,88 +153,138 @@ fn link_read<W: Worktree>(tree: &W, path: &[u8], target: &mut Vec<u8>) -> Result
     tree.read_link(BStr::new(path), target)
 }
 
-#[test]
-fn a_planted_fault_answers_its_call_alone(rt: HostRuntime) -> Result<(), Fail> {
-    let alloc = rt.alloc();
-    let mut tree = small(alloc)?;
-    let mut target = Vec::from_slice(alloc, b"before")?;
-    tree.plant(BStr::new(b"f"), Point::Lstat, Fault::PermissionDenied)?;
-    tree.plant(BStr::new(b"l"), Point::Open, Fault::Interrupted)?;
-    tree.plant(BStr::new(b"l"), Point::ReadLink, Fault::Other(9))?;
-    assert_eq!(rt; looked_up(&tree, b"f"), Err(Fault::PermissionDenied));
-    assert!(rt; opened(&tree, b"f").is_ok());
-    assert_eq!(rt; link_read(&tree, b"f", &mut target), Err(Fault::Other(0)));
-    assert_eq!(rt;
-        looked_up(&tree, b"l").map(|link| link.kind),
-        Ok(NodeKind::Link)
-    );
-    assert_eq!(rt; opened(&tree, b"l").err(), Some(Fault::Interrupted));
-    target.extend_from_slice(b"before")?;
-    assert_eq!(rt; link_read(&tree, b"l", &mut target), Err(Fault::Other(9)));
-    assert!(rt; target.is_empty());
-    Ok(())
+fn kind_found<W: Worktree>(tree: &W, path: &[u8]) -> Result<NodeKind, Fault> {
+    let found = looked_up(tree, path)?;
+    Ok(found.kind)
 }
 
-#[test]
-fn planting_replaces_and_clearing_takes_out(rt: HostRuntime) -> Result<(), Fail> {
-    let alloc = rt.alloc();
-    let mut tree = small(alloc)?;
-    let path = BStr::new(b"f");
-    tree.plant(path, Point::Open, Fault::NotFound)?;
-    tree.plant(path, Point::Lstat, Fault::NotFound)?;
-    tree.plant(path, Point::Open, Fault::Interrupted)?;
-    assert_eq!(rt; opened(&tree, b"f").err(), Some(Fault::Interrupted));
-    assert_eq!(rt; looked_up(&tree, b"f"), Err(Fault::NotFound));
-    tree.plant(BStr::new(b"l"), Point::Lstat, Fault::Other(3))?;
-    tree.clear(path);
-    assert!(rt; opened(&tree, b"f").is_ok());
-    assert!(rt; looked_up(&tree, b"f").is_ok());
-    assert_eq!(rt; looked_up(&tree, b"l"), Err(Fault::Other(3)));
-    Ok(())
+/// What is done to a worktree, or what one of its calls on a path is to answer.
+#[derive(Clone, Copy)]
+enum Step {
+    Plant(&'static [u8], Point, Fault),
+    Clear(&'static [u8]),
+    Put(&'static [u8]),
+    /// There is a node to take out.
+    Remove(&'static [u8]),
+    Lstat(&'static [u8], Result<NodeKind, Fault>),
+    /// The fault, or None where the file is opened.
+    Open(&'static [u8], Option<Fault>),
+    /// The fault, and nothing is left of the target.
+    Link(&'static [u8], Fault),
 }
 
-#[test]
-fn planted_faults_outlast_nodes(rt: HostRuntime) -> Result<(), Fail> {
-    let alloc = rt.alloc();
-    let mut tree = small(alloc)?;
-    let path = BStr::new(b"f");
-    tree.plant(path, Point::Open, Fault::Interrupted)?;
-    let _replaced = tree.put(path, node(alloc, NodeKind::File, b"other")?);
-    assert_eq!(rt; opened(&tree, b"f").err(), Some(Fault::Interrupted));
-    assert!(rt; tree.remove(path).is_some());
-    assert_eq!(rt; opened(&tree, b"f").err(), Some(Fault::Interrupted));
-    assert_eq!(rt; looked_up(&tree, b"f"), Err(Fault::NotFound));
-    tree.clear(path);
-    assert_eq!(rt; opened(&tree, b"f").err(), Some(Fault::NotFound));
-    Ok(())
-}
-
-/// Where nothing is at a path, opening and reading a link answer as `lstat` does; of a directory they answer `Other(0)`.
-/// What is planted above a path doesn't touch calls on it.
-#[test]
-fn planted_where_no_node_is(rt: HostRuntime) -> Result<(), Fail> {
-    let alloc = rt.alloc();
-    let mut tree = small(alloc)?;
-    let mut target = Vec::from_slice(alloc, b"before")?;
-    for path in [&b"d"[..], b"e", b"f/x"] {
-        tree.plant(BStr::new(path), Point::Lstat, Fault::PermissionDenied)?;
-        assert_eq!(rt; looked_up(&tree, path), Err(Fault::PermissionDenied));
+/// Takes a step, and says whether the worktree answered as it is to.
+fn is_met(
+    alloc: Global,
+    tree: &mut MemoryWorktree,
+    target: &mut Vec<u8>,
+    step: Step,
+) -> Result<bool, AllocError> {
+    match step {
+        Step::Plant(path, point, fault) => {
+            tree.plant(BStr::new(path), point, fault)?;
+            Ok(true)
+        }
+        Step::Clear(path) => {
+            tree.clear(BStr::new(path));
+            Ok(true)
+        }
+        Step::Put(path) => {
+            let other = node(alloc, NodeKind::File, b"other")?;
+            let _replaced = tree.put(BStr::new(path), other);
+            Ok(true)
+        }
+        Step::Remove(path) => Ok(tree.remove(BStr::new(path)).is_some()),
+        Step::Lstat(path, want) => Ok(kind_found(tree, path) == want),
+        Step::Open(path, want) => Ok(opened(tree, path).err() == want),
+        Step::Link(path, want) => {
+            target.extend_from_slice(b"before")?;
+            Ok(link_read(tree, path, target) == Err(want) && target.is_empty())
+        }
     }
-    for (path, fault) in [
-        (&b"d"[..], Fault::Other(0)),
-        (b"e", Fault::PermissionDenied),
-        (b"f/x", Fault::PermissionDenied),
-        (b"e/x", Fault::NotFound),
-        (b"d/x/y", Fault::NotADirectory),
-    ] {
-        assert_eq!(rt; opened(&tree, path).err(), Some(fault));
-        assert_eq!(rt; link_read(&tree, path, &mut target), Err(fault));
+}
+
+const PLANTED: [(&str, &[Step]); 4] = [
+    (
+        "a fault answers its call alone",
+        &[
+            Step::Plant(b"f", Point::Lstat, Fault::PermissionDenied),
+            Step::Plant(b"l", Point::Open, Fault::Interrupted),
+            Step::Plant(b"l", Point::ReadLink, Fault::Other(9)),
+            Step::Lstat(b"f", Err(Fault::PermissionDenied)),
+            Step::Open(b"f", None),
+            Step::Link(b"f", Fault::Other(0)),
+            Step::Lstat(b"l", Ok(NodeKind::Link)),
+            Step::Open(b"l", Some(Fault::Interrupted)),
+            Step::Link(b"l", Fault::Other(9)),
+        ],
+    ),
+    (
+        "planting replaces, and clearing takes out",
+        &[
+            Step::Plant(b"f", Point::Open, Fault::NotFound),
+            Step::Plant(b"f", Point::Lstat, Fault::NotFound),
+            Step::Plant(b"f", Point::Open, Fault::Interrupted),
+            Step::Open(b"f", Some(Fault::Interrupted)),
+            Step::Lstat(b"f", Err(Fault::NotFound)),
+            Step::Plant(b"l", Point::Lstat, Fault::Other(3)),
+            Step::Clear(b"f"),
+            Step::Open(b"f", None),
+            Step::Lstat(b"f", Ok(NodeKind::File)),
+            Step::Lstat(b"l", Err(Fault::Other(3))),
+        ],
+    ),
+    (
+        "faults outlast nodes",
+        &[
+            Step::Plant(b"f", Point::Open, Fault::Interrupted),
+            Step::Put(b"f"),
+            Step::Open(b"f", Some(Fault::Interrupted)),
+            Step::Remove(b"f"),
+            Step::Open(b"f", Some(Fault::Interrupted)),
+            Step::Lstat(b"f", Err(Fault::NotFound)),
+            Step::Clear(b"f"),
+            Step::Open(b"f", Some(Fault::NotFound)),
+        ],
+    ),
+    // Where nothing is at a path, opening and reading a link answer as `lstat` does; of a directory
+    // they answer `Other(0)`. What is planted above a path doesn't touch calls on it.
+    (
+        "planted where no node is",
+        &[
+            Step::Plant(b"d", Point::Lstat, Fault::PermissionDenied),
+            Step::Lstat(b"d", Err(Fault::PermissionDenied)),
+            Step::Plant(b"e", Point::Lstat, Fault::PermissionDenied),
+            Step::Lstat(b"e", Err(Fault::PermissionDenied)),
+            Step::Plant(b"f/x", Point::Lstat, Fault::PermissionDenied),
+            Step::Lstat(b"f/x", Err(Fault::PermissionDenied)),
+            Step::Open(b"d", Some(Fault::Other(0))),
+            Step::Link(b"d", Fault::Other(0)),
+            Step::Open(b"e", Some(Fault::PermissionDenied)),
+            Step::Link(b"e", Fault::PermissionDenied),
+            Step::Open(b"f/x", Some(Fault::PermissionDenied)),
+            Step::Link(b"f/x", Fault::PermissionDenied),
+            Step::Open(b"e/x", Some(Fault::NotFound)),
+            Step::Link(b"e/x", Fault::NotFound),
+            Step::Open(b"d/x/y", Some(Fault::NotADirectory)),
+            Step::Link(b"d/x/y", Fault::NotADirectory),
+            Step::Lstat(b"d/x", Ok(NodeKind::File)),
+            Step::Open(b"d/x", None),
+        ],
+    ),
+];
+
+#[test]
+fn planted_faults_answer(rt: HostRuntime) -> Result<(), Fail> {
+    let alloc = rt.alloc();
+    let mut target = Vec::new(alloc);
+    for (name, steps) in PLANTED {
+        let mut tree = small(alloc)?;
+        for (at, step) in steps.iter().enumerate() {
+            let met = is_met(alloc, &mut tree, &mut target, *step)?;
+            assert!(rt; met, "at {name}, step {at}");
+        }
     }
-    assert_eq!(rt;
-        looked_up(&tree, b"d/x").map(|file| file.kind),
-        Ok(NodeKind::File)
-    );
-    assert!(rt; opened(&tree, b"d/x").is_ok());
     Ok(())
 }
 

@@ -10,6 +10,7 @@ ghost use Rattle.status_base.specs.Verified.{IsVerified};
 use bstr::{BStr, BString};
 use status_base::stack::{StackError, SymlinkCheck};
 use status_base::worktree::{Fault, Metadata, NodeKind, ReadBytes, Worktree};
+use std::alloc::{AllocError, Global};
 use std::sync::atomic::{AtomicUsize, Ordering};
 use std::test::Fail;
 
@@ -123,33 +124,97 @@ fn second_of_two<'s, 'p, W: Worktree>(
     check.verified_path(worktree, second)
 }
 
-#[test]
-fn refuses_paths_through_links(rt: HostRuntime) -> Result<(), Fail> {
-    let worktree = Table {
-        answers: &[
+/// What a check answers for a path, which may lead to nothing where that is allowed.
+fn answer(
+    alloc: Global,
+    check: &mut SymlinkCheck,
+    worktree: &Table,
+    path: &str,
+    may_be_absent: bool,
+) -> Result<String, AllocError> {
+    let path = BStr::from(path);
+    let answer = if may_be_absent {
+        check.verified_path_allow_nonexisting(worktree, path)
+    } else {
+        check.verified_path(worktree, path)
+    };
+    format!(in alloc; "{answer:?}")
+}
+
+/// What is shown, what `lstat` answers, paths with what one check answers for them in turn, and
+/// then paths that may be absent.
+type Row = (
+    &'static str,
+    &'static [(&'static str, Result<NodeKind, Fault>)],
+    &'static [(&'static str, &'static str)],
+    &'static [(&'static str, &'static str)],
+);
+
+const ROWS: [Row; 4] = [
+    (
+        "each refusal",
+        &[
             ("l", Ok(NodeKind::Link)),
             ("f", Ok(NodeKind::File)),
             ("f/x", Err(Fault::NotADirectory)),
         ],
-    };
-    let mut check = SymlinkCheck::new(rt.alloc(), BString::new(Vec::new(rt.alloc())));
-    for (path, want) in [
-        ("l", "Ok(\"l\")"),
-        ("l/x", "Err(ThroughLink { prefix: \"l\" })"),
-        ("", "Err(EmptyPath)"),
-        ("a/../b", "Err(NotNormal { component: \"..\" })"),
-        ("./a", "Err(NotNormal { component: \".\" })"),
-        ("a//b", "Err(NotNormal { component: \"\" })"),
-        ("f/x/y", "Err(Fault(NotADirectory))"),
-        ("q/x", "Err(Fault(NotFound))"),
-        ("f/x", "Ok(\"f/x\")"),
-    ] {
-        let answer = check.verified_path(&worktree, BStr::from(path));
-        let answer = format!(in rt.alloc(); "{answer:?}")?;
-        assert_eq!(rt; answer.as_str(), want, "at {path}");
+        &[
+            ("l", "Ok(\"l\")"),
+            ("l/x", "Err(ThroughLink { prefix: \"l\" })"),
+            ("", "Err(EmptyPath)"),
+            ("a/../b", "Err(NotNormal { component: \"..\" })"),
+            ("./a", "Err(NotNormal { component: \".\" })"),
+            ("a//b", "Err(NotNormal { component: \"\" })"),
+            ("f/x/y", "Err(Fault(NotADirectory))"),
+            ("q/x", "Err(Fault(NotFound))"),
+            ("f/x", "Ok(\"f/x\")"),
+        ],
+        &[("q/x", "Ok(\"q/x\")")],
+    ),
+    (
+        "a link before and after it barred the way",
+        &[("l", Ok(NodeKind::Link))],
+        &[
+            ("l", "Ok(\"l\")"),
+            ("l/x", "Err(ThroughLink { prefix: \"l\" })"),
+            ("l", "Ok(\"l\")"),
+        ],
+        &[],
+    ),
+    (
+        "a path after a missing directory",
+        &[("a", Ok(NodeKind::Directory))],
+        &[
+            ("a/x", "Ok(\"a/x\")"),
+            ("q/x", "Err(Fault(NotFound))"),
+            ("a/y", "Ok(\"a/y\")"),
+        ],
+        &[],
+    ),
+    (
+        "no sibling for a directory",
+        &[("a", Ok(NodeKind::Link)), ("ab", Ok(NodeKind::Directory))],
+        &[
+            ("ab/x", "Ok(\"ab/x\")"),
+            ("a/x", "Err(ThroughLink { prefix: \"a\" })"),
+        ],
+        &[],
+    ),
+];
+
+#[test]
+fn answers_paths_in_turn(rt: HostRuntime) -> Result<(), Fail> {
+    let alloc = rt.alloc();
+    for (name, answers, present, absent) in ROWS {
+        let worktree = Table { answers };
+        let mut check = SymlinkCheck::new(alloc, BString::new(Vec::new(alloc)));
+        for (queries, may_be_absent) in [(present, false), (absent, true)] {
+            for (path, want) in queries {
+                let found = answer(alloc, &mut check, &worktree, *path, may_be_absent)?;
+                assert_eq!(rt; found.as_str(), *want, "at {name}, {path}");
+            }
+        }
     }
-    let absent = check.verified_path_allow_nonexisting(&worktree, BStr::from("q/x"));
-    assert!(rt; matches!(absent, Ok(path) if path == BStr::from("q/x")));
     Ok(())
 }
 
@@ -212,59 +277,6 @@ fn looks_once_at_each_directory(rt: HostRuntime) -> Result<(), Fail> {
     Ok(())
 }
 
-#[test]
-fn accepts_a_link_before_and_after_it_barred_the_way(rt: HostRuntime) -> Result<(), Fail> {
-    let worktree = Table {
-        answers: &[("l", Ok(NodeKind::Link))],
-    };
-    let mut check = SymlinkCheck::new(rt.alloc(), BString::new(Vec::new(rt.alloc())));
-    for (path, want) in [
-        ("l", "Ok(\"l\")"),
-        ("l/x", "Err(ThroughLink { prefix: \"l\" })"),
-        ("l", "Ok(\"l\")"),
-    ] {
-        let answer = check.verified_path(&worktree, BStr::from(path));
-        let answer = format!(in rt.alloc(); "{answer:?}")?;
-        assert_eq!(rt; answer.as_str(), want, "at {path}");
-    }
-    Ok(())
-}
-
-#[test]
-fn accepts_a_path_after_a_missing_directory(rt: HostRuntime) -> Result<(), Fail> {
-    let worktree = Table {
-        answers: &[("a", Ok(NodeKind::Directory))],
-    };
-    let mut check = SymlinkCheck::new(rt.alloc(), BString::new(Vec::new(rt.alloc())));
-    for (path, want) in [
-        ("a/x", "Ok(\"a/x\")"),
-        ("q/x", "Err(Fault(NotFound))"),
-        ("a/y", "Ok(\"a/y\")"),
-    ] {
-        let answer = check.verified_path(&worktree, BStr::from(path));
-        let answer = format!(in rt.alloc(); "{answer:?}")?;
-        assert_eq!(rt; answer.as_str(), want, "at {path}");
-    }
-    Ok(())
-}
-
-#[test]
-fn takes_no_sibling_for_a_directory(rt: HostRuntime) -> Result<(), Fail> {
-    let worktree = Table {
-        answers: &[("a", Ok(NodeKind::Link)), ("ab", Ok(NodeKind::Directory))],
-    };
-    let mut check = SymlinkCheck::new(rt.alloc(), BString::new(Vec::new(rt.alloc())));
-    for (path, want) in [
-        ("ab/x", "Ok(\"ab/x\")"),
-        ("a/x", "Err(ThroughLink { prefix: \"a\" })"),
-    ] {
-        let answer = check.verified_path(&worktree, BStr::from(path));
-        let answer = format!(in rt.alloc(); "{answer:?}")?;
-        assert_eq!(rt; answer.as_str(), want, "at {path}");
-    }
-    Ok(())
-}
-
 /// Paths to draw from: below directories, links, files and faults, below nothing, and odd ones.
 const PATHS: [&str; 28] = [
     "a", "a/x", "a/y", "a/b", "a/b/x", "a/b/c/x", "a/b/c/y", "a/bc/x", "ab", "ab/x", "ab/l/x",
@@ -306,23 +318,11 @@ fn answers_drawn_queries_as_fresh_checks_do(rt: HostRuntime) -> Result<(), Fail>
             let path = draw(&mut state);
             let root = BString::from_slice(rt.alloc(), "r")?;
             let mut fresh = SymlinkCheck::new(rt.alloc(), root);
-            let (want, answer) = if turn % 3 == 0 {
-                let want = fresh.verified_path_allow_nonexisting(&worktree, BStr::from(path));
-                let answer = check.verified_path_allow_nonexisting(&worktree, BStr::from(path));
-                (
-                    format!(in rt.alloc(); "{want:?}")?,
-                    format!(in rt.alloc(); "{answer:?}")?,
-                )
-            } else {
-                let want = fresh.verified_path(&worktree, BStr::from(path));
-                let answer = check.verified_path(&worktree, BStr::from(path));
-                (
-                    format!(in rt.alloc(); "{want:?}")?,
-                    format!(in rt.alloc(); "{answer:?}")?,
-                )
-            };
+            let may_be_absent = turn % 3 == 0;
+            let want = answer(rt.alloc(), &mut fresh, &worktree, path, may_be_absent)?;
+            let found = answer(rt.alloc(), &mut check, &worktree, path, may_be_absent)?;
             assert_eq!(rt;
-                answer.as_str(),
+                found.as_str(),
                 want.as_str(),
                 "at {path}, turn {turn} of seed {seed}"
             );

@@ -25,52 +25,84 @@ fn index(alloc: Global) -> Result<State, IndexError> {
     State::from_entries(alloc, entries, Moment::default())
 }
 
-#[test]
-fn refuses_by_place_and_then_by_reason(rt: HostRuntime) -> Result<(), Fail> {
-    let alloc = rt.alloc();
-    for (first, second, kind, want) in [
-        ("a", "a", HashKind::Sha1, IndexError::NotAscending { at: 1 }),
-        ("a", "", HashKind::Sha256, IndexError::EmptyPath { at: 1 }),
-        (
-            "b",
-            "a",
-            HashKind::Sha256,
-            IndexError::NotAscending { at: 1 },
-        ),
-        ("a", "b", HashKind::Sha256, IndexError::MixedHash { at: 1 }),
-    ] {
-        let mut entries = Vec::new(alloc);
-        entries.push(new_entry(alloc, first, HashKind::Sha1)?)?;
-        entries.push(new_entry(alloc, second, kind)?)?;
-        let refused = State::from_entries(alloc, entries, Moment::default()).err();
-        assert_eq!(rt; refused, Some(want), "at {first} and {second}");
-    }
-    Ok(())
-}
-
-// Why the entries of these paths and stages are refused.
-fn refused(alloc: Global, given: &[(&str, u32)]) -> Result<Option<IndexError>, AllocError> {
+// Why the entries of these paths, stages and kinds of ids are refused.
+fn refused(
+    alloc: Global,
+    given: &[(&str, u32, HashKind)],
+) -> Result<Option<IndexError>, AllocError> {
     let mut entries = Vec::new(alloc);
-    for (path, stage) in given {
+    for (path, stage, kind) in given {
         entries.push(NewEntry {
             flags: Flags::from_stage(*stage),
-            ..new_entry(alloc, path, HashKind::Sha1)?
+            ..new_entry(alloc, path, *kind)?
         })?;
     }
     Ok(State::from_entries(alloc, entries, Moment::default()).err())
 }
 
+/// What is shown, paths with their stages and kinds of ids, and why they are refused.
+type Refusal<'a> = (&'a str, &'a [(&'a str, u32, HashKind)], Option<IndexError>);
+
+const REFUSALS: [Refusal<'static>; 8] = [
+    (
+        "a path twice",
+        &[("a", 0, HashKind::Sha1), ("a", 0, HashKind::Sha1)],
+        Some(IndexError::NotAscending { at: 1 }),
+    ),
+    (
+        "an empty path before a mixed hash",
+        &[("a", 0, HashKind::Sha1), ("", 0, HashKind::Sha256)],
+        Some(IndexError::EmptyPath { at: 1 }),
+    ),
+    (
+        "a wrong order before a mixed hash",
+        &[("b", 0, HashKind::Sha1), ("a", 0, HashKind::Sha256)],
+        Some(IndexError::NotAscending { at: 1 }),
+    ),
+    (
+        "a mixed hash",
+        &[("a", 0, HashKind::Sha1), ("b", 0, HashKind::Sha256)],
+        Some(IndexError::MixedHash { at: 1 }),
+    ),
+    (
+        "the lower of two empty paths",
+        &[("", 0, HashKind::Sha1), ("", 0, HashKind::Sha1)],
+        Some(IndexError::EmptyPath { at: 0 }),
+    ),
+    (
+        "the lower of two faults",
+        &[
+            ("b", 0, HashKind::Sha1),
+            ("a", 0, HashKind::Sha1),
+            ("", 0, HashKind::Sha1),
+        ],
+        Some(IndexError::NotAscending { at: 1 }),
+    ),
+    (
+        "stages that fall",
+        &[
+            ("e", 0, HashKind::Sha1),
+            ("f", 2, HashKind::Sha1),
+            ("f", 1, HashKind::Sha1),
+        ],
+        Some(IndexError::NotAscending { at: 2 }),
+    ),
+    (
+        "stages that rise",
+        &[
+            ("e", 3, HashKind::Sha1),
+            ("f", 1, HashKind::Sha1),
+            ("f", 2, HashKind::Sha1),
+        ],
+        None,
+    ),
+];
+
 #[test]
-fn the_lowest_place_is_named(rt: HostRuntime) -> Result<(), Fail> {
-    let alloc = rt.alloc();
-    let empty_first = refused(alloc, &[("", 0), ("", 0)])?;
-    assert_eq!(rt; empty_first, Some(IndexError::EmptyPath { at: 0 }));
-    let two_faults = refused(alloc, &[("b", 0), ("a", 0), ("", 0)])?;
-    assert_eq!(rt; two_faults, Some(IndexError::NotAscending { at: 1 }));
-    let stages = refused(alloc, &[("e", 0), ("f", 2), ("f", 1)])?;
-    assert_eq!(rt; stages, Some(IndexError::NotAscending { at: 2 }));
-    let ascending = refused(alloc, &[("e", 3), ("f", 1), ("f", 2)])?;
-    assert_eq!(rt; ascending, None);
+fn refuses_by_place_and_then_by_reason(rt: HostRuntime) -> Result<(), Fail> {
+    for (name, given, want) in REFUSALS {
+        assert_eq!(rt; refused(rt.alloc(), given)?, want, "at {name}");
+    }
     Ok(())
 }
 
@@ -98,6 +130,12 @@ fn has_paths(state: &State, paths: &[&str]) -> bool {
     true
 }
 
+// What an index keeps of an entry beside its path.
+fn fields_at(state: &State, at: usize) -> Option<(Stat, ObjectId, Flags, Mode)> {
+    let entry = state.entries().get(at)?;
+    Some((entry.stat, entry.id, entry.flags, entry.mode))
+}
+
 #[test]
 fn an_index_grows_entry_by_entry(rt: HostRuntime) -> Result<(), Fail> {
     let alloc = rt.alloc();
@@ -111,11 +149,8 @@ fn an_index_grows_entry_by_entry(rt: HostRuntime) -> Result<(), Fail> {
     assert!(rt; has_paths(&grown, &PATHS));
     assert!(rt; has_paths(&whole, &PATHS));
     assert_eq!(rt; grown.timestamp(), moment);
-    for (entry, other) in grown.entries().iter().zip(whole.entries()) {
-        assert_eq!(rt; entry.stat, other.stat);
-        assert_eq!(rt; entry.id, other.id);
-        assert_eq!(rt; entry.flags, other.flags);
-        assert_eq!(rt; entry.mode, other.mode);
+    for at in 0..PATHS.len() {
+        assert_eq!(rt; fields_at(&grown, at), fields_at(&whole, at), "at {at}");
     }
     Ok(())
 }
@@ -187,6 +222,11 @@ fn a_stretch_of_a_million_entries_takes_forty_comparisons(rt: HostRuntime) -> Re
     Ok(())
 }
 
+fn stat_at(state: &State, at: usize) -> Option<Stat> {
+    let entry = state.entries().get(at)?;
+    Some(entry.stat)
+}
+
 #[test]
 fn changes_one_entry_or_the_timestamp(rt: HostRuntime) -> Result<(), Fail> {
     let mut state = index(rt.alloc())?;
@@ -201,9 +241,14 @@ fn changes_one_entry_or_the_timestamp(rt: HostRuntime) -> Result<(), Fail> {
     state.smudge(2);
     let moment = Moment { secs: 1, nsecs: 2 };
     state.set_timestamp(moment);
-    assert_eq!(rt; state.entries()[0].stat, Stat::default());
-    assert_eq!(rt; state.entries()[1].stat, stat);
-    assert_eq!(rt; state.entries()[2].stat, Stat { size: 0, ..stat });
+    let wanted = [
+        ("untouched", 0, Stat::default()),
+        ("set", 1, stat),
+        ("set and smudged", 2, Stat { size: 0, ..stat }),
+    ];
+    for (name, at, want) in wanted {
+        assert_eq!(rt; stat_at(&state, at), Some(want), "at {name}");
+    }
     assert_eq!(rt; state.timestamp(), moment);
     Ok(())
 }

@@ -76,6 +76,23 @@ fn index(alloc: Global, entries: &[(&str, Mode)]) -> Result<State, IndexError> {
     State::from_entries(alloc, list, Moment::default())
 }
 
+/// Walks these entries and nodes, and keeps at most `room` of what is found.
+fn walked(
+    alloc: Global,
+    entries: &[(&str, Mode)],
+    nodes: &[(&str, NodeKind)],
+    room: usize,
+) -> Result<(Outcome, Vec<Found>), Fail> {
+    let (index, worktree) = (index(alloc, entries)?, worktree(alloc, nodes)?);
+    let mut keeper = Keeper {
+        found: Vec::new(alloc),
+        room,
+        cancelled: false,
+    };
+    let outcome = UntrackedWalk::new(alloc).walk(&worktree, &index, &AllPaths, &mut keeper)?;
+    Ok((outcome, keeper.found))
+}
+
 /// Entries, nodes, and what is found.
 type Row<'a> = (
     &'a [(&'a str, Mode)],
@@ -135,20 +152,14 @@ const ROWS: [Row<'static>; 6] = [
 fn what_no_entry_has_is_found(rt: HostRuntime) -> Result<(), Fail> {
     let alloc = rt.alloc();
     for (entries, nodes, wanted) in ROWS {
-        let (index, worktree) = (index(alloc, entries)?, worktree(alloc, nodes)?);
-        let mut keeper = Keeper {
-            found: Vec::new(alloc),
-            room: 100,
-            cancelled: false,
-        };
-        let outcome = UntrackedWalk::new(alloc).walk(&worktree, &index, &AllPaths, &mut keeper)?;
+        let (outcome, kept) = walked(alloc, entries, nodes, 100)?;
         let whole = Outcome {
             emitted: wanted.len(),
             cancelled: false,
         };
         assert_eq!(rt; outcome, whole);
-        assert_eq!(rt; keeper.found.len(), wanted.len());
-        for (found, (path, kind)) in keeper.found.iter().zip(wanted) {
+        assert_eq!(rt; kept.len(), wanted.len());
+        for (found, (path, kind)) in kept.iter().zip(wanted) {
             assert_eq!(rt; found.entry.rela_path.as_bytes(), path.as_bytes());
             assert_eq!(rt; found.entry.status, Status::Untracked);
             assert_eq!(rt; found.entry.disk_kind, Some(*kind));
@@ -160,15 +171,8 @@ fn what_no_entry_has_is_found(rt: HostRuntime) -> Result<(), Fail> {
 
 #[test]
 fn a_delegate_ends_a_walk(rt: HostRuntime) -> Result<(), Fail> {
-    let alloc = rt.alloc();
-    let index = index(alloc, &[])?;
-    let worktree = worktree(alloc, &[("b", NodeKind::File), ("c", NodeKind::File)])?;
-    let mut keeper = Keeper {
-        found: Vec::new(alloc),
-        room: 1,
-        cancelled: false,
-    };
-    let outcome = UntrackedWalk::new(alloc).walk(&worktree, &index, &AllPaths, &mut keeper)?;
+    let nodes = [("b", NodeKind::File), ("c", NodeKind::File)];
+    let (outcome, kept) = walked(rt.alloc(), &[], &nodes, 1)?;
     assert_eq!(rt;
         outcome,
         Outcome {
@@ -176,6 +180,6 @@ fn a_delegate_ends_a_walk(rt: HostRuntime) -> Result<(), Fail> {
             cancelled: true
         }
     );
-    assert_eq!(rt; keeper.found.len(), 1);
+    assert_eq!(rt; kept.len(), 1);
     Ok(())
 }

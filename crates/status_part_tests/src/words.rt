@@ -46,45 +46,45 @@ fn errors_have_words(rt: HostRuntime) -> Result<(), Fail> {
 }
 
 #[test]
-fn errors_of_walks_and_pairs_have_words(rt: HostRuntime) -> Result<(), Fail> {
+fn errors_of_walks_have_words(rt: HostRuntime) -> Result<(), Fail> {
     let alloc = rt.alloc();
     let fault = Fault::NotFound;
     let walk = WalkError::Fault {
         rela_path: BString::from_slice(alloc, b"a")?,
         fault,
     };
-    for (text, want) in [
-        (format!(in alloc; "{walk}")?, "not found"),
-        (format!(in alloc; "{}", WalkError::Memory)?, "Out of memory"),
-        (format!(in alloc; "{}", IdError::Open(fault))?, "not found"),
-        (format!(in alloc; "{}", IdError::Hash(fault))?, "not found"),
-        (
-            format!(in alloc; "{}", IdError::ReadLink(fault))?,
-            "not found",
-        ),
-        (
-            format!(in alloc; "{}", IdError::Convert(fault))?,
-            "not found",
-        ),
-        (
-            format!(in alloc; "{}", TrackerError::BadPair { at: 3 })?,
-            "tracker",
-        ),
-        (
-            format!(in alloc; "{}", TrackerError::Refused(5))?,
-            "tracker",
-        ),
-        (
-            format!(in alloc; "{}", TrackerError::Memory)?,
-            "Out of memory",
-        ),
-        (
-            format!(in alloc; "{}", Refused::BadPair { at: 3 })?,
-            "bad pair at 3",
-        ),
-        (format!(in alloc; "{}", Refused::Memory)?, "Out of memory"),
+    let text = format!(in alloc; "{walk}")?;
+    assert_eq!(rt; text.as_str(), "not found");
+    let text = format!(in alloc; "{}", WalkError::Memory)?;
+    assert_eq!(rt; text.as_str(), "Out of memory");
+    for error in [
+        IdError::Open(fault),
+        IdError::Hash(fault),
+        IdError::ReadLink(fault),
+        IdError::Convert(fault),
     ] {
-        assert_eq!(rt; text.as_str(), want);
+        let text = format!(in alloc; "{error}")?;
+        assert_eq!(rt; text.as_str(), "not found", "at {error:?}");
+    }
+    Ok(())
+}
+
+#[test]
+fn errors_of_pairs_have_words(rt: HostRuntime) -> Result<(), Fail> {
+    for (error, want) in [
+        (TrackerError::BadPair { at: 3 }, "tracker"),
+        (TrackerError::Refused(5), "tracker"),
+        (TrackerError::Memory, "Out of memory"),
+    ] {
+        let text = format!(in rt.alloc(); "{error}")?;
+        assert_eq!(rt; text.as_str(), want, "at {error:?}");
+    }
+    for (error, want) in [
+        (Refused::BadPair { at: 3 }, "bad pair at 3"),
+        (Refused::Memory, "Out of memory"),
+    ] {
+        let text = format!(in rt.alloc(); "{error}")?;
+        assert_eq!(rt; text.as_str(), want, "at {error:?}");
     }
     Ok(())
 }
