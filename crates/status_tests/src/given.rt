@@ -4,6 +4,7 @@ use bstr::{BStr, BString};
 use gix_status::index::{Flags, IndexError, Mode, Moment, NewEntry, ObjectId, Stat, State, Time};
 use gix_status::worktree::{MemoryWorktree, Node, NodeKind, TreeError};
 use std::alloc::{AllocError, Global};
+use std::test::Fail;
 
 /// The id of `foo`, by git.
 pub const FOO: ObjectId = ObjectId::Sha1([
@@ -216,4 +217,14 @@ pub fn worktree(alloc: Global, nodes: &[GivenNode<'_>]) -> Result<MemoryWorktree
         worktree.put(BStr::from(given.path), node(alloc, given)?)?;
     }
     Ok(worktree)
+}
+
+/// The worktree of files with the content `bar` at these paths, which were written after the
+/// entries were staged.
+pub fn bar_worktree(alloc: Global, paths: &[&str]) -> Result<MemoryWorktree, Fail> {
+    let mut nodes = Vec::new(alloc);
+    for path in paths {
+        nodes.push(later_file(*path, b"bar"))?;
+    }
+    Ok(worktree(alloc, &nodes)?)
 }

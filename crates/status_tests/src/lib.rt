@@ -27,4 +27,6 @@ mod statuses;
 #[cfg(test)]
 mod submodules;
 #[cfg(test)]
+mod tables;
+#[cfg(test)]
 mod worktrees;

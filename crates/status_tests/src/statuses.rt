@@ -21,6 +21,7 @@ use std::sync::atomic::AtomicBool;
 use std::thread::Threads;
 
 /// What a status is computed by, beside an index, a worktree and a comparer.
+#[derive(Drop)]
 pub struct Request<S, O, P, T> {
     pub submodule: S,
     pub objects: O,
@@ -503,8 +504,8 @@ impl<'index, T: PartialEq, U: PartialEq> Report<'index, T, U> {
     }
 }
 
-// Whether a record is of the entry at this place and path, with this status.
-fn is_record<T: PartialEq, U: PartialEq>(
+/// Whether a record is of the entry at this place and path, with this status.
+pub fn is_record<T: PartialEq, U: PartialEq>(
     record: &Record<'_, T, U>,
     at: usize,
     path: &str,

@@ -14,34 +14,40 @@ fn conflict_at(
 ) -> Option<(Conflict, usize, [Option<Mode>; 3])> {
     let found = Conflict::try_from_entry(entries, backing, start, BStr::new(b"f"))?;
     let [base, ours, theirs] = found.2;
-    let modes = [
-        base.map(|entry| entry.mode),
-        ours.map(|entry| entry.mode),
-        theirs.map(|entry| entry.mode),
-    ];
-    Some((found.0, found.1, modes))
+    Some((
+        found.0,
+        found.1,
+        [mode_of(base), mode_of(ours), mode_of(theirs)],
+    ))
+}
+
+fn mode_of(entry: Option<&Entry>) -> Option<Mode> {
+    Some(entry?.mode)
 }
 
 #[test]
 fn names_the_conflict_by_the_stages(rt: HostRuntime) -> Result<(), Fail> {
     let file = Some(Mode::File);
-    let all = staged_index(rt.alloc(), &[("f", 1), ("f", 2), ("f", 3)])?;
-    assert_eq!(rt;
-        conflict_at(all.entries(), all.path_backing(), 0),
-        Some((Conflict::BothModified, 2, [file, file, file]))
-    );
-    let deleted = staged_index(rt.alloc(), &[("f", 1), ("f", 3)])?;
-    assert_eq!(rt;
-        conflict_at(deleted.entries(), deleted.path_backing(), 0),
-        Some((Conflict::DeletedByUs, 1, [file, None, file]))
-    );
-    let added = staged_index(rt.alloc(), &[("f", 2), ("g", 3)])?;
-    assert_eq!(rt;
-        conflict_at(added.entries(), added.path_backing(), 0),
-        Some((Conflict::AddedByUs, 0, [None, file, None]))
-    );
-    let plain = staged_index(rt.alloc(), &[("f", 0), ("g", 2)])?;
-    assert_eq!(rt; conflict_at(plain.entries(), plain.path_backing(), 0), None);
+    let rows = [
+        (
+            [("f", 1), ("f", 2), ("f", 3)].as_slice(),
+            Some((Conflict::BothModified, 2, [file, file, file])),
+        ),
+        (
+            &[("f", 1), ("f", 3)],
+            Some((Conflict::DeletedByUs, 1, [file, None, file])),
+        ),
+        (
+            &[("f", 2), ("g", 3)],
+            Some((Conflict::AddedByUs, 0, [None, file, None])),
+        ),
+        (&[("f", 0), ("g", 2)], None),
+    ];
+    for (stages, wanted) in rows {
+        let state = staged_index(rt.alloc(), stages)?;
+        let found = conflict_at(state.entries(), state.path_backing(), 0);
+        assert_eq!(rt; found, wanted, "{stages:?}");
+    }
     Ok(())
 }
 

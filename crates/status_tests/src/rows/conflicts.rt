@@ -5,6 +5,7 @@ use crate::statuses::{plain_request, status_of};
 use gix_status::index::Mode;
 use gix_status::index_as_worktree::traits::HashEq;
 use gix_status::index_as_worktree::{Conflict, ConflictIndexEntry, EntryStatus};
+use std::process::Abort;
 use std::sync::Wait;
 use std::test::Fail;
 use std::thread::Threads;
@@ -36,12 +37,13 @@ fn kept(stage: u32, stages: &[u32]) -> Option<ConflictIndexEntry> {
         .then_some(ConflictIndexEntry { id, flags, mode })
 }
 
-// Whether the entries of these stages are recorded as this conflict, each in the place of its stage.
-fn is_recorded<R: AllocGlobal + Threads + Wait>(
+// Asserts that the entries of these stages are recorded as this conflict, each in the place of its
+// stage.
+fn assert_recorded<R: AllocGlobal + Threads + Wait + Abort>(
     rt: &R,
     stages: &[u32],
     summary: Conflict,
-) -> Result<bool, Fail> {
+) -> Result<(), Fail> {
     let mut sides = Vec::new(rt.alloc());
     for stage in stages {
         sides.push(side(*stage))?;
@@ -50,14 +52,21 @@ fn is_recorded<R: AllocGlobal + Threads + Wait>(
     let worktree = worktree(rt.alloc(), &[])?;
     let report = status_of(rt, &index, &worktree, HashEq, plain_request(rt.alloc()));
     let entries = [kept(1, stages), kept(2, stages), kept(3, stages)];
-    Ok(report.is_all(&[(0, "f", EntryStatus::Conflict { summary, entries })]))
+    let wanted = EntryStatus::Conflict { summary, entries };
+    assert!(rt; report.is_all(&[(0, "f", wanted)]), "{stages:?}");
+    Ok(())
 }
 
 #[test]
 fn each_side_of_a_conflict_has_its_place(rt: HostRuntime) -> Result<(), Fail> {
-    assert!(rt; is_recorded(&rt, &[1, 2, 3], Conflict::BothModified)?);
-    assert!(rt; is_recorded(&rt, &[1, 3], Conflict::DeletedByUs)?);
-    assert!(rt; is_recorded(&rt, &[2, 3], Conflict::BothAdded)?);
-    assert!(rt; is_recorded(&rt, &[1, 2], Conflict::DeletedByThem)?);
+    let rows = [
+        ([1, 2, 3].as_slice(), Conflict::BothModified),
+        (&[1, 3], Conflict::DeletedByUs),
+        (&[2, 3], Conflict::BothAdded),
+        (&[1, 2], Conflict::DeletedByThem),
+    ];
+    for (stages, summary) in rows {
+        assert_recorded(&rt, stages, summary)?;
+    }
     Ok(())
 }

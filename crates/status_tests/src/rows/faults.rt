@@ -1,7 +1,7 @@
 //! Faults of a worktree.
 
 use crate::collectors::Full;
-use crate::given::{BAR, foo_index, later_file, worktree};
+use crate::given::{BAR, bar_worktree, foo_index};
 use crate::statuses::{
     Report, changed, one_file_read, options, plain_request, report_to, request_with, status_of,
 };
@@ -44,7 +44,7 @@ where
 fn calls_until<R: AllocGlobal + Threads + Wait>(rt: &R, point: Point) -> Result<[usize; 4], Fail> {
     let alloc = rt.alloc();
     let paths = ["a", "b", "c", "d", "e"];
-    let mut files = worktree(alloc, &paths.map(|path| later_file(path, b"bar")))?;
+    let mut files = bar_worktree(alloc, &paths)?;
     files.plant(BStr::from("d"), point, Fault::PermissionDenied)?;
     let (looks, opens) = (AtomicUsize::new(0), AtomicUsize::new(0));
     let (later_looks, later_opens) = (AtomicUsize::new(0), AtomicUsize::new(0));
@@ -77,9 +77,13 @@ fn calls_until<R: AllocGlobal + Threads + Wait>(rt: &R, point: Point) -> Result<
 
 #[test]
 fn a_call_that_fails_ends_the_status_and_is_not_tried_again(rt: HostRuntime) -> Result<(), Fail> {
-    assert_eq!(rt; calls_until(&rt, Point::Lstat)?, [1, 0, 0, 0]);
-    assert_eq!(rt; calls_until(&rt, Point::Open)?, [1, 1, 0, 0]);
-    assert_eq!(rt; calls_until(&rt, Point::Read(2))?, [1, 1, 0, 0]);
+    for (point, calls) in [
+        (Point::Lstat, [1, 0, 0, 0]),
+        (Point::Open, [1, 1, 0, 0]),
+        (Point::Read(2), [1, 1, 0, 0]),
+    ] {
+        assert_eq!(rt; calls_until(&rt, point)?, calls, "at {point:?}");
+    }
     Ok(())
 }
 
@@ -110,7 +114,7 @@ where
 fn a_collector_that_is_refused_memory_ends_the_status(rt: HostRuntime) -> Result<(), Fail> {
     let alloc = rt.alloc();
     let paths = ["a", "b", "c", "d"];
-    let files = worktree(alloc, &paths.map(|path| later_file(path, b"bar")))?;
+    let files = bar_worktree(alloc, &paths)?;
     let index = foo_index(alloc, &paths)?;
     let report = status_with_room(&rt, &index, &files, 2);
     assert!(rt; report.is_each(&["a", "b"], &changed(BAR)));
@@ -123,7 +127,7 @@ fn a_collector_that_is_refused_memory_ends_the_status(rt: HostRuntime) -> Result
 fn a_file_of_an_unknown_time_ends_the_status(rt: HostRuntime) -> Result<(), Fail> {
     let alloc = rt.alloc();
     let paths = ["a", "b", "c"];
-    let mut files = worktree(alloc, &paths.map(|path| later_file(path, b"bar")))?;
+    let mut files = bar_worktree(alloc, &paths)?;
     let Some(node) = files.remove(BStr::from("b")) else {
         return Err(Fail::new("the file isn't there"));
     };

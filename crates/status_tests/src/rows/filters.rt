@@ -1,13 +1,9 @@
 //! Files that are stored in another form.
 
 use crate::filters::{Refuses, WithoutReturns};
-use crate::given::{
-    A_LINE, GivenEntry, LATER, WRITTEN, foo_entry, foo_index, index, later_file, stat, worktree,
-};
-use crate::statuses::{
-    FileRequest, Request, one_file_read, options, removed, status_of, with_update,
-};
-use gix_status::index_as_worktree::EntryStatus;
+use crate::given::{A_LINE, GivenEntry, LATER, foo_entry, later_file, stat};
+use crate::statuses::{FileRequest, Request, options};
+use crate::tables::{Answer, Counts, Row, Told, assert_row_by};
 use gix_status::index_as_worktree::traits::HashEq;
 use gix_status::worktree::{AllPaths, Fault, MemoryObjects, NoSubmodules};
 use std::alloc::Global;
@@ -21,28 +17,31 @@ fn through<T>(alloc: Global, filter: T) -> FileRequest<AllPaths, T> {
 
 #[test]
 fn what_a_filter_stores_is_compared_and_counted(rt: HostRuntime) -> Result<(), Fail> {
-    let alloc = rt.alloc();
-    let line = GivenEntry {
-        id: A_LINE,
-        ..foo_entry("a")
+    let row = Row {
+        name: "a line that ends in a return too",
+        entries: &[GivenEntry {
+            id: A_LINE,
+            ..foo_entry("a")
+        }],
+        nodes: &[later_file("a", b"a\r\n")],
+        told: &[(0, "a", Told::Updated(stat(LATER, 3)))],
+        answer: Answer::Takes(Counts {
+            updates: 1,
+            ..Counts::one_read(2)
+        }),
     };
-    let index = index(alloc, WRITTEN, &[line])?;
-    let worktree = worktree(alloc, &[later_file("a", b"a\r\n")])?;
-    let request = through(alloc, WithoutReturns);
-    let report = status_of(&rt, &index, &worktree, HashEq, request);
-    assert!(rt; report.is_all(&[(0, "a", EntryStatus::NeedsUpdate(stat(LATER, 3)))]));
-    assert!(rt; report.took(&with_update(one_file_read(2))));
-    Ok(())
+    assert_row_by(&rt, HashEq, through(rt.alloc(), WithoutReturns), &row)
 }
 
 #[test]
 fn a_filter_that_refuses_ends_the_status(rt: HostRuntime) -> Result<(), Fail> {
-    let alloc = rt.alloc();
-    let index = foo_index(alloc, &["a", "b", "c"])?;
-    let worktree = worktree(alloc, &[later_file("b", b"foo")])?;
-    let request = through(alloc, Refuses(Fault::Other(4)));
-    let report = status_of(&rt, &index, &worktree, HashEq, request);
-    assert!(rt; report.is_all(&[(0, "a", removed())]));
-    assert!(rt; report.failed_by(Fault::Other(4)));
-    Ok(())
+    let row = Row {
+        name: "the second of three is refused",
+        entries: &[foo_entry("a"), foo_entry("b"), foo_entry("c")],
+        nodes: &[later_file("b", b"foo")],
+        told: &[(0, "a", Told::Removed)],
+        answer: Answer::FailsBy(Fault::Other(4)),
+    };
+    let request = through(rt.alloc(), Refuses(Fault::Other(4)));
+    assert_row_by(&rt, HashEq, request, &row)
 }

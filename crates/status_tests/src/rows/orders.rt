@@ -14,11 +14,32 @@ fn assert_ascending<R: AllocGlobal + Abort, T: Ord>(rt: &R, values: &[T]) {
     }
 }
 
+fn moment(secs: u32, nsecs: u32) -> Moment {
+    Moment { secs, nsecs }
+}
+
+fn time(secs: u32, nsecs: u32) -> Time {
+    Time { secs, nsecs }
+}
+
 #[test]
 fn seconds_come_before_nanoseconds(rt: HostRuntime) {
-    let stamps = [(0, 0), (0, 999_999_999), (1, 0), (1, 1), (u32::MAX, 0)];
-    assert_ascending(&rt, &stamps.map(|(secs, nsecs)| Moment { secs, nsecs }));
-    assert_ascending(&rt, &stamps.map(|(secs, nsecs)| Time { secs, nsecs }));
+    let moments = [
+        moment(0, 0),
+        moment(0, 999_999_999),
+        moment(1, 0),
+        moment(1, 1),
+        moment(u32::MAX, 0),
+    ];
+    assert_ascending(&rt, &moments);
+    let times = [
+        time(0, 0),
+        time(0, 999_999_999),
+        time(1, 0),
+        time(1, 1),
+        time(u32::MAX, 0),
+    ];
+    assert_ascending(&rt, &times);
 }
 
 #[test]

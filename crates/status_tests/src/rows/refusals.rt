@@ -3,8 +3,8 @@
 use crate::comparers::BlobLength;
 use crate::filters::Refuses;
 use crate::given::{
-    BAR, FOO, GivenEntry, GivenNode, WRITTEN, directory, foo_entry, foo_index, index, later_file,
-    mode_entry, worktree,
+    BAR, FOO, GivenEntry, GivenNode, WRITTEN, bar_worktree, directory, foo_entry, foo_index, index,
+    later_file, mode_entry, worktree,
 };
 use crate::rows::planted::{FAULTS, WAYS};
 use crate::statuses::{
@@ -33,21 +33,13 @@ fn by_way((chunk_size, thread_limit): (usize, usize)) -> Options {
     }
 }
 
-// The worktree in which the files from a place on were changed, and those before it are gone.
-fn changed_from(alloc: Global, place: usize) -> Result<MemoryWorktree, Fail> {
-    let mut nodes = Vec::new(alloc);
-    for path in PATHS.iter().skip(place) {
-        nodes.push(later_file(*path, b"bar"))?;
-    }
-    Ok(worktree(alloc, &nodes)?)
-}
-
 #[test]
 fn a_filter_that_fails_at_each_entry(rt: HostRuntime) -> Result<(), Fail> {
     let alloc = rt.alloc();
     let index = foo_index(alloc, &PATHS)?;
     for place in 0..PATHS.len() {
-        let worktree = changed_from(alloc, place)?;
+        // The files from a place on were changed, and those before it are gone.
+        let worktree = bar_worktree(alloc, &PATHS[place..])?;
         for fault in FAULTS {
             for way in WAYS {
                 let objects = MemoryObjects::new(alloc);

@@ -1,17 +1,20 @@
 //! Workers, and a status that ends early.
 
-use crate::given::{BAR, foo_index, later_file, worktree};
+use crate::given::{BAR, bar_worktree, foo_index};
 use crate::statuses::{
-    changed, files_read, options, plain_request, request_with, status_noting, status_of,
-    status_until,
+    changed, files_read, options, request_with, status_noting, status_of, status_until,
 };
 use crate::worktrees::{Counted, Files, Looked, Meeting, Piece, SetsFlag};
 use bstr::BStr;
 use gix_status::index_as_worktree::traits::HashEq;
 use gix_status::index_as_worktree::{Options, Outcome};
 use gix_status::worktree::{Fault, Point};
+use std::alloc::{AllocError, Global};
+use std::process::Abort;
+use std::sync::Wait;
 use std::sync::atomic::{AtomicBool, AtomicUsize, Ordering};
 use std::test::Fail;
+use std::thread::Threads;
 
 // The paths of an index of entries that were staged with `foo`.
 const FIVE: [&str; 5] = ["a", "b", "c", "d", "e"];
@@ -25,74 +28,73 @@ fn shared(chunk_size: usize, workers: usize) -> Options {
     }
 }
 
-#[test]
-fn a_flag_that_is_set_ends_the_status_at_once(rt: HostRuntime) -> Result<(), Fail> {
-    let reads = AtomicUsize::new(0);
-    let bar = Piece::new(b"bar", &reads);
-    let files = [("a", Ok(bar)), ("b", Ok(bar))];
-    let worktree = Files::new(&files);
-    let index = foo_index(rt.alloc(), &["a", "b"])?;
-    let flag = AtomicBool::new(true);
-    let request = plain_request(rt.alloc());
-    let report = status_until(&rt, &index, &worktree, HashEq, request, Some(&flag));
-    assert!(rt; report.is_all(&[]));
-    assert!(rt;
-        report.took(&Outcome {
-            entries_to_process: 2,
-            interrupted: true,
-            ..Outcome::default()
-        })
-    );
-    assert_eq!(rt; reads.load(Ordering::SeqCst), 0);
-    Ok(())
+// Files by path: each is `bar`, but for one path that can't be opened.
+fn files_at<'a>(
+    alloc: Global,
+    paths: &'a [&'a str],
+    refused: &str,
+    reads: &'a AtomicUsize,
+) -> Result<Vec<(&'a str, Result<Piece<'a>, Fault>)>, AllocError> {
+    let mut files = Vec::new(alloc);
+    for path in paths {
+        let opened = if path.as_bytes() == refused.as_bytes() {
+            Err(Fault::PermissionDenied)
+        } else {
+            Ok(Piece::new(b"bar", reads))
+        };
+        files.push((*path, opened))?;
+    }
+    Ok(files)
 }
 
-#[test]
-fn a_piece_is_cut_where_the_flag_is_seen(rt: HostRuntime) -> Result<(), Fail> {
-    let reads = AtomicUsize::new(0);
-    let bar = Piece::new(b"bar", &reads);
-    let files = FIVE.map(|path| (path, Ok(bar)));
-    let index = foo_index(rt.alloc(), &FIVE)?;
-    let flag = AtomicBool::new(false);
-    let worktree = Looked {
-        files: Files::new(&files),
-        look: SetsFlag {
-            path: "c",
-            flag: &flag,
-        },
-    };
-    let request = request_with(rt.alloc(), shared(5, 1));
-    let report = status_until(&rt, &index, &worktree, HashEq, request, Some(&flag));
-    // The third is looked at still, and its record reported.
-    assert!(rt; report.is_each(&["a", "b", "c"], &changed(BAR)));
-    assert!(rt;
-        report.took(&Outcome {
-            entries_to_process: 5,
-            interrupted: true,
-            ..files_read(3, 9)
-        })
-    );
-    Ok(())
+/// A status that a flag interrupts, which is set from the start or by the look at a path. One path
+/// can't be opened.
+#[derive(Clone, Copy)]
+struct Cut<'a> {
+    name: &'a str,
+    paths: &'a [&'a str],
+    refused: &'a str,
+    is_set: bool,
+    set_at: &'a str,
+    chunk_size: usize,
+    thread_limit: Option<usize>,
+    /// The paths that are reported, each of a file of three bytes.
+    reported: &'a [&'a str],
+    /// How often `c` is looked at and opened.
+    calls_of_c: usize,
 }
 
-#[test]
-fn pieces_behind_the_cut_are_not_looked_at(rt: HostRuntime) -> Result<(), Fail> {
+impl Cut<'_> {
+    fn options(&self) -> Options {
+        Options {
+            chunk_size: self.chunk_size,
+            thread_limit: self.thread_limit,
+            ..options()
+        }
+    }
+
+    fn took(&self) -> Outcome {
+        let files = self.reported.len();
+        Outcome {
+            entries_to_process: self.paths.len(),
+            interrupted: true,
+            ..files_read(files, (files as u64).saturating_mul(3))
+        }
+    }
+}
+
+// Asserts what is reported of the entries before the cut, and that nothing behind it is read.
+fn assert_cut<R: AllocGlobal + Threads + Wait + Abort>(rt: &R, row: &Cut<'_>) -> Result<(), Fail> {
+    let alloc = rt.alloc();
     let reads = AtomicUsize::new(0);
-    let bar = Piece::new(b"bar", &reads);
-    let files = [
-        ("a", Ok(bar)),
-        ("b", Ok(bar)),
-        ("c", Err(Fault::PermissionDenied)),
-        ("d", Ok(bar)),
-    ];
-    let index = foo_index(rt.alloc(), &FIVE[..4])?;
-    let flag = AtomicBool::new(false);
+    let files = files_at(alloc, row.paths, row.refused, &reads)?;
+    let flag = AtomicBool::new(row.is_set);
     let (looks, opens) = (AtomicUsize::new(0), AtomicUsize::new(0));
     let worktree = Counted {
         worktree: Looked {
             files: Files::new(&files),
             look: SetsFlag {
-                path: "a",
+                path: row.set_at,
                 flag: &flag,
             },
         },
@@ -100,18 +102,69 @@ fn pieces_behind_the_cut_are_not_looked_at(rt: HostRuntime) -> Result<(), Fail> 
         looks: &looks,
         opens: &opens,
     };
-    let request = request_with(rt.alloc(), shared(1, 1));
-    let report = status_until(&rt, &index, &worktree, HashEq, request, Some(&flag));
-    assert!(rt; report.is_all(&[(0, "a", changed(BAR))]));
-    assert!(rt;
-        report.took(&Outcome {
-            entries_to_process: 4,
-            interrupted: true,
-            ..files_read(1, 3)
-        })
+    let index = foo_index(alloc, row.paths)?;
+    let request = request_with(alloc, row.options());
+    let report = status_until(rt, &index, &worktree, HashEq, request, Some(&flag));
+    assert!(rt; report.is_each(row.reported, &changed(BAR)), "{}", row.name);
+    assert!(rt; report.took(&row.took()), "{}", row.name);
+    let is_unread = reads.load(Ordering::SeqCst) == 0;
+    assert_eq!(rt; is_unread, row.reported.is_empty(), "{}", row.name);
+    assert_eq!(rt;
+        looks.load(Ordering::SeqCst),
+        row.calls_of_c,
+        "{}",
+        row.name
     );
-    assert_eq!(rt; looks.load(Ordering::SeqCst), 0);
-    assert_eq!(rt; opens.load(Ordering::SeqCst), 0);
+    assert_eq!(rt;
+        opens.load(Ordering::SeqCst),
+        row.calls_of_c,
+        "{}",
+        row.name
+    );
+    Ok(())
+}
+
+#[test]
+fn a_flag_that_is_set_ends_the_status(rt: HostRuntime) -> Result<(), Fail> {
+    let rows = [
+        Cut {
+            name: "at once",
+            paths: &["a", "b"],
+            refused: "",
+            is_set: true,
+            set_at: "",
+            chunk_size: 0,
+            thread_limit: None,
+            reported: &[],
+            calls_of_c: 0,
+        },
+        // The third is looked at still, and its record reported.
+        Cut {
+            name: "a piece is cut where the flag is seen",
+            paths: &FIVE,
+            refused: "",
+            is_set: false,
+            set_at: "c",
+            chunk_size: 5,
+            thread_limit: Some(1),
+            reported: &["a", "b", "c"],
+            calls_of_c: 1,
+        },
+        Cut {
+            name: "pieces behind the cut are not looked at",
+            paths: &["a", "b", "c", "d"],
+            refused: "c",
+            is_set: false,
+            set_at: "a",
+            chunk_size: 1,
+            thread_limit: Some(1),
+            reported: &["a"],
+            calls_of_c: 0,
+        },
+    ];
+    for row in &rows {
+        assert_cut(&rt, row)?;
+    }
     Ok(())
 }
 
@@ -120,10 +173,9 @@ fn a_flag_that_the_collector_sets_ends_the_status_after_the_round(
     rt: HostRuntime,
 ) -> Result<(), Fail> {
     let reads = AtomicUsize::new(0);
-    let bar = Piece::new(b"bar", &reads);
     let paths = ["a", "b", "c", "d", "e", "f", "g", "h", "i", "j"];
     let index = foo_index(rt.alloc(), &paths)?;
-    let files = paths.map(|path| (path, Ok(bar)));
+    let files = files_at(rt.alloc(), &paths, "", &reads)?;
     let worktree = Files::new(&files);
     let flag = AtomicBool::new(false);
     let interrupt = Some(&flag);
@@ -164,7 +216,7 @@ fn two_workers_run_at_the_same_time(rt: HostRuntime) -> Result<(), Fail> {
 #[test]
 fn the_first_fault_is_reported_by_any_number_of_workers(rt: HostRuntime) -> Result<(), Fail> {
     let alloc = rt.alloc();
-    let mut worktree = worktree(alloc, &FIVE.map(|path| later_file(path, b"bar")))?;
+    let mut worktree = bar_worktree(alloc, &FIVE)?;
     worktree.plant(BStr::from("d"), Point::Open, Fault::PermissionDenied)?;
     worktree.plant(BStr::from("e"), Point::Open, Fault::Interrupted)?;
     let index = foo_index(alloc, &FIVE)?;
