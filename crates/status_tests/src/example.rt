@@ -1,10 +1,8 @@
 //! The example of README.md, which has the part between the marks word for word.
 
 // The example begins.
-use bstr::{BStr, BString};
-use gix_status::index::{
-    Flags, HashKind, Mode, Moment, NewEntry, ObjectId, Stat, State, Time, compute_hash,
-};
+use bstr::BStr;
+use gix_status::index::{Flags, HashKind, Mode, Moment, ObjectId, Stat, State, Time, compute_hash};
 use gix_status::index_as_worktree::traits::HashEq;
 use gix_status::index_as_worktree::{
     Change, Context, EntryStatus, Error, Options, Outcome, Recorder, VisitEntry, index_as_worktree,
@@ -28,14 +26,12 @@ where
     W::File: Send,
 {
     let alloc = rt.alloc();
-    let objects = MemoryObjects::new(alloc);
     let context = Context {
         pathspec: AllPaths,
         filter: NoFilter,
         lister: NoLister,
         should_interrupt: None,
     };
-    let options = Options::default();
     index_as_worktree(
         rt,
         alloc,
@@ -44,9 +40,9 @@ where
         collector,
         HashEq,
         NoSubmodules,
-        objects,
+        MemoryObjects::new(alloc),
         context,
-        options,
+        Options::default(),
     )
 }
 
@@ -54,25 +50,20 @@ where
 fn a_change_and_a_removal(rt: HostRuntime) -> Result<(), Fail> {
     let alloc = rt.alloc();
     // The index: `a` and `b` were staged with the content `foo`.
-    let mut entries = Vec::new(alloc);
+    let mut index = State::new(alloc, Moment { secs: 9, nsecs: 0 });
     for path in ["a", "b"] {
-        entries.push(NewEntry {
-            path: BString::from_slice(alloc, path)?,
-            stat: Stat::default(),
-            id: compute_hash(HashKind::Sha1, b"foo"),
-            flags: Flags::from_stage(0),
-            mode: Mode::File,
-        })?;
+        let (stat, id) = (Stat::default(), compute_hash(HashKind::Sha1, b"foo"));
+        index.push_entry(stat, id, Flags::from_stage(0), Mode::File, BStr::from(path))?;
     }
-    let index = State::from_entries(alloc, entries, Moment { secs: 9, nsecs: 0 })?;
     // The worktree: `a` was written since, and `b` is gone.
+    let time = Some(Time { secs: 7, nsecs: 0 });
     let node = Node {
         kind: NodeKind::File,
         bytes: Vec::from_slice(alloc, b"bar")?,
         len: 3,
         executable: false,
-        mtime: Some(Time { secs: 7, nsecs: 0 }),
-        ctime: Some(Time { secs: 7, nsecs: 0 }),
+        mtime: time,
+        ctime: time,
         dev: 0,
         ino: 0,
         uid: 0,
