@@ -1,14 +1,11 @@
-//! Files and links, compared by ids.
+//! Small reads beside large ones.
 
 use crate::comparers::SmallPieces;
-use crate::given::{
-    BAR, BARS, GivenNode, LATER, foo_entry, later_file, later_link, mode_entry, short_file, stat,
-};
+use crate::given::{BARS, LATER, foo_entry, later_file, later_link, mode_entry, short_file, stat};
 use crate::tables::{Answer, Counts, Row, Told, assert_row};
 use gix_status::index::{Mode, ObjectId};
 use gix_status::index_as_worktree::traits::HashEq;
 use gix_status::worktree::Fault;
-use std::alloc::{AllocError, Global};
 use std::test::Fail;
 
 /// The id of `0123456789`, by git.
@@ -16,68 +13,6 @@ const DIGITS: ObjectId = ObjectId::Sha1([
     0xad, 0x47, 0x10, 0x07, 0xbd, 0x7f, 0x59, 0x83, 0xd2, 0x73, 0xb9, 0x58, 0x4e, 0x56, 0x29, 0x23,
     0x01, 0x50, 0xfd, 0x54,
 ]);
-
-// `a/a/.../a`, of so many components.
-fn deep_path(alloc: Global, components: u32) -> Result<String, AllocError> {
-    let mut path = String::from_str(alloc, "a")?;
-    for _ in 1..components {
-        path.push_str("/a")?;
-    }
-    Ok(path)
-}
-
-#[test]
-fn files_and_links_are_compared_by_ids(rt: HostRuntime) -> Result<(), Fail> {
-    let path = deep_path(rt.alloc(), 10_000)?;
-    let path = path.as_str();
-    let rows = [
-        Row {
-            name: "an empty index",
-            entries: &[],
-            nodes: &[],
-            told: &[],
-            answer: Answer::Takes(Counts::found(0)),
-        },
-        Row {
-            name: "a path of ten thousand components",
-            entries: &[foo_entry(path)],
-            nodes: &[later_file(path, b"bar")],
-            told: &[(0, path, Told::Changed(BAR))],
-            answer: Answer::Takes(Counts::one_read(3)),
-        },
-        Row {
-            name: "a link, which is compared by its target",
-            entries: &[mode_entry("a", Mode::Symlink)],
-            nodes: &[later_link("a", b"bars")],
-            told: &[(0, "a", Told::Changed(BARS))],
-            answer: Answer::Takes(Counts::one_read(4)),
-        },
-        Row {
-            name: "a file that ends before its length",
-            entries: &[foo_entry("a"), foo_entry("b"), foo_entry("c")],
-            nodes: &[short_file("b")],
-            told: &[(0, "a", Told::Removed)],
-            answer: Answer::FailsBy(Fault::UnexpectedEnd),
-        },
-        Row {
-            name: "a longer file, of which the known size is read",
-            entries: &[foo_entry("a")],
-            nodes: &[GivenNode {
-                len: 3,
-                ..later_file("a", b"foobar")
-            }],
-            told: &[(0, "a", Told::Updated(stat(LATER, 3)))],
-            answer: Answer::Takes(Counts {
-                updates: 1,
-                ..Counts::one_read(3)
-            }),
-        },
-    ];
-    for row in &rows {
-        assert_row(&rt, HashEq, row)?;
-    }
-    Ok(())
-}
 
 #[test]
 fn small_reads_report_what_large_reads_do(rt: HostRuntime) -> Result<(), Fail> {
