@@ -54,7 +54,9 @@ run_at es start path = take_while (is_in_run path) (take 3 (drop start es))
 
 -- the conflict of a run, the number of its entries that follow the first, and its entries by stage, by what the index says
 -- of a stored one; None where it names no conflict
-abbrev pub IsConflict : (Entry → IndexEntry) → List IndexEntry → Option (Conflict × ℕ × List (Option (Bor Entry))) → Type 0
+abbrev pub IsConflict : (Entry → IndexEntry) → List IndexEntry
+    → Option (Conflict × ℕ × List (Option (Bor Entry))) → Type 0
 IsConflict says run None = conflict_of run ≡ None
 IsConflict says run (Some c) =
-    (conflict_of run ≡ Some c.0) × (c.1 + 1 ≡ length run) × (map (λ o. option_map says (option_copied o)) c.2 ≡ places_of run)
+    (conflict_of run ≡ Some c.0) × (c.1 + 1 ≡ length run)
+    × (map (λ o. option_map says (option_copied o)) c.2 ≡ places_of run)

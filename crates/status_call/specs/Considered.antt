@@ -16,7 +16,8 @@ considered prefix es = if list_any (is_under prefix) es then filter (is_under pr
 
 -- the place of the first considered entry in the whole index
 abbrev pub considered_start : List ℕ → List IndexEntry → ℕ
-considered_start prefix es = if list_any (is_under prefix) es then position_or_len (is_under prefix) es else 0
+considered_start prefix es =
+    if list_any (is_under prefix) es then position_or_len (is_under prefix) es else 0
 
 -- whether an entry has a flag
 abbrev pub has_flag : IndexEntry → Flags → Bool
@@ -24,7 +25,8 @@ has_flag e flag = has_bits e.flags.0 flag.0
 
 -- whether one of these flags leaves an entry out
 abbrev pub is_flagged : IndexEntry → Bool
-is_flagged e = list_any (has_flag e) (UPTODATE ∷ SKIP_WORKTREE ∷ ASSUME_VALID ∷ FSMONITOR_VALID ∷ [])
+is_flagged e = list_any (has_flag e)
+    (UPTODATE ∷ SKIP_WORKTREE ∷ ASSUME_VALID ∷ FSMONITOR_VALID ∷ [])
 
 abbrev pub same_path : IndexEntry → IndexEntry → Bool
 same_path a b = bytes_eq a.path b.path
@@ -39,7 +41,8 @@ module _ {T U : Type 0} (q : Query T U) where
 
   -- d isn't skipped, has e's path, and has a smaller stage that isn't 0
   abbrev pub takes_over : IndexEntry → IndexEntry → Bool
-  takes_over d e = not (is_skipped d) && same_path d e && nat_lt 0 (stage_of d) && nat_lt (stage_of d) (stage_of e)
+  takes_over d e = not (is_skipped d) && same_path d e && nat_lt 0 (stage_of d)
+      && nat_lt (stage_of d) (stage_of e)
 
   -- some considered entry reports e's conflict already
   abbrev pub is_over : List IndexEntry → IndexEntry → Bool

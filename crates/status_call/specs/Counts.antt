@@ -19,7 +19,14 @@ use Rattle.status_call.specs.Status.{Case, compared, case_of, Found, present, fo
 
 -- numbers of entries
 abbrev pub no_counts : Counts
-no_counts = record { processed = 0; skipped_by_flags = 0; skipped_by_pathspec = 0; lstat_calls = 0; racy_clean = 0; to_update = 0 }
+no_counts = record {
+  processed = 0;
+  skipped_by_flags = 0;
+  skipped_by_pathspec = 0;
+  lstat_calls = 0;
+  racy_clean = 0;
+  to_update = 0;
+}
 
 abbrev pub plus_counts : Counts → Counts → Counts
 plus_counts a b = record {
@@ -36,7 +43,10 @@ abbrev pub no_totals : Totals
 no_totals = record { counts = no_counts; reads = no_reads }
 
 abbrev pub plus_totals : Totals → Totals → Totals
-plus_totals a b = record { counts = plus_counts a.counts b.counts; reads = plus_reads a.reads b.reads }
+plus_totals a b = record {
+  counts = plus_counts a.counts b.counts;
+  reads = plus_reads a.reads b.reads;
+}
 
 -- each number is at most n, and so are those that were skipped together
 pub record IsWithin (n : ℕ) (k : Counts) : Type 0 where
@@ -85,7 +95,8 @@ module _ {T U : Type 0} (q : Query T U) where
 
   -- what the comparer reads of an entry, where it is called and that is modelled
   abbrev pub reads_of_case : IndexEntry → Reads
-  reads_of_case e = if is_compared_case (case_of q e) then reads_of_found e (found q e) else no_reads
+  reads_of_case e = if is_compared_case (case_of q e) then reads_of_found e (found q e)
+      else no_reads
 
   -- what is read of an entry
   abbrev pub reads_of : IndexEntry → Reads
@@ -93,14 +104,16 @@ module _ {T U : Type 0} (q : Query T U) where
 
   -- what the comparer reads is modelled
   abbrev pub ModelsReads : Type 0
-  ModelsReads = (e : IndexEntry) (n : Metadata) → IsTrue (is_some (q.counted e n.len (meaning q e n) no_reads))
+  ModelsReads = (e : IndexEntry) (n : Metadata)
+      → IsTrue (is_some (q.counted e n.len (meaning q e n) no_reads))
 
 -- the counts of a part of the considered entries, es being all of them
 abbrev pub counts_in : {T U : Type 0} → Query T U → List IndexEntry → List IndexEntry → Counts
 counts_in q es part = record {
   processed = count_by (λ e. not (is_over q es e)) part;
   skipped_by_flags = count_by (λ e. is_flagged e && not (is_over q es e)) part;
-  skipped_by_pathspec = count_by (λ e. not (is_flagged e) && is_excluded q e && not (is_over q es e)) part;
+  skipped_by_pathspec = count_by
+      (λ e. not (is_flagged e) && is_excluded q e && not (is_over q es e)) part;
   lstat_calls = count_by (λ e. is_looked_at q e && calls_lstat q e) part;
   racy_clean = count_by (λ e. is_looked_at q e && is_racy_case (case_of q e)) part;
   to_update = count_by (λ e. is_update (verdict q es e)) part;
@@ -116,12 +129,14 @@ reads_in q part = record {
 }
 
 -- what an outcome says of a part of the considered entries, of all entries
-pub record IsOutcome {T U : Type 0} (q : Query T U) (all es : List IndexEntry) (part : List IndexEntry) (o : Outcome) : Type 0 where
+pub record IsOutcome {T U : Type 0} (q : Query T U) (all es : List IndexEntry)
+    (part : List IndexEntry) (o : Outcome) : Type 0 where
   pub to_process : o.entries_to_process ≡ length es
   pub skipped_by_prefix : o.entries_skipped_by_common_prefix ≡ length all - length es
   pub processed : o.entries_processed ≡ (counts_in q es part).processed
   pub skipped_by_flags : o.entries_skipped_by_entry_flags ≡ (counts_in q es part).skipped_by_flags
-  pub skipped_by_pathspec : o.entries_skipped_by_pathspec ≡ (counts_in q es part).skipped_by_pathspec
+  pub skipped_by_pathspec : o.entries_skipped_by_pathspec
+      ≡ (counts_in q es part).skipped_by_pathspec
   pub lstat_calls : o.symlink_metadata_calls ≡ (counts_in q es part).lstat_calls
   pub racy_clean : o.racy_clean ≡ (counts_in q es part).racy_clean
   pub to_update : o.entries_to_update ≡ (counts_in q es part).to_update

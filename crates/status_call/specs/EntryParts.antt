@@ -33,25 +33,29 @@ IsSite found called (Ok look) = (found ≡ found_site look.site) × (look.lstat_
 IsSite found called (Err e) = ((f : Fault) × (found ≡ refused f) × (e ≡ error_of f)) ⊎ (e ≡ Memory)
 
 -- what is found at a path, by lstat's answers and by what listings know of it
-abbrev pub IsSiteAt : (List ℕ → Result Metadata Fault) → Option Metadata → List ℕ → Result Look Error → Type 0
+abbrev pub IsSiteAt : (List ℕ → Result Metadata Fault) → Option Metadata → List ℕ
+    → Result Look Error → Type 0
 IsSiteAt lstat known path result =
     IsSite (found_by (link_check lstat path) (cached_or known (lstat path)))
     (is_accepted (link_check lstat path) && not (is_some known)) result
 
 -- the answer of a case, and what that took: whether `lstat` was called, and what the comparer reads where it is called
-pub record IsOfCase {T U : Type 0} (path : List ℕ) (case : Case T U) (called : Bool) (counted : Option Reads) (d : Decided T U) : Type 0 where
+pub record IsOfCase {T U : Type 0} (path : List ℕ) (case : Case T U) (called : Bool)
+    (counted : Option Reads) (d : Decided T U) : Type 0 where
   pub status : answer path case ≡ Ok d.status
   pub lstat_called : d.lstat_called ≡ called
   pub racy : d.racy ≡ is_racy_case case
   pub reads : IfSome counted (λ k. d.reads ≡ (if is_compared_case case then k else no_reads))
 
 -- the decision of a case, its error, or want of memory
-abbrev pub IsCaseDecided : {T U : Type 0} → List ℕ → Case T U → Bool → Option Reads → Result (Decided T U) Error → Type 0
+abbrev pub IsCaseDecided : {T U : Type 0} → List ℕ → Case T U → Bool → Option Reads
+    → Result (Decided T U) Error → Type 0
 IsCaseDecided path case called counted (Ok d) = IsOfCase path case called counted d
 IsCaseDecided path case called counted (Err x) = (answer path case ≡ Err x) ⊎ (x ≡ Memory)
 
 -- what a comparison decides of an entry whose node has this stat
-abbrev pub IsDecisionOf : {T U : Type 0} → Comparison T → Stat → Bool → Bool → Bool → Decided T U → Type 0
+abbrev pub IsDecisionOf : {T U : Type 0} → Comparison T → Stat → Bool → Bool → Bool → Decided T U
+    → Type 0
 IsDecisionOf c stat executable_changed trusted racy d =
     (path : List ℕ) (counted : Option Reads) → IfSome counted (λ k. c.reads ≡ k)
     → IsOfCase path (compared executable_changed trusted racy stat (Ok c.change)) false counted d
@@ -67,15 +71,18 @@ module _ {T U : Type 0} (q : Query T U) (e : IndexEntry) (n : Metadata) where
 
   -- the decision of an entry at whose path a node was found; it calls no more `lstat`
   abbrev pub IsNodeDecided : Result (Decided T U) Error → Type 0
-  IsNodeDecided result = IsTrue q.modelled → IsCaseDecided e.path (case_of_found q e (present n)) false counted_of result
+  IsNodeDecided result =
+      IsTrue q.modelled → IsCaseDecided e.path (case_of_found q e (present n)) false counted_of result
 
   -- the same of one whose node has the entry's type, and this stat
   abbrev pub IsContentDecided : Stat → Bool → Result (Decided T U) Error → Type 0
   IsContentDecided s executable_changed result =
       IsTrue q.modelled → IsCaseDecided e.path
-      (case_of_content q e n s executable_changed (is_trusted q e s) (is_racy q.stat_options q.timestamp s))
+      (case_of_content q e n s executable_changed (is_trusted q e s)
+      (is_racy q.stat_options q.timestamp s))
       false counted_of result
 
   -- the comparison of an entry's content with its node's
   abbrev pub IsContentCompared : Result (Comparison T) Error → Type 0
-  IsContentCompared result = IsTrue q.modelled → IsComparison (q.compared e n.len (meaning q e n)) counted_of result
+  IsContentCompared result =
+      IsTrue q.modelled → IsComparison (q.compared e n.len (meaning q e n)) counted_of result

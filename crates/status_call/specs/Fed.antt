@@ -16,11 +16,14 @@ module _ {T U : Type 0} (faithful : Visit T U → Type 0) where
     pub reported : map finding_of more ≡ findings
 
   -- one finding was reported, or nothing
-  abbrev pub IsFedOne : {A E : Type 0} → Finding T U → List (Visit T U) → Result A E → List (Visit T U) → Type 0
+  abbrev pub IsFedOne : {A E : Type 0} → Finding T U → List (Visit T U) → Result A E
+      → List (Visit T U) → Type 0
   IsFedOne finding old (Ok _) new = Reports (finding ∷ []) old new
   IsFedOne finding old (Err _) new = new ≡ old
 
   -- all findings were reported, or the first n of them
-  abbrev pub IsFed : {A E : Type 0} → List (Finding T U) → List (Visit T U) → Result A E → List (Visit T U) → Type 0
+  abbrev pub IsFed : {A E : Type 0} → List (Finding T U) → List (Visit T U) → Result A E
+      → List (Visit T U) → Type 0
   IsFed findings old (Ok _) new = Reports findings old new
-  IsFed findings old (Err _) new = (n : ℕ) × (n ≤ length findings) × Reports (take n findings) old new
+  IsFed findings old (Err _) new =
+      (n : ℕ) × (n ≤ length findings) × Reports (take n findings) old new

@@ -7,7 +7,8 @@ use Rattle.status_call.specs.declared.index_as_worktree.inputs.Settings.{Setting
 use Rattle.status_call.specs.declared.index_as_worktree.types.Context.{Context}
 use Rattle.status_call.specs.declared.index_as_worktree.types.Options.{Options}
 
-abbrev pub given : {W C S O P T L : Type 0} → Bor W → C → S → O → Context P T L → Inputs W C S O P T L
+abbrev pub given : {W C S O P T L : Type 0} → Bor W → C → S → O → Context P T L
+    → Inputs W C S O P T L
 given worktree compare submodule objects context = record {
   worktree = worktree;
   compare = compare;
@@ -20,4 +21,10 @@ given worktree compare submodule objects context = record {
 
 -- the part of the options that decides entries, with the index's timestamp
 abbrev pub settings : Options → State → Settings
-settings options index = record { timestamp = timestamp_of index; stat = options.stat; fs = options.fs; fscache = options.fscache }
+settings options index =
+    record {
+      timestamp = timestamp_of index;
+      stat = options.stat;
+      fs = options.fs;
+      fscache = options.fscache;
+    }

@@ -18,7 +18,8 @@ Keeps modelled listing table = IsTrue modelled → IsOf listing table
 module _ (asked modelled : Bool) (listing : List ℕ → Listing) (table : Table) (path : List ℕ) where
   -- what listings know of a path, where they are asked
   abbrev pub IsKnown : Result (Option Metadata) AllocError → Type 0
-  IsKnown result = IsTrue (are_modelled asked modelled) → Keeps modelled listing table → IfOk result (λ node. node ≡ known_node asked listing path)
+  IsKnown result = IsTrue (are_modelled asked modelled) → Keeps modelled listing table
+      → IfOk result (λ node. node ≡ known_node asked listing path)
 
   -- what stands at a path by them and by `lstat`, where the part of the check that was tested is clear
   abbrev pub IsFound : (List ℕ → Result Metadata Fault) → List ℕ → Result Look Error → Type 0

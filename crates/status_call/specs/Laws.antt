@@ -70,49 +70,61 @@ module _ {T U : Type 0} (q : Query T U) where
     pub hidden : IsTrue zero → HidesWrites e
 
   abbrev pub ModificationLaw : Type 0
-  ModificationLaw = (e : IndexEntry) (x : Bool) (c : Option T) (zero : Bool) → status_of q e ≡ changed (Modification x c zero) → IsChange e x c zero
+  ModificationLaw = (e : IndexEntry) (x : Bool) (c : Option T) (zero : Bool)
+      → status_of q e ≡ changed (Modification x c zero) → IsChange e x c zero
 
   -- a regular file that is executable at a mode that isn't, or the other way round
   pub record IsOtherExecutable (e : IndexEntry) : Type 0 where
     pub node : Metadata
     pub present : IsPresent q e node
     pub file : node.kind ≡ kinds.File
-    pub other : ((e.mode ≡ modes.File) × IsTrue node.executable) ⊎ ((e.mode ≡ modes.FileExecutable) × IsFalse node.executable)
+    pub other : ((e.mode ≡ modes.File) × IsTrue node.executable)
+        ⊎ ((e.mode ≡ modes.FileExecutable) × IsFalse node.executable)
 
   -- only where executability counts
   abbrev pub ExecutableLaw : Type 0
-  ExecutableLaw = (e : IndexEntry) (c : Option T) (zero : Bool) → status_of q e ≡ changed (Modification true c zero) → IsTrue q.executable_bit × IsOtherExecutable e
+  ExecutableLaw = (e : IndexEntry) (c : Option T) (zero : Bool)
+      → status_of q e ≡ changed (Modification true c zero)
+      → IsTrue q.executable_bit × IsOtherExecutable e
 
   -- of a directory's entry the comparer isn't called, and nothing is read
   abbrev pub UnreadLaw : Type 0
-  UnreadLaw = (e : IndexEntry) → IsDirectoryMode e.mode → IsFalse (is_compared_case (case_of q e)) × (reads_of q e ≡ no_reads)
+  UnreadLaw = (e : IndexEntry) → IsDirectoryMode e.mode
+      → IsFalse (is_compared_case (case_of q e)) × (reads_of q e ≡ no_reads)
 
   -- the records ascend strictly
   abbrev pub AscendLaw : Type 0
-  AscendLaw = (start : ℕ) (es : List IndexEntry) → AllPairs (λ a b. a.entry_index < b.entry_index) (records_of q start es)
+  AscendLaw = (start : ℕ) (es : List IndexEntry)
+      → AllPairs (λ a b. a.entry_index < b.entry_index) (records_of q start es)
 
   -- where no path has entries on both sides of a place, what an entry gives depends on its own side alone
   abbrev pub CutLaw : Type 0
   CutLaw = (es : List IndexEntry) (k : ℕ) → IsCut es k
-      → All (λ e. verdict q es e ≡ verdict q (take k es) e) (take k es) × All (λ e. verdict q es e ≡ verdict q (drop k es) e) (drop k es)
+      → All (λ e. verdict q es e ≡ verdict q (take k es) e) (take k es)
+      × All (λ e. verdict q es e ≡ verdict q (drop k es) e) (drop k es)
 
   -- an entry's fault before which there is none is the first
   abbrev pub FaultLaw : Type 0
-  FaultLaw = (es : List IndexEntry) (n : ℕ) (x : Error) → n < length es → faults_in q es (take n es) ≡ []
-      → ((d : IndexEntry) → verdict q es (slice_index_or es n d) ≡ Err x) → first_fault q es ≡ Some x
+  FaultLaw = (es : List IndexEntry) (n : ℕ) (x : Error) → n < length es
+      → faults_in q es (take n es) ≡ []
+      → ((d : IndexEntry) → verdict q es (slice_index_or es n d) ≡ Err x)
+      → first_fault q es ≡ Some x
 
   -- after an entry with a stage that isn't skipped no entry of its path gives anything
   abbrev pub OneConflictLaw : Type 0
   OneConflictLaw = (es : List IndexEntry) → IsIndex es
-      → AllPairs (λ a b. IsTrue (same_path a b) → IsFalse (is_skipped q a) → 0 < stage_of a → verdict q es b ≡ Ok None) es
+      → AllPairs (λ a b. IsTrue (same_path a b) → IsFalse (is_skipped q a) → 0 < stage_of a
+      → verdict q es b ≡ Ok None) es
 
   -- the record of a conflict, by the entries of its path from a stage upward
   abbrev pub ReportsConflict : List IndexEntry → IndexEntry → Conflict → Type 0
   ReportsConflict es e c =
       (conflict_of (conflict_run es e) ≡ Some c)
-      × (verdict q es e ≡ Ok (Some (statuses.Conflict c (map (option_map kept_of) (places_of (conflict_run es e))))))
+      × (verdict q es e ≡ Ok
+      (Some (statuses.Conflict c (map (option_map kept_of) (places_of (conflict_run es e))))))
 
   -- an entry with a stage reports a conflict, unless it is skipped or over
   abbrev pub HeadLaw : Type 0
   HeadLaw = (es : List IndexEntry)
-      → All (λ e. 0 < stage_of e → IsFalse (is_skipped q e) → IsFalse (is_over q es e) → (c : Conflict) × ReportsConflict es e c) es
+      → All (λ e. 0 < stage_of e → IsFalse (is_skipped q e) → IsFalse (is_over q es e)
+      → (c : Conflict) × ReportsConflict es e c) es

@@ -38,7 +38,8 @@ module _ {T U : Type 0} where
   without_listings q = record q { cached = λ _. None }
 
   pub record IsSameStatus (q other : Query T U) : Type 0 where
-    pub records : (start : ℕ) (es : List IndexEntry) → records_of q start es ≡ records_of other start es
+    pub records : (start : ℕ) (es : List IndexEntry)
+        → records_of q start es ≡ records_of other start es
     pub fault : (es : List IndexEntry) → first_fault q es ≡ first_fault other es
 
   -- where executability doesn't count

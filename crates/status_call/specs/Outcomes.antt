@@ -24,4 +24,5 @@ outcome_of p entries considered = record {
 
 -- how many entries were skipped
 abbrev pub skipped_of : Outcome → ℕ
-skipped_of o = o.entries_skipped_by_common_prefix + o.entries_skipped_by_pathspec + o.entries_skipped_by_entry_flags
+skipped_of o = o.entries_skipped_by_common_prefix + o.entries_skipped_by_pathspec
+    + o.entries_skipped_by_entry_flags

@@ -16,7 +16,8 @@ IsCounted p o =
 
 -- all findings of a piece that was whole or cut; all findings of a piece that ended at a fault; or the first of them, and
 -- want of memory
-abbrev pub IsPieceFed : {T U : Type 0} → (Visit T U → Type 0) → Piece T U → List (Visit T U) → Result Progress Error → List (Visit T U) → Type 0
+abbrev pub IsPieceFed : {T U : Type 0} → (Visit T U → Type 0) → Piece T U → List (Visit T U)
+    → Result Progress Error → List (Visit T U) → Type 0
 IsPieceFed faithful p old (Ok o) new = IsCounted p o × Reports faithful p.findings.items old new
 IsPieceFed faithful p old (Err e) new =
     ((p.end ≡ Faulty e) × Reports faithful p.findings.items old new)

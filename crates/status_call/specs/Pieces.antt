@@ -28,14 +28,16 @@ IsUncut Cut = ⊥
 module _ {T U : Type 0} (q : Query T U) where
   -- the records and counts of the considered entries from place `from` up to place `at`, none of which gives a fault;
   -- the first considered entry is at place `start` of the whole index
-  pub record IsAsMeant (start : ℕ) (es : List IndexEntry) (from at : ℕ) (findings : List (Finding T U)) (t : Totals) : Type 0 where
+  pub record IsAsMeant (start : ℕ) (es : List IndexEntry) (from at : ℕ)
+      (findings : List (Finding T U)) (t : Totals) : Type 0 where
     pub records : findings ≡ records_in q es (start + from) (part_of es from at)
     pub counts : t.counts ≡ counts_in q es (part_of es from at)
     pub reads : ModelsReads q → t.reads ≡ reads_in q (part_of es from at)
     pub clear : faults_in q es (part_of es from at) ≡ []
 
   -- the same where all is modelled; over any worktree the findings ascend and are of these entries
-  pub record IsDone (start : ℕ) (es : List IndexEntry) (from at : ℕ) (findings : List (Finding T U)) (t : Totals) : Type 0 where
+  pub record IsDone (start : ℕ) (es : List IndexEntry) (from at : ℕ) (findings : List (Finding T U))
+      (t : Totals) : Type 0 where
     pub low : from ≤ at
     pub high : at ≤ length es
     pub few : IsWithin (at - from) t.counts
@@ -45,7 +47,8 @@ module _ {T U : Type 0} (q : Query T U) where
 
   -- the error is what the entry at a place gives, or want of memory
   abbrev pub IsFaultAt : List IndexEntry → ℕ → Error → Type 0
-  IsFaultAt es at x = ((d : IndexEntry) → verdict q es (slice_index_or es at d) ≡ Err x) ⊎ (x ≡ Memory)
+  IsFaultAt es at x = ((d : IndexEntry) → verdict q es (slice_index_or es at d) ≡ Err x)
+      ⊎ (x ≡ Memory)
 
   -- a piece ends at its last entry, before an entry, or at an entry that gives a fault or was refused memory
   abbrev pub IsThrough : List IndexEntry → ℕ → ℕ → End → Type 0

@@ -13,7 +13,8 @@ use Rattle.status_call.specs.Status.{status_of}
 
 -- the status that the entries of a conflict give
 abbrev pub conflict_status : {T U : Type 0} → List IndexEntry → Option (EntryStatus T U)
-conflict_status run = option_map (λ c. statuses.Conflict c (map (option_map kept_of) (places_of run))) (conflict_of run)
+conflict_status run = option_map
+    (λ c. statuses.Conflict c (map (option_map kept_of) (places_of run))) (conflict_of run)
 
 module _ {T U : Type 0} where
   -- the record of the entry at place i of the whole index, if it gives one

@@ -32,7 +32,8 @@ pub record IsPieceEnd (es : List IndexEntry) (chunk from end : ℕ) : Type 0 whe
 
 -- each piece ends so
 abbrev pub ArePieces : List IndexEntry → ℕ → List ℕ → Type 0
-ArePieces es chunk bounds = (k : ℕ) → k + 1 < length bounds → IsPieceEnd es chunk (bound bounds k) (bound bounds (k + 1))
+ArePieces es chunk bounds =
+    (k : ℕ) → k + 1 < length bounds → IsPieceEnd es chunk (bound bounds k) (bound bounds (k + 1))
 
 -- a piece that didn't come to its end
 abbrev pub is_short : End → Bool
@@ -40,19 +41,20 @@ is_short Whole = false
 is_short Cut = true
 is_short (Faulty x) = true
 
-module _ {T U : Type 0} (q : Query T U) (interruptible : Bool) (start : ℕ) (es : List IndexEntry) where
-  -- what the piece from place `at` to place `to` may give
-  pub record IsGiven (at to : ℕ) (p : Piece T U) : Type 0 where
-    pub piece : IsPiece q start es at to p
-    pub uncut : interruptible ≡ false → IsUncut p.end
+module _ {T U : Type 0} (q : Query T U) (interruptible : Bool) (start : ℕ) (es : List IndexEntry)
+  where
+    -- what the piece from place `at` to place `to` may give
+    pub record IsGiven (at to : ℕ) (p : Piece T U) : Type 0 where
+      pub piece : IsPiece q start es at to p
+      pub uncut : interruptible ≡ false → IsUncut p.end
 
-  -- a piece from place `at` on
-  pub record IsInRow (at : ℕ) (p : Piece T U) : Type 0 where
-    pub to : ℕ
-    pub inside : to ≤ length es
-    pub given : IsGiven at to p
+    -- a piece from place `at` on
+    pub record IsInRow (at : ℕ) (p : Piece T U) : Type 0 where
+      pub to : ℕ
+      pub inside : to ≤ length es
+      pub given : IsGiven at to p
 
-  -- pieces in a row from place `at` on: whole ones up to place `to`, or up to one that didn't come to its end
-  abbrev pub AreInRow : ℕ → ℕ → List (Piece T U) → Type 0
-  AreInRow to at [] = at ≡ to
-  AreInRow to at (p ∷ ps) = IsInRow at p × (p.end ≡ Whole → AreInRow to p.reached ps)
+    -- pieces in a row from place `at` on: whole ones up to place `to`, or up to one that didn't come to its end
+    abbrev pub AreInRow : ℕ → ℕ → List (Piece T U) → Type 0
+    AreInRow to at [] = at ≡ to
+    AreInRow to at (p ∷ ps) = IsInRow at p × (p.end ≡ Whole → AreInRow to p.reached ps)

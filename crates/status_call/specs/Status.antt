@@ -103,8 +103,10 @@ module _ {T U : Type 0} where
   answer path (retyped mode) = changed (changes.TypeChange mode)
   answer path unchanged = Ok None
   answer path (compared x trusted racy s (Err e)) = Err e
-  answer path (compared x trusted racy s (Ok (Some c))) = changed (changes.Modification x (Some c) (trusted && racy))
-  answer path (compared true trusted racy s (Ok None)) = changed (changes.Modification true None false)
+  answer path (compared x trusted racy s (Ok (Some c))) =
+      changed (changes.Modification x (Some c) (trusted && racy))
+  answer path (compared true trusted racy s (Ok None)) =
+      changed (changes.Modification true None false)
   answer path (compared false trusted racy s (Ok None)) = Ok (Some (statuses.NeedsUpdate s))
 
 -- whether links count at a node: it is a link, or the file system has links
@@ -129,12 +131,14 @@ module _ {T U : Type 0} (q : Query T U) where
 
   -- the entry's stat agrees with the node's, and its id is the empty blob's exactly where its size is 0
   abbrev pub is_trusted : IndexEntry → Stat → Bool
-  is_trusted e s = stat_agrees q.stat_options s e.stat && same_bool (is_empty_blob e.id) (e.stat.size == 0)
+  is_trusted e s = stat_agrees q.stat_options s e.stat
+      && same_bool (is_empty_blob e.id) (e.stat.size == 0)
 
   -- what there is to be read of an entry and its node
   abbrev pub reading : IndexEntry → Metadata → Reading
   reading e n =
-      node_reading (reads_link q.symlink e.mode n.kind) (λ content. q.conversion content e.path) n.len (q.opened e.path) (q.linked e.path)
+      node_reading (reads_link q.symlink e.mode n.kind) (λ content. q.conversion content e.path)
+      n.len (q.opened e.path) (q.linked e.path)
 
   abbrev pub meaning : IndexEntry → Metadata → Meaning
   meaning e n = record { file = reading e n; blob = blob_reading (q.blob e.id) }
@@ -142,12 +146,15 @@ module _ {T U : Type 0} (q : Query T U) where
   -- by whether the executable bit changed, the entry is trusted, and its stat is racy
   abbrev pub case_of_content : IndexEntry → Metadata → Stat → Bool → Bool → Bool → Case T U
   case_of_content e n s false true false = unchanged
-  case_of_content e n s x trusted racy = compared x trusted racy s (q.compared e n.len (meaning e n))
+  case_of_content e n s x trusted racy =
+      compared x trusted racy s (q.compared e n.len (meaning e n))
 
   abbrev pub case_of_change : IndexEntry → Metadata → Stat → Option ModeChange → Case T U
   case_of_change e n s (Some (TypeChange mode)) = retyped mode
-  case_of_change e n s (Some ExecutableBit) = case_of_content e n s true (is_trusted e s) (is_racy q.stat_options q.timestamp s)
-  case_of_change e n s None = case_of_content e n s false (is_trusted e s) (is_racy q.stat_options q.timestamp s)
+  case_of_change e n s (Some ExecutableBit) =
+      case_of_content e n s true (is_trusted e s) (is_racy q.stat_options q.timestamp s)
+  case_of_change e n s None =
+      case_of_content e n s false (is_trusted e s) (is_racy q.stat_options q.timestamp s)
 
   abbrev pub case_of_stat : IndexEntry → Metadata → Option Stat → Case T U
   case_of_stat e n None = unstamped
@@ -157,7 +164,8 @@ module _ {T U : Type 0} (q : Query T U) where
   case_of_found e nothing = gone
   case_of_found e (refused f) = fails f
   case_of_found e directory = if is_submodule e.mode then in_submodule (q.submodule e) else gone
-  case_of_found e (present n) = if has_flag e INTENT_TO_ADD then added else case_of_stat e n (stat_of n)
+  case_of_found e (present n) =
+      if has_flag e INTENT_TO_ADD then added else case_of_stat e n (stat_of n)
 
   -- the case of an entry
   abbrev pub case_of : IndexEntry → Case T U

@@ -11,14 +11,17 @@ use Rattle.status_call.specs.Query.{Query}
 use Rattle.status_call.specs.StatusTheorem.{IsMet, NeverSpawns}
 use Rattle.status_call.specs.Visits.{Visit}
 
-module _ {I T U : Type 0} (query : I → Settings → Query T U) (given : I) (options : Options) (index : State) where
+module _ {I T U : Type 0} (query : I → Settings → Query T U) (given : I) (options : Options)
+    (index : State) where
   abbrev query_of : Query T U
   query_of = query given (settings options index)
 
   -- what the collector was given, by its meaning, and what the call answered
-  abbrev pub IsStatus : {V : Type 0} → (V → List (Visit T U)) → V → Result Outcome Error → V → Type 0
+  abbrev pub IsStatus : {V : Type 0} → (V → List (Visit T U)) → V → Result Outcome Error → V
+      → Type 0
   IsStatus visits old result new = IsMet query_of index (visits old) result (visits new)
 
   -- with limit 1 no thread is refused, where the comparer doesn't answer so
   abbrev pub IsAlone : Result Outcome Error → Type 0
-  IsAlone result = IsTrue query_of.modelled → options.thread_limit ≡ Some 1 → NeverSpawns query_of → result ≢ Err SpawnThread
+  IsAlone result = IsTrue query_of.modelled → options.thread_limit ≡ Some 1 → NeverSpawns query_of
+      → result ≢ Err SpawnThread

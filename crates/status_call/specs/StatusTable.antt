@@ -56,13 +56,16 @@ module _ {T U : Type 0} (q : Query T U) (e : IndexEntry) where
   pub data IsGone : Type 0 where
     by_link : (p : List ℕ) → check_of ≡ through_link p → IsGone
     on_the_way : (f : Fault) → check_of ≡ faulty f → IsTrue (is_absence f) → IsGone
-    at_the_path : (f : Fault) → check_of ≡ accepted → node_of ≡ Err f → IsTrue (is_absence f) → IsGone
-    by_directory : (n : Metadata) → check_of ≡ accepted → node_of ≡ Ok n → n.kind ≡ kinds.Directory → IsFalse (is_submodule e.mode) → IsGone
+    at_the_path : (f : Fault) → check_of ≡ accepted → node_of ≡ Err f → IsTrue (is_absence f)
+        → IsGone
+    by_directory : (n : Metadata) → check_of ≡ accepted → node_of ≡ Ok n → n.kind ≡ kinds.Directory
+        → IsFalse (is_submodule e.mode) → IsGone
 
   -- a path that isn't normal, or another fault on the way or at the path
   pub data IsUnreachable (f : Fault) : Type 0 where
     unnamed : check_of ≡ empty_path → f ≡ faults.NotNormal → IsUnreachable f
-    oddly_named : (component : List ℕ) → check_of ≡ not_normal component → f ≡ faults.NotNormal → IsUnreachable f
+    oddly_named : (component : List ℕ) → check_of ≡ not_normal component → f ≡ faults.NotNormal
+        → IsUnreachable f
     barred : check_of ≡ faulty f → IsFalse (is_absence f) → IsUnreachable f
     unreadable : check_of ≡ accepted → node_of ≡ Err f → IsFalse (is_absence f) → IsUnreachable f
 
@@ -138,13 +141,16 @@ module _ {T U : Type 0} (q : Query T U) (e : IndexEntry) where
 
   -- a change of executability or of content
   abbrev pub HasChange : Bool → Option T → Type 0
-  HasChange executable_changed content_change = IsTrue executable_changed ⊎ IsTrue (is_some content_change)
+  HasChange executable_changed content_change =
+      IsTrue executable_changed ⊎ IsTrue (is_some content_change)
 
   -- what a directory at a submodule's entry gives, by what the submodule reports
   pub record SubmoduleRow : Type 0 where
     pub same : q.submodule e ≡ Ok None → status_of q e ≡ Ok None
-    pub other : (u : U) → q.submodule e ≡ Ok (Some u) → status_of q e ≡ changed (changes.SubmoduleModification u)
-    pub fault : (text : List ℕ) → q.submodule e ≡ Err text → status_of q e ≡ Err (errors.SubmoduleStatus e.path text)
+    pub other : (u : U) → q.submodule e ≡ Ok (Some u)
+        → status_of q e ≡ changed (changes.SubmoduleModification u)
+    pub fault : (text : List ℕ) → q.submodule e ≡ Err text
+        → status_of q e ≡ Err (errors.SubmoduleStatus e.path text)
 
   -- what each row answers
   pub record StatusTable : Type 0 where
@@ -153,12 +159,16 @@ module _ {T U : Type 0} (q : Query T U) (e : IndexEntry) where
     pub submodule_row : IsInSubmodule → SubmoduleRow
     pub added_row : IsAdded → status_of q e ≡ Ok (Some statuses.IntentToAdd)
     pub unstamped_row : IsUnstamped → status_of q e ≡ Err errors.Time
-    pub retyped_row : (mode : Mode) → IsRetyped mode → status_of q e ≡ changed (changes.TypeChange mode)
+    pub retyped_row : (mode : Mode) → IsRetyped mode
+        → status_of q e ≡ changed (changes.TypeChange mode)
     pub unchanged_row : IsUnchanged → status_of q e ≡ Ok None
-    pub failed_row : (n : Metadata) (s : Stat) (x : Bool) (err : Error) → IsCompared n s x → comparison n ≡ Err err → status_of q e ≡ Err err
-    pub modified_row : (n : Metadata) (s : Stat) (x : Bool) (c : Option T) → IsCompared n s x → comparison n ≡ Ok c → HasChange x c
+    pub failed_row : (n : Metadata) (s : Stat) (x : Bool) (err : Error) → IsCompared n s x
+        → comparison n ≡ Err err → status_of q e ≡ Err err
+    pub modified_row : (n : Metadata) (s : Stat) (x : Bool) (c : Option T) → IsCompared n s x
+        → comparison n ≡ Ok c → HasChange x c
         → status_of q e ≡ changed (changes.Modification x c (is_some c && trusted s && racy s))
-    pub update_row : (n : Metadata) (s : Stat) → IsCompared n s false → comparison n ≡ Ok None → status_of q e ≡ Ok (Some (statuses.NeedsUpdate s))
+    pub update_row : (n : Metadata) (s : Stat) → IsCompared n s false → comparison n ≡ Ok None
+        → status_of q e ≡ Ok (Some (statuses.NeedsUpdate s))
 
   -- the entry falls in a row
   abbrev pub IsInRow : Row → Type 0
@@ -169,6 +179,10 @@ module _ {T U : Type 0} (q : Query T U) (e : IndexEntry) where
   IsInRow unstamped = IsUnstamped
   IsInRow retyped = (mode : Mode) × IsRetyped mode
   IsInRow unchanged = IsUnchanged
-  IsInRow failed = (n : Metadata) × ((s : Stat) × ((x : Bool) × ((err : Error) × (IsCompared n s x × (comparison n ≡ Err err)))))
-  IsInRow modified = (n : Metadata) × ((s : Stat) × ((x : Bool) × ((c : Option T) × (IsCompared n s x × (comparison n ≡ Ok c) × HasChange x c))))
-  IsInRow to_update = (n : Metadata) × ((s : Stat) × (IsCompared n s false × (comparison n ≡ Ok None)))
+  IsInRow failed = (n : Metadata)
+      × ((s : Stat) × ((x : Bool) × ((err : Error) × (IsCompared n s x × (comparison n ≡ Err err)))))
+  IsInRow modified = (n : Metadata)
+      × ((s : Stat)
+      × ((x : Bool) × ((c : Option T) × (IsCompared n s x × (comparison n ≡ Ok c) × HasChange x c))))
+  IsInRow to_update = (n : Metadata)
+      × ((s : Stat) × (IsCompared n s false × (comparison n ≡ Ok None)))

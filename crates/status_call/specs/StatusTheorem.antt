@@ -23,7 +23,8 @@ IsBeginning {A} front all = (rest : List A) × (front ++ rest ≡ all)
 
 -- the comparer never answers that a thread was refused
 abbrev pub NeverSpawns : {T U : Type 0} → Query T U → Type 0
-NeverSpawns q = (e : IndexEntry) (n : Metadata) → q.compared e n.len (meaning q e n) ≢ Err SpawnThread
+NeverSpawns q = (e : IndexEntry) (n : Metadata)
+    → q.compared e n.len (meaning q e n) ≢ Err SpawnThread
 
 module _ {T U : Type 0} (q : Query T U) (index : State) where
   -- the entries that are considered, and the place of the first of them
@@ -55,23 +56,30 @@ module _ {T U : Type 0} (q : Query T U) (index : State) where
     pub place : ℕ
     pub inside : place < length considered_entries
     pub clear : faults_in q considered_entries (take place considered_entries) ≡ []
-    pub here : (d : IndexEntry) → verdict q considered_entries (slice_index_or considered_entries place d) ≡ Err e
-    pub records : reported ≡ records_in q considered_entries start_of (take place considered_entries)
+    pub here : (d : IndexEntry)
+        → verdict q considered_entries (slice_index_or considered_entries place d) ≡ Err e
+    pub records : reported
+        ≡ records_in q considered_entries start_of (take place considered_entries)
 
   -- what was reported over any worktree, and where all that was handed in is modelled
-  pub record IsMet (old : List (Visit T U)) (result : Result Outcome Error) (new : List (Visit T U)) : Type 0 where
+  pub record IsMet (old : List (Visit T U)) (result : Result Outcome Error)
+      (new : List (Visit T U)) : Type 0 where
     pub more : List (Visit T U)
     pub grew : new ≡ old ++ more
     -- each entry that was reported is the index's at its place, with its own path and the whole index, and the places ascend
     pub faithful : All (IsFaithful (entries_of index) (backing_of index)) more
     pub ascends : AllPairs (λ a b. a.entry_index < b.entry_index) more
     -- Ok, not interrupted: no fault, all records, all counts
-    pub complete : IsTrue q.modelled → IfOk result (λ o. o.interrupted ≡ false → IsComplete (map finding_of more) o)
+    pub complete : IsTrue q.modelled
+        → IfOk result (λ o. o.interrupted ≡ false → IsComplete (map finding_of more) o)
     -- Ok, interrupted: the same of the first n considered entries
-    pub interrupted : IsTrue q.modelled → IfOk result (λ o. o.interrupted ≡ true → IsStatusOfSome (map finding_of more) o)
+    pub interrupted : IsTrue q.modelled
+        → IfOk result (λ o. o.interrupted ≡ true → IsStatusOfSome (map finding_of more) o)
     -- an error other than want of memory or of a thread: the first fault, with just the records before it
-    pub fault : IsTrue q.modelled → IfErr result (λ e. e ≢ Memory → e ≢ SpawnThread → IsFirstFault (map finding_of more) e)
+    pub fault : IsTrue q.modelled
+        → IfErr result (λ e. e ≢ Memory → e ≢ SpawnThread → IsFirstFault (map finding_of more) e)
     -- on every exit: a beginning of the records
-    pub beginning : IsTrue q.modelled → IsBeginning (map finding_of more) (records_of q start_of considered_entries)
+    pub beginning : IsTrue q.modelled
+        → IsBeginning (map finding_of more) (records_of q start_of considered_entries)
     -- over any worktree: the counts of those that were skipped add up to a number that fits
     pub fits : IfOk result (λ o. skipped_of o < 2 ^ 64)

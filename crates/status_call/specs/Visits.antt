@@ -16,14 +16,21 @@ pub record Visit (T U : Type 0) : Type 0 where
 
 abbrev pub visit : {T U : Type 0} → List Entry → Entry → ℕ → List ℕ → EntryStatus T U → Visit T U
 visit entries entry entry_index path status =
-    record { entries = entries; entry = entry; entry_index = entry_index; path = path; status = status }
+    record {
+      entries = entries;
+      entry = entry;
+      entry_index = entry_index;
+      path = path;
+      status = status;
+    }
 
 -- what is reported of the entry at a place
 abbrev pub finding_of : {T U : Type 0} → Visit T U → Finding T U
 finding_of v = record { entry_index = v.entry_index; status = v.status }
 
 -- the list is the whole index, the entry is the index's at that place, and the path is its own
-pub record IsFaithful {T U : Type 0} (entries : List Entry) (backing : PathStorage) (v : Visit T U) : Type 0 where
+pub record IsFaithful {T U : Type 0} (entries : List Entry) (backing : PathStorage)
+    (v : Visit T U) : Type 0 where
   pub whole : v.entries ≡ entries
   pub entry : slice_get entries v.entry_index ≡ Some v.entry
   pub path : v.path ≡ path_in backing v.entry

@@ -30,11 +30,13 @@ module _ {T U : Type 0} (q : Query T U) (start : ℕ) (es : List IndexEntry) (fr
     pub found : List (Finding T U)
     pub totals : Totals
     pub done : IsDone q start es from place found totals
-    pub by : ((reported ≡ found) × (place < length es) × (IsTrue q.modelled → IsFaultAt q es place e))
+    pub by : ((reported ≡ found) × (place < length es)
+        × (IsTrue q.modelled → IsFaultAt q es place e))
         ⊎ (IsShortage workers e × IsBeginning reported found)
 
   -- the entries up to a place are done: it is `to`, or an interrupt flag was seen there
-  pub record IsReached (interruptible : Bool) (to : ℕ) (reported : List (Finding T U)) (p : Progress) : Type 0 where
+  pub record IsReached (interruptible : Bool) (to : ℕ) (reported : List (Finding T U))
+      (p : Progress) : Type 0 where
     pub place : ℕ
     pub done : IsDone q start es from place reported p.totals
     pub reached : p.interrupted ≡ false → place ≡ to
@@ -52,13 +54,16 @@ module _ {T U : Type 0} (q : Query T U) (start : ℕ) (es : List IndexEntry) (fr
       pub done : IsDone q start es from at reported totals
 
     -- what was reported, and how the work ended
-    pub record IsReportedWork (interruptible : Bool) (workers to : ℕ) (old : List (Visit T U)) (result : Result Progress Error) (new : List (Visit T U)) : Type 0 where
+    pub record IsReportedWork (interruptible : Bool) (workers to : ℕ) (old : List (Visit T U))
+        (result : Result Progress Error) (new : List (Visit T U)) : Type 0 where
       pub reported : List (Finding T U)
       pub fed : Reports faithful reported old new
       pub ended : IsEnded interruptible workers to reported result
 
 -- the same of all considered entries, by a thread limit
-pub record IsLimitedWork {T U : Type 0} (q : Query T U) (start : ℕ) (es : List IndexEntry) (faithful : Visit T U → Type 0) (interruptible : Bool) (limit : Option ℕ) (old : List (Visit T U)) (result : Result Progress Error) (new : List (Visit T U)) : Type 0 where
+pub record IsLimitedWork {T U : Type 0} (q : Query T U) (start : ℕ) (es : List IndexEntry)
+    (faithful : Visit T U → Type 0) (interruptible : Bool) (limit : Option ℕ) (old : List (Visit T U))
+    (result : Result Progress Error) (new : List (Visit T U)) : Type 0 where
   pub workers : ℕ
   pub alone : limit ≡ Some 1 → workers ≡ 1
   pub work : IsReportedWork q start es 0 faithful interruptible workers (length es) old result new

@@ -26,7 +26,9 @@ impl Conflict {
         start_index: usize,
         entry_path: BStr<'_>,
     ) -> Option<(Conflict, usize, [Option<&'e Entry>; 3])>
-        ensures { IsConflict (index_entry path_backing.now) (run_at (index_entries path_backing.now entries.now) start_index (bstr_bytes entry_path.entry)) result }
+        ensures { IsConflict (index_entry path_backing.now)
+            (run_at (index_entries path_backing.now entries.now)
+            start_index (bstr_bytes entry_path.entry)) result }
     {
         let run = conflict_run(entries, path_backing, start_index, entry_path);
         let base = last_of_stage(run, 1);
@@ -61,7 +63,8 @@ fn conflict_run<'e>(
     start: usize,
     path: BStr<'_>,
 ) -> &'e [Entry]
-    ensures { index_entries backing.now result.now ≡ run_at (index_entries backing.now entries.now) start (bstr_bytes path.entry) }
+    ensures { index_entries backing.now result.now
+        ≡ run_at (index_entries backing.now entries.now) start (bstr_bytes path.entry) }
 {
     if start >= entries.len() {
         return &entries[..0];

@@ -40,7 +40,8 @@ pub(crate) fn compare_node<
     path: &[u8],
     node: &Metadata,
 ) -> Result<Comparison<C::Output>, Error>
-    ensures compared { IsContentCompared (⟦<Inputs<'w, W, C, S, O, P, T, L> as Means>⟧.query inputs.old settings)
+    ensures compared { IsContentCompared
+        (⟦<Inputs<'w, W, C, S, O, P, T, L> as Means>⟧.query inputs.old settings)
         (entry_at path.now entry.now) node.now result }
     ensures only { inputs.new ≡ record inputs.old { compare = inputs.new.compare } }
     ensures same { ⟦<Inputs<'w, W, C, S, O, P, T, L> as Means>⟧.query inputs.new
@@ -72,7 +73,9 @@ pub(crate) fn reads_link(mode: Mode, kind: NodeKind, symlink: bool) -> bool
 /// the id does. Size 0 beside another id marks an entry whose content has to be compared (git's racy-git document: a
 /// racily clean entry is written with size 0).
 pub(crate) fn is_trusted(entry: &Entry, stat: &Stat, options: stat::Options) -> bool
-    ensures { result ≡ (stat_agrees options stat.now entry.now.stat && same_bool (is_empty_blob entry.now.id) (entry.now.stat.size == 0)) }
+    ensures { result
+        ≡ (stat_agrees options stat.now entry.now.stat
+        && same_bool (is_empty_blob entry.now.id) (entry.now.stat.size == 0)) }
 {
     stat.matches(&entry.stat, options) && entry.id.is_empty_blob() == (entry.stat.size == 0)
 }
@@ -88,7 +91,8 @@ pub(crate) fn needs_comparison(executable_bit_changed: bool, trusted: bool, racy
 
 /// A decision for which nothing was read.
 pub(crate) fn unread<T, U>(status: Option<EntryStatus<T, U>>, lstat_called: bool) -> Decided<T, U>
-    ensures { result ≡ record { status = status; lstat_called = lstat_called; racy = false; reads = no_reads } }
+    ensures { result
+        ≡ record { status = status; lstat_called = lstat_called; racy = false; reads = no_reads } }
 {
     Decided {
         status,

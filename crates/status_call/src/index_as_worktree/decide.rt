@@ -39,7 +39,8 @@ pub trait Decide {
 
     /// Whether the pathspec includes an entry.
     fn includes(&self, entry: &Entry, path: BStr<'_>) -> bool
-        ensures { result ≡ not (is_excluded (query self.now) (entry_at (bstr_bytes path.entry) entry.now)) };
+        ensures { result
+            ≡ not (is_excluded (query self.now) (entry_at (bstr_bytes path.entry) entry.now)) };
 
     /// Compares an entry of stage 0 with the worktree.
     ///
@@ -50,7 +51,8 @@ pub trait Decide {
         entry: &Entry,
         path: BStr<'_>,
     ) -> Result<Decided<Self::Content, Self::Submodule>, Error>
-        ensures answer { IsTrue (query self.old).modelled → IsDecided (query self.old) (entry_at (bstr_bytes path.entry) entry.now) result }
+        ensures answer { IsTrue (query self.old).modelled
+            → IsDecided (query self.old) (entry_at (bstr_bytes path.entry) entry.now) result }
         ensures same { query self.new ≡ query self.old };
 
     /// Another one that decides by the same query, for another worker.

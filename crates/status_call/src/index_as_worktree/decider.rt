@@ -37,7 +37,8 @@ pub struct Decider<'w, W: Worktree, C, S, O, P, T, L: Lister> {
     check: SymlinkCheck,
     listings: Listings,
     buffer: Vec<u8>,
-    ghost clear: { IsTrue (W.modelled inputs.worktree.now) → IsClear (W.lstat_of inputs.worktree.now) check.path },
+    ghost clear: { IsTrue (W.modelled inputs.worktree.now)
+        → IsClear (W.lstat_of inputs.worktree.now) check.path },
     ghost kept: { Keeps (L.modelled inputs.lister) (L.listing inputs.lister) listings } by { Prim.hlevel props },
 }
 
@@ -99,7 +100,8 @@ where
     /// # Errors
     /// The path isn't normal, another fault than that nothing is there, or want of memory.
     fn look(&mut self, path: BStr<'_>) -> Result<Look, Error>
-        ensures site { IsLooked (⟦<Decider<'w, W, C, S, O, P, T, L> as Decide>⟧.query self.old) (bstr_bytes path.entry) result }
+        ensures site { IsLooked (⟦<Decider<'w, W, C, S, O, P, T, L> as Decide>⟧.query self.old)
+            (bstr_bytes path.entry) result }
         ensures inputs { self.new.inputs ≡ self.old.inputs }
         ensures settings { self.new.settings ≡ self.old.settings }
     {
@@ -123,7 +125,8 @@ where
         path: BStr<'_>,
         node: &Metadata,
     ) -> Result<Decided<C::Output, S::Output>, Error>
-        ensures decided { IsNodeDecided (⟦<Decider<'w, W, C, S, O, P, T, L> as Decide>⟧.query self.old)
+        ensures decided { IsNodeDecided
+            (⟦<Decider<'w, W, C, S, O, P, T, L> as Decide>⟧.query self.old)
             (entry_at (bstr_bytes path.entry) entry.now) node.now result }
         ensures same { ⟦<Decider<'w, W, C, S, O, P, T, L> as Decide>⟧.query self.new
             ≡ ⟦<Decider<'w, W, C, S, O, P, T, L> as Decide>⟧.query self.old }
@@ -160,8 +163,10 @@ where
         stat: Stat,
         executable_bit_changed: bool,
     ) -> Result<Decided<C::Output, S::Output>, Error>
-        ensures decided { IsContentDecided (⟦<Decider<'w, W, C, S, O, P, T, L> as Decide>⟧.query self.old)
-            (entry_at (bstr_bytes path.entry) entry.now) node.now stat executable_bit_changed result }
+        ensures decided { IsContentDecided
+            (⟦<Decider<'w, W, C, S, O, P, T, L> as Decide>⟧.query self.old)
+            (entry_at (bstr_bytes path.entry) entry.now) node.now stat
+            executable_bit_changed result }
         ensures same { ⟦<Decider<'w, W, C, S, O, P, T, L> as Decide>⟧.query self.new
             ≡ ⟦<Decider<'w, W, C, S, O, P, T, L> as Decide>⟧.query self.old }
     {
@@ -185,7 +190,8 @@ where
         path: BStr<'_>,
         node: &Metadata,
     ) -> Result<Comparison<C::Output>, Error>
-        ensures compared { IsContentCompared (⟦<Decider<'w, W, C, S, O, P, T, L> as Decide>⟧.query self.old)
+        ensures compared { IsContentCompared
+            (⟦<Decider<'w, W, C, S, O, P, T, L> as Decide>⟧.query self.old)
             (entry_at (bstr_bytes path.entry) entry.now) node.now result }
         ensures same { ⟦<Decider<'w, W, C, S, O, P, T, L> as Decide>⟧.query self.new
             ≡ ⟦<Decider<'w, W, C, S, O, P, T, L> as Decide>⟧.query self.old }
@@ -270,7 +276,8 @@ fn submodule_status<T, S: SubmoduleStatus>(
     path: BStr<'_>,
 ) -> Result<Option<EntryStatus<T, S::Output>>, Error>
     ensures answer { let e = entry_at (bstr_bytes path.entry) entry.now in
-        IsTrue (S.modelled submodule.old) → IsMeant (answer {T = T} e.path (in_submodule (S.meaning submodule.old e))) result }
+        IsTrue (S.modelled submodule.old)
+        → IsMeant (answer {T = T} e.path (in_submodule (S.meaning submodule.old e))) result }
     ensures same { S.meaning submodule.new ≡ S.meaning submodule.old }
     ensures modelled { S.modelled submodule.new ≡ S.modelled submodule.old }
 {

@@ -19,7 +19,8 @@ fn feed_finding<'index, V: VisitEntry<'index>>(
     collector: &mut V,
 ) -> Result<(), AllocError>
     requires { IsPlacedIn (length entries.now) finding }
-    ensures { IsFedOne (IsFaithful entries.now backing.now) finding (V.visits collector.old) result (V.visits collector.new) }
+    ensures { IsFedOne (IsFaithful entries.now backing.now) finding
+        (V.visits collector.old) result (V.visits collector.new) }
 {
     let Finding {
         entry_index,
@@ -43,7 +44,8 @@ where
     V::ContentChange: Drop,
     V::SubmoduleStatus: Drop,
     requires { All (IsPlacedIn (length entries.now)) findings.items }
-    ensures { IsFed (IsFaithful entries.now backing.now) findings.items (V.visits collector.old) result (V.visits collector.new) }
+    ensures { IsFed (IsFaithful entries.now backing.now) findings.items
+        (V.visits collector.old) result (V.visits collector.new) }
 {
     for finding in findings {
         if let Err(refused) = feed_finding(entries, backing, finding, collector) {
@@ -67,7 +69,8 @@ where
     V::ContentChange: Drop,
     V::SubmoduleStatus: Drop,
     requires { All (IsPlacedIn (length entries.now)) piece.findings.items }
-    ensures { IsPieceFed (IsFaithful entries.now backing.now) piece (V.visits collector.old) result (V.visits collector.new) }
+    ensures { IsPieceFed (IsFaithful entries.now backing.now) piece
+        (V.visits collector.old) result (V.visits collector.new) }
 {
     let Piece {
         findings,

@@ -31,7 +31,8 @@ const CHUNK_SIZE: usize = 500;
 fn considered_range(index: &State, prefix: BStr<'_>) -> Range<usize>
     ensures order { result.start ≤ result.end }
     ensures inside { result.end ≤ length (entries_of index.now) }
-    ensures part { part_of (index_of index.now) result.start result.end ≡ considered (bstr_bytes prefix.entry) (index_of index.now) }
+    ensures part { part_of (index_of index.now) result.start result.end
+        ≡ considered (bstr_bytes prefix.entry) (index_of index.now) }
     ensures start { result.start ≡ considered_start (bstr_bytes prefix.entry) (index_of index.now) }
 {
     match index.prefixed_entries_range(prefix) {
@@ -48,7 +49,8 @@ fn considered_entries<'index>(index: &'index State, prefix: BStr<'_>) -> Conside
     ensures inside { result.end ≤ length (entries_of index.entry.now) }
     ensures part { part_of (index_of index.entry.now) result.start result.end
         ≡ considered (bstr_bytes prefix.entry) (index_of index.entry.now) }
-    ensures start { result.start ≡ considered_start (bstr_bytes prefix.entry) (index_of index.entry.now) }
+    ensures start { result.start
+        ≡ considered_start (bstr_bytes prefix.entry) (index_of index.entry.now) }
 {
     let range = considered_range(index, prefix);
     Considered {

@@ -77,7 +77,8 @@ impl<
     type Submodule = S::Output;
 
     ghost query = { λ i settings. record {
-      modelled = all_modelled (W.modelled i.worktree.now) (O.modelled i.objects) (S.modelled i.submodule)
+      modelled = all_modelled (W.modelled i.worktree.now) (O.modelled i.objects)
+          (S.modelled i.submodule)
           (are_modelled settings.fscache (L.modelled i.lister));
       stat_options = settings.stat;
       symlink = settings.fs.symlink;

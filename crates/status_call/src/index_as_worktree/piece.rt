@@ -41,7 +41,8 @@ pub struct Piece<T, U> {
 impl<T, U> Piece<T, U> {
     /// A piece that ended at a place.
     fn ended(findings: Vec<Finding<T, U>>, totals: Totals, reached: usize, end: End) -> Piece<T, U>
-        ensures { result ≡ record { findings = findings; totals = totals; reached = reached; end = end } }
+        ensures { result
+            ≡ record { findings = findings; totals = totals; reached = reached; end = end } }
     {
         Piece {
             findings,
@@ -60,7 +61,8 @@ pub fn piece_end(entries: &[Entry], backing: &PathStorage, from: usize, chunk: u
     ensures within { result ≤ length entries.now }
     ensures full { min (from + chunk) (length entries.now) ≤ result }
     ensures cut { IsCut (index_entries backing.now entries.now) result }
-    ensures tight { (k : ℕ) → from + chunk ≤ k → from < k → k < result → IsCut (index_entries backing.now entries.now) k → ⊥ }
+    ensures tight { (k : ℕ) → from + chunk ≤ k → from < k → k < result
+        → IsCut (index_entries backing.now entries.now) k → ⊥ }
 {
     let mut end = from + chunk.max(1).min(entries.len() - from);
     while end < entries.len() && same_path(&entries[end], &entries[end - 1], backing) {
@@ -101,7 +103,8 @@ pub(crate) fn walk_piece<D: Decide>(
     requires inside { to ≤ length entries.now }
     requires cut { IsCut (index_entries backing.now entries.now) from }
     requires end { IsCut (index_entries backing.now entries.now) to }
-    ensures piece { IsPiece (D.query decide.old) start (index_entries backing.now entries.now) from to result }
+    ensures piece { IsPiece (D.query decide.old) start
+        (index_entries backing.now entries.now) from to result }
     ensures uncut { interrupt.entry ≡ None → IsUncut result.end }
     ensures same { D.query decide.new ≡ D.query decide.old }
 {
@@ -131,7 +134,8 @@ fn push_status<T: Drop, U: Drop>(
     entry_index: usize,
     status: Option<EntryStatus<T, U>>,
 ) -> Result<(), AllocError>
-    ensures ok { OnOk result (findings.new.items ≡ findings.old.items ++ record_by entry_index (Ok status)) }
+    ensures ok { OnOk result
+        (findings.new.items ≡ findings.old.items ++ record_by entry_index (Ok status)) }
     ensures err { OnErr result (findings.new.items ≡ findings.old.items) }
 {
     if let Some(status) = status {

@@ -35,7 +35,9 @@ pub trait VisitEntry<'index> {
         status: EntryStatus<Self::ContentChange, Self::SubmoduleStatus>,
     ) -> Result<(), AllocError>
         requires { slice_get entries.now entry_index ≡ Some entry.now }
-        ensures ok { OnOk result (visits self.new ≡ visits self.old ++ visit entries.now entry.now entry_index (bstr_bytes rela_path.entry) status ∷ []) }
+        ensures ok { OnOk result
+            (visits self.new ≡ visits self.old
+            ++ visit entries.now entry.now entry_index (bstr_bytes rela_path.entry) status ∷ []) }
         ensures err { OnErr result (visits self.new ≡ visits self.old) };
 }
 
@@ -119,7 +121,9 @@ impl<'index, T: Drop, U: Drop> VisitEntry<'index> for Recorder<'index, T, U> {
         status: EntryStatus<T, U>,
     ) -> Result<(), AllocError>
         requires { slice_get entries.now entry_index ≡ Some entry.now }
-        ensures ok { OnOk result (visits_of self.new ≡ visits_of self.old ++ visit entries.now entry.now entry_index (bstr_bytes rela_path.entry) status ∷ []) }
+        ensures ok { OnOk result
+            (visits_of self.new ≡ visits_of self.old
+            ++ visit entries.now entry.now entry_index (bstr_bytes rela_path.entry) status ∷ []) }
         ensures err { OnErr result (visits_of self.new ≡ visits_of self.old) }
     {
         self.records.push(Record {

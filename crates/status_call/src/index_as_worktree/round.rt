@@ -37,7 +37,8 @@ pub(crate) fn round_bounds(
     ensures bounds { IfOk result (λ b. AreBounds (index_entries backing.now entries.now) b.items) }
     ensures first { IfOk result (λ b. bound b.items 0 ≡ from) }
     ensures few { IfOk result (λ b. vec_len b ≤ most + 1) }
-    ensures pieces { IfOk result (λ b. ArePieces (index_entries backing.now entries.now) chunk b.items) }
+    ensures pieces { IfOk result
+        (λ b. ArePieces (index_entries backing.now entries.now) chunk b.items) }
     ensures filled { IfOk result (λ b. vec_len b ≤ most → last_bound b.items ≡ length entries.now) }
 {
     let mut bounds = Vec::new(alloc);
@@ -74,7 +75,8 @@ impl<'a, D: Decide> Work for Round<'a, D> {
 
     ghost fits = { λ r d. D.query d ≡ D.query r.decide.value };
 
-    ghost gives = { λ r n p. IsGiven (D.query r.decide.value) (is_some r.interrupt) r.start (index_entries r.backing.now r.entries.now)
+    ghost gives = { λ r n p. IsGiven (D.query r.decide.value) (is_some r.interrupt) r.start
+        (index_entries r.backing.now r.entries.now)
         (bound r.bounds.now n) (bound r.bounds.now (n + 1)) p };
 
     ghost short = { λ p. is_short p.end };
@@ -137,8 +139,10 @@ where
     requires room { start + length entries.now < 2 ^ 64 }
     requires bounds { AreBounds (index_entries backing.now entries.now) bounds.now }
     requires few { length bounds.now ≤ 2 ^ 20 }
-    ensures pieces { IfOk result (λ v. AreInRow (D.query decide.now) (is_some workers.now.interrupt) start
-        (index_entries backing.now entries.now) (last_bound bounds.now) (bound bounds.now 0) v.items) }
+    ensures pieces { IfOk result
+        (λ v. AreInRow (D.query decide.now) (is_some workers.now.interrupt) start
+        (index_entries backing.now entries.now) (last_bound bounds.now) (bound bounds.now 0)
+        v.items) }
     ensures refused { IfErr result (λ e. IsShortage workers.entry.now.most e) }
 {
     let Ok(crew) = crew_of(alloc, decide, workers.most) else {

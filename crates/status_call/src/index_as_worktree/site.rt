@@ -53,9 +53,11 @@ pub(crate) fn find<W: Worktree, L: Lister>(
     path: BStr<'_>,
 ) -> Result<Look, Error>
     ensures site { IsTrue (W.modelled worktree.now)
-        → IsFound fscache (L.modelled lister.now) (L.listing lister.now) listings.old (bstr_bytes path.entry)
+        → IsFound fscache (L.modelled lister.now) (L.listing lister.now) listings.old
+        (bstr_bytes path.entry)
         (W.lstat_of worktree.now) check.old.path result }
-    ensures clear { IsTrue (W.modelled worktree.now) → IsClear (W.lstat_of worktree.now) check.old.path
+    ensures clear { IsTrue (W.modelled worktree.now)
+        → IsClear (W.lstat_of worktree.now) check.old.path
         → IsClear (W.lstat_of worktree.now) check.new.path }
     ensures kept { Keeps (L.modelled lister.now) (L.listing lister.now) listings.old
         → Keeps (L.modelled lister.now) (L.listing lister.now) listings.new }
@@ -113,7 +115,8 @@ fn look_at(node: Metadata, lstat_called: bool) -> Look
 /// The path isn't normal, or another fault than that nothing is there.
 fn look_refused(error: StackError<'_>) -> Result<Look, Error>
     ensures { (check : LinkCheck) (node : Result NodeMetadata WorktreeFault) (unknown : Bool)
-        → IsRefused check error.entry → IsSite (found_by check node) (is_accepted check && unknown) result }
+        → IsRefused check error.entry
+        → IsSite (found_by check node) (is_accepted check && unknown) result }
 {
     match error {
         StackError::ThroughLink { prefix: _ } => Ok(Look {

@@ -46,7 +46,8 @@ pub(crate) fn next_step<D: Decide>(
 ) -> Result<Step<D::Content, D::Submodule>, Error>
     requires inside { i < length entries.now }
     requires index { IsIndex (index_entries backing.now entries.now) }
-    requires fresh { IsFresh (D.query decide.old) (take i (index_entries backing.now entries.now)) (drop i (index_entries backing.now entries.now)) }
+    requires fresh { IsFresh (D.query decide.old) (take i (index_entries backing.now entries.now))
+        (drop i (index_entries backing.now entries.now)) }
     ensures next { IsStep (D.query decide.old) (index_entries backing.now entries.now) i result }
     ensures same { D.query decide.new ≡ D.query decide.old }
 {
@@ -76,7 +77,12 @@ fn is_flagged(entry: &Entry) -> bool
 
 /// The step of one entry that is left out, by its flags or by the pathspec.
 fn skipped_step<T: Drop, U: Drop>(by_flags: usize, by_pathspec: usize) -> Step<T, U>
-    ensures { result ≡ record { status = None; len = 1; totals = record no_totals { counts = processed_counts by_flags by_pathspec } } }
+    ensures { result
+        ≡ record {
+          status = None;
+          len = 1;
+          totals = record no_totals { counts = processed_counts by_flags by_pathspec };
+        } }
 {
     let counts = Counts {
         processed: 1,
@@ -99,8 +105,11 @@ fn conflict_step<T: Drop, U: Drop>(
     path: BStr<'_>,
 ) -> Step<T, U>
     requires { 0 < length (run_at (index_entries backing.now entries.now) i (bstr_bytes path)) }
-    ensures status { result.status ≡ conflict_status (run_at (index_entries backing.now entries.now) i (bstr_bytes path.entry)) }
-    ensures len { result.len ≡ length (run_at (index_entries backing.now entries.now) i (bstr_bytes path.entry)) }
+    ensures status { result.status
+        ≡ conflict_status
+        (run_at (index_entries backing.now entries.now) i (bstr_bytes path.entry)) }
+    ensures len { result.len
+        ≡ length (run_at (index_entries backing.now entries.now) i (bstr_bytes path.entry)) }
     ensures totals { result.totals ≡ record no_totals { counts = processed_counts 0 0 } }
 {
     let Some(found) = Conflict::try_from_entry(entries, backing, i, path) else {

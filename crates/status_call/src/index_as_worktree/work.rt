@@ -43,7 +43,8 @@ where
     D::Content: Send,
     D::Submodule: Send,
     ensures { let c = considered.entry.now in
-        IsRun (D.query decide.now) c workers.entry.now 0 (length (part_entries c)) (V.visits collector.old) result (V.visits collector.new) }
+        IsRun (D.query decide.now) c workers.entry.now 0 (length (part_entries c))
+        (V.visits collector.old) result (V.visits collector.new) }
 {
     let part = &considered.entries[considered.start..considered.end];
     let mut totals = Totals::none();
@@ -104,7 +105,8 @@ where
     D::Submodule: Send,
     requires bounds { AreBounds (part_entries considered.now) bounds.now }
     requires few { length bounds.now ≤ 2 ^ 20 }
-    ensures { IsRun (D.query decide.now) considered.entry.now workers.entry.now (bound bounds.now 0) (last_bound bounds.now)
+    ensures { IsRun (D.query decide.now) considered.entry.now workers.entry.now (bound bounds.now 0)
+        (last_bound bounds.now)
         (V.visits collector.old) result (V.visits collector.new) }
 {
     let (start, backing) = (considered.start, considered.backing);
