@@ -1,4 +1,4 @@
-pub mod AskedInputs
+pub mod RequestInputs
 pub mod Beside
 pub mod BothHalves
 pub mod Keeping

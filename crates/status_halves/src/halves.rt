@@ -3,11 +3,11 @@
 ghost use Rattle.std.specs.Prelude.{◌≡◌, None, Some, IfOk, IsTrue, is_some, option_map, ⊤};
 ghost use Rattle.status_index.specs.States.{index_of};
 ghost use Rattle.status_halves.specs.BothHalves.{IsBoth, walking};
-ghost use Rattle.status_halves.specs.AskedInputs.{inputs_of};
+ghost use Rattle.status_halves.specs.RequestInputs.{inputs_of};
 
-use crate::asked::Asked;
 use crate::beside::{Beside, walk_beside};
 use crate::kept::Kept;
+use crate::request::Request;
 use crate::tracked::{Tracked, record_tracked};
 use status_base::index::State;
 use status_base::worktree::{Find, Lister, Pathspec, SubmoduleStatus, ToGit, Worktree};
@@ -71,18 +71,18 @@ fn run_both<
     index: &'index State,
     worktree: &'w W,
     walk: K,
-    asked: Asked<C, S, O, P, T, L>,
+    request: Request<C, S, O, P, T, L>,
     interrupt: Option<&AtomicBool>,
 ) -> Result<Halves<'index, C::Output, S::Output>, Failed>
 where
     W::File: Send,
     C::Output: Send + Drop + 'index,
     S::Output: Send + Drop + 'index,
-    ensures { IsBoth (⟦<Inputs<'w, W, C, S, O, P, T, L> as Means>⟧.query (inputs_of worktree.entry asked)) asked.options
+    ensures { IsBoth (⟦<Inputs<'w, W, C, S, O, P, T, L> as Means>⟧.query (inputs_of worktree.entry request)) request.options
         index.now (is_some interrupt.entry) (Some (walking (K.modelled walk) (W.modelled worktree.entry.now)
-        (K.meaning walk worktree.entry.now (index_of index.now) (P.prefix asked.pathspec) (P.included asked.pathspec)))) result }
+        (K.meaning walk worktree.entry.now (index_of index.now) (P.prefix request.pathspec) (P.included request.pathspec)))) result }
 {
-    let pathspec = match another(&asked.pathspec) {
+    let pathspec = match another(&request.pathspec) {
         Ok(pathspec) => pathspec,
         Err(_refused) => return Err(Failed::Walk(WalkError::Memory)),
     };
@@ -93,7 +93,7 @@ where
         // A clause of its own brings the bounds of this function into the closure.
         move ||
             requires { ⊤ }
-        { record_tracked(rt, alloc, index, worktree, asked, *flag) },
+        { record_tracked(rt, alloc, index, worktree, request, *flag) },
     );
     let Beside { kept, outcome } = match walked {
         Ok(beside) => beside,
@@ -131,20 +131,20 @@ pub fn run_halves<
     index: &'index State,
     worktree: &'w W,
     walk: Option<K>,
-    asked: Asked<C, S, O, P, T, L>,
+    request: Request<C, S, O, P, T, L>,
     interrupt: Option<&AtomicBool>,
 ) -> Result<Halves<'index, C::Output, S::Output>, Failed>
 where
     W::File: Send,
     C::Output: Send + Drop + 'index,
     S::Output: Send + Drop + 'index,
-    ensures { IsBoth (⟦<Inputs<'w, W, C, S, O, P, T, L> as Means>⟧.query (inputs_of worktree.entry asked)) asked.options
+    ensures { IsBoth (⟦<Inputs<'w, W, C, S, O, P, T, L> as Means>⟧.query (inputs_of worktree.entry request)) request.options
         index.now (is_some interrupt.entry) (option_map (λ k. walking (K.modelled k) (W.modelled worktree.entry.now)
-        (K.meaning k worktree.entry.now (index_of index.now) (P.prefix asked.pathspec) (P.included asked.pathspec))) walk) result }
+        (K.meaning k worktree.entry.now (index_of index.now) (P.prefix request.pathspec) (P.included request.pathspec))) walk) result }
 {
     match walk {
-        Some(walk) => run_both(rt, alloc, index, worktree, walk, asked, interrupt),
-        None => match record_tracked(rt, alloc, index, worktree, asked, interrupt) {
+        Some(walk) => run_both(rt, alloc, index, worktree, walk, request, interrupt),
+        None => match record_tracked(rt, alloc, index, worktree, request, interrupt) {
             Ok(tracked) => Ok(Halves {
                 tracked,
                 kept: Vec::new(alloc),

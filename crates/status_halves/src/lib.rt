@@ -2,14 +2,14 @@
 //! worktree beside the index.
 #![tactic(auto)]
 
-pub mod asked;
 mod beside;
 pub mod halves;
 mod keeper;
 pub mod kept;
+pub mod request;
 pub mod tracked;
 
-pub use asked::Asked;
 pub use halves::{Failed, Halves, run_halves};
 pub use kept::Kept;
+pub use request::Request;
 pub use tracked::Tracked;

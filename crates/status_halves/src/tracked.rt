@@ -1,10 +1,10 @@
 //! The tracked half: what of the index differs from the worktree.
 
 ghost use Rattle.std.specs.Prelude.{is_some};
-ghost use Rattle.status_halves.specs.AskedInputs.{inputs_of};
+ghost use Rattle.status_halves.specs.RequestInputs.{inputs_of};
 ghost use Rattle.status_halves.specs.Recorded.{IsRecorded};
 
-use crate::asked::Asked;
+use crate::request::Request;
 use status_base::index::State;
 use status_base::worktree::{Find, Lister, Pathspec, SubmoduleStatus, ToGit, Worktree};
 use status_call::index_as_worktree::inputs::{Inputs, Means};
@@ -44,17 +44,17 @@ pub(crate) fn record_tracked<
     alloc: Global,
     index: &'index State,
     worktree: &'w W,
-    asked: Asked<C, S, O, P, T, L>,
+    request: Request<C, S, O, P, T, L>,
     interrupt: Option<&AtomicBool>,
 ) -> Result<Tracked<'index, C::Output, S::Output>, Error>
 where
     W::File: Send,
     C::Output: Send + Drop + 'index,
     S::Output: Send + Drop + 'index,
-    ensures { IsRecorded (⟦<Inputs<'w, W, C, S, O, P, T, L> as Means>⟧.query (inputs_of worktree.entry asked))
-        asked.options index.now (is_some interrupt.entry) result }
+    ensures { IsRecorded (⟦<Inputs<'w, W, C, S, O, P, T, L> as Means>⟧.query (inputs_of worktree.entry request))
+        request.options index.now (is_some interrupt.entry) result }
 {
-    let Asked {
+    let Request {
         compare,
         submodule,
         objects,
@@ -62,7 +62,7 @@ where
         filter,
         lister,
         options,
-    } = asked;
+    } = request;
     let context = Context {
         pathspec,
         filter,

@@ -1,4 +1,4 @@
--- What of a list's entries was told, while they are told.
+-- What of a list's entries was reported, while they are reported.
 use Rattle.std.proofs.Common.{◌≡◌, refl, sym, ap, ◌∙◌, subst, ℕ, suc, ◌<◌, List, [], ◌∷◌, ◌++◌, length, map, take, All, arith, append_assoc, length-append}
 use Rattle.std.proofs.lemmas.List.{append-nil}
 use Rattle.std.proofs.lemmas.Bool.{false≢true}
@@ -7,47 +7,47 @@ use Rattle.std.proofs.Math.Seq.{take-append_seam}
 use Rattle.status_rewrites.specs.declared.rewritten.Rewritten.{Rewritten}
 use Rattle.status_rewrites.specs.declared.rewritten.Rewritten.TheVariants.{Alone, Rewrite}
 use Rattle.status_rewrites.specs.Entries.{IsLed}
-use Rattle.status_joined.specs.Feeding.{AreTold}
-use Rattle.status_joined.specs.Items.{Item, Told, tracked, walked, modification, contents, rewrite, is_walked, IsTold}
+use Rattle.status_joined.specs.Feeding.{AreReported}
+use Rattle.status_joined.specs.Items.{Item, Reported, tracked, walked, modification, contents, rewrite, is_walked, IsReported}
 
 module _ {T U : Type 0} where
-  told_append : (xs ys : List (Rewritten (Item T U))) (ts us : List (Told T U)) → AreTold xs ts → AreTold ys us → AreTold (xs ++ ys) (ts ++ us)
-  told_append [] ys [] us h k = k
-  told_append [] ys (t ∷ ts) us h k = absurd h
-  told_append (x ∷ xs) ys [] us h k = absurd h
-  told_append (x ∷ xs) ys (t ∷ ts) us h k = (h.0, told_append xs ys ts us h.1 k)
+  reported_append : (xs ys : List (Rewritten (Item T U))) (ts us : List (Reported T U)) → AreReported xs ts → AreReported ys us → AreReported (xs ++ ys) (ts ++ us)
+  reported_append [] ys [] us h k = k
+  reported_append [] ys (t ∷ ts) us h k = absurd h
+  reported_append (x ∷ xs) ys [] us h k = absurd h
+  reported_append (x ∷ xs) ys (t ∷ ts) us h k = (h.0, reported_append xs ys ts us h.1 k)
 
-  -- each entry whose destination is a node may be told
-  may_tell : (entry : Rewritten (Item T U)) → IsLed is_walked entry → (t : Told T U) × IsTold entry t
+  -- each entry whose destination is a node may be reported
+  may_tell : (entry : Rewritten (Item T U)) → IsLed is_walked entry → (t : Reported T U) × IsReported entry t
   may_tell (Alone (tracked v)) h = (modification v, refl)
   may_tell (Alone (walked w id)) h = (contents w, refl)
   may_tell (Rewrite source (walked w id) copy) h = (rewrite source w id copy, refl)
   may_tell (Rewrite source (tracked v) copy) h = absurd (false≢true h)
 
-  may_tell_all : (entries : List (Rewritten (Item T U))) → All (IsLed is_walked) entries → (ts : List (Told T U)) × AreTold entries ts
+  may_tell_all : (entries : List (Rewritten (Item T U))) → All (IsLed is_walked) entries → (ts : List (Reported T U)) × AreReported entries ts
   may_tell_all [] h = ([], tt)
   may_tell_all (x ∷ xs) h =
       let first = may_tell x (All-head (IsLed is_walked) x xs h) in
       let rest = may_tell_all xs (All-tail (IsLed is_walked) x xs h) in
       (first.0 ∷ rest.0, (first.1, rest.1))
 
-  -- of all entries a front was told, and these are left
-  pub record IsUnderWay (entries : List (Rewritten (Item T U))) (old now : List (Told T U)) (left : List (Rewritten (Item T U))) : Type 0 where
+  -- of all entries a front was reported, and these are left
+  pub record IsUnderWay (entries : List (Rewritten (Item T U))) (old now : List (Reported T U)) (left : List (Rewritten (Item T U))) : Type 0 where
     pub front : List (Rewritten (Item T U))
-    pub given : List (Told T U)
-    pub told : AreTold front given
+    pub given : List (Reported T U)
+    pub reported : AreReported front given
     pub grew : now ≡ old ++ given
     pub whole : front ++ left ≡ entries
 
-  pub none_told : (entries : List (Rewritten (Item T U))) (old : List (Told T U)) → IsUnderWay entries old old entries
-  none_told entries old = record { front = []; given = []; told = tt; grew = sym (append-nil old); whole = refl }
+  pub none_reported : (entries : List (Rewritten (Item T U))) (old : List (Reported T U)) → IsUnderWay entries old old entries
+  none_reported entries old = record { front = []; given = []; reported = tt; grew = sym (append-nil old); whole = refl }
 
-  pub one_more : (entries : List (Rewritten (Item T U))) (old now next : List (Told T U)) (entry : Rewritten (Item T U)) (before left : List (Rewritten (Item T U))) → before ≡ entry ∷ left → IsUnderWay entries old now before → (t : Told T U) × IsTold entry t × (next ≡ now ++ t ∷ []) → IsUnderWay entries old next left
+  pub one_more : (entries : List (Rewritten (Item T U))) (old now next : List (Reported T U)) (entry : Rewritten (Item T U)) (before left : List (Rewritten (Item T U))) → before ≡ entry ∷ left → IsUnderWay entries old now before → (t : Reported T U) × IsReported entry t × (next ≡ now ++ t ∷ []) → IsUnderWay entries old next left
   one_more entries old now next entry before left step h one = record {
     front = h.front ++ entry ∷ [];
     given = h.given ++ one.0 ∷ [];
-    told = told_append h.front (entry ∷ []) h.given (one.0 ∷ []) h.told (one.1, tt);
-    grew = one.2 ∙ ap (λ (l : List (Told T U)). l ++ one.0 ∷ []) h.grew ∙ append_assoc old h.given (one.0 ∷ []);
+    reported = reported_append h.front (entry ∷ []) h.given (one.0 ∷ []) h.reported (one.1, tt);
+    grew = one.2 ∙ ap (λ (l : List (Reported T U)). l ++ one.0 ∷ []) h.grew ∙ append_assoc old h.given (one.0 ∷ []);
     whole = append_assoc h.front (entry ∷ []) left ∙ ap (λ (l : List (Rewritten (Item T U))). h.front ++ l) (sym step) ∙ h.whole;
   }
 
@@ -55,34 +55,34 @@ module _ {T U : Type 0} where
   all_behind P [] ys h = h
   all_behind P (x ∷ xs) ys h = all_behind P xs ys (All-tail P x (xs ++ ys) h)
 
-  all_left : (P : Rewritten (Item T U) → Type 0) (entries : List (Rewritten (Item T U))) (old now : List (Told T U)) (left : List (Rewritten (Item T U))) → IsUnderWay entries old now left → All P entries → All P left
+  all_left : (P : Rewritten (Item T U) → Type 0) (entries : List (Rewritten (Item T U))) (old now : List (Reported T U)) (left : List (Rewritten (Item T U))) → IsUnderWay entries old now left → All P entries → All P left
   all_left P entries old now left h all = all_behind P h.front left (subst (All P) (sym h.whole) all)
 
   -- what holds of all entries holds of the next
-  pub holds_next : (P : Rewritten (Item T U) → Type 0) (entries : List (Rewritten (Item T U))) (old now : List (Told T U)) (entry : Rewritten (Item T U)) (before left : List (Rewritten (Item T U))) → before ≡ entry ∷ left → IsUnderWay entries old now before → All P entries → P entry
+  pub holds_next : (P : Rewritten (Item T U) → Type 0) (entries : List (Rewritten (Item T U))) (old now : List (Reported T U)) (entry : Rewritten (Item T U)) (before left : List (Rewritten (Item T U))) → before ≡ entry ∷ left → IsUnderWay entries old now before → All P entries → P entry
   holds_next P entries old now entry before left step h all =
       All-head P entry left (subst (All P) step (all_left P entries old now before h all))
 
-  pub all_told : (entries : List (Rewritten (Item T U))) (old now : List (Told T U)) (left : List (Rewritten (Item T U))) → left ≡ [] → IsUnderWay entries old now left → (ts : List (Told T U)) × AreTold entries ts × (now ≡ old ++ ts)
-  all_told entries old now left none h =
+  pub all_reported : (entries : List (Rewritten (Item T U))) (old now : List (Reported T U)) (left : List (Rewritten (Item T U))) → left ≡ [] → IsUnderWay entries old now left → (ts : List (Reported T U)) × AreReported entries ts × (now ≡ old ++ ts)
+  all_reported entries old now left none h =
       let whole : h.front ≡ entries = sym (append-nil h.front) ∙ ap (λ (l : List (Rewritten (Item T U))). h.front ++ l) (sym none) ∙ h.whole in
-      (h.given, subst (λ xs. AreTold xs h.given) whole h.told, h.grew)
+      (h.given, subst (λ xs. AreReported xs h.given) whole h.reported, h.grew)
 
-  as_many : (xs : List (Rewritten (Item T U))) (ts : List (Told T U)) → AreTold xs ts → length ts ≡ length xs
+  as_many : (xs : List (Rewritten (Item T U))) (ts : List (Reported T U)) → AreReported xs ts → length ts ≡ length xs
   as_many [] [] h = refl
   as_many [] (t ∷ ts) h = absurd h
   as_many (x ∷ xs) [] h = absurd h
   as_many (x ∷ xs) (t ∷ ts) h = ap (λ n. suc n) (as_many xs ts h.1)
 
-  -- a front was told, and nothing after it, though an entry was left
-  pub told_until : (entries : List (Rewritten (Item T U))) (old now after : List (Told T U)) (entry : Rewritten (Item T U)) (left rest : List (Rewritten (Item T U))) → left ≡ entry ∷ rest → All (IsLed is_walked) entries → IsUnderWay entries old now left → after ≡ now → (ts : List (Told T U)) × AreTold entries ts × ((n : ℕ) × (n < length ts) × (after ≡ old ++ take n ts))
-  told_until entries old now after entry left behind step led h same =
+  -- a front was reported, and nothing after it, though an entry was left
+  pub reported_until : (entries : List (Rewritten (Item T U))) (old now after : List (Reported T U)) (entry : Rewritten (Item T U)) (left rest : List (Rewritten (Item T U))) → left ≡ entry ∷ rest → All (IsLed is_walked) entries → IsUnderWay entries old now left → after ≡ now → (ts : List (Reported T U)) × AreReported entries ts × ((n : ℕ) × (n < length ts) × (after ≡ old ++ take n ts))
+  reported_until entries old now after entry left behind step led h same =
       let rest = may_tell_all left (all_left (IsLed is_walked) entries old now left h led) in
       let some : length rest.0 ≡ suc (length behind) = as_many left rest.0 rest.1 ∙ ap length step in
       let fits : length h.given < length (h.given ++ rest.0) = omega (arith, length-append h.given rest.0, some) in (
         h.given ++ rest.0,
-        subst (λ xs. AreTold xs (h.given ++ rest.0)) h.whole (told_append h.front left h.given rest.0 h.told rest.1),
-        (length h.given, fits, same ∙ h.grew ∙ ap (λ (l : List (Told T U)). old ++ l) (sym (take-append_seam h.given rest.0))),
+        subst (λ xs. AreReported xs (h.given ++ rest.0)) h.whole (reported_append h.front left h.given rest.0 h.reported rest.1),
+        (length h.given, fits, same ∙ h.grew ∙ ap (λ (l : List (Reported T U)). old ++ l) (sym (take-append_seam h.given rest.0))),
       )
 
   -- items alone have no destination

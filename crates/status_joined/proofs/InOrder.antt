@@ -1,4 +1,4 @@
--- What is told of a sorted list is sorted.
+-- What is reported of a sorted list is sorted.
 use Rattle.std.proofs.Common.{◌≡◌, refl, sym, ap, subst, ◌∙◌, ℕ, zero, suc, ◌+◌, false, List, [], ◌∷◌, ◌++◌, length, map, flat_map, slice_index_or, Option, Some, None, All, arith}
 use Rattle.std.specs.Cmp.{IsTotalOrder}
 use Rattle.std.specs.List.{AllPairs, enumerate_from}
@@ -19,11 +19,11 @@ use Rattle.status_rewrites.specs.AfterRewrites.{after_rewrites, coming, pairs_of
 use Rattle.status_rewrites.specs.Parts.{goes}
 use Rattle.status_tracker.specs.declared.tracker.Pair.{Pair}
 use Rattle.status_tracker.proofs.Lists.{IsSortedBy-map}
-use Rattle.status_joined.specs.Feeding.{AreTold}
+use Rattle.status_joined.specs.Feeding.{AreReported}
 use Rattle.status_joined.specs.Identified.{forget}
-use Rattle.status_joined.specs.Items.{Item, Told, IsTold, tracked, walked, path_of, side_of}
+use Rattle.status_joined.specs.Items.{Item, Reported, IsReported, tracked, walked, path_of, side_of}
 use Rattle.status_joined.specs.Lists.{list_cmp}
-use Rattle.status_joined.specs.Summaries.{destination_path, told_cmp, told_side}
+use Rattle.status_joined.specs.Summaries.{destination_path, reported_cmp, reported_side}
 
 module _ {I K : Type 0} (key : I → K) where
   -- the key of the item in whose place an entry stands
@@ -86,8 +86,8 @@ module _ {T U : Type 0} where
   abbrev item_place : Item T U → List ℕ × ℕ
   item_place x = (path_of x, side_of x)
 
-  abbrev told_place : Told T U → List ℕ × ℕ
-  told_place t = (destination_path t, told_side t)
+  abbrev reported_place : Reported T U → List ℕ × ℕ
+  reported_place t = (destination_path t, reported_side t)
 
   -- ids don't count for the order
   same_forgotten : (kind : HashKind) (x : Item T U) → item_place (forget kind x) ≡ item_place x
@@ -102,33 +102,33 @@ module _ {T U : Type 0} where
   same_places : (kind : HashKind) (xs ys : List (Item T U)) → map (forget kind) ys ≡ map (forget kind) xs → map item_place xs ≡ map item_place ys
   same_places kind xs ys same = sym (same_places_forgotten kind xs) ∙ ap (map item_place) (sym same) ∙ same_places_forgotten kind ys
 
-  -- what is told of an entry has the path and the side of the item in whose place it stands
-  told_in_place : (entry : Rewritten (Item T U)) (t : Told T U) → IsTold entry t → place_key item_place entry ≡ told_place t
-  told_in_place (Alone (tracked v)) t h = ap told_place (sym h)
-  told_in_place (Alone (walked w id)) t h = ap told_place (sym h)
-  told_in_place (Rewrite source (walked w id) copy) t h = ap told_place (sym h)
-  told_in_place (Rewrite source (tracked v) copy) t h = absurd h
+  -- what is reported of an entry has the path and the side of the item in whose place it stands
+  reported_in_place : (entry : Rewritten (Item T U)) (t : Reported T U) → IsReported entry t → place_key item_place entry ≡ reported_place t
+  reported_in_place (Alone (tracked v)) t h = ap reported_place (sym h)
+  reported_in_place (Alone (walked w id)) t h = ap reported_place (sym h)
+  reported_in_place (Rewrite source (walked w id) copy) t h = ap reported_place (sym h)
+  reported_in_place (Rewrite source (tracked v) copy) t h = absurd h
 
-  told_in_places : (entries : List (Rewritten (Item T U))) (ts : List (Told T U)) → AreTold entries ts → map (place_key item_place) entries ≡ map told_place ts
-  told_in_places [] [] h = refl
-  told_in_places [] (t ∷ ts) h = absurd h
-  told_in_places (entry ∷ entries) [] h = absurd h
-  told_in_places (entry ∷ entries) (t ∷ ts) h =
-      ap (λ p. p ∷ map (place_key item_place) entries) (told_in_place entry t h.0) ∙ ap (λ ps. told_place t ∷ ps) (told_in_places entries ts h.1)
+  reported_in_places : (entries : List (Rewritten (Item T U))) (ts : List (Reported T U)) → AreReported entries ts → map (place_key item_place) entries ≡ map reported_place ts
+  reported_in_places [] [] h = refl
+  reported_in_places [] (t ∷ ts) h = absurd h
+  reported_in_places (entry ∷ entries) [] h = absurd h
+  reported_in_places (entry ∷ entries) (t ∷ ts) h =
+      ap (λ p. p ∷ map (place_key item_place) entries) (reported_in_place entry t h.0) ∙ ap (λ ps. reported_place t ∷ ps) (reported_in_places entries ts h.1)
 
   -- items alone
-  pub alone_in_order : (list : List (Item T U)) (ts : List (Told T U)) → IsSorted list_cmp list → AreTold (map Alone list) ts → IsSorted told_cmp ts
-  alone_in_order list ts up told =
-      let same : map item_place list ≡ map told_place ts = sym (map-map (place_key item_place) Alone list) ∙ told_in_places (map Alone list) ts told in
-      sorted_from_pairs place_cmp told_place ts
+  pub alone_in_order : (list : List (Item T U)) (ts : List (Reported T U)) → IsSorted list_cmp list → AreReported (map Alone list) ts → IsSorted reported_cmp ts
+  alone_in_order list ts up reported =
+      let same : map item_place list ≡ map reported_place ts = sym (map-map (place_key item_place) Alone list) ∙ reported_in_places (map Alone list) ts reported in
+      sorted_from_pairs place_cmp reported_place ts
       (subst (AllPairs (NotAfter place_cmp)) same (pairs_from_sorted place_cmp place_cmp_total item_place list up))
 
   -- and after rewrites
-  pub rewritten_in_order : (kind : HashKind) (list items : List (Item T U)) (ms : List (Pair × Item T U)) (entries : List (Rewritten (Item T U))) (ts : List (Told T U)) → IsSorted list_cmp list → map (forget kind) items ≡ map (forget kind) list → entries ≡ after_rewrites items ms → AreTold entries ts → IsSorted told_cmp ts
-  rewritten_in_order kind list items ms entries ts up same are told =
+  pub rewritten_in_order : (kind : HashKind) (list items : List (Item T U)) (ms : List (Pair × Item T U)) (entries : List (Rewritten (Item T U))) (ts : List (Reported T U)) → IsSorted list_cmp list → map (forget kind) items ≡ map (forget kind) list → entries ≡ after_rewrites items ms → AreReported entries ts → IsSorted reported_cmp ts
+  rewritten_in_order kind list items ms entries ts up same are reported =
       let sorted : AllPairs (NotAfter place_cmp) (map item_place items) =
       subst (AllPairs (NotAfter place_cmp)) (same_places kind list items same) (pairs_from_sorted place_cmp place_cmp_total item_place list up) in
-      let after : map (place_key item_place) (after_rewrites items ms) ≡ map told_place ts =
-      ap (map (place_key item_place)) (sym are) ∙ told_in_places entries ts told in
-      sorted_from_pairs place_cmp told_place ts
+      let after : map (place_key item_place) (after_rewrites items ms) ≡ map reported_place ts =
+      ap (map (place_key item_place)) (sym are) ∙ reported_in_places entries ts reported in
+      sorted_from_pairs place_cmp reported_place ts
       (subst (AllPairs (NotAfter place_cmp)) after (pairs_after item_place (NotAfter place_cmp) ms 0 items sorted))

@@ -19,19 +19,19 @@ use Rattle.status_joined.specs.declared.index_as_worktree_with_renames.error.Err
 use Rattle.status_joined.specs.declared.index_as_worktree_with_renames.error.Error.TheVariants as errors
 use Rattle.status_joined.specs.declared.index_as_worktree_with_renames.rewrites.Outcome.{Outcome as RewritesOutcome}
 use Rattle.status_joined.specs.declared.index_as_worktree_with_renames.types.Options.{Options}
-use Rattle.status_joined.specs.Feeding.{AreTold}
+use Rattle.status_joined.specs.Feeding.{AreReported}
 use Rattle.status_joined.specs.Identified.{Identifying}
-use Rattle.status_joined.specs.Items.{Item, Told}
+use Rattle.status_joined.specs.Items.{Item, Reported}
 use Rattle.status_joined.specs.Joined.{IsRewriting, IsRewritingFault, tracked_options}
-use Rattle.status_joined.specs.JoinedTheorem.{HasJoinedList, IsFault, IsJoined, IsToldOf, IsWhole}
+use Rattle.status_joined.specs.JoinedTheorem.{HasJoinedList, IsFault, IsJoined, IsReportedOf, IsWhole}
 use Rattle.status_joined.specs.Listing.{HasList, IsHalfFault}
 use Rattle.status_joined.specs.Lists.{IsList, list_cmp, unsorted}
-use Rattle.status_joined.specs.Summaries.{told_cmp}
+use Rattle.status_joined.specs.Summaries.{reported_cmp}
 use Rattle.status_joined.proofs.InOrder.{alone_in_order, rewritten_in_order}
 
 module _ {T U : Type 0} (query : Settings → Query T U) (options : Options) (index : State) (interruptible : Bool) (walking : Option Walking) (ids : Identifying) (means : List Changed → Bool → Result (List Pair) TrackerFault → Type 0) where
-  -- an error before anything was told
-  pub quietly : (old : List (Told T U)) (e : Error) → IsFault query options index interruptible walking ids means e → IsJoined query options index interruptible walking ids means old (Err e) old
+  -- an error before anything was reported
+  pub quietly : (old : List (Reported T U)) (e : Error) → IsFault query options index interruptible walking ids means e → IsJoined query options index interruptible walking ids means old (Err e) old
   quietly old e fault = record { more = []; grew = sym (append-nil old); complete = tt; fault = fault; quiet = inl (λ i. []) }
 
   pub of_half : (e : Error) → IsHalfFault query (tracked_options options) index interruptible walking options.object_hash (is_some options.sorting) e → IsFault query options index interruptible walking ids means e
@@ -50,64 +50,64 @@ module _ {T U : Type 0} (query : Settings → Query T U) (options : Options) (in
   of_half_at w same e fault = of_half e (subst (λ x. IsHalfFault query (tracked_options options) index interruptible x options.object_hash (is_some options.sorting) e) same fault)
 
   pub list_at : (w : Option Walking) → w ≡ walking → (sorted : Bool) → sorted ≡ is_some options.sorting → (list : List (Item T U)) (o : StatusOutcome) (walked : Option WalkOutcome) → HasList query (tracked_options options) index interruptible w options.object_hash sorted list o walked → HasJoinedList query options index interruptible walking ids means list o walked
-  list_at w same sorted asked list o walked has =
+  list_at w same sorted wanted list o walked has =
       subst (λ x. HasList query (tracked_options options) index interruptible x options.object_hash (is_some options.sorting) list o walked) same
-      (subst (λ y. HasList query (tracked_options options) index interruptible w options.object_hash y list o walked) asked has)
+      (subst (λ y. HasList query (tracked_options options) index interruptible w options.object_hash y list o walked) wanted has)
 
-  pub alone_told : options.rewrites ≡ None → (list : List (Item T U)) (ts : List (Told T U)) → AreTold (map Alone list) ts → IsToldOf query options index interruptible walking ids means options.rewrites list ts None
-  alone_told unasked list ts told = rw unasked told
+  pub alone_reported : options.rewrites ≡ None → (list : List (Item T U)) (ts : List (Reported T U)) → AreReported (map Alone list) ts → IsReportedOf query options index interruptible walking ids means options.rewrites list ts None
+  alone_reported unwanted list ts reported = rw unwanted reported
 
-  pub rewritten_told : (r : Rewrites) → options.rewrites ≡ Some r → (known : Identifying) → known ≡ ids → (list : List (Item T U)) (entries : List (Rewritten (Item T U))) (o : RewritesOutcome) → IsRewriting known options.object_hash means r.track_empty list entries o → (ts : List (Told T U)) → AreTold entries ts → IsToldOf query options index interruptible walking ids means options.rewrites list ts (Some o)
-  rewritten_told r asked known same list entries o rewriting ts told =
-      rw asked (entries, (subst (λ x. IsRewriting x options.object_hash means r.track_empty list entries o) same rewriting, told))
+  pub rewritten_reported : (r : Rewrites) → options.rewrites ≡ Some r → (known : Identifying) → known ≡ ids → (list : List (Item T U)) (entries : List (Rewritten (Item T U))) (o : RewritesOutcome) → IsRewriting known options.object_hash means r.track_empty list entries o → (ts : List (Reported T U)) → AreReported entries ts → IsReportedOf query options index interruptible walking ids means options.rewrites list ts (Some o)
+  rewritten_reported r wanted known same list entries o rewriting ts reported =
+      rw wanted (entries, (subst (λ x. IsRewriting x options.object_hash means r.track_empty list entries o) same rewriting, reported))
 
-  -- what is told of a sorted list is sorted
-  told_in_order : (r : Option Rewrites) (list : List (Item T U)) (ts : List (Told T U)) (o : Option RewritesOutcome) → IsSorted list_cmp list → IsToldOf query options index interruptible walking ids means r list ts o → IsSorted told_cmp ts
-  told_in_order None list ts None up told = alone_in_order list ts up told
-  told_in_order None list ts (Some o) up told = absurd told
-  told_in_order (Some r) list ts None up told = absurd told
-  told_in_order (Some r) list ts (Some o) up told =
-      let w = told.1.0 in
-      rewritten_in_order options.object_hash list w.items w.rewritten.moves told.0 ts up w.identified.same w.rewritten.entries_are told.1.1
+  -- what is reported of a sorted list is sorted
+  reported_in_order : (r : Option Rewrites) (list : List (Item T U)) (ts : List (Reported T U)) (o : Option RewritesOutcome) → IsSorted list_cmp list → IsReportedOf query options index interruptible walking ids means r list ts o → IsSorted reported_cmp ts
+  reported_in_order None list ts None up reported = alone_in_order list ts up reported
+  reported_in_order None list ts (Some o) up reported = absurd reported
+  reported_in_order (Some r) list ts None up reported = absurd reported
+  reported_in_order (Some r) list ts (Some o) up reported =
+      let w = reported.1.0 in
+      rewritten_in_order options.object_hash list w.items w.rewritten.moves reported.0 ts up w.identified.same w.rewritten.entries_are reported.1.1
 
   list_in_order : (sorted : Bool) (items list : List (Item T U)) → IsList sorted items list → IsTrue sorted → IsSorted list_cmp list
-  list_in_order true items list is asked = is.order
-  list_in_order false items list is asked = absurd (false≢true asked)
+  list_in_order true items list is wanted = is.order
+  list_in_order false items list is wanted = absurd (false≢true wanted)
 
-  whole_of : (list : List (Item T U)) (ts : List (Told T U)) (tracked : StatusOutcome) (walked : Option WalkOutcome) (o : Option RewritesOutcome) → HasJoinedList query options index interruptible walking ids means list tracked walked → IsToldOf query options index interruptible walking ids means options.rewrites list ts o → IsWhole query options index interruptible walking ids means ts (record { tracked_file_modification = tracked; dirwalk = walked; rewrites = o })
-  whole_of list ts tracked walked o has told = record {
+  whole_of : (list : List (Item T U)) (ts : List (Reported T U)) (tracked : StatusOutcome) (walked : Option WalkOutcome) (o : Option RewritesOutcome) → HasJoinedList query options index interruptible walking ids means list tracked walked → IsReportedOf query options index interruptible walking ids means options.rewrites list ts o → IsWhole query options index interruptible walking ids means ts (record { tracked_file_modification = tracked; dirwalk = walked; rewrites = o })
+  whole_of list ts tracked walked o has reported = record {
     list = list;
     has = has;
-    is_told = told;
-    order = λ asked.
-        told_in_order options.rewrites list ts o
-        (list_in_order (is_some options.sorting) (unsorted options.object_hash has.visits has.kept) list has.list_is asked) told;
+    is_reported = reported;
+    order = λ wanted.
+        reported_in_order options.rewrites list ts o
+        (list_in_order (is_some options.sorting) (unsorted options.object_hash has.visits has.kept) list has.list_is wanted) reported;
   }
 
   module _ (list : List (Item T U)) (tracked : StatusOutcome) (walked : Option WalkOutcome) (has : HasJoinedList query options index interruptible walking ids means list tracked walked) where
     pub of_list : (r : Rewrites) → options.rewrites ≡ Some r → (e : Error) → IsRewritingFault ids options.object_hash means r.track_empty list e → IsFault query options index interruptible walking ids means e
-    of_list r asked (errors.DirWalk x) fault = absurd fault
-    of_list r asked (errors.TrackedFileModifications x) fault = absurd fault
-    of_list r asked errors.Memory fault = tt
-    of_list r asked errors.SpawnThread fault = absurd fault
-    of_list r asked errors.SetAttributeContext fault = absurd fault
-    of_list r asked (errors.OpenWorktreeFile x) fault = record { tracked = tracked; walked = walked; list = list; has = has; fault = rw asked fault }
-    of_list r asked (errors.HashFile x) fault = record { tracked = tracked; walked = walked; list = list; has = has; fault = rw asked fault }
-    of_list r asked (errors.ReadLink x) fault = record { tracked = tracked; walked = walked; list = list; has = has; fault = rw asked fault }
-    of_list r asked (errors.ConvertToGit x) fault = record { tracked = tracked; walked = walked; list = list; has = has; fault = rw asked fault }
-    of_list r asked (errors.RewriteTracker x) fault = record { tracked = tracked; walked = walked; list = list; has = has; fault = rw asked fault }
+    of_list r wanted (errors.DirWalk x) fault = absurd fault
+    of_list r wanted (errors.TrackedFileModifications x) fault = absurd fault
+    of_list r wanted errors.Memory fault = tt
+    of_list r wanted errors.SpawnThread fault = absurd fault
+    of_list r wanted errors.SetAttributeContext fault = absurd fault
+    of_list r wanted (errors.OpenWorktreeFile x) fault = record { tracked = tracked; walked = walked; list = list; has = has; fault = rw wanted fault }
+    of_list r wanted (errors.HashFile x) fault = record { tracked = tracked; walked = walked; list = list; has = has; fault = rw wanted fault }
+    of_list r wanted (errors.ReadLink x) fault = record { tracked = tracked; walked = walked; list = list; has = has; fault = rw wanted fault }
+    of_list r wanted (errors.ConvertToGit x) fault = record { tracked = tracked; walked = walked; list = list; has = has; fault = rw wanted fault }
+    of_list r wanted (errors.RewriteTracker x) fault = record { tracked = tracked; walked = walked; list = list; has = has; fault = rw wanted fault }
 
     pub of_list_at : (known : Identifying) → known ≡ ids → (r : Rewrites) → options.rewrites ≡ Some r → (e : Error) → IsRewritingFault known options.object_hash means r.track_empty list e → IsFault query options index interruptible walking ids means e
-    of_list_at known same r asked e fault = of_list r asked e (subst (λ x. IsRewritingFault x options.object_hash means r.track_empty list e) same fault)
+    of_list_at known same r wanted e fault = of_list r wanted e (subst (λ x. IsRewritingFault x options.object_hash means r.track_empty list e) same fault)
 
-    -- all was told
-    pub told_all : (entries : List (Rewritten (Item T U))) (o : Option RewritesOutcome) → ((ts : List (Told T U)) → AreTold entries ts → IsToldOf query options index interruptible walking ids means options.rewrites list ts o) → (old new : List (Told T U)) → (ts : List (Told T U)) × AreTold entries ts × (new ≡ old ++ ts) → IsJoined query options index interruptible walking ids means old (Ok (record { tracked_file_modification = tracked; dirwalk = walked; rewrites = o })) new
-    told_all entries o meant old new fed =
+    -- all was reported
+    pub reported_all : (entries : List (Rewritten (Item T U))) (o : Option RewritesOutcome) → ((ts : List (Reported T U)) → AreReported entries ts → IsReportedOf query options index interruptible walking ids means options.rewrites list ts o) → (old new : List (Reported T U)) → (ts : List (Reported T U)) × AreReported entries ts × (new ≡ old ++ ts) → IsJoined query options index interruptible walking ids means old (Ok (record { tracked_file_modification = tracked; dirwalk = walked; rewrites = o })) new
+    reported_all entries o meant old new fed =
         record { more = fed.0; grew = fed.2; complete = whole_of list fed.0 tracked walked o has (meant fed.0 fed.1); fault = tt; quiet = tt }
 
-    -- memory ran out while the collector was told
-    pub told_some : (entries : List (Rewritten (Item T U))) (o : Option RewritesOutcome) → ((ts : List (Told T U)) → AreTold entries ts → IsToldOf query options index interruptible walking ids means options.rewrites list ts o) → (old new : List (Told T U)) → (ts : List (Told T U)) × AreTold entries ts × ((n : ℕ) × (n < length ts) × (new ≡ old ++ take n ts)) → IsJoined query options index interruptible walking ids means old (Err errors.Memory) new
-    told_some entries o meant old new fed =
+    -- memory ran out while the collector was fed
+    pub reported_some : (entries : List (Rewritten (Item T U))) (o : Option RewritesOutcome) → ((ts : List (Reported T U)) → AreReported entries ts → IsReportedOf query options index interruptible walking ids means options.rewrites list ts o) → (old new : List (Reported T U)) → (ts : List (Reported T U)) × AreReported entries ts × ((n : ℕ) × (n < length ts) × (new ≡ old ++ take n ts)) → IsJoined query options index interruptible walking ids means old (Err errors.Memory) new
+    reported_some entries o meant old new fed =
         record {
           more = take fed.2.0 fed.0;
           grew = fed.2.2;
@@ -125,25 +125,25 @@ module _ {T U : Type 0} (query : Settings → Query T U) (options : Options) (in
           );
         }
 
-  -- the same with what the call's steps say: of the walk that was asked for, of whether the list is sorted, and of the ids' filter
+  -- the same with what the call's steps say: of the walk that was wanted for, of whether the list is sorted, and of the ids' filter
   module _ (w : Option Walking) (same_walk : w ≡ walking) (sorted : Bool) (same_order : sorted ≡ is_some options.sorting) (list : List (Item T U)) (tracked : StatusOutcome) (walked : Option WalkOutcome) (has : HasList query (tracked_options options) index interruptible w options.object_hash sorted list tracked walked) where
     joined : HasJoinedList query options index interruptible walking ids means list tracked walked
     joined = list_at w same_walk sorted same_order list tracked walked has
 
-    pub plain_all : options.rewrites ≡ None → (old new : List (Told T U)) → (ts : List (Told T U)) × AreTold (map Alone list) ts × (new ≡ old ++ ts) → IsJoined query options index interruptible walking ids means old (Ok (record { tracked_file_modification = tracked; dirwalk = walked; rewrites = None })) new
-    plain_all unasked old new fed = told_all list tracked walked joined (map Alone list) None (alone_told unasked list) old new fed
+    pub plain_all : options.rewrites ≡ None → (old new : List (Reported T U)) → (ts : List (Reported T U)) × AreReported (map Alone list) ts × (new ≡ old ++ ts) → IsJoined query options index interruptible walking ids means old (Ok (record { tracked_file_modification = tracked; dirwalk = walked; rewrites = None })) new
+    plain_all unwanted old new fed = reported_all list tracked walked joined (map Alone list) None (alone_reported unwanted list) old new fed
 
-    pub plain_some : options.rewrites ≡ None → (old new : List (Told T U)) → (ts : List (Told T U)) × AreTold (map Alone list) ts × ((n : ℕ) × (n < length ts) × (new ≡ old ++ take n ts)) → IsJoined query options index interruptible walking ids means old (Err errors.Memory) new
-    plain_some unasked old new fed = told_some list tracked walked joined (map Alone list) None (alone_told unasked list) old new fed
+    pub plain_some : options.rewrites ≡ None → (old new : List (Reported T U)) → (ts : List (Reported T U)) × AreReported (map Alone list) ts × ((n : ℕ) × (n < length ts) × (new ≡ old ++ take n ts)) → IsJoined query options index interruptible walking ids means old (Err errors.Memory) new
+    plain_some unwanted old new fed = reported_some list tracked walked joined (map Alone list) None (alone_reported unwanted list) old new fed
 
-    module _ (r : Rewrites) (asked : options.rewrites ≡ Some r) (known : Identifying) (same_ids : known ≡ ids) where
-      pub late : (old : List (Told T U)) (e : Error) → IsRewritingFault known options.object_hash means r.track_empty list e → IsJoined query options index interruptible walking ids means old (Err e) old
-      late old e fault = quietly old e (of_list_at list tracked walked joined known same_ids r asked e fault)
+    module _ (r : Rewrites) (wanted : options.rewrites ≡ Some r) (known : Identifying) (same_ids : known ≡ ids) where
+      pub late : (old : List (Reported T U)) (e : Error) → IsRewritingFault known options.object_hash means r.track_empty list e → IsJoined query options index interruptible walking ids means old (Err e) old
+      late old e fault = quietly old e (of_list_at list tracked walked joined known same_ids r wanted e fault)
 
-      pub rewritten_all : (entries : List (Rewritten (Item T U))) (o : RewritesOutcome) → IsRewriting known options.object_hash means r.track_empty list entries o → (old new : List (Told T U)) → (ts : List (Told T U)) × AreTold entries ts × (new ≡ old ++ ts) → IsJoined query options index interruptible walking ids means old (Ok (record { tracked_file_modification = tracked; dirwalk = walked; rewrites = Some o })) new
+      pub rewritten_all : (entries : List (Rewritten (Item T U))) (o : RewritesOutcome) → IsRewriting known options.object_hash means r.track_empty list entries o → (old new : List (Reported T U)) → (ts : List (Reported T U)) × AreReported entries ts × (new ≡ old ++ ts) → IsJoined query options index interruptible walking ids means old (Ok (record { tracked_file_modification = tracked; dirwalk = walked; rewrites = Some o })) new
       rewritten_all entries o rewriting old new fed =
-          told_all list tracked walked joined entries (Some o) (rewritten_told r asked known same_ids list entries o rewriting) old new fed
+          reported_all list tracked walked joined entries (Some o) (rewritten_reported r wanted known same_ids list entries o rewriting) old new fed
 
-      pub rewritten_some : (entries : List (Rewritten (Item T U))) (o : RewritesOutcome) → IsRewriting known options.object_hash means r.track_empty list entries o → (old new : List (Told T U)) → (ts : List (Told T U)) × AreTold entries ts × ((n : ℕ) × (n < length ts) × (new ≡ old ++ take n ts)) → IsJoined query options index interruptible walking ids means old (Err errors.Memory) new
+      pub rewritten_some : (entries : List (Rewritten (Item T U))) (o : RewritesOutcome) → IsRewriting known options.object_hash means r.track_empty list entries o → (old new : List (Reported T U)) → (ts : List (Reported T U)) × AreReported entries ts × ((n : ℕ) × (n < length ts) × (new ≡ old ++ take n ts)) → IsJoined query options index interruptible walking ids means old (Err errors.Memory) new
       rewritten_some entries o rewriting old new fed =
-          told_some list tracked walked joined entries (Some o) (rewritten_told r asked known same_ids list entries o rewriting) old new fed
+          reported_some list tracked walked joined entries (Some o) (rewritten_reported r wanted known same_ids list entries o rewriting) old new fed

@@ -50,16 +50,16 @@ module _ {T U : Type 0} (ids : Identifying) (kind : HashKind) (means : List Chan
 
     -- a tracker has no pairs
     tracker_fault_of : (e : TrackerError) → IsTold (means (map changed_of (map item_of xs)) track_empty) (Err e) → IsRewritingFault ids kind means track_empty list (error_of_tracker e)
-    tracker_fault_of (trackers.BadPair at) told = (map item_of xs, (identified, inl told))
-    tracker_fault_of (trackers.Refused code) told = (map item_of xs, (identified, told))
-    tracker_fault_of trackers.Memory told = tt
+    tracker_fault_of (trackers.BadPair at) reported = (map item_of xs, (identified, inl reported))
+    tracker_fault_of (trackers.Refused code) reported = (map item_of xs, (identified, reported))
+    tracker_fault_of trackers.Memory reported = tt
 
     pub tracker_fault : (e : TrackerError) → IsTold (means (map (λ (x : ModificationOrDirwalkEntry T U). changed_of (item_of x)) slice) track_empty) (Err e) → IsRewritingFault ids kind means track_empty list (error_of_tracker e)
-    tracker_fault e told = tracker_fault_of e (subst (λ cs. IsTold (means cs track_empty) (Err e)) seen told)
+    tracker_fault e reported = tracker_fault_of e (subst (λ cs. IsTold (means cs track_empty) (Err e)) seen reported)
 
-    module _ (ps : List Pair) (told : means (map (λ (x : ModificationOrDirwalkEntry T U). changed_of (item_of x)) slice) track_empty (Ok ps)) (is_made_of : ModificationOrDirwalkEntry T U → ModificationOrDirwalkEntry T U → Type 0) where
+    module _ (ps : List Pair) (reported : means (map (λ (x : ModificationOrDirwalkEntry T U). changed_of (item_of x)) slice) track_empty (Ok ps)) (is_made_of : ModificationOrDirwalkEntry T U → ModificationOrDirwalkEntry T U → Type 0) where
       meant : means (map changed_of (map item_of xs)) track_empty (Ok ps)
-      meant = subst (λ cs. means cs track_empty (Ok ps)) seen told
+      meant = subst (λ cs. means cs track_empty (Ok ps)) seen reported
 
       -- a tracker's pairs don't fit
       refused_fault_of : (e : Refused) → IsAnswer (λ x. is_removed (item_of x)) (λ x. is_walked (item_of x)) is_made_of xs ps (Err e) → IsRewritingFault ids kind means track_empty list (error_of_refused e)

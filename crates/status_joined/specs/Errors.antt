@@ -1,4 +1,4 @@
--- The errors of a call that the errors of its parts become. Want of memory is told as that, wherever it was met.
+-- The errors of a call that the errors of its parts become. Want of memory is reported as that, wherever it was met.
 use Rattle.status_index.specs.declared.fault.Fault.TheVariants as faults
 use Rattle.status_base.specs.declared.worktree.objects.FindError.TheVariants as finds
 use Rattle.status_compare.specs.declared.error.Error.{Error as StatusError}

@@ -16,10 +16,10 @@ pub data Item (T U : Type 0) : Type 0 where
 
 -- what a collector is given: a record; a node; or a rewrite: its source, the node that is its destination, that node's id, and
 -- whether it is a copy
-pub data Told (T U : Type 0) : Type 0 where
-  modification : Visit T U → Told T U
-  contents : Walked → Told T U
-  rewrite : Item T U → Walked → ObjectId → Bool → Told T U
+pub data Reported (T U : Type 0) : Type 0 where
+  modification : Visit T U → Reported T U
+  contents : Walked → Reported T U
+  rewrite : Item T U → Walked → ObjectId → Bool → Reported T U
 
 -- whether nothing stands in the worktree where the index has the entry
 abbrev pub is_removal : {T U : Type 0} → EntryStatus T U → Bool
@@ -46,8 +46,8 @@ side_of (tracked v) = 0
 side_of (walked w id) = 1
 
 -- what the collector is given of an entry of the list. A rewrite's destination is a node
-abbrev pub IsTold : {T U : Type 0} → Rewritten (Item T U) → Told T U → Type 0
-IsTold (Alone (tracked v)) t = t ≡ modification v
-IsTold (Alone (walked w id)) t = t ≡ contents w
-IsTold (Rewrite source (walked w id) copy) t = t ≡ rewrite source w id copy
-IsTold (Rewrite source (tracked v) copy) t = ⊥
+abbrev pub IsReported : {T U : Type 0} → Rewritten (Item T U) → Reported T U → Type 0
+IsReported (Alone (tracked v)) t = t ≡ modification v
+IsReported (Alone (walked w id)) t = t ≡ contents w
+IsReported (Rewrite source (walked w id) copy) t = t ≡ rewrite source w id copy
+IsReported (Rewrite source (tracked v) copy) t = ⊥

@@ -1,4 +1,4 @@
--- The joined theorem: what a status with untracked files, renames and copies tells its collector, and what it answers.
+-- The joined theorem: what a status with untracked files, renames and copies reports to its collector, and what it answers.
 use Rattle.std.specs.Prelude.{◌≡◌, ◌⊎◌, ℕ, Bool, not, IsTrue, List, map, Some, Result, Ok, Err, slice_get, ⊤}
 use Rattle.std.specs.List.{count_by}
 use Rattle.status_index.specs.declared.fault.Fault.TheVariants as faults
@@ -58,7 +58,7 @@ module _ {T U : Type 0} (ids : Identifying) (kind : HashKind) (means : List Chan
       means (map changed_of items) track_empty (Err (bad_pair at))
       ⊎ ((pairs : List Pair) × (means (map changed_of items) track_empty (Ok pairs) × IsBadPair is_removed is_walked items pairs at))
 
-  -- why a list has no renames and copies. Want of memory is told as that
+  -- why a list has no renames and copies. Want of memory is reported as that
   abbrev pub IsRewritingFault : Bool → List (Item T U) → Error → Type 0
   IsRewritingFault track_empty list (errors.OpenWorktreeFile faults.Memory) = ⊥
   IsRewritingFault track_empty list (errors.HashFile faults.Memory) = ⊥

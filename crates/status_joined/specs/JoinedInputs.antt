@@ -25,7 +25,7 @@ abbrev pub walking_by : {W P K : Type 0} → (K → Bool) → (W → Bool) → (
 walking_by modelled modelled_worktree meaning prefix included index worktree pathspec walk =
     walking (modelled walk) (modelled_worktree worktree) (meaning walk worktree (index_of index) (prefix pathspec) (included pathspec))
 
--- the walk, where one is asked for
-abbrev pub asked_walk : Bool → Walking → Option Walking
-asked_walk true w = Some w
-asked_walk false w = None
+-- the walk, where one is wanted
+abbrev pub wanted_walk : Bool → Walking → Option Walking
+wanted_walk true w = Some w
+wanted_walk false w = None

@@ -1,4 +1,4 @@
--- The joined theorem: what a status with untracked files, renames and copies tells its collector, and what it answers.
+-- The joined theorem: what a status with untracked files, renames and copies reports to its collector, and what it answers.
 use Rattle.std.specs.Prelude.{◌≡◌, ◌⊎◌, ◌<◌, Bool, IsTrue, List, [], ◌++◌, length, map, Option, Some, None, is_some, Result, IfOk, IfErr, ⊤}
 use Rattle.std.specs.List.Sorted.{IsSorted}
 use Rattle.status_index.specs.declared.state.State.{State}
@@ -19,33 +19,33 @@ use Rattle.status_joined.specs.declared.index_as_worktree_with_renames.error.Err
 use Rattle.status_joined.specs.declared.index_as_worktree_with_renames.rewrites.Outcome.{Outcome as RewritesOutcome}
 use Rattle.status_joined.specs.declared.index_as_worktree_with_renames.types.Options.{Options}
 use Rattle.status_joined.specs.declared.index_as_worktree_with_renames.types.Outcome.{Outcome}
-use Rattle.status_joined.specs.Feeding.{AreTold}
+use Rattle.status_joined.specs.Feeding.{AreReported}
 use Rattle.status_joined.specs.Identified.{Identifying}
-use Rattle.status_joined.specs.Items.{Item, Told}
+use Rattle.status_joined.specs.Items.{Item, Reported}
 use Rattle.status_joined.specs.Joined.{IsRewriting, IsRewritingFault, tracked_options}
 use Rattle.status_joined.specs.Listing.{HasList, IsHalfFault}
-use Rattle.status_joined.specs.Summaries.{told_cmp}
+use Rattle.status_joined.specs.Summaries.{reported_cmp}
 
 module _ {T U : Type 0} (query : Settings → Query T U) (options : Options) (index : State) (interruptible : Bool) (walking : Option Walking) (ids : Identifying) (means : List Changed → Bool → Result (List Pair) TrackerFault → Type 0) where
   -- both halves came through and ended so, and this is the list of what they found
   abbrev pub HasJoinedList : List (Item T U) → StatusOutcome → Option WalkOutcome → Type 0
   HasJoinedList = HasList query (tracked_options options) index interruptible walking options.object_hash (is_some options.sorting)
 
-  -- what is told of a list: each item alone; or, where renames and copies are looked for, the list with these
-  abbrev pub IsToldOf : Option Rewrites → List (Item T U) → List (Told T U) → Option RewritesOutcome → Type 0
-  IsToldOf None list told None = AreTold (map Alone list) told
-  IsToldOf (Some r) list told (Some o) =
-      (entries : List (Rewritten (Item T U))) × (IsRewriting ids options.object_hash means r.track_empty list entries o × AreTold entries told)
-  IsToldOf None list told (Some o) = ⊥
-  IsToldOf (Some r) list told None = ⊥
+  -- what is reported of a list: each item alone; or, where renames and copies are looked for, the list with these
+  abbrev pub IsReportedOf : Option Rewrites → List (Item T U) → List (Reported T U) → Option RewritesOutcome → Type 0
+  IsReportedOf None list reported None = AreReported (map Alone list) reported
+  IsReportedOf (Some r) list reported (Some o) =
+      (entries : List (Rewritten (Item T U))) × (IsRewriting ids options.object_hash means r.track_empty list entries o × AreReported entries reported)
+  IsReportedOf None list reported (Some o) = ⊥
+  IsReportedOf (Some r) list reported None = ⊥
 
-  -- all that there is to tell, with the outcomes of both halves and of the renames and copies
-  pub record IsWhole (told : List (Told T U)) (o : Outcome) : Type 0 where
+  -- all that there is to report, with the outcomes of both halves and of the renames and copies
+  pub record IsWhole (reported : List (Reported T U)) (o : Outcome) : Type 0 where
     pub list : List (Item T U)
     pub has : HasJoinedList list o.tracked_file_modification o.dirwalk
-    pub is_told : IsToldOf options.rewrites list told o.rewrites
-    -- with sorting: by the path that each is told by, and at equal paths records before nodes
-    pub order : IsTrue (is_some options.sorting) → IsSorted told_cmp told
+    pub is_reported : IsReportedOf options.rewrites list reported o.rewrites
+    -- with sorting: by the path that each is reported by, and at equal paths records before nodes
+    pub order : IsTrue (is_some options.sorting) → IsSorted reported_cmp reported
 
   -- why the list has no renames and copies, where these are looked for
   abbrev pub IsListFault : Option Rewrites → List (Item T U) → Error → Type 0
@@ -67,21 +67,21 @@ module _ {T U : Type 0} (query : Settings → Query T U) (options : Options) (in
   IsFault Memory = ⊤
   IsFault e = IsLateFault e
 
-  -- a beginning of all that there is to tell, and not all of it
-  pub record IsCutShort (told : List (Told T U)) : Type 0 where
-    pub whole : List (Told T U)
+  -- a beginning of all that there is to report, and not all of it
+  pub record IsCutShort (reported : List (Reported T U)) : Type 0 where
+    pub whole : List (Reported T U)
     pub outcome : Outcome
     pub is_whole : IsWhole whole outcome
-    pub beginning : IsBeginning told whole
-    pub short : length told < length whole
+    pub beginning : IsBeginning reported whole
+    pub short : length reported < length whole
 
-  -- what was told over any worktree, and where all that was handed in is modelled
-  pub record IsJoined (old : List (Told T U)) (result : Result Outcome Error) (new : List (Told T U)) : Type 0 where
-    pub more : List (Told T U)
+  -- what was reported over any worktree, and where all that was handed in is modelled
+  pub record IsJoined (old : List (Reported T U)) (result : Result Outcome Error) (new : List (Reported T U)) : Type 0 where
+    pub more : List (Reported T U)
     pub grew : new ≡ old ++ more
-    -- Ok: all that there is to tell
+    -- Ok: all that there is to report
     pub complete : IfOk result (IsWhole more)
     -- an error: a fault that a part has
     pub fault : IfErr result IsFault
-    -- on an error nothing was told; or the collector's memory ran out, behind a beginning
+    -- on an error nothing was reported; or the collector's memory ran out, behind a beginning
     pub quiet : IfErr result (λ e. (more ≡ []) ⊎ ((e ≡ Memory) × IsCutShort more))

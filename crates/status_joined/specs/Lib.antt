@@ -14,4 +14,4 @@ pub mod Lists
 pub mod Recorded
 pub mod RewritingAnswers
 pub mod Summaries
-pub mod Telling
+pub mod Entries

@@ -39,7 +39,7 @@ module _ {T U : Type 0} (query : Settings → Query T U) (options : Options) (in
     pub walked : IsWalkedHalf interruptible walking kept w
     pub list_is : IsList sorted (unsorted kind visits kept) list
 
-  -- the walk's fault; or, where the walk came through, the status's; or memory ran out, which is told as that
+  -- the walk's fault; or, where the walk came through, the status's; or memory ran out, which is reported as that
   abbrev pub IsHalfFault : Error → Type 0
   IsHalfFault (errors.DirWalk walks.Memory) = ⊥
   IsHalfFault (errors.DirWalk (walks.Fault path faults.Memory)) = ⊥

@@ -16,7 +16,7 @@ where
     V::SubmoduleStatus: Drop,
 {
     ghost use Rattle.std.specs.Prelude.{◌≡◌, ◌++◌, ◌∷◌, [], OnOk, OnErr};
-    ghost use Rattle.status_joined.specs.Telling.{told_entry};
+    ghost use Rattle.status_joined.specs.Entries.{reported_entry};
 
     type ContentChange = V::ContentChange;
 
@@ -28,7 +28,7 @@ where
         &mut self,
         entry: Entry<'index, V::ContentChange, V::SubmoduleStatus>,
     ) -> Result<(), AllocError>
-        ensures ok { OnOk result (V.visits self.new.collector ≡ V.visits self.old.collector ++ told_entry entry.entry ∷ []) }
+        ensures ok { OnOk result (V.visits self.new.collector ≡ V.visits self.old.collector ++ reported_entry entry.entry ∷ []) }
         ensures err { OnErr result (V.visits self.new.collector ≡ V.visits self.old.collector) }
     {
         if self.room == 0 {

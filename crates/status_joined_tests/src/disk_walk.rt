@@ -2,7 +2,7 @@
 
 ghost use Rattle.std.specs.Prelude.{◌≡◌, [], false};
 
-use crate::given::{Asked, foo_index, joined};
+use crate::given::{Request, foo_index, joined};
 use bstr::{BStr, BString};
 use status_base::worktree::{
     AllPaths, DiskWorktree, Fault, MemoryFile, Metadata, NodeKind, Pathspec, Prefix, Worktree,
@@ -225,10 +225,10 @@ fn a_folder_has_untracked_files_and_renames(rt: HostRuntime) -> Result<(), Fail>
     let worktree = DiskWorktree::new(&rt, Path::new(root))?;
     let index = foo_index(alloc, &["a"])?;
     let walk = DiskWalk::new(&rt, Path::new(root))?;
-    let asked = Asked::rewritten(walk, IdentityTracker::new(alloc));
-    let report = joined(&rt, &index, &worktree, asked);
+    let request = Request::rewritten(walk, IdentityTracker::new(alloc));
+    let report = joined(&rt, &index, &worktree, request);
     assert_eq!(rt;
-        report.told(alloc)?.as_str(),
+        report.reported(alloc)?.as_str(),
         "- added \"c\"\n- renamed \"a\" \"d/b\"\n- added \"d/l\"\n"
     );
     assert!(rt; report.answer.is_ok());

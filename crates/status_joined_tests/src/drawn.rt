@@ -1,9 +1,9 @@
-//! Drawn indexes and worktrees. What is told of them is compared with a plain model, which looks at paths and contents
+//! Drawn indexes and worktrees. What is reported of them is compared with a plain model, which looks at paths and contents
 //! alone.
 
 use crate::draws::Draws;
 use crate::given::{
-    Asked, BAR, EMPTY, FOO, GivenEntry, GivenNode, LATER, STAGED, file, foo_entry, index, joined,
+    BAR, EMPTY, FOO, GivenEntry, GivenNode, LATER, Request, STAGED, file, foo_entry, index, joined,
     options, worktree,
 };
 use Stand::{Came, Changed, Gone, Retyped};
@@ -94,7 +94,7 @@ impl Site {
     }
 }
 
-/// What is told of a path, or of two. Paths are places in `PATHS`, entries places in the index.
+/// What is reported of a path, or of two. Paths are places in `PATHS`, entries places in the index.
 #[derive(Clone, Copy, Debug, PartialEq, Eq)]
 enum Line {
     Removed {
@@ -216,7 +216,7 @@ fn drawn_case(alloc: Global, seed: u64) -> Result<Case, AllocError> {
 }
 
 impl Case {
-    /// How the worktree differs at a path, where that is told.
+    /// How the worktree differs at a path, where that is reported.
     fn stand_at(&self, path: usize) -> Option<Stand> {
         match self.sites.get(path)?.stand()? {
             Came(_) if !self.walked => None,
@@ -268,7 +268,7 @@ impl Case {
             && self.origin(thing, to) == Some(from))
     }
 
-    /// What is told of the index's entry at a path.
+    /// What is reported of the index's entry at a path.
     fn entry_line(&self, path: usize) -> Option<Line> {
         let entry = self.entries_before(path);
         match self.stand_at(path)? {
@@ -293,7 +293,7 @@ impl Case {
         }
     }
 
-    /// What is told of the node at a path.
+    /// What is reported of the node at a path.
     fn node_line(&self, to: usize) -> Option<Line> {
         let Came(thing) = self.stand_at(to)? else {
             return None;
@@ -309,7 +309,7 @@ impl Case {
         }
     }
 
-    /// All that is told. No path is both an entry's and a node's.
+    /// All that is reported. No path is both an entry's and a node's.
     fn plain_lines(&self, alloc: Global) -> Result<Vec<Line>, AllocError> {
         let mut lines = Vec::new(alloc);
         for path in 0..self.sites.len() {
@@ -345,7 +345,7 @@ fn place_of(path: &[u8]) -> usize {
     place
 }
 
-/// What was told of an entry of the index.
+/// What was reported of an entry of the index.
 fn modification_line(entry: usize, path: usize, status: &EntryStatus<ObjectId, ()>) -> Line {
     match status {
         EntryStatus::Change(Change::Removed) => Line::Removed { entry, path },
@@ -369,9 +369,9 @@ fn modification_line(entry: usize, path: usize, status: &EntryStatus<ObjectId, (
     }
 }
 
-/// What was told.
-fn told_line(told: &Entry<'_, ObjectId, ()>) -> Line {
-    match told {
+/// What was reported.
+fn reported_line(reported: &Entry<'_, ObjectId, ()>) -> Line {
+    match reported {
         Entry::Modification {
             entry_index,
             rela_path,
@@ -405,11 +405,14 @@ fn told_line(told: &Entry<'_, ObjectId, ()>) -> Line {
     }
 }
 
-/// All that was told.
-fn told_lines(alloc: Global, told: &[Entry<'_, ObjectId, ()>]) -> Result<Vec<Line>, AllocError> {
+/// All that was reported.
+fn reported_lines(
+    alloc: Global,
+    reported: &[Entry<'_, ObjectId, ()>],
+) -> Result<Vec<Line>, AllocError> {
     let mut lines = Vec::new(alloc);
-    for entry in told {
-        lines.push(told_line(entry))?;
+    for entry in reported {
+        lines.push(reported_line(entry))?;
     }
     Ok(lines)
 }
@@ -473,7 +476,7 @@ impl Case {
             .count()
     }
 
-    /// Whether a status took what it takes, where it told of so many renames.
+    /// Whether a status took what it takes, where it reported of so many renames.
     fn took(&self, outcome: &Outcome, renames: usize) -> bool {
         let staged = self.entries_before(self.sites.len());
         let tracked = &outcome.tracked_file_modification;
@@ -501,27 +504,30 @@ fn renames_in(lines: &[Line]) -> usize {
 }
 
 #[test]
-fn drawn_cases_are_told_as_the_plain_model_says(rt: HostRuntime) -> Result<(), Fail> {
+fn drawn_cases_are_reported_as_the_plain_model_says(rt: HostRuntime) -> Result<(), Fail> {
     let alloc = rt.alloc();
-    let (mut told, mut moved) = (0usize, 0usize);
+    let (mut reported, mut moved) = (0usize, 0usize);
     for seed in 0..2000u64 {
         let case = drawn_case(alloc, seed)?;
         let wanted = case.plain_lines(alloc)?;
         let (index, worktree) = (case.index(alloc)?, case.worktree(alloc)?);
-        let asked = Asked {
+        let request = Request {
             walk: UntrackedWalk::new(alloc),
             tracker: IdentityTracker::new(alloc),
             options: case.options(),
             interrupt: None,
         };
-        let report = joined(&rt, &index, &worktree, asked);
-        let lines = told_lines(alloc, &report.records)?;
+        let report = joined(&rt, &index, &worktree, request);
+        let lines = reported_lines(alloc, &report.records)?;
         let (outcome, renames) = (report.answer?, renames_in(&wanted));
         assert!(rt; lines == wanted, "seed {seed}: {wanted:?}, not {lines:?}");
         assert!(rt; case.took(&outcome, renames), "seed {seed}: {outcome:?}");
-        told = told.saturating_add(lines.len());
+        reported = reported.saturating_add(lines.len());
         moved = moved.saturating_add(renames);
     }
-    assert!(rt; told > 5000 && moved > 500, "{told} lines, {moved} renames");
+    assert!(rt;
+        reported > 5000 && moved > 500,
+        "{reported} lines, {moved} renames"
+    );
     Ok(())
 }

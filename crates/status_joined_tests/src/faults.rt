@@ -4,8 +4,8 @@ ghost use Rattle.std.specs.Prelude.{false, Err};
 ghost use Rattle.status_index.specs.declared.fault.Fault.TheVariants.{NotFound};
 
 use crate::given::{
-    Asked, GivenNode, LATER, Report, file, foo_entry, index, joined, later_file, link, mode_entry,
-    options, worktree,
+    GivenNode, LATER, Report, Request, file, foo_entry, index, joined, later_file, link,
+    mode_entry, options, worktree,
 };
 use crate::trackers::Refuses;
 use crate::walks::{Fails, Found, HandsOut, untracked};
@@ -103,7 +103,7 @@ impl<'a> Worktree for Broken<'a> {
 /// How a status ended.
 #[derive(Clone, Copy, Debug, PartialEq, Eq)]
 enum Exit {
-    Told,
+    Reported,
     Walk(Fault),
     Entry(Fault),
     Illformed,
@@ -118,7 +118,7 @@ enum Exit {
 
 fn exit_of(report: &Report<'_>) -> Exit {
     match &report.answer {
-        Ok(_) => Exit::Told,
+        Ok(_) => Exit::Reported,
         Err(Error::DirWalk(WalkError::Fault { fault, .. })) => Exit::Walk(*fault),
         Err(Error::TrackedFileModifications(index_as_worktree::Error::Io(fault))) => {
             Exit::Entry(*fault)
@@ -151,7 +151,7 @@ pub const FAULTS: [Fault; 9] = [
 /// How a status ends that meets a fault at an entry.
 fn entry_exit(point: Point, fault: Fault) -> Exit {
     match (point, fault) {
-        (Point::Lstat, Fault::NotFound | Fault::NotADirectory) => Exit::Told,
+        (Point::Lstat, Fault::NotFound | Fault::NotADirectory) => Exit::Reported,
         (_, Fault::Memory) => Exit::Memory,
         (_, Fault::IllformedUtf8) => Exit::Illformed,
         (_, fault) => Exit::Entry(fault),
@@ -162,7 +162,8 @@ fn entry_exit(point: Point, fault: Fault) -> Exit {
 fn node_exit(point: Point, fault: Fault) -> Exit {
     match (point, fault) {
         (_, Fault::Memory) => Exit::Memory,
-        (Point::Open, Fault::NotFound | Fault::PermissionDenied | Fault::Interrupted) => Exit::Told,
+        (Point::Open, Fault::NotFound | Fault::PermissionDenied | Fault::Interrupted) =>
+            Exit::Reported,
         (Point::Lstat | Point::Open, fault) => Exit::Open(fault),
         (Point::Read, fault) => Exit::Hash(fault),
         (Point::ReadLink, fault) => Exit::ReadLink(fault),
@@ -210,9 +211,9 @@ fn nodes() -> [Found<'static>; 3] {
 }
 
 /// Asks for renames, in the order of paths or of the index and the walk.
-fn asked<'a, K, X>(walk: K, tracker: X, sorted: bool) -> Asked<'a, K, X> {
+fn request<'a, K, X>(walk: K, tracker: X, sorted: bool) -> Request<'a, K, X> {
     let options = options(Some(Rewrites { track_empty: false }));
-    Asked {
+    Request {
         walk,
         tracker,
         options: Options {
@@ -223,9 +224,9 @@ fn asked<'a, K, X>(walk: K, tracker: X, sorted: bool) -> Asked<'a, K, X> {
     }
 }
 
-/// What is told where a fault isn't answered: at an entry it is a removal, and of a file that isn't opened no id
+/// What is reported where a fault isn't answered: at an entry it is a removal, and of a file that isn't opened no id
 /// is known.
-fn told(point: Point, sorted: bool) -> &'static str {
+fn reported(point: Point, sorted: bool) -> &'static str {
     match (point, sorted) {
         (Point::Lstat, true) => {
             "1 removed \"b\"\n2 modified \"l\"\n- renamed \"a\" \"m\"\n- added \"n\"\n- added \"x\"\n"
@@ -273,10 +274,10 @@ fn each_fault_of_the_worktree_has_its_answer(rt: HostRuntime) -> Result<(), Fail
                     nodes: &nodes,
                 };
                 let tracker = IdentityTracker::new(alloc);
-                let report = joined(&rt, &index, &worktree, asked(walk, tracker, sorted));
-                let text = report.told(alloc)?;
-                let told = if wanted == Exit::Told {
-                    told(point, sorted)
+                let report = joined(&rt, &index, &worktree, request(walk, tracker, sorted));
+                let text = report.reported(alloc)?;
+                let reported = if wanted == Exit::Reported {
+                    reported(point, sorted)
                 } else {
                     ""
                 };
@@ -284,7 +285,7 @@ fn each_fault_of_the_worktree_has_its_answer(rt: HostRuntime) -> Result<(), Fail
                     exit_of(&report) == wanted,
                     "{point:?} of {path}: {fault:?}"
                 );
-                assert!(rt; text.as_str() == told, "{point:?} of {path}: {fault:?}");
+                assert!(rt; text.as_str() == reported, "{point:?} of {path}: {fault:?}");
             }
         }
     }
@@ -313,7 +314,7 @@ fn each_fault_of_the_walk_is_its_answer(rt: HostRuntime) -> Result<(), Fail> {
             fault,
         };
         let tracker = Refuses(TrackerError::Refused(3));
-        let report = joined(&rt, &index, &worktree, asked(walk, tracker, true));
+        let report = joined(&rt, &index, &worktree, request(walk, tracker, true));
         assert!(rt; exit_of(&report) == wanted, "{fault:?}");
         assert!(rt; report.records.is_empty(), "{fault:?}");
     }
@@ -365,7 +366,7 @@ fn of_several_faults_the_first_in_order_is_answered(rt: HostRuntime) -> Result<(
                 &rt,
                 &index,
                 &worktree,
-                asked(walk, Refuses(refused), sorted),
+                request(walk, Refuses(refused), sorted),
             );
             assert!(rt;
                 exit_of(&report) == wanted,

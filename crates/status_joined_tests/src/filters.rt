@@ -4,7 +4,7 @@ ghost use Rattle.std.specs.Prelude.{◌≡◌};
 ghost use Rattle.status_base.specs.Converted.{refused};
 
 use crate::faults::FAULTS;
-use crate::given::{Asked, Report, file, foo_index, link, tell_handed, worktree};
+use crate::given::{Report, Request, file, foo_index, link, tell_handed, worktree};
 use bstr::BStr;
 use status_base::index::State;
 use status_base::worktree::{
@@ -47,7 +47,7 @@ impl ToGit for RefusesFiles {
     }
 }
 
-// What is told where the filter refuses each file.
+// What is reported where the filter refuses each file.
 fn refused_by<
     'index,
     R: AllocGlobal + Threads + Wait,
@@ -59,7 +59,7 @@ fn refused_by<
     index: &'index State,
     worktree: &W,
     filter: RefusesFiles,
-    asked: Asked<'_, K, X>,
+    request: Request<'_, K, X>,
 ) -> Report<'index>
 where
     W::File: Send,
@@ -75,7 +75,7 @@ where
         NoSubmodules,
         filter,
         NoLister,
-        asked,
+        request,
     );
     Report {
         records: recorder.records,
@@ -90,8 +90,8 @@ fn a_filter_that_refuses_a_node_ends_the_status(rt: HostRuntime) -> Result<(), F
     // The link is no file, so the filter isn't asked of it.
     let worktree = worktree(alloc, &[link("b", b"foo"), file("c", b"foo")])?;
     for fault in FAULTS {
-        let asked = Asked::rewritten(UntrackedWalk::new(alloc), IdentityTracker::new(alloc));
-        let report = refused_by(&rt, &index, &worktree, RefusesFiles(fault), asked);
+        let request = Request::rewritten(UntrackedWalk::new(alloc), IdentityTracker::new(alloc));
+        let report = refused_by(&rt, &index, &worktree, RefusesFiles(fault), request);
         let is_wanted = match report.answer {
             Err(Error::Memory) => fault == Fault::Memory,
             Err(Error::ConvertToGit(found)) => found == fault && fault != Fault::Memory,

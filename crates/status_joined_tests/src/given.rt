@@ -1,16 +1,16 @@
-//! Cases in few words: an index, a worktree, what is asked, and what is told, as lines of text.
+//! Cases in few words: an index, a worktree, what is asked for, and what is reported, as lines of text.
 //!
 //! A test makes an index of entries and a worktree of nodes, asks by `joined`, and compares lines:
 //!
 //! ```text
 //! let index = index(alloc, &[foo_entry("a")])?;
 //! let worktree = worktree(alloc, &[file("b", b"foo")])?;
-//! let asked = Asked::rewritten(UntrackedWalk::new(alloc), IdentityTracker::new(alloc));
-//! let report = joined(&rt, &index, &worktree, asked);
-//! assert_eq!(rt; report.told(alloc)?.as_str(), "- renamed \"a\" \"b\"\n");
+//! let request = Request::rewritten(UntrackedWalk::new(alloc), IdentityTracker::new(alloc));
+//! let report = joined(&rt, &index, &worktree, request);
+//! assert_eq!(rt; report.reported(alloc)?.as_str(), "- renamed \"a\" \"b\"\n");
 //! ```
 //!
-//! Other options or an interrupt flag are set as fields: `Asked { options: .., ..asked }`. `report.answer` is what
+//! Other options or an interrupt flag are set as fields: `Request { options: .., ..request }`. `report.answer` is what
 //! the status answered, and `report.records` are the entries themselves.
 
 use bstr::{BStr, BString};
@@ -220,20 +220,20 @@ pub fn failing(
     Ok(worktree)
 }
 
-/// What is asked, beside an index and a worktree: a walk, a tracker, options and an interrupt flag.
+/// What is asked for, beside an index and a worktree: a walk, a tracker, options and an interrupt flag.
 #[derive(Drop)]
-pub struct Asked<'a, K, X> {
+pub struct Request<'a, K, X> {
     pub walk: K,
     pub tracker: X,
     pub options: Options,
     pub interrupt: Option<&'a AtomicBool>,
 }
 
-impl<'a, K, X> Asked<'a, K, X> {
+impl<'a, K, X> Request<'a, K, X> {
     /// Asks for what the index and the walk have, sorted, with no renames or copies. Links count, and executability
     /// doesn't.
-    pub fn sorted(walk: K, tracker: X) -> Asked<'a, K, X> {
-        Asked {
+    pub fn sorted(walk: K, tracker: X) -> Request<'a, K, X> {
+        Request {
             walk,
             tracker,
             options: options(None),
@@ -242,8 +242,8 @@ impl<'a, K, X> Asked<'a, K, X> {
     }
 
     /// Asks for renames and copies as well, but not for those of files with no bytes.
-    pub fn rewritten(walk: K, tracker: X) -> Asked<'a, K, X> {
-        Asked {
+    pub fn rewritten(walk: K, tracker: X) -> Request<'a, K, X> {
+        Request {
             walk,
             tracker,
             options: options(Some(Rewrites { track_empty: false })),
@@ -269,7 +269,7 @@ pub fn options(rewrites: Option<Rewrites>) -> Options {
     }
 }
 
-/// What was told: the entries, and what the status took or why it failed.
+/// What was reported: the entries, and what the status took or why it failed.
 #[derive(Drop)]
 pub struct Report<'index> {
     pub records: Vec<Entry<'index, ObjectId, ()>>,
@@ -283,13 +283,13 @@ pub fn joined<
     W: Worktree + Sync,
     K: Walk<W> + Send + Drop,
     X: Tracker + Drop,
->(rt: &R, index: &'index State, worktree: &W, asked: Asked<'_, K, X>) -> Report<'index>
+>(rt: &R, index: &'index State, worktree: &W, request: Request<'_, K, X>) -> Report<'index>
 where
     W::File: Send,
 {
     let alloc = rt.alloc();
     let mut recorder = Recorder::new(alloc);
-    let answer = tell(rt, alloc, index, worktree, &mut recorder, asked);
+    let answer = tell(rt, alloc, index, worktree, &mut recorder, request);
     Report {
         records: recorder.records,
         answer,
@@ -310,7 +310,7 @@ pub fn tell<
     index: &'index State,
     worktree: &W,
     collector: &mut V,
-    asked: Asked<'_, K, X>,
+    request: Request<'_, K, X>,
 ) -> Result<Outcome, Error>
 where
     W::File: Send,
@@ -324,7 +324,7 @@ where
         NoSubmodules,
         NoFilter,
         NoLister,
-        asked,
+        request,
     )
 }
 
@@ -348,18 +348,18 @@ pub fn tell_handed<
     submodule: S,
     filter: F,
     lister: L,
-    asked: Asked<'_, K, X>,
+    request: Request<'_, K, X>,
 ) -> Result<Outcome, Error>
 where
     W::File: Send,
     S::Output: Send + ExactClone + 'index,
 {
-    let Asked {
+    let Request {
         walk,
         tracker,
         options,
         interrupt,
-    } = asked;
+    } = request;
     let context = Context {
         pathspec: AllPaths,
         filter,
@@ -385,7 +385,7 @@ where
 impl<'index> Report<'index> {
     /// A line for each entry, in order: its place in the index or `-`, a word, and its path; a rename or a copy has both
     /// paths.
-    pub fn told(&self, alloc: Global) -> Result<String, AllocError> {
+    pub fn reported(&self, alloc: Global) -> Result<String, AllocError> {
         let mut text = String::new(alloc);
         for entry in &self.records {
             text.push_str(&line(alloc, entry)?)?;

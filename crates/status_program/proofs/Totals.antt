@@ -12,11 +12,11 @@ use Rattle.status_joined.specs.declared.index_as_worktree_with_renames.error.Err
 use Rattle.status_joined.specs.declared.index_as_worktree_with_renames.types.Options.{Options}
 use Rattle.status_joined.specs.declared.index_as_worktree_with_renames.types.Outcome.{Outcome}
 use Rattle.status_joined.specs.Identified.{Identifying}
-use Rattle.status_joined.specs.Items.{Told}
+use Rattle.status_joined.specs.Items.{Reported}
 use Rattle.status_joined.specs.JoinedTheorem.{IsWhole}
 
-module _ (T U : Type 0) (query : Settings → Query T U) (options : Options) (index : State) (interruptible : Bool) (walking : Option Walking) (ids : Identifying) (means : List Changed → Bool → Result (List Pair) TrackerFault → Type 0) (told : List (Told T U)) where
+module _ (T U : Type 0) (query : Settings → Query T U) (options : Options) (index : State) (interruptible : Bool) (walking : Option Walking) (ids : Identifying) (means : List Changed → Bool → Result (List Pair) TrackerFault → Type 0) (reported : List (Reported T U)) where
   -- their skips have a sum
-  pub skips_fit : (r : Result Outcome Error) → IfOk r (IsWhole query options index interruptible walking ids means told) → IfOk r (λ o. skipped_of o.tracked_file_modification < 2 ^ 64)
+  pub skips_fit : (r : Result Outcome Error) → IfOk r (IsWhole query options index interruptible walking ids means reported) → IfOk r (λ o. skipped_of o.tracked_file_modification < 2 ^ 64)
   skips_fit (Ok o) whole = whole.has.tracked.fits
   skips_fit (Err e) whole = tt

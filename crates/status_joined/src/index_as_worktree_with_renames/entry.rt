@@ -4,7 +4,7 @@ ghost use Rattle.std.specs.Prelude.{◌≡◌};
 ghost use Rattle.bstr.specs.BStr.{bstr_bytes};
 ghost use Rattle.status_joined.specs.Items.{path_of};
 ghost use Rattle.status_joined.specs.Summaries.{summary_of, status_summary, source_path, destination_path};
-ghost use Rattle.status_joined.specs.Telling.{told_entry, told_source};
+ghost use Rattle.status_joined.specs.Entries.{reported_entry, reported_source};
 
 use crate::index_as_worktree_with_renames::summary::Summary;
 use bstr::BStr;
@@ -80,7 +80,7 @@ pub enum RewriteSource<'index, T, U> {
 impl<'index, T, U> RewriteSource<'index, T, U> {
     /// The path of what was renamed or copied, from the worktree's root.
     pub fn rela_path(&self) -> BStr<'_>
-        ensures { bstr_bytes result ≡ path_of (told_source self.now) }
+        ensures { bstr_bytes result ≡ path_of (reported_source self.now) }
     {
         match self {
             RewriteSource::RewriteFromIndex {
@@ -99,7 +99,7 @@ impl<'index, T, U> Entry<'index, T, U> {
     /// What happened to the path, in a word. None for a node that isn't untracked, and for an entry that only needs
     /// another stat.
     pub fn summary(&self) -> Option<Summary>
-        ensures { result ≡ summary_of (told_entry self.now) }
+        ensures { result ≡ summary_of (reported_entry self.now) }
     {
         match self {
             Entry::Modification { status, .. } => status_summary(status),
@@ -114,7 +114,7 @@ impl<'index, T, U> Entry<'index, T, U> {
 
     /// The path of what was renamed or copied. For what isn't a rename or a copy, its own path.
     pub fn source_rela_path(&self) -> BStr<'_>
-        ensures { bstr_bytes result ≡ source_path (told_entry self.now) }
+        ensures { bstr_bytes result ≡ source_path (reported_entry self.now) }
     {
         match self {
             Entry::Modification { rela_path, .. } => *rela_path,
@@ -125,7 +125,7 @@ impl<'index, T, U> Entry<'index, T, U> {
 
     /// The path of what a rename or a copy became. For what is neither, its own path.
     pub fn destination_rela_path(&self) -> BStr<'_>
-        ensures { bstr_bytes result ≡ destination_path (told_entry self.now) }
+        ensures { bstr_bytes result ≡ destination_path (reported_entry self.now) }
     {
         match self {
             Entry::Modification { rela_path, .. } => *rela_path,

@@ -2,7 +2,7 @@
 
 use status_base::index::ObjectId;
 
-/// A value whose clones equal it. What was copied is told twice, so what a comparer and a submodule report has to be such:
+/// A value whose clones equal it. What was copied is reported twice, so what a comparer and a submodule answer has to be such:
 /// it is reported of the copy as of what was copied.
 ///
 /// Implement it for a type of your own that has an exact clone. Numbers, `bool`, `()`, `ObjectId` and options of such

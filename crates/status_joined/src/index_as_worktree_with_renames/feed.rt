@@ -3,10 +3,10 @@
 ghost use Rattle.std.specs.Prelude.{◌≡◌, true, map, All};
 ghost use Rattle.status_rewrites.specs.Entries.{map_rewritten, IsLed};
 ghost use Rattle.status_rewrites.specs.declared.rewritten.Rewritten.TheVariants.{Alone, Rewrite};
-ghost use Rattle.status_joined.specs.Feeding.{IsFed, IsToldOne};
-ghost use Rattle.status_joined.specs.Items.{is_walked, IsTold};
+ghost use Rattle.status_joined.specs.Feeding.{IsFed, IsReportedOne};
+ghost use Rattle.status_joined.specs.Items.{is_walked, IsReported};
 ghost use Rattle.status_joined.specs.Listed.{item_of};
-ghost use Rattle.status_joined.specs.Telling.{told_entry, told_source};
+ghost use Rattle.status_joined.specs.Entries.{reported_entry, reported_source};
 
 use crate::index_as_worktree_with_renames::entry::{Entry, RewriteSource};
 use crate::index_as_worktree_with_renames::item::ModificationOrDirwalkEntry;
@@ -19,7 +19,7 @@ use std::alloc::AllocError;
 fn entry_of_item<'index, T, U>(
     item: ModificationOrDirwalkEntry<'index, T, U>,
 ) -> Entry<'index, T, U>
-    ensures { IsTold (Alone (item_of item.entry)) (told_entry result) }
+    ensures { IsReported (Alone (item_of item.entry)) (reported_entry result) }
 {
     match item {
         ModificationOrDirwalkEntry::Modification(record) => {
@@ -54,7 +54,7 @@ fn entry_of_item<'index, T, U>(
 fn source_of_item<'index, T, U>(
     item: ModificationOrDirwalkEntry<'index, T, U>,
 ) -> RewriteSource<'index, T, U>
-    ensures { told_source result ≡ item_of item.entry }
+    ensures { reported_source result ≡ item_of item.entry }
 {
     match item {
         ModificationOrDirwalkEntry::Modification(record) => {
@@ -93,7 +93,7 @@ fn entry_of_rewrite<'index, T, U>(
     copy: bool,
 ) -> Entry<'index, T, U>
     requires { is_walked (item_of destination) ≡ true }
-    ensures { IsTold (Rewrite (item_of source.entry) (item_of destination.entry) copy) (told_entry result) }
+    ensures { IsReported (Rewrite (item_of source.entry) (item_of destination.entry) copy) (reported_entry result) }
 {
     match destination {
         ModificationOrDirwalkEntry::Modification(_record) => unreachable!(),
@@ -116,7 +116,7 @@ fn entry_of_rewritten<'index, T, U>(
     rewritten: Rewritten<ModificationOrDirwalkEntry<'index, T, U>>,
 ) -> Entry<'index, T, U>
     requires { IsLed is_walked (map_rewritten item_of rewritten) }
-    ensures { IsTold (map_rewritten item_of rewritten.entry) (told_entry result) }
+    ensures { IsReported (map_rewritten item_of rewritten.entry) (reported_entry result) }
 {
     match rewritten {
         Rewritten::Alone(item) => entry_of_item(item),
@@ -134,7 +134,7 @@ fn feed_one<'index, V: VisitEntry<'index>>(
     collector: &mut V,
 ) -> Result<(), AllocError>
     requires { IsLed is_walked (map_rewritten item_of entry) }
-    ensures { IsToldOne (map_rewritten item_of entry.entry) (V.visits collector.old) result (V.visits collector.new) }
+    ensures { IsReportedOne (map_rewritten item_of entry.entry) (V.visits collector.old) result (V.visits collector.new) }
 {
     collector.visit_entry(entry_of_rewritten(entry))
 }

@@ -3,7 +3,7 @@
 ghost use Rattle.std.specs.Prelude.{◌≡◌, IfOk, is_some, option_map};
 ghost use Rattle.status_halves.specs.BothHalves.{Walking};
 ghost use Rattle.status_joined.specs.Identified.{identifying};
-ghost use Rattle.status_joined.specs.JoinedInputs.{asked_walk, joined_inputs, walking_by};
+ghost use Rattle.status_joined.specs.JoinedInputs.{wanted_walk, joined_inputs, walking_by};
 ghost use Rattle.status_joined.specs.JoinedTheorem.{IsJoined};
 
 use crate::index_as_worktree_with_renames::error::Error;
@@ -18,7 +18,7 @@ use status_base::worktree::{Find, Lister, Pathspec, SubmoduleStatus, ToGit, Work
 use status_call::index_as_worktree;
 use status_call::index_as_worktree::inputs::{Inputs, Means};
 use status_compare::CompareBlobs;
-use status_halves::Asked;
+use status_halves::Request;
 use status_tracker::Tracker;
 use status_walk::Walk;
 use std::alloc::{AllocError, Global};
@@ -32,29 +32,29 @@ fn another<T: ToGit>(filter: &T) -> Result<T, AllocError>
     filter.clone()
 }
 
-/// The walk, where one is asked for.
-fn asked_walk<K: Drop>(asked: bool, walk: K) -> Option<K>
-    ensures { (f : K → Walking) → option_map f result ≡ asked_walk asked (f walk) }
+/// The walk, where one is wanted.
+fn wanted_walk<K: Drop>(wanted: bool, walk: K) -> Option<K>
+    ensures { (f : K → Walking) → option_map f result ≡ wanted_walk wanted (f walk) }
 {
-    if asked { Some(walk) } else { None }
+    if wanted { Some(walk) } else { None }
 }
 
 /// Tells `collector` how the worktree differs from `index`, what lies in it beside the index, and what of both are renames
 /// and copies, and answers what that took.
 ///
 /// The status of the index and the walk run side by side, the walk in a thread of its own where there can be one. What they
-/// find is told when both have ended. Where the options have `sorting` that is by path, and at equal paths an entry of the
+/// find is reported when both have ended. Where the options have `sorting` that is by path, and at equal paths an entry of the
 /// index before a node. Else all of the index's entries come before the nodes.
 ///
-/// With `rewrites` the tracker says which of them are renames and copies. Each of these is told in place of the node that
-/// it became, so by that node's path; what was renamed isn't told by itself, and what was copied is.
+/// With `rewrites` the tracker says which of them are renames and copies. Each of these is reported in place of the node that
+/// it became, so by that node's path; what was renamed isn't reported by itself, and what was copied is.
 ///
-/// Where the context's interrupt flag is seen set, both halves end early, and what they found until then is told.
+/// Where the context's interrupt flag is seen set, both halves end early, and what they found until then is reported.
 ///
 /// # Errors
 /// The walk's fault, or else the status's, that of the first node that has no id, or the tracker's; or the first of the
-/// tracker's pairs that breaks a rule. A thread that the status was refused is a fault of its. Then nothing was told. Want
-/// of memory; then nothing was told, or a beginning.
+/// tracker's pairs that breaks a rule. A thread that the status was refused is a fault of its. Then nothing was reported. Want
+/// of memory; then nothing was reported, or a beginning.
 pub fn index_as_worktree_with_renames<
     'index,
     'w,
@@ -88,7 +88,7 @@ where
     ensures { IsJoined (⟦<Inputs<'w, W, C, S, O, P, T, L> as Means>⟧.query
         (joined_inputs worktree.entry compare submodule objects context.entry))
         options index.now (is_some context.entry.should_interrupt)
-        (asked_walk options.dirwalk (walking_by K.modelled W.modelled K.meaning P.prefix P.included
+        (wanted_walk options.dirwalk (walking_by K.modelled W.modelled K.meaning P.prefix P.included
         index.now worktree.entry.now context.entry.pathspec context.entry.dirwalk.walk))
         (identifying W.modelled W.lstat_of W.open_of W.target_of T.conversion
         options.object_hash worktree.entry.now context.entry.filter)
@@ -106,7 +106,7 @@ where
         Ok(filter) => filter,
         Err(_refused) => return Err(Error::Memory),
     };
-    let asked = Asked {
+    let request = Request {
         compare,
         submodule,
         objects,
@@ -121,7 +121,7 @@ where
             chunk_size: options.tracked_file_modifications.chunk_size,
         },
     };
-    let walk = asked_walk(options.dirwalk, walk);
+    let walk = wanted_walk(options.dirwalk, walk);
     let kind = options.object_hash;
     let sorted = options.sorting.is_some();
     let Listing {
@@ -134,7 +134,7 @@ where
         index,
         worktree,
         walk,
-        asked,
+        request,
         should_interrupt,
         kind,
         sorted,

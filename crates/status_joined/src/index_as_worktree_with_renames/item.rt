@@ -1,4 +1,4 @@
-//! What stands in the list of a status, before it is told to a collector.
+//! What stands in the list of a status, before it is reported to a collector.
 
 ghost use Rattle.std.specs.Prelude.{◌≡◌};
 ghost use Rattle.status_joined.specs.Changes.{changed_of, disk_entry_kind, mode_kind};
@@ -23,7 +23,7 @@ pub enum ModificationOrDirwalkEntry<'index, T, U> {
     DirwalkEntry {
         /// The node.
         entry: DirEntry,
-        /// The id of its content. Null where none was asked for.
+        /// The id of its content. Null where none was wanted.
         id: ObjectId,
         /// The status of the directory that stands for the nodes in it, where one does.
         collapsed_directory_status: Option<Status>,

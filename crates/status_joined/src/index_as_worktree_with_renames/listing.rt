@@ -1,7 +1,7 @@
 //! The list of both halves.
 
 ghost use Rattle.std.specs.Prelude.{◌≡◌, is_some, option_map};
-ghost use Rattle.status_halves.specs.AskedInputs.{inputs_of};
+ghost use Rattle.status_halves.specs.RequestInputs.{inputs_of};
 ghost use Rattle.status_joined.specs.JoinedInputs.{walking_by};
 ghost use Rattle.status_joined.specs.Listing.{error_of_failed, IsListing};
 
@@ -13,7 +13,7 @@ use status_base::worktree::{Find, Lister, Pathspec, SubmoduleStatus, ToGit, Work
 use status_call::index_as_worktree::Outcome;
 use status_call::index_as_worktree::inputs::{Inputs, Means};
 use status_compare::CompareBlobs;
-use status_halves::{Asked, Failed, Halves, Tracked, run_halves};
+use status_halves::{Failed, Halves, Request, Tracked, run_halves};
 use status_walk::Walk;
 use std::alloc::Global;
 use std::sync::Wait;
@@ -38,7 +38,7 @@ fn failed_error(failed: Failed) -> Error
     }
 }
 
-/// Lets both halves run, and lists what they found: by path, where that is asked, else the records before the nodes.
+/// Lets both halves run, and lists what they found: by path, where that is wanted, else the records before the nodes.
 ///
 /// # Errors
 /// The walk's, or else the status's. Want of memory.
@@ -60,7 +60,7 @@ pub(crate) fn list_halves<
     index: &'index State,
     worktree: &'w W,
     walk: Option<K>,
-    asked: Asked<C, S, O, P, T, L>,
+    request: Request<C, S, O, P, T, L>,
     interrupt: Option<&AtomicBool>,
     kind: HashKind,
     sorted: bool,
@@ -69,13 +69,13 @@ where
     W::File: Send,
     C::Output: Send + Drop + 'index,
     S::Output: Send + Drop + 'index,
-    ensures { IsListing (⟦<Inputs<'w, W, C, S, O, P, T, L> as Means>⟧.query (inputs_of worktree.entry asked))
-        asked.options index.now (is_some interrupt.entry)
-        (option_map (walking_by K.modelled W.modelled K.meaning P.prefix P.included index.now worktree.entry.now asked.pathspec)
+    ensures { IsListing (⟦<Inputs<'w, W, C, S, O, P, T, L> as Means>⟧.query (inputs_of worktree.entry request))
+        request.options index.now (is_some interrupt.entry)
+        (option_map (walking_by K.modelled W.modelled K.meaning P.prefix P.included index.now worktree.entry.now request.pathspec)
         walk)
         kind sorted result }
 {
-    let halves = match run_halves(rt, alloc, index, worktree, walk, asked, interrupt) {
+    let halves = match run_halves(rt, alloc, index, worktree, walk, request, interrupt) {
         Ok(halves) => halves,
         Err(failed) => return Err(failed_error(failed)),
     };

@@ -1,8 +1,8 @@
 //! Who is given the entries of a status with untracked files, renames and copies.
 
 ghost use Rattle.std.specs.Prelude.{◌≡◌, ◌++◌, ◌∷◌, [], List, OnOk, OnErr};
-ghost use Rattle.status_joined.specs.Items.{Told};
-ghost use Rattle.status_joined.specs.Telling.{told_entry};
+ghost use Rattle.status_joined.specs.Items.{Reported};
+ghost use Rattle.status_joined.specs.Entries.{reported_entry};
 
 use crate::index_as_worktree_with_renames::entry::Entry;
 use std::alloc::{AllocError, Global};
@@ -15,7 +15,7 @@ pub trait VisitEntry<'index> {
     type SubmoduleStatus;
 
     /// What it was given so far.
-    ghost visits: { Self → List (Told Self.ContentChange Self.SubmoduleStatus) };
+    ghost visits: { Self → List (Reported Self.ContentChange Self.SubmoduleStatus) };
 
     /// Takes an entry.
     ///
@@ -25,7 +25,7 @@ pub trait VisitEntry<'index> {
         &mut self,
         entry: Entry<'index, Self::ContentChange, Self::SubmoduleStatus>,
     ) -> Result<(), AllocError>
-        ensures ok { OnOk result (visits self.new ≡ visits self.old ++ told_entry entry.entry ∷ []) }
+        ensures ok { OnOk result (visits self.new ≡ visits self.old ++ reported_entry entry.entry ∷ []) }
         ensures err { OnErr result (visits self.new ≡ visits self.old) };
 }
 
@@ -38,11 +38,11 @@ pub struct Recorder<'index, T, U> {
 
 impl<'index, T, U> Recorder<'index, T, U> {
     ghost use Rattle.std.specs.Prelude.{◌≡◌, []};
-    ghost use Rattle.status_joined.specs.Recorded.{told_of_recorder};
+    ghost use Rattle.status_joined.specs.Recorded.{reported_of_recorder};
 
     /// A recorder with no entry.
     pub fn new(alloc: Global) -> Recorder<'index, T, U>
-        ensures { told_of_recorder result ≡ [] }
+        ensures { reported_of_recorder result ≡ [] }
     {
         Recorder {
             records: Vec::new(alloc),
@@ -52,19 +52,19 @@ impl<'index, T, U> Recorder<'index, T, U> {
 
 impl<'index, T: Drop, U: Drop> VisitEntry<'index> for Recorder<'index, T, U> {
     ghost use Rattle.std.specs.Prelude.{◌≡◌, ◌++◌, ◌∷◌, [], OnOk, OnErr};
-    ghost use Rattle.status_joined.specs.Recorded.{told_of_recorder};
-    ghost use Rattle.status_joined.specs.Telling.{told_entry};
+    ghost use Rattle.status_joined.specs.Recorded.{reported_of_recorder};
+    ghost use Rattle.status_joined.specs.Entries.{reported_entry};
 
     type ContentChange = T;
 
     type SubmoduleStatus = U;
 
-    ghost visits = { told_of_recorder };
+    ghost visits = { reported_of_recorder };
 
     fn visit_entry(&mut self, entry: Entry<'index, T, U>) -> Result<(), AllocError>
-        ensures ok { OnOk result (told_of_recorder self.new
-            ≡ told_of_recorder self.old ++ told_entry entry.entry ∷ []) }
-        ensures err { OnErr result (told_of_recorder self.new ≡ told_of_recorder self.old) }
+        ensures ok { OnOk result (reported_of_recorder self.new
+            ≡ reported_of_recorder self.old ++ reported_entry entry.entry ∷ []) }
+        ensures err { OnErr result (reported_of_recorder self.new ≡ reported_of_recorder self.old) }
     {
         self.records.push(entry)?;
         Ok(())

@@ -11,9 +11,9 @@ pub enum Summary {
     Modified,
     /// A node of another type is there, as a link in place of a file.
     TypeChange,
-    /// A file or link that the index has under another path, where it isn't any more. Told where renames are tracked.
+    /// A file or link that the index has under another path, where it isn't any more. Reported where renames are tracked.
     Renamed,
-    /// A file or link that has its content from another path, where it still is. Told where a tracker finds copies.
+    /// A file or link that has its content from another path, where it still is. Reported where a tracker finds copies.
     Copied,
     /// The index has it as a promise alone, which `git add` is still to keep, and it is there. It wasn't compared.
     IntentToAdd,

@@ -67,7 +67,7 @@ pub struct Context<'a, P, T, L, K, X> {
     pub pathspec: P,
     /// How files are converted to what git stores.
     pub filter: T,
-    /// Listings of directories, which are asked where the options have `fscache`.
+    /// Listings of directories, which are read where the options have `fscache`.
     pub lister: L,
     /// Once it is seen set the status ends early. None is never set.
     pub should_interrupt: Option<&'a AtomicBool>,

@@ -1,13 +1,13 @@
 //! Pairs that break a rule, and trackers that refuse.
 
-use crate::given::{Asked, Report, file, foo_index, joined, later_file, worktree};
+use crate::given::{Report, Request, file, foo_index, joined, later_file, worktree};
 use crate::trackers::{Answers, Refuses, copy, rename};
 use status_joined::index_as_worktree_with_renames::Error;
 use status_tracker::{Pair, TrackerError};
 use status_walk::UntrackedWalk;
 use std::test::Fail;
 
-// Whether the tracker's error ended the status, and nothing was told.
+// Whether the tracker's error ended the status, and nothing was reported.
 fn is_refused(report: &Report<'_>, wanted: TrackerError) -> bool {
     report.records.is_empty()
         && matches!(&report.answer, Err(Error::RewriteTracker(error)) if *error == wanted)
@@ -52,8 +52,8 @@ fn the_first_pair_that_breaks_a_rule_is_named(rt: HostRuntime) -> Result<(), Fai
     ];
     for (row, (pairs, at)) in rows.into_iter().enumerate() {
         let tracker = Answers { alloc, pairs };
-        let asked = Asked::rewritten(UntrackedWalk::new(alloc), tracker);
-        let report = joined(&rt, &index, &worktree, asked);
+        let request = Request::rewritten(UntrackedWalk::new(alloc), tracker);
+        let report = joined(&rt, &index, &worktree, request);
         assert!(rt;
             is_refused(&report, TrackerError::BadPair { at }),
             "row {row}"
@@ -72,8 +72,8 @@ fn a_modified_file_is_not_renamed(rt: HostRuntime) -> Result<(), Fail> {
         alloc,
         pairs: &pairs,
     };
-    let asked = Asked::rewritten(UntrackedWalk::new(alloc), tracker);
-    let report = joined(&rt, &index, &worktree, asked);
+    let request = Request::rewritten(UntrackedWalk::new(alloc), tracker);
+    let report = joined(&rt, &index, &worktree, request);
     assert!(rt; is_refused(&report, TrackerError::BadPair { at: 0 }));
     Ok(())
 }
@@ -88,8 +88,8 @@ fn two_files_are_not_renamed_to_one(rt: HostRuntime) -> Result<(), Fail> {
         alloc,
         pairs: &pairs,
     };
-    let asked = Asked::rewritten(UntrackedWalk::new(alloc), tracker);
-    let report = joined(&rt, &index, &worktree, asked);
+    let request = Request::rewritten(UntrackedWalk::new(alloc), tracker);
+    let report = joined(&rt, &index, &worktree, request);
     assert!(rt; is_refused(&report, TrackerError::BadPair { at: 1 }));
     Ok(())
 }
@@ -100,20 +100,20 @@ fn a_tracker_that_refuses_ends_the_status(rt: HostRuntime) -> Result<(), Fail> {
     let index = foo_index(alloc, &["a"])?;
     let worktree = worktree(alloc, &[file("b", b"foo")])?;
     for error in [TrackerError::Refused(7), TrackerError::BadPair { at: 9 }] {
-        let asked = Asked::rewritten(UntrackedWalk::new(alloc), Refuses(error));
-        let report = joined(&rt, &index, &worktree, asked);
+        let request = Request::rewritten(UntrackedWalk::new(alloc), Refuses(error));
+        let report = joined(&rt, &index, &worktree, request);
         assert!(rt; is_refused(&report, error));
     }
-    let asked = Asked::rewritten(UntrackedWalk::new(alloc), Refuses(TrackerError::Memory));
-    let report = joined(&rt, &index, &worktree, asked);
+    let request = Request::rewritten(UntrackedWalk::new(alloc), Refuses(TrackerError::Memory));
+    let report = joined(&rt, &index, &worktree, request);
     assert!(rt; report.records.is_empty());
     assert!(rt; matches!(report.answer, Err(Error::Memory)));
-    // Where no renames are looked for it isn't asked.
+    // Where no renames are looked for it isn't called.
     let tracker = Refuses(TrackerError::Refused(7));
-    let asked = Asked::sorted(UntrackedWalk::new(alloc), tracker);
-    let report = joined(&rt, &index, &worktree, asked);
+    let request = Request::sorted(UntrackedWalk::new(alloc), tracker);
+    let report = joined(&rt, &index, &worktree, request);
     assert_eq!(rt;
-        report.told(alloc)?.as_str(),
+        report.reported(alloc)?.as_str(),
         "0 removed \"a\"\n- added \"b\"\n"
     );
     Ok(())

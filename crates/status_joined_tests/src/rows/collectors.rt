@@ -1,7 +1,7 @@
 //! Collectors whose memory runs out.
 
 use crate::collectors::Full;
-use crate::given::{Asked, Report, file, foo_index, tell, worktree};
+use crate::given::{Report, Request, file, foo_index, tell, worktree};
 use status_joined::index_as_worktree_with_renames::{Error, Recorder};
 use status_tracker::IdentityTracker;
 use status_walk::UntrackedWalk;
@@ -22,22 +22,22 @@ fn a_collector_that_is_refused_memory_holds_a_beginning(rt: HostRuntime) -> Resu
         let mut wanted = String::new(alloc);
         for (room, line) in lines.into_iter().enumerate() {
             let (walk, tracker) = (UntrackedWalk::new(alloc), IdentityTracker::new(alloc));
-            let asked = if rewritten {
-                Asked::rewritten(walk, tracker)
+            let request = if rewritten {
+                Request::rewritten(walk, tracker)
             } else {
-                Asked::sorted(walk, tracker)
+                Request::sorted(walk, tracker)
             };
             let mut full = Full {
                 collector: Recorder::new(alloc),
                 room,
             };
-            let answer = tell(&rt, alloc, &index, &worktree, &mut full, asked);
+            let answer = tell(&rt, alloc, &index, &worktree, &mut full, request);
             assert!(rt; matches!(answer, Err(Error::Memory)));
             let report = Report {
                 records: full.collector.records,
                 answer,
             };
-            assert_eq!(rt; report.told(alloc)?.as_str(), wanted.as_str());
+            assert_eq!(rt; report.reported(alloc)?.as_str(), wanted.as_str());
             wanted.push_str(line)?;
         }
     }

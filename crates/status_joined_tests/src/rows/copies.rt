@@ -1,6 +1,6 @@
 //! Copies, which a tracker of the caller's may find.
 
-use crate::given::{Asked, BAR, FOO, file, foo_index, joined, later_file, worktree};
+use crate::given::{BAR, FOO, Request, file, foo_index, joined, later_file, worktree};
 use crate::trackers::{Answers, copy, rename};
 use crate::walks::{Found, HandsOut, untracked};
 use status_base::index::ObjectId;
@@ -11,18 +11,18 @@ use std::alloc::Global;
 use std::test::Fail;
 
 // Asks for the renames and copies that a tracker answers.
-fn asked(alloc: Global, pairs: &[Pair]) -> Asked<'_, UntrackedWalk, Answers<'_>> {
-    Asked::rewritten(UntrackedWalk::new(alloc), Answers { alloc, pairs })
+fn request(alloc: Global, pairs: &[Pair]) -> Request<'_, UntrackedWalk, Answers<'_>> {
+    Request::rewritten(UntrackedWalk::new(alloc), Answers { alloc, pairs })
 }
 
 #[test]
-fn what_was_copied_is_told_by_itself_too(rt: HostRuntime) -> Result<(), Fail> {
+fn what_was_copied_is_reported_by_itself_too(rt: HostRuntime) -> Result<(), Fail> {
     let alloc = rt.alloc();
     let index = foo_index(alloc, &["a"])?;
     let worktree = worktree(alloc, &[later_file("a", b"bar"), file("b", b"bar")])?;
-    let report = joined(&rt, &index, &worktree, asked(alloc, &[copy(0, 1)]));
+    let report = joined(&rt, &index, &worktree, request(alloc, &[copy(0, 1)]));
     assert_eq!(rt;
-        report.told(alloc)?.as_str(),
+        report.reported(alloc)?.as_str(),
         "0 modified \"a\"\n- copied \"a\" \"b\"\n"
     );
     assert_eq!(rt; report.records.len(), 2);
@@ -72,9 +72,9 @@ fn an_untracked_file_may_be_copied_more_than_once(rt: HostRuntime) -> Result<(),
     let nodes = [file("b", b"foo"), file("c", b"foo"), file("d", b"foo")];
     let worktree = worktree(alloc, &nodes)?;
     let pairs = [copy(1, 3), copy(1, 2)];
-    let report = joined(&rt, &index, &worktree, asked(alloc, &pairs));
+    let report = joined(&rt, &index, &worktree, request(alloc, &pairs));
     assert_eq!(rt;
-        report.told(alloc)?.as_str(),
+        report.reported(alloc)?.as_str(),
         "0 removed \"a\"\n- added \"b\"\n- copied \"b\" \"c\"\n- copied \"b\" \"d\"\n"
     );
     assert_eq!(rt; report.records.len(), 4);
@@ -95,9 +95,9 @@ fn renames_and_copies_are_counted(rt: HostRuntime) -> Result<(), Fail> {
     ];
     let worktree = worktree(alloc, &nodes)?;
     let pairs = [rename(1, 3), copy(2, 5), rename(0, 4)];
-    let report = joined(&rt, &index, &worktree, asked(alloc, &pairs));
+    let report = joined(&rt, &index, &worktree, request(alloc, &pairs));
     assert_eq!(rt;
-        report.told(alloc)?.as_str(),
+        report.reported(alloc)?.as_str(),
         "2 modified \"m\"\n- renamed \"b\" \"x\"\n- renamed \"a\" \"y\"\n- copied \"m\" \"z\"\n"
     );
     let counts = rewrites::Outcome {
@@ -150,9 +150,9 @@ fn a_copy_has_the_statuses_of_both_directories(rt: HostRuntime) -> Result<(), Fa
         alloc,
         pairs: &pairs,
     };
-    let report = joined(&rt, &index, &worktree, Asked::rewritten(walk, tracker));
+    let report = joined(&rt, &index, &worktree, Request::rewritten(walk, tracker));
     assert_eq!(rt;
-        report.told(alloc)?.as_str(),
+        report.reported(alloc)?.as_str(),
         "- added \"b\"\n- copied \"b\" \"c\"\n"
     );
     let wanted = (Some(Status::Ignored), Some(Status::Untracked));

@@ -1,6 +1,6 @@
 //! Faults of the parts, and which of them is answered.
 
-use crate::given::{Asked, Report, failing, file, foo_index, joined, later_file, worktree};
+use crate::given::{Report, Request, failing, file, foo_index, joined, later_file, worktree};
 use crate::trackers::{Answers, Refuses, rename};
 use crate::walks::{Fails, HandsOut, untracked};
 use status_base::worktree::{Fault, MemoryWorktree, Point};
@@ -21,7 +21,7 @@ fn planted(alloc: Global, faults: &[(Point, &str, Fault)]) -> Result<MemoryWorkt
     Ok(failing(worktree(alloc, &nodes)?, faults)?)
 }
 
-// Whether the walk's fault at `d` ended the status, and nothing was told.
+// Whether the walk's fault at `d` ended the status, and nothing was reported.
 fn is_walk_fault(report: &Report<'_>, wanted: Fault) -> bool {
     match &report.answer {
         Err(Error::DirWalk(WalkError::Fault { rela_path, fault })) => {
@@ -31,7 +31,7 @@ fn is_walk_fault(report: &Report<'_>, wanted: Fault) -> bool {
     }
 }
 
-// Whether a fault of an entry ended the status, and nothing was told.
+// Whether a fault of an entry ended the status, and nothing was reported.
 fn is_tracked_fault(report: &Report<'_>, wanted: Fault) -> bool {
     match &report.answer {
         Err(Error::TrackedFileModifications(index_as_worktree::Error::Io(fault))) => {
@@ -41,7 +41,7 @@ fn is_tracked_fault(report: &Report<'_>, wanted: Fault) -> bool {
     }
 }
 
-// Whether the fault of opening a node ended the status, and nothing was told.
+// Whether the fault of opening a node ended the status, and nothing was reported.
 fn is_open_fault(report: &Report<'_>, wanted: Fault) -> bool {
     match &report.answer {
         Err(Error::OpenWorktreeFile(fault)) => report.records.is_empty() && *fault == wanted,
@@ -62,13 +62,13 @@ fn a_fault_of_the_walk_comes_before_one_of_an_entry(rt: HostRuntime) -> Result<(
         fault: Fault::Other(3),
     };
     let tracker = Answers { alloc, pairs: &[] };
-    let report = joined(&rt, &index, &worktree, Asked::sorted(walk, tracker));
+    let report = joined(&rt, &index, &worktree, Request::sorted(walk, tracker));
     assert!(rt; is_walk_fault(&report, Fault::Other(3)));
     let walk = HandsOut {
         alloc,
         nodes: &nodes,
     };
-    let report = joined(&rt, &index, &worktree, Asked::sorted(walk, tracker));
+    let report = joined(&rt, &index, &worktree, Request::sorted(walk, tracker));
     assert!(rt; is_tracked_fault(&report, Fault::PermissionDenied));
     Ok(())
 }
@@ -88,7 +88,7 @@ fn a_fault_of_an_entry_comes_before_one_of_a_node(rt: HostRuntime) -> Result<(),
         nodes: &nodes,
     };
     let tracker = Answers { alloc, pairs: &[] };
-    let report = joined(&rt, &index, &worktree, Asked::rewritten(walk, tracker));
+    let report = joined(&rt, &index, &worktree, Request::rewritten(walk, tracker));
     assert!(rt; is_tracked_fault(&report, Fault::PermissionDenied));
     Ok(())
 }
@@ -109,7 +109,7 @@ fn the_first_node_of_the_list_has_the_fault(rt: HostRuntime) -> Result<(), Fail>
         nodes: &nodes,
     };
     let tracker = Answers { alloc, pairs: &[] };
-    let report = joined(&rt, &index, &worktree, Asked::rewritten(walk, tracker));
+    let report = joined(&rt, &index, &worktree, Request::rewritten(walk, tracker));
     assert!(rt; is_open_fault(&report, Fault::Other(7)));
     Ok(())
 }
@@ -125,14 +125,14 @@ fn a_fault_of_a_node_comes_before_one_of_the_tracker(rt: HostRuntime) -> Result<
         nodes: &nodes,
     };
     let refuses = Refuses(TrackerError::Refused(7));
-    let report = joined(&rt, &index, &worktree, Asked::rewritten(walk, refuses));
+    let report = joined(&rt, &index, &worktree, Request::rewritten(walk, refuses));
     assert!(rt; is_open_fault(&report, Fault::Other(7)));
     let pairs = [rename(1, 0)];
     let bad = Answers {
         alloc,
         pairs: &pairs,
     };
-    let report = joined(&rt, &index, &worktree, Asked::rewritten(walk, bad));
+    let report = joined(&rt, &index, &worktree, Request::rewritten(walk, bad));
     assert!(rt; is_open_fault(&report, Fault::Other(7)));
     Ok(())
 }
@@ -150,7 +150,7 @@ fn want_of_memory_in_any_part_is_one_error(rt: HostRuntime) -> Result<(), Fail> 
     };
     let tracker = Answers { alloc, pairs: &[] };
     let clean = planted(alloc, &[])?;
-    let report = joined(&rt, &index, &clean, Asked::sorted(fails, tracker));
+    let report = joined(&rt, &index, &clean, Request::sorted(fails, tracker));
     assert!(rt; matches!(report.answer, Err(Error::Memory)));
     assert!(rt; report.records.is_empty());
     for path in ["a", "b"] {
@@ -160,7 +160,7 @@ fn want_of_memory_in_any_part_is_one_error(rt: HostRuntime) -> Result<(), Fail> 
             alloc,
             nodes: &nodes,
         };
-        let report = joined(&rt, &index, &worktree, Asked::rewritten(walk, tracker));
+        let report = joined(&rt, &index, &worktree, Request::rewritten(walk, tracker));
         assert!(rt; matches!(report.answer, Err(Error::Memory)));
         assert!(rt; report.records.is_empty());
     }

@@ -1,7 +1,7 @@
 //! Ids of nodes, as a tracker sees them, and faults on the way to them.
 
 use crate::given::{
-    Asked, BAR, FOO, failing, file, foo_entry, foo_index, index, joined, later_file, link,
+    BAR, FOO, Request, failing, file, foo_entry, foo_index, index, joined, later_file, link,
     mode_entry, short_file, worktree,
 };
 use crate::trackers::{Answers, Notes, Seen};
@@ -50,14 +50,14 @@ fn a_file_that_is_gone_or_may_not_be_read_has_the_null_id(rt: HostRuntime) -> Re
             alloc,
             seen: &mut seen,
         };
-        let report = joined(&rt, &index, &worktree, Asked::rewritten(walk, tracker));
-        assert_eq!(rt; report.told(alloc)?.as_str(), "- added \"b\"\n");
+        let report = joined(&rt, &index, &worktree, Request::rewritten(walk, tracker));
+        assert_eq!(rt; report.reported(alloc)?.as_str(), "- added \"b\"\n");
         assert!(rt; seen.as_slice() == [added(NULL)].as_slice());
     }
     Ok(())
 }
 
-// What a node's fault makes the status answer. Nothing is told.
+// What a node's fault makes the status answer. Nothing is reported.
 fn answer<R: AllocGlobal + Threads + Wait>(
     rt: &R,
     node: Found<'_>,
@@ -72,7 +72,7 @@ fn answer<R: AllocGlobal + Threads + Wait>(
         nodes: &nodes,
     };
     let tracker = Answers { alloc, pairs: &[] };
-    let report = joined(rt, &index, &worktree, Asked::rewritten(walk, tracker));
+    let report = joined(rt, &index, &worktree, Request::rewritten(walk, tracker));
     if !report.records.is_empty() {
         return Ok(None);
     }
@@ -108,9 +108,9 @@ fn without_rewrites_no_id_is_computed(rt: HostRuntime) -> Result<(), Fail> {
         nodes: &nodes,
     };
     let tracker = Answers { alloc, pairs: &[] };
-    let report = joined(&rt, &index, &worktree, Asked::sorted(walk, tracker));
+    let report = joined(&rt, &index, &worktree, Request::sorted(walk, tracker));
     assert!(rt; report.answer.is_ok());
-    assert_eq!(rt; report.told(alloc)?.as_str(), "- added \"b\"\n");
+    assert_eq!(rt; report.reported(alloc)?.as_str(), "- added \"b\"\n");
     Ok(())
 }
 
@@ -160,7 +160,7 @@ fn a_tracker_sees_kinds_and_ids(rt: HostRuntime) -> Result<(), Fail> {
         alloc,
         seen: &mut seen,
     };
-    let report = joined(&rt, &index, &worktree, Asked::rewritten(walk, tracker));
+    let report = joined(&rt, &index, &worktree, Request::rewritten(walk, tracker));
     assert!(rt; report.answer.is_ok());
     let removed = |mode| Seen {
         kind: ChangeKind::Deletion,

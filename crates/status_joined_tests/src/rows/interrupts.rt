@@ -1,6 +1,6 @@
 //! Both halves, ended early.
 
-use crate::given::{Asked, file, foo_index, joined, worktree};
+use crate::given::{Request, file, foo_index, joined, worktree};
 use crate::trackers::Answers;
 use crate::walks::{Interrupts, untracked};
 use crate::worktrees::Waiting;
@@ -30,13 +30,13 @@ fn a_flag_that_is_set_ends_both_halves_at_once(rt: HostRuntime) -> Result<(), Fa
     let worktree = worktree(alloc, &nodes)?;
     let flag = AtomicBool::new(true);
     let tracker = Answers { alloc, pairs: &[] };
-    let asked = Asked {
+    let request = Request {
         interrupt: Some(&flag),
-        ..Asked::sorted(UntrackedWalk::new(alloc), tracker)
+        ..Request::sorted(UntrackedWalk::new(alloc), tracker)
     };
-    let report = joined(&rt, &index, &worktree, asked);
+    let report = joined(&rt, &index, &worktree, request);
     // The walk sees the flag where it hands out its first node.
-    assert_eq!(rt; report.told(alloc)?.as_str(), "- added \"b\"\n");
+    assert_eq!(rt; report.reported(alloc)?.as_str(), "- added \"b\"\n");
     let outcome = report.answer?;
     let tracked = index_as_worktree::Outcome {
         entries_to_process: 1,
@@ -55,13 +55,13 @@ fn a_flag_that_stays_unset_ends_neither_half(rt: HostRuntime) -> Result<(), Fail
     let worktree = worktree(alloc, &[file("b", b"foo"), file("c", b"foo")])?;
     let flag = AtomicBool::new(false);
     let tracker = Answers { alloc, pairs: &[] };
-    let asked = Asked {
+    let request = Request {
         interrupt: Some(&flag),
-        ..Asked::sorted(UntrackedWalk::new(alloc), tracker)
+        ..Request::sorted(UntrackedWalk::new(alloc), tracker)
     };
-    let report = joined(&rt, &index, &worktree, asked);
+    let report = joined(&rt, &index, &worktree, request);
     assert_eq!(rt;
-        report.told(alloc)?.as_str(),
+        report.reported(alloc)?.as_str(),
         "0 removed \"a\"\n- added \"b\"\n- added \"c\"\n"
     );
     let outcome = report.answer?;
@@ -74,9 +74,9 @@ fn a_flag_that_stays_unset_ends_neither_half(rt: HostRuntime) -> Result<(), Fail
     Ok(())
 }
 
-// What is told, and what it took, where the flag is set while the status looks at the first of two entries and the walk has
+// What is reported, and what it took, where the flag is set while the status looks at the first of two entries and the walk has
 // one of three nodes.
-fn told_until<R: AllocGlobal + Threads + Wait, X: Tracker + Drop>(
+fn reported_until<R: AllocGlobal + Threads + Wait, X: Tracker + Drop>(
     rt: &R,
     alloc: Global,
     tracker: X,
@@ -99,17 +99,17 @@ fn told_until<R: AllocGlobal + Threads + Wait, X: Tracker + Drop>(
         flag: &flag,
         rest: &rest,
     };
-    let asked = if rewritten {
-        Asked::rewritten(walk, tracker)
+    let request = if rewritten {
+        Request::rewritten(walk, tracker)
     } else {
-        Asked::sorted(walk, tracker)
+        Request::sorted(walk, tracker)
     };
-    let asked = Asked {
+    let request = Request {
         interrupt: Some(&flag),
-        ..asked
+        ..request
     };
-    let report = joined(rt, &index, &worktree, asked);
-    Ok((report.told(alloc)?, report.answer?))
+    let report = joined(rt, &index, &worktree, request);
+    Ok((report.reported(alloc)?, report.answer?))
 }
 
 // What it takes to find that the first of two entries is removed.
@@ -124,12 +124,12 @@ fn one_of_two() -> index_as_worktree::Outcome {
 }
 
 #[test]
-fn what_was_found_before_the_flag_was_seen_is_told(rt: HostRuntime) -> Result<(), Fail> {
+fn what_was_found_before_the_flag_was_seen_is_reported(rt: HostRuntime) -> Result<(), Fail> {
     let alloc = rt.alloc();
     let tracker = Answers { alloc, pairs: &[] };
-    let (told, outcome) = told_until(&rt, alloc, tracker, false)?;
+    let (reported, outcome) = reported_until(&rt, alloc, tracker, false)?;
     assert_eq!(rt;
-        told.as_str(),
+        reported.as_str(),
         "0 removed \"a\"\n- added \"b\"\n- added \"c\"\n"
     );
     assert_eq!(rt; outcome.tracked_file_modification, one_of_two());
@@ -142,8 +142,8 @@ fn renames_are_found_in_what_was_found_before_the_flag_was_seen(
     rt: HostRuntime,
 ) -> Result<(), Fail> {
     let alloc = rt.alloc();
-    let (told, outcome) = told_until(&rt, alloc, IdentityTracker::new(alloc), true)?;
-    assert_eq!(rt; told.as_str(), "- renamed \"a\" \"b\"\n- added \"c\"\n");
+    let (reported, outcome) = reported_until(&rt, alloc, IdentityTracker::new(alloc), true)?;
+    assert_eq!(rt; reported.as_str(), "- renamed \"a\" \"b\"\n- added \"c\"\n");
     assert_eq!(rt; outcome.tracked_file_modification, one_of_two());
     assert_eq!(rt; outcome.dirwalk, ended(2));
     Ok(())

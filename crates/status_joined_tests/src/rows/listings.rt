@@ -1,6 +1,6 @@
 //! Listings of directories in place of `lstat` of the index's entries.
 
-use crate::given::{Asked, Report, STAGED, file, foo_index, tell_handed, worktree};
+use crate::given::{Report, Request, STAGED, file, foo_index, tell_handed, worktree};
 use bstr::{BStr, BString};
 use status_base::fscache::Stat;
 use status_base::index::State;
@@ -50,7 +50,7 @@ impl Lister for OneFile<'_> {
     }
 }
 
-// What is told where a directory is listed.
+// What is reported where a directory is listed.
 fn listed_by<
     'index,
     R: AllocGlobal + Threads + Wait,
@@ -62,7 +62,7 @@ fn listed_by<
     index: &'index State,
     worktree: &W,
     lister: OneFile<'_>,
-    asked: Asked<'_, K, X>,
+    request: Request<'_, K, X>,
 ) -> Report<'index>
 where
     W::File: Send,
@@ -78,7 +78,7 @@ where
         NoSubmodules,
         NoFilter,
         lister,
-        asked,
+        request,
     );
     Report {
         records: recorder.records,
@@ -91,21 +91,21 @@ fn entries_are_looked_up_in_listings_and_nodes_arent(rt: HostRuntime) -> Result<
     let alloc = rt.alloc();
     let index = foo_index(alloc, &["a", "b"])?;
     let worktree = worktree(alloc, &[file("c", b"foo")])?;
-    for (fscache, told) in [
+    for (fscache, reported) in [
         (false, "1 removed \"b\"\n- renamed \"a\" \"c\"\n"),
         (true, "- renamed \"b\" \"c\"\n"),
     ] {
-        let asked = Asked::rewritten(UntrackedWalk::new(alloc), IdentityTracker::new(alloc));
-        let asked = Asked {
+        let request = Request::rewritten(UntrackedWalk::new(alloc), IdentityTracker::new(alloc));
+        let request = Request {
             options: Options {
                 fscache,
-                ..asked.options
+                ..request.options
             },
-            ..asked
+            ..request
         };
         let lister = OneFile { alloc, name: "a" };
-        let report = listed_by(&rt, &index, &worktree, lister, asked);
-        assert_eq!(rt; report.told(alloc)?.as_str(), told);
+        let report = listed_by(&rt, &index, &worktree, lister, request);
+        assert_eq!(rt; report.reported(alloc)?.as_str(), reported);
         assert!(rt; report.answer.is_ok());
     }
     Ok(())

@@ -1,6 +1,6 @@
 //! Both halves at the same time.
 
-use crate::given::{Asked, foo_index, joined, worktree};
+use crate::given::{Request, foo_index, joined, worktree};
 use crate::trackers::Answers;
 use crate::walks::Meets;
 use crate::worktrees::Waiting;
@@ -23,9 +23,9 @@ fn the_walk_and_the_status_run_at_the_same_time(rt: HostRuntime) -> Result<(), F
         begun: &begun,
         looked: &looked,
     };
-    let asked = Asked::sorted(walk, Answers { alloc, pairs: &[] });
-    let report = joined(&rt, &index, &worktree, asked);
+    let request = Request::sorted(walk, Answers { alloc, pairs: &[] });
+    let report = joined(&rt, &index, &worktree, request);
     assert!(rt; report.answer.is_ok());
-    assert_eq!(rt; report.told(alloc)?.as_str(), "0 removed \"a\"\n");
+    assert_eq!(rt; report.reported(alloc)?.as_str(), "0 removed \"a\"\n");
     Ok(())
 }

@@ -1,4 +1,4 @@
-//! Small indexes, worktrees and walks, and what is told of them.
+//! Small indexes, worktrees and walks, and what is reported of them.
 
 mod bad_pairs;
 mod collectors;

@@ -1,8 +1,8 @@
 //! Renames by equal content.
 
 use crate::given::{
-    Asked, FOO, GivenEntry, empty_entry, file, foo_entry, index, joined, link, mode_entry, options,
-    worktree,
+    FOO, GivenEntry, Request, empty_entry, file, foo_entry, index, joined, link, mode_entry,
+    options, worktree,
 };
 use status_base::index::{HashKind, Mode, ObjectId};
 use status_call::index_as_worktree::{Change, EntryStatus};
@@ -21,8 +21,8 @@ const LONG_FOO: ObjectId = ObjectId::Sha256([
 ]);
 
 // Asks for renames by equal content.
-fn asked(alloc: Global, options: Options) -> Asked<'static, UntrackedWalk, IdentityTracker> {
-    Asked {
+fn request(alloc: Global, options: Options) -> Request<'static, UntrackedWalk, IdentityTracker> {
+    Request {
         walk: UntrackedWalk::new(alloc),
         tracker: IdentityTracker::new(alloc),
         options,
@@ -45,9 +45,9 @@ fn the_first_untracked_file_of_a_content_is_the_renamed_one(rt: HostRuntime) -> 
     let alloc = rt.alloc();
     let index = index(alloc, &[foo_entry("a")])?;
     let worktree = worktree(alloc, &[file("b", b"foo"), file("c", b"foo")])?;
-    let report = joined(&rt, &index, &worktree, asked(alloc, tracked(false)));
+    let report = joined(&rt, &index, &worktree, request(alloc, tracked(false)));
     assert_eq!(rt;
-        report.told(alloc)?.as_str(),
+        report.reported(alloc)?.as_str(),
         "- renamed \"a\" \"b\"\n- added \"c\"\n"
     );
     assert_eq!(rt; report.answer?.rewrites, renamed(1));
@@ -59,10 +59,10 @@ fn the_first_removed_file_of_a_content_is_the_renamed_one(rt: HostRuntime) -> Re
     let alloc = rt.alloc();
     let index = index(alloc, &[foo_entry("a"), foo_entry("b")])?;
     let worktree = worktree(alloc, &[file("c", b"foo")])?;
-    let report = joined(&rt, &index, &worktree, asked(alloc, tracked(false)));
+    let report = joined(&rt, &index, &worktree, request(alloc, tracked(false)));
     // The rename stands where its destination does.
     assert_eq!(rt;
-        report.told(alloc)?.as_str(),
+        report.reported(alloc)?.as_str(),
         "1 removed \"b\"\n- renamed \"a\" \"c\"\n"
     );
     assert_eq!(rt; report.answer?.rewrites, renamed(1));
@@ -74,9 +74,9 @@ fn renames_stand_at_their_destinations(rt: HostRuntime) -> Result<(), Fail> {
     let alloc = rt.alloc();
     let index = index(alloc, &[foo_entry("m"), foo_entry("z")])?;
     let worktree = worktree(alloc, &[file("a", b"bar"), file("b", b"foo")])?;
-    let report = joined(&rt, &index, &worktree, asked(alloc, tracked(false)));
+    let report = joined(&rt, &index, &worktree, request(alloc, tracked(false)));
     assert_eq!(rt;
-        report.told(alloc)?.as_str(),
+        report.reported(alloc)?.as_str(),
         "- added \"a\"\n- renamed \"m\" \"b\"\n1 removed \"z\"\n"
     );
     // In no order, the index's entries come first.
@@ -84,9 +84,9 @@ fn renames_stand_at_their_destinations(rt: HostRuntime) -> Result<(), Fail> {
         sorting: None,
         ..tracked(false)
     };
-    let report = joined(&rt, &index, &worktree, asked(alloc, options));
+    let report = joined(&rt, &index, &worktree, request(alloc, options));
     assert_eq!(rt;
-        report.told(alloc)?.as_str(),
+        report.reported(alloc)?.as_str(),
         "1 removed \"z\"\n- added \"a\"\n- renamed \"m\" \"b\"\n"
     );
     Ok(())
@@ -106,8 +106,8 @@ fn links_and_files_are_no_renames_of_each_other(rt: HostRuntime) -> Result<(), F
     ];
     for (node, wanted, outcome) in nodes {
         let worktree = worktree(alloc, &[node])?;
-        let report = joined(&rt, &index, &worktree, asked(alloc, tracked(false)));
-        assert_eq!(rt; report.told(alloc)?.as_str(), wanted);
+        let report = joined(&rt, &index, &worktree, request(alloc, tracked(false)));
+        assert_eq!(rt; report.reported(alloc)?.as_str(), wanted);
         assert_eq!(rt; report.answer?.rewrites, outcome);
     }
     Ok(())
@@ -118,14 +118,14 @@ fn files_with_no_bytes_are_renamed_where_they_are_tracked(rt: HostRuntime) -> Re
     let alloc = rt.alloc();
     let index = index(alloc, &[empty_entry("a")])?;
     let worktree = worktree(alloc, &[file("b", b"")])?;
-    let report = joined(&rt, &index, &worktree, asked(alloc, tracked(false)));
+    let report = joined(&rt, &index, &worktree, request(alloc, tracked(false)));
     assert_eq!(rt;
-        report.told(alloc)?.as_str(),
+        report.reported(alloc)?.as_str(),
         "0 removed \"a\"\n- added \"b\"\n"
     );
     assert_eq!(rt; report.answer?.rewrites, renamed(0));
-    let report = joined(&rt, &index, &worktree, asked(alloc, tracked(true)));
-    assert_eq!(rt; report.told(alloc)?.as_str(), "- renamed \"a\" \"b\"\n");
+    let report = joined(&rt, &index, &worktree, request(alloc, tracked(true)));
+    assert_eq!(rt; report.reported(alloc)?.as_str(), "- renamed \"a\" \"b\"\n");
     assert_eq!(rt; report.answer?.rewrites, renamed(1));
     Ok(())
 }
@@ -147,8 +147,8 @@ fn ids_of_nodes_are_of_the_kind_that_is_asked_for(rt: HostRuntime) -> Result<(),
             object_hash,
             ..tracked(false)
         };
-        let report = joined(&rt, &index, &worktree, asked(alloc, options));
-        assert_eq!(rt; report.told(alloc)?.as_str(), wanted);
+        let report = joined(&rt, &index, &worktree, request(alloc, options));
+        assert_eq!(rt; report.reported(alloc)?.as_str(), wanted);
     }
     Ok(())
 }
@@ -158,9 +158,9 @@ fn without_rewrites_no_renames_are_looked_for(rt: HostRuntime) -> Result<(), Fai
     let alloc = rt.alloc();
     let index = index(alloc, &[foo_entry("a")])?;
     let worktree = worktree(alloc, &[file("b", b"foo")])?;
-    let report = joined(&rt, &index, &worktree, asked(alloc, options(None)));
+    let report = joined(&rt, &index, &worktree, request(alloc, options(None)));
     assert_eq!(rt;
-        report.told(alloc)?.as_str(),
+        report.reported(alloc)?.as_str(),
         "0 removed \"a\"\n- added \"b\"\n"
     );
     assert_eq!(rt; report.answer?.rewrites, None);
@@ -204,7 +204,7 @@ fn a_rename_has_the_entry_and_the_node(rt: HostRuntime) -> Result<(), Fail> {
     let alloc = rt.alloc();
     let index = index(alloc, &[empty_entry("a"), foo_entry("b")])?;
     let worktree = worktree(alloc, &[file("c", b"foo")])?;
-    let report = joined(&rt, &index, &worktree, asked(alloc, tracked(false)));
+    let report = joined(&rt, &index, &worktree, request(alloc, tracked(false)));
     assert_eq!(rt; report.records.len(), 2);
     let rename = &report.records[1];
     assert!(rt; is_rename(rename, 2, (1, "b"), "c"));

@@ -1,6 +1,6 @@
 //! A submodule of a type of the test's own, which reports an option of a number.
 
-use crate::given::{Asked, index, mode_entry, tell_handed};
+use crate::given::{Request, index, mode_entry, tell_handed};
 use bstr::BStr;
 use status_base::index::{Entry, Mode, ObjectId, State};
 use status_base::worktree::{
@@ -56,14 +56,14 @@ fn tell_changed<
     worktree: &W,
     collector: &mut Recorder<'index, ObjectId, Option<u64>>,
     submodule: Changed,
-    asked: Asked<'_, K, X>,
+    request: Request<'_, K, X>,
 ) -> Result<Outcome, joined::Error>
 where
     W::File: Send,
 {
     let alloc = rt.alloc();
     tell_handed(
-        rt, alloc, index, worktree, collector, submodule, NoFilter, NoLister, asked,
+        rt, alloc, index, worktree, collector, submodule, NoFilter, NoLister, request,
     )
 }
 
@@ -87,14 +87,14 @@ fn a_submodule_reports_a_type_of_the_callers(rt: HostRuntime) -> Result<(), Fail
     worktree.put(BStr::from("sub"), directory)?;
     for places in [None, Some(7)] {
         let mut recorder = Recorder::new(alloc);
-        let asked = Asked::sorted(UntrackedWalk::new(alloc), IdentityTracker::new(alloc));
+        let request = Request::sorted(UntrackedWalk::new(alloc), IdentityTracker::new(alloc));
         let answer = tell_changed(
             &rt,
             &index,
             &worktree,
             &mut recorder,
             Changed { places },
-            asked,
+            request,
         );
         assert!(rt; answer.is_ok());
         assert_eq!(rt; recorder.records.len(), 1);

@@ -1,8 +1,8 @@
 //! What a walk finds, beside what the index has.
 
 use crate::given::{
-    Asked, file, foo_entry, foo_index, index, joined, later_file, link, mode_entry, options, other,
-    worktree,
+    Request, file, foo_entry, foo_index, index, joined, later_file, link, mode_entry, options,
+    other, worktree,
 };
 use crate::trackers::Answers;
 use crate::walks::{Found, HandsOut, untracked};
@@ -12,7 +12,7 @@ use status_walk::{Kind, Outcome, Status, UntrackedWalk};
 use std::alloc::Global;
 use std::test::Fail;
 
-// A tracker that isn't asked.
+// A tracker that isn't called.
 fn none(alloc: Global) -> Answers<'static> {
     Answers { alloc, pairs: &[] }
 }
@@ -47,11 +47,11 @@ fn what_is_untracked_comes_beside_what_was_removed(rt: HostRuntime) -> Result<()
     let index = foo_index(alloc, &["a"])?;
     let nodes = [file("b", b"foo"), link("c/d", b"b"), other("p")];
     let worktree = worktree(alloc, &nodes)?;
-    let asked = Asked::sorted(UntrackedWalk::new(alloc), none(alloc));
-    let report = joined(&rt, &index, &worktree, asked);
+    let request = Request::sorted(UntrackedWalk::new(alloc), none(alloc));
+    let report = joined(&rt, &index, &worktree, request);
     // A node that can't be tracked is handed out, and dropped.
     assert_eq!(rt;
-        report.told(alloc)?.as_str(),
+        report.reported(alloc)?.as_str(),
         "0 removed \"a\"\n- added \"b\"\n- added \"c/d\"\n"
     );
     let outcome = report.answer?;
@@ -70,22 +70,22 @@ fn at_equal_paths_the_index_comes_first(rt: HostRuntime) -> Result<(), Fail> {
         alloc,
         nodes: &nodes,
     };
-    let report = joined(&rt, &index, &worktree, Asked::sorted(walk, none(alloc)));
+    let report = joined(&rt, &index, &worktree, Request::sorted(walk, none(alloc)));
     assert_eq!(rt;
-        report.told(alloc)?.as_str(),
+        report.reported(alloc)?.as_str(),
         "0 removed \"a\"\n- added \"a\"\n- added \"b\"\n1 removed \"c\"\n"
     );
     // In no order, the index comes first, and the nodes as they were handed out.
-    let asked = Asked {
+    let request = Request {
         options: Options {
             sorting: None,
             ..options(None)
         },
-        ..Asked::sorted(walk, none(alloc))
+        ..Request::sorted(walk, none(alloc))
     };
-    let report = joined(&rt, &index, &worktree, asked);
+    let report = joined(&rt, &index, &worktree, request);
     assert_eq!(rt;
-        report.told(alloc)?.as_str(),
+        report.reported(alloc)?.as_str(),
         "0 removed \"a\"\n1 removed \"c\"\n- added \"b\"\n- added \"a\"\n"
     );
     Ok(())
@@ -96,9 +96,9 @@ fn nothing_in_a_submodule_is_walked(rt: HostRuntime) -> Result<(), Fail> {
     let alloc = rt.alloc();
     let index = index(alloc, &[mode_entry("sub", Mode::Commit)])?;
     let worktree = worktree(alloc, &[file("sub/x", b"foo")])?;
-    let asked = Asked::sorted(UntrackedWalk::new(alloc), none(alloc));
-    let report = joined(&rt, &index, &worktree, asked);
-    assert_eq!(rt; report.told(alloc)?.as_str(), "");
+    let request = Request::sorted(UntrackedWalk::new(alloc), none(alloc));
+    let report = joined(&rt, &index, &worktree, request);
+    assert_eq!(rt; report.reported(alloc)?.as_str(), "");
     assert_eq!(rt; report.answer?.dirwalk, Some(handed_out(0)));
     Ok(())
 }
@@ -116,9 +116,9 @@ fn what_needs_an_update_or_is_ignored_has_no_summary(rt: HostRuntime) -> Result<
         alloc,
         nodes: &[ignored],
     };
-    let report = joined(&rt, &index, &worktree, Asked::sorted(walk, none(alloc)));
+    let report = joined(&rt, &index, &worktree, Request::sorted(walk, none(alloc)));
     assert_eq!(rt;
-        report.told(alloc)?.as_str(),
+        report.reported(alloc)?.as_str(),
         "0 update \"a\"\n- ignored \"b\"\n"
     );
     for entry in &report.records {
@@ -166,9 +166,9 @@ fn what_is_tracked_or_cannot_be_is_dropped(rt: HostRuntime) -> Result<(), Fail> 
         alloc,
         nodes: &nodes,
     };
-    let report = joined(&rt, &index, &worktree, Asked::sorted(walk, none(alloc)));
+    let report = joined(&rt, &index, &worktree, Request::sorted(walk, none(alloc)));
     assert_eq!(rt;
-        report.told(alloc)?.as_str(),
+        report.reported(alloc)?.as_str(),
         "- ignored \"d\"\n- pruned \"e\"\n- added \"f\"\n"
     );
     assert_eq!(rt; report.answer?.dirwalk, Some(handed_out(6)));
@@ -176,7 +176,7 @@ fn what_is_tracked_or_cannot_be_is_dropped(rt: HostRuntime) -> Result<(), Fail> 
 }
 
 #[test]
-fn the_status_of_a_directory_that_stands_for_its_nodes_is_told(
+fn the_status_of_a_directory_that_stands_for_its_nodes_is_reported(
     rt: HostRuntime,
 ) -> Result<(), Fail> {
     let alloc = rt.alloc();
@@ -194,7 +194,7 @@ fn the_status_of_a_directory_that_stands_for_its_nodes_is_told(
         alloc,
         nodes: &nodes,
     };
-    let report = joined(&rt, &index, &worktree, Asked::sorted(walk, none(alloc)));
+    let report = joined(&rt, &index, &worktree, Request::sorted(walk, none(alloc)));
     assert_eq!(rt; report.records.len(), nodes.len());
     for (record, node) in report.records.iter().zip(nodes) {
         assert!(rt; is_node(record, &node));
@@ -208,8 +208,8 @@ fn a_walk_that_hands_out_nothing_leaves_the_index_alone(rt: HostRuntime) -> Resu
     let index = index(alloc, &[foo_entry("a")])?;
     let worktree = worktree(alloc, &[file("b", b"foo")])?;
     let walk = HandsOut { alloc, nodes: &[] };
-    let report = joined(&rt, &index, &worktree, Asked::sorted(walk, none(alloc)));
-    assert_eq!(rt; report.told(alloc)?.as_str(), "0 removed \"a\"\n");
+    let report = joined(&rt, &index, &worktree, Request::sorted(walk, none(alloc)));
+    assert_eq!(rt; report.reported(alloc)?.as_str(), "0 removed \"a\"\n");
     assert_eq!(rt; report.answer?.dirwalk, Some(handed_out(0)));
     Ok(())
 }
@@ -219,15 +219,15 @@ fn nothing_is_walked_where_the_options_do_not_have_it(rt: HostRuntime) -> Result
     let alloc = rt.alloc();
     let index = foo_index(alloc, &["a"])?;
     let worktree = worktree(alloc, &[file("b", b"foo")])?;
-    let asked = Asked {
+    let request = Request {
         options: Options {
             dirwalk: false,
             ..options(None)
         },
-        ..Asked::sorted(UntrackedWalk::new(alloc), none(alloc))
+        ..Request::sorted(UntrackedWalk::new(alloc), none(alloc))
     };
-    let report = joined(&rt, &index, &worktree, asked);
-    assert_eq!(rt; report.told(alloc)?.as_str(), "0 removed \"a\"\n");
+    let report = joined(&rt, &index, &worktree, request);
+    assert_eq!(rt; report.reported(alloc)?.as_str(), "0 removed \"a\"\n");
     assert_eq!(rt; report.answer?.dirwalk, None);
     Ok(())
 }

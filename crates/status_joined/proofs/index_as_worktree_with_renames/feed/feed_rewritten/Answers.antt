@@ -6,12 +6,12 @@ use Rattle.status_rewrites.specs.Entries.{IsLed, map_rewritten}
 use Rattle.status_joined.specs.declared.index_as_worktree_with_renames.item.ModificationOrDirwalkEntry.{ModificationOrDirwalkEntry}
 use Rattle.status_joined.specs.Items.{is_walked}
 use Rattle.status_joined.specs.Listed.{item_of}
-use Rattle.status_joined.proofs.Feeding.{none_told, one_more, holds_next, all_told, told_until}
+use Rattle.status_joined.proofs.Feeding.{none_reported, one_more, holds_next, all_reported, reported_until}
 use Rattle.status_joined.proofs.index_as_worktree_with_renames.feed.feed_rewritten.Goals as goal
 
 pub loop-entry-init : goal.loop-entry-init
 loop-entry-init g c =
-    rw c.into_iter-entry-iterator.ensures.into_iter_gives.0 (none_told (map (map_rewritten item_of) c.args.entries.items) (g.V.VisitEntry.visits c.args.collector.now))
+    rw c.into_iter-entry-iterator.ensures.into_iter_gives.0 (none_reported (map (map_rewritten item_of) c.args.entries.items) (g.V.VisitEntry.visits c.args.collector.now))
 
 pub feed_one-requires : goal.feed_one-requires
 feed_one-requires g c κs =
@@ -35,7 +35,7 @@ pub returns-in-Err : goal.returns-in-Err
 returns-in-Err g c =
     let visits = g.V.VisitEntry.visits in
     let mapped = λ (entries : List (Rewritten (ModificationOrDirwalkEntry g.row.V-ContentChange.Denot g.row.V-SubmoduleStatus.Denot))). map (map_rewritten item_of) entries in
-    told_until (mapped c.args.entries.items) (visits c.args.collector.now) (visits c.loop-entry.collector) (visits c.feed_one.new.collector)
+    reported_until (mapped c.args.entries.items) (visits c.args.collector.now) (visits c.loop-entry.collector) (visits c.feed_one.new.collector)
     (map_rewritten item_of c.in-Some.entry) (mapped (into_iter_items c.loop-entry.entry-iterator)) (mapped (into_iter_items c.next.new.self))
     (ap mapped c.in-Some.ensures.steps.0) c.requires c.loop-entry.invariant c.in-Err.ensures
 
@@ -43,5 +43,5 @@ pub returns : goal.returns
 returns g c =
     let visits = g.V.VisitEntry.visits in
     let mapped = λ (entries : List (Rewritten (ModificationOrDirwalkEntry g.row.V-ContentChange.Denot g.row.V-SubmoduleStatus.Denot))). map (map_rewritten item_of) entries in
-    all_told (mapped c.args.entries.items) (visits c.args.collector.now) (visits c.loop-entry.collector) (mapped (into_iter_items c.loop-entry.entry-iterator))
+    all_reported (mapped c.args.entries.items) (visits c.args.collector.now) (visits c.loop-entry.collector) (mapped (into_iter_items c.loop-entry.entry-iterator))
     (ap mapped (nil_from_length (into_iter_items c.loop-entry.entry-iterator) (sym c.loop-entry.entry-iterator.rest.ok.0 ∙ c.in-None.ensures.steps.0))) c.loop-entry.invariant

@@ -1,10 +1,10 @@
-//! What the tracked half is asked.
+//! What the tracked half is to do, and with what.
 
 use status_call::index_as_worktree::Options;
 
 /// What a status is computed with, beside the index and the worktree.
 #[derive(Drop)]
-pub struct Asked<C, S, O, P, T, L> {
+pub struct Request<C, S, O, P, T, L> {
     /// Compares a file with a blob.
     pub compare: C,
     /// Has the status of submodules.

@@ -1,9 +1,9 @@
--- What a status is asked, with its worktree.
+-- What a request has, with its worktree.
 use Rattle.std.specs.Borrow.{Bor}
 use Rattle.status_call.specs.declared.index_as_worktree.inputs.Inputs.{Inputs}
-use Rattle.status_halves.specs.declared.asked.Asked.{Asked}
+use Rattle.status_halves.specs.declared.request.Request.{Request}
 
-abbrev pub inputs_of : {W C S O P T L : Type 0} → Bor W → Asked C S O P T L → Inputs W C S O P T L
+abbrev pub inputs_of : {W C S O P T L : Type 0} → Bor W → Request C S O P T L → Inputs W C S O P T L
 inputs_of worktree a = record {
   worktree = worktree;
   compare = a.compare;

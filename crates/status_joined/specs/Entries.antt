@@ -1,4 +1,4 @@
--- What an entry tells a collector.
+-- What an entry reports to a collector.
 use Rattle.bstr.specs.BStr.{bstr_bytes}
 use Rattle.status_call.specs.Visits.{visit}
 use Rattle.status_walk.specs.Walked.{walked_of}
@@ -6,18 +6,18 @@ use Rattle.status_joined.specs.declared.index_as_worktree_with_renames.entry.Ent
 use Rattle.status_joined.specs.declared.index_as_worktree_with_renames.entry.Entry.TheVariants as entries
 use Rattle.status_joined.specs.declared.index_as_worktree_with_renames.entry.RewriteSource.{RewriteSource}
 use Rattle.status_joined.specs.declared.index_as_worktree_with_renames.entry.RewriteSource.TheVariants.{RewriteFromIndex, CopyFromDirectoryEntry}
-use Rattle.status_joined.specs.Items.{Item, Told, tracked, walked, modification, contents, rewrite}
+use Rattle.status_joined.specs.Items.{Item, Reported, tracked, walked, modification, contents, rewrite}
 
 -- what was renamed or copied
-abbrev pub told_source : {T U : Type 0} → RewriteSource T U → Item T U
-told_source (RewriteFromIndex es entry place path status) =
+abbrev pub reported_source : {T U : Type 0} → RewriteSource T U → Item T U
+reported_source (RewriteFromIndex es entry place path status) =
     tracked (visit es.now entry.now place (bstr_bytes path) status)
-told_source (CopyFromDirectoryEntry entry collapsed id) = walked (walked_of entry collapsed) id
+reported_source (CopyFromDirectoryEntry entry collapsed id) = walked (walked_of entry collapsed) id
 
 -- what an entry says
-abbrev pub told_entry : {T U : Type 0} → Entry T U → Told T U
-told_entry (entries.Modification es entry place path status) =
+abbrev pub reported_entry : {T U : Type 0} → Entry T U → Reported T U
+reported_entry (entries.Modification es entry place path status) =
     modification (visit es.now entry.now place (bstr_bytes path) status)
-told_entry (entries.DirectoryContents entry collapsed) = contents (walked_of entry collapsed)
-told_entry (entries.Rewrite source entry collapsed id copy) =
-    rewrite (told_source source) (walked_of entry collapsed) id copy
+reported_entry (entries.DirectoryContents entry collapsed) = contents (walked_of entry collapsed)
+reported_entry (entries.Rewrite source entry collapsed id copy) =
+    rewrite (reported_source source) (walked_of entry collapsed) id copy
