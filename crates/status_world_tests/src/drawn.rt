@@ -103,7 +103,7 @@ struct Watch {
     maps: PlainMaps,
     executable_bit: bool,
     refused: u32,
-    told: u32,
+    reported: u32,
     smudged: u32,
     updates: u32,
 }
@@ -114,7 +114,7 @@ impl Watch {
             maps: PlainMaps::new(alloc),
             executable_bit,
             refused: 0,
-            told: 0,
+            reported: 0,
             smudged: 0,
             updates: 0,
         }
@@ -134,7 +134,7 @@ impl Watch {
             }
             Ok(Some(report)) => {
                 self.count(&report);
-                Ok(is_allowed && self.maps.are_told_by(&report.records, self.executable_bit))
+                Ok(is_allowed && self.maps.agree_with(&report.records, self.executable_bit))
             }
             Err(_refused) => {
                 self.refused = self.refused.saturating_add(1);
@@ -153,14 +153,14 @@ impl Watch {
                         ..
                     },
                 ) => self.smudged = self.smudged.saturating_add(1),
-                _ => self.told = self.told.saturating_add(1),
+                _ => self.reported = self.reported.saturating_add(1),
             }
         }
     }
 
     /// Whether enough was seen to show something.
     fn is_enough(&self) -> bool {
-        self.refused >= 100 && self.told >= 100 && self.updates >= 1
+        self.refused >= 100 && self.reported >= 100 && self.updates >= 1
     }
 }
 

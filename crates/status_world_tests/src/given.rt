@@ -177,9 +177,9 @@ pub fn go_on<R: AllocGlobal + Threads + Wait>(
     steps: &[Step],
 ) -> Result<Replay, Refusal> {
     let events = events(rt.alloc(), steps)?;
-    let told = replay(rt, rt.alloc(), world, &events);
-    match told.stopped {
+    let replayed = replay(rt, rt.alloc(), world, &events);
+    match replayed.stopped {
         Some((_, Refusal::Memory | Refusal::Run(Error::Memory))) => Err(Refusal::Memory),
-        _ => Ok(told),
+        _ => Ok(replayed),
     }
 }

@@ -1,7 +1,7 @@
 //! Nanoseconds: what counts as racy, and how the clock carries.
 
 use crate::given::{BAR, NANOSECONDS, SECONDS, Step, at, history, history_at, run_at};
-use crate::reports::{changed, is_told, one_read, one_stat, racy, to_update, updated};
+use crate::reports::{changed, one_read, one_stat, racy, reports_are, to_update, updated};
 use gix_status::index::Moment;
 use gix_status::world::{Refusal, Replay};
 use std::test::Fail;
@@ -21,9 +21,9 @@ fn rewrite_in_the_same_second_is_racy_where_nanoseconds_do_not_count(
         (NANOSECONDS, false, one_read(3)),
         (SECONDS, true, racy(one_read(3))),
     ] {
-        let told = history(&rt, setting, &steps)?;
+        let replayed = history(&rt, setting, &steps)?;
         let first = [(0, "a", changed(BAR, to_zero))];
-        assert!(rt; is_told(told, &[(&first, counts)]), "{setting:?}");
+        assert!(rt; reports_are(replayed, &[(&first, counts)]), "{setting:?}");
     }
     Ok(())
 }
@@ -37,13 +37,13 @@ fn later_nanosecond_of_the_timestamp_ends_a_race(rt: HostRuntime) -> Result<(), 
         run_at(at(5, 100)),
         run_at(at(5, 100)),
     ];
-    let told = history(&rt, NANOSECONDS, &steps)?;
+    let replayed = history(&rt, NANOSECONDS, &steps)?;
     let first = [(0, "a", updated(5, 5))];
     let wanted = [
         (&first[..], to_update(racy(one_read(3)))),
         (&[], one_stat()),
     ];
-    assert!(rt; is_told(told, &wanted));
+    assert!(rt; reports_are(replayed, &wanted));
     Ok(())
 }
 
@@ -62,10 +62,10 @@ fn clock_steps() -> [(Moment, Step, Option<Moment>); 7] {
 }
 
 // Whether the clock is where it is to be, and stays where it would go too far.
-fn is_clock(told: Replay, clock: Moment, wanted: Option<Moment>) -> bool {
-    match told.stopped {
-        Some((0, Refusal::ClockEnd)) => wanted.is_none() && told.world.clock() == clock,
-        None => wanted == Some(told.world.clock()),
+fn is_clock(replayed: Replay, clock: Moment, wanted: Option<Moment>) -> bool {
+    match replayed.stopped {
+        Some((0, Refusal::ClockEnd)) => wanted.is_none() && replayed.world.clock() == clock,
+        None => wanted == Some(replayed.world.clock()),
         _ => false,
     }
 }
@@ -73,8 +73,8 @@ fn is_clock(told: Replay, clock: Moment, wanted: Option<Moment>) -> bool {
 #[test]
 fn clock_carries_nanoseconds_and_ends_at_its_last_second(rt: HostRuntime) -> Result<(), Fail> {
     for (clock, step, wanted) in clock_steps() {
-        let told = history_at(&rt, clock, SECONDS, &[step])?;
-        assert!(rt; is_clock(told, clock, wanted), "{step:?} at {clock:?}");
+        let replayed = history_at(&rt, clock, SECONDS, &[step])?;
+        assert!(rt; is_clock(replayed, clock, wanted), "{step:?} at {clock:?}");
     }
     Ok(())
 }

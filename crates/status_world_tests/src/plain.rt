@@ -109,7 +109,7 @@ impl PlainMaps {
     }
 
     /// Whether the paths of the changes among these records are just those that were staged and differ, in order.
-    pub fn are_told_by(&self, records: &[ReportRecord], executable_bit: bool) -> bool {
+    pub fn agree_with(&self, records: &[ReportRecord], executable_bit: bool) -> bool {
         let mut changes = records
             .iter()
             .filter(|record| matches!(record.status, EntryStatus::Change(_)));

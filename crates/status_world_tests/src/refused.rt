@@ -1,7 +1,7 @@
 //! Refused events, which leave the world as it was.
 
 use crate::given::{BAR, FOO, SECONDS, Step, at, go_on, history_at, run_at};
-use crate::reports::{changed, is_told, one_read, racy};
+use crate::reports::{changed, one_read, racy, reports_are};
 use gix_status::index::{Flags, HashKind, Mode, Moment, Stat, State, Time};
 use gix_status::world::{Replay, World};
 use std::alloc::{AllocError, Global};
@@ -85,37 +85,40 @@ fn steps_after(clock: Moment) -> [Step; 5] {
 // Whether the fifth step was refused for this reason, and clock and index are as before it.
 fn is_refused(
     alloc: Global,
-    told: &Replay,
+    replayed: &Replay,
     clock: Moment,
     reason: &str,
 ) -> Result<bool, AllocError> {
-    let Some((4, refusal)) = &told.stopped else {
+    let Some((4, refusal)) = &replayed.stopped else {
         return Ok(false);
     };
     let refusal = format!(in alloc; "{refusal:?}")?;
     Ok(
         refusal.as_str() == reason
-            && told.reports.is_empty()
-            && told.world.clock() == clock
-            && is_as_before(told.world.index(), clock),
+            && replayed.reports.is_empty()
+            && replayed.world.clock() == clock
+            && is_as_before(replayed.world.index(), clock),
     )
 }
 
 // Whether the rewritten file is reported as ever.
-fn is_rewrite_told(told: Replay) -> bool {
+fn is_rewrite_reported(replayed: Replay) -> bool {
     let first = [(0, "a", changed(BAR, true))];
     let second = [(0, "a", changed(BAR, false))];
-    is_told(told, &[(&first, racy(one_read(3))), (&second, one_read(3))])
+    reports_are(
+        replayed,
+        &[(&first, racy(one_read(3))), (&second, one_read(3))],
+    )
 }
 
 #[test]
 fn refused_event_ends_a_replay_and_leaves_the_world_as_it_was(rt: HostRuntime) -> Result<(), Fail> {
     let alloc = rt.alloc();
     for (clock, step, reason) in refusals() {
-        let told = history_at(&rt, clock, SECONDS, &steps_with(step))?;
-        assert!(rt; is_refused(alloc, &told, clock, reason)?, "{step:?}");
-        let told = go_on(&rt, told.world, &steps_after(clock))?;
-        assert!(rt; is_rewrite_told(told), "{step:?}");
+        let replayed = history_at(&rt, clock, SECONDS, &steps_with(step))?;
+        assert!(rt; is_refused(alloc, &replayed, clock, reason)?, "{step:?}");
+        let replayed = go_on(&rt, replayed.world, &steps_after(clock))?;
+        assert!(rt; is_rewrite_reported(replayed), "{step:?}");
     }
     Ok(())
 }

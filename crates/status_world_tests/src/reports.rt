@@ -11,8 +11,8 @@ pub type Status = EntryStatus<Option<ObjectId>, ()>;
 pub type Wanted<'a> = (&'a [(usize, &'a str, Status)], Outcome);
 
 /// Whether no event was refused, and these are the reports.
-pub fn is_told(told: Replay, wanted: &[Wanted<'_>]) -> bool {
-    told.stopped.is_none() && are(&told.reports, wanted)
+pub fn reports_are(replayed: Replay, wanted: &[Wanted<'_>]) -> bool {
+    replayed.stopped.is_none() && are(&replayed.reports, wanted)
 }
 
 /// Whether there is a report for each that is wanted, and it is the one.

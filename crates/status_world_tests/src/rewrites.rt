@@ -1,7 +1,9 @@
 //! Files that are written again in the second in which they were staged.
 
 use crate::given::{ALL, BAR, EMPTY, SECONDS, Setting, Step, history, run};
-use crate::reports::{changed, is_told, modified, one_read, one_stat, racy, to_update, updated};
+use crate::reports::{
+    changed, modified, one_read, one_stat, racy, reports_are, to_update, updated,
+};
 use std::test::Fail;
 
 #[test]
@@ -15,12 +17,12 @@ fn racy_rewrite_is_reported_and_smudged(rt: HostRuntime) -> Result<(), Fail> {
         Step::Tick(1),
         run(7),
     ];
-    let told = history(&rt, SECONDS, &steps)?;
+    let replayed = history(&rt, SECONDS, &steps)?;
     let first = [(0, "f", changed(BAR, true))];
     // The size is 0 now, so that the stat agrees no more, and the change is seen whatever the timestamp.
     let second = [(0, "f", changed(BAR, false))];
     let wanted = [(&first[..], racy(one_read(3))), (&second, one_read(3))];
-    assert!(rt; is_told(told, &wanted));
+    assert!(rt; reports_are(replayed, &wanted));
     Ok(())
 }
 
@@ -34,13 +36,13 @@ fn racy_file_that_did_not_change_is_read_once(rt: HostRuntime) -> Result<(), Fai
         Step::Tick(1),
         run(7),
     ];
-    let told = history(&rt, SECONDS, &steps)?;
+    let replayed = history(&rt, SECONDS, &steps)?;
     let first = [(0, "f", updated(5, 5))];
     let wanted = [
         (&first[..], to_update(racy(one_read(3)))),
         (&[], one_stat()),
     ];
-    assert!(rt; is_told(told, &wanted));
+    assert!(rt; reports_are(replayed, &wanted));
     Ok(())
 }
 
@@ -58,7 +60,7 @@ fn size_zero_of_a_smudged_entry_hides_no_empty_file(rt: HostRuntime) -> Result<(
         Step::Tick(1),
         run(7),
     ];
-    let told = history(&rt, SECONDS, &steps)?;
+    let replayed = history(&rt, SECONDS, &steps)?;
     let first = [(0, "f", changed(BAR, true))];
     let later = [(0, "f", changed(EMPTY, false))];
     let wanted = [
@@ -66,7 +68,7 @@ fn size_zero_of_a_smudged_entry_hides_no_empty_file(rt: HostRuntime) -> Result<(
         (&later, one_read(0)),
         (&later, one_read(0)),
     ];
-    assert!(rt; is_told(told, &wanted));
+    assert!(rt; reports_are(replayed, &wanted));
     Ok(())
 }
 
@@ -87,11 +89,11 @@ fn executable_change_hides_no_racy_rewrite(rt: HostRuntime) -> Result<(), Fail> 
         executable_bit: true,
         ..SECONDS
     };
-    let told = history(&rt, setting, &steps)?;
+    let replayed = history(&rt, setting, &steps)?;
     let first = [(0, "f", modified(true, Some(BAR), true))];
     let second = [(0, "f", changed(BAR, false))];
     let wanted = [(&first[..], one_read(3)), (&second, one_read(3))];
-    assert!(rt; is_told(told, &wanted));
+    assert!(rt; reports_are(replayed, &wanted));
     Ok(())
 }
 
@@ -108,9 +110,9 @@ fn racy_link_is_reported_and_smudged(rt: HostRuntime) -> Result<(), Fail> {
         executable_bit: true,
         ..SECONDS
     };
-    let told = history(&rt, setting, &steps)?;
+    let replayed = history(&rt, setting, &steps)?;
     let first = [(0, "l", changed(BAR, true))];
-    assert!(rt; is_told(told, &[(&first, racy(one_read(3)))]));
+    assert!(rt; reports_are(replayed, &[(&first, racy(one_read(3)))]));
     Ok(())
 }
 
@@ -128,14 +130,14 @@ fn permission_change_is_an_update_where_it_does_not_count(rt: HostRuntime) -> Re
         executable_bit: false,
         ..ALL
     };
-    let told = history(&rt, setting, &steps)?;
+    let replayed = history(&rt, setting, &steps)?;
     // The `ctime` is another, and the content is the same; with the new stat stored nothing is read.
     let first = [(0, "a", updated(5, 6))];
     let wanted = [(&first[..], to_update(one_read(3))), (&[], one_stat())];
-    assert!(rt; is_told(told, &wanted));
-    let told = history(&rt, ALL, &steps)?;
+    assert!(rt; reports_are(replayed, &wanted));
+    let replayed = history(&rt, ALL, &steps)?;
     let each = [(0, "a", modified(true, None, false))];
     let wanted = [(&each[..], one_read(3)), (&each, one_read(3))];
-    assert!(rt; is_told(told, &wanted));
+    assert!(rt; reports_are(replayed, &wanted));
     Ok(())
 }

@@ -1,7 +1,7 @@
 //! Files that go or become links, and paths that are staged when nothing is there.
 
 use crate::given::{ALL, SECONDS, Step, history, run};
-use crate::reports::{are, is_told, one_entry, one_stat};
+use crate::reports::{are, one_entry, one_stat, reports_are};
 use bstr::{BStr, BString};
 use gix_status::index::Mode;
 use gix_status::index_as_worktree::{Change, EntryStatus, Outcome};
@@ -17,13 +17,13 @@ fn file_below_a_link_is_removed(rt: HostRuntime) -> Result<(), Fail> {
         Step::Link("d", "e"),
         run(5),
     ];
-    let told = history(&rt, SECONDS, &steps)?;
+    let replayed = history(&rt, SECONDS, &steps)?;
     // The way there is looked at, and the file itself isn't.
     let first = [(0, "d/x", EntryStatus::Change(Change::Removed))];
-    assert!(rt; told.stopped.is_none() && are(&told.reports, &[(&first, one_entry())]));
+    assert!(rt; replayed.stopped.is_none() && are(&replayed.reports, &[(&first, one_entry())]));
     let alloc = rt.alloc();
     let mut check = SymlinkCheck::new(alloc, BString::new(Vec::new(alloc)));
-    let answer = check.verified_path(told.world.worktree(), BStr::from("d/x"));
+    let answer = check.verified_path(replayed.world.worktree(), BStr::from("d/x"));
     assert!(rt;
         matches!(answer, Err(StackError::ThroughLink { prefix }) if prefix == BStr::from("d"))
     );
@@ -41,12 +41,12 @@ fn link_with_the_bytes_of_a_file_is_another_type(rt: HostRuntime) -> Result<(), 
         Step::Tick(1),
         run(6),
     ];
-    let told = history(&rt, ALL, &steps)?;
+    let replayed = history(&rt, ALL, &steps)?;
     let change = Change::TypeChange {
         worktree_mode: Mode::Symlink,
     };
     let first = [(0, "a", EntryStatus::Change(change))];
-    assert!(rt; is_told(told, &[(&first, one_stat())]));
+    assert!(rt; reports_are(replayed, &[(&first, one_stat())]));
     Ok(())
 }
 
@@ -59,8 +59,8 @@ fn staging_a_removed_file_takes_its_entry_out(rt: HostRuntime) -> Result<(), Fai
         Step::Stage("a"),
         run(5),
     ];
-    let told = history(&rt, ALL, &steps)?;
-    assert!(rt; told.stopped.is_none() && are(&told.reports, &[(&[], Outcome::default())]));
-    assert!(rt; told.world.index().entries().is_empty());
+    let replayed = history(&rt, ALL, &steps)?;
+    assert!(rt; replayed.stopped.is_none() && are(&replayed.reports, &[(&[], Outcome::default())]));
+    assert!(rt; replayed.world.index().entries().is_empty());
     Ok(())
 }
