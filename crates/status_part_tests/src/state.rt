@@ -130,36 +130,44 @@ fn has_paths(state: &State, paths: &[&str]) -> bool {
     true
 }
 
-// What an index keeps of an entry beside its path.
-fn fields_at(state: &State, at: usize) -> Option<(Stat, ObjectId, Flags, Mode)> {
-    let entry = state.entries().get(at)?;
-    Some((entry.stat, entry.id, entry.flags, entry.mode))
+// Whether two indexes have an entry at a place, and keep the same of it beside its path.
+fn are_alike(one: &State, other: &State, at: usize) -> bool {
+    let (Some(one), Some(other)) = (one.entries().get(at), other.entries().get(at)) else {
+        return false;
+    };
+    one.stat == other.stat
+        && one.id == other.id
+        && one.flags == other.flags
+        && one.mode == other.mode
+}
+
+// An index of these paths, pushed in order.
+fn grown(alloc: Global, timestamp: Moment, paths: &[&str]) -> Result<State, IndexError> {
+    let mut state = State::new(alloc, timestamp);
+    for path in paths {
+        push(&mut state, *path, HashKind::Sha1)?;
+    }
+    Ok(state)
 }
 
 #[test]
 fn an_index_grows_entry_by_entry(rt: HostRuntime) -> Result<(), Fail> {
-    let alloc = rt.alloc();
     let moment = Moment { secs: 1, nsecs: 2 };
-    let mut grown = State::new(alloc, moment);
-    assert!(rt; has_paths(&grown, &[]));
-    for path in PATHS {
-        push(&mut grown, path, HashKind::Sha1)?;
-    }
-    let whole = index(alloc)?;
+    assert!(rt; has_paths(&State::new(rt.alloc(), moment), &[]));
+    let grown = grown(rt.alloc(), moment, &PATHS)?;
+    let whole = index(rt.alloc())?;
     assert!(rt; has_paths(&grown, &PATHS));
     assert!(rt; has_paths(&whole, &PATHS));
     assert_eq!(rt; grown.timestamp(), moment);
     for at in 0..PATHS.len() {
-        assert_eq!(rt; fields_at(&grown, at), fields_at(&whole, at), "at {at}");
+        assert!(rt; are_alike(&grown, &whole, at), "at {at}");
     }
     Ok(())
 }
 
 #[test]
 fn a_refused_entry_leaves_the_index_as_it_was(rt: HostRuntime) -> Result<(), Fail> {
-    let mut state = State::new(rt.alloc(), Moment::default());
-    push(&mut state, "a", HashKind::Sha1)?;
-    push(&mut state, "b", HashKind::Sha1)?;
+    let mut state = grown(rt.alloc(), Moment::default(), &["a", "b"])?;
     for (path, kind, want) in [
         ("", HashKind::Sha256, IndexError::EmptyPath { at: 2 }),
         ("b", HashKind::Sha256, IndexError::NotAscending { at: 2 }),
