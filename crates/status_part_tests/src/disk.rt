@@ -88,10 +88,20 @@ fn kind_and_len<W: Worktree + Sync>(worktree: &W, path: &[u8]) -> Result<(NodeKi
     Ok((found.kind, found.len))
 }
 
-// The stamps of a node's content and of the node.
-fn stamps<W: Worktree>(worktree: &W, path: &[u8]) -> Result<(Option<Time>, Option<Time>), Fault> {
-    let found = worktree.lstat(BStr::new(path))?;
-    Ok((found.mtime, found.ctime))
+// Whether lstat reports all of this.
+fn is_node<W: Worktree>(worktree: &W, path: &[u8], node: &Metadata) -> bool {
+    match worktree.lstat(BStr::new(path)) {
+        Ok(found) => found == *node,
+        Err(_) => false,
+    }
+}
+
+// Whether this is the stamp of a node's content and of the node.
+fn has_stamp<W: Worktree>(worktree: &W, path: &[u8], stamp: Option<Time>) -> bool {
+    match worktree.lstat(BStr::new(path)) {
+        Ok(found) => found.mtime == stamp && found.ctime == stamp,
+        Err(_) => false,
+    }
 }
 
 fn is_of_kind<W: Worktree>(worktree: &W, path: &[u8], kind: NodeKind) -> bool {
@@ -108,10 +118,12 @@ fn open_fault<W: Worktree>(worktree: &W, path: &[u8]) -> Option<Fault> {
     }
 }
 
-// What a read of a file says that is opened.
-fn first_read<W: Worktree>(worktree: &W, path: &[u8]) -> Result<Result<usize, Fault>, Fault> {
-    let mut file = worktree.open(BStr::new(path))?;
-    Ok(file.read_bytes(&mut [0; 8]))
+// Whether a node is opened, and then a read fails by this.
+fn fails_to_read<W: Worktree>(worktree: &W, path: &[u8], fault: Fault) -> bool {
+    match worktree.open(BStr::new(path)) {
+        Ok(mut file) => file.read_bytes(&mut [0; 8]) == Err(fault),
+        Err(_) => false,
+    }
 }
 
 // Whether reading a link gives this target in place of what the buffer held.
@@ -131,6 +143,18 @@ fn leads_nowhere<W: Worktree>(
     buffer.extend_from_slice(b"before").is_ok()
         && worktree.read_link(BStr::new(path), buffer) == Err(fault)
         && buffer.is_empty()
+}
+
+// Whether each call fails by this.
+fn is_nothing<W: Worktree + Sync>(
+    worktree: &W,
+    path: &[u8],
+    buffer: &mut Vec<u8>,
+    fault: Fault,
+) -> bool {
+    kind_and_len(worktree, path) == Err(fault)
+        && open_fault(worktree, path) == Some(fault)
+        && leads_nowhere(worktree, path, buffer, fault)
 }
 
 // What is to be found at a path.
@@ -164,17 +188,13 @@ fn is_met<W: Worktree + Sync>(
     match look {
         Look::Lstat(want) => kind_and_len(worktree, path) == want,
         Look::Kind(kind) => is_of_kind(worktree, path, kind),
-        Look::Whole(node) => worktree.lstat(BStr::new(path)) == Ok(node),
-        Look::Stamp(stamp) => stamps(worktree, path) == Ok((stamp, stamp)),
+        Look::Whole(node) => is_node(worktree, path, &node),
+        Look::Stamp(stamp) => has_stamp(worktree, path, stamp),
         Look::Open(fault) => open_fault(worktree, path) == fault,
-        Look::Read(fault) => first_read(worktree, path) == Ok(Err(fault)),
+        Look::Read(fault) => fails_to_read(worktree, path, fault),
         Look::Target(target) => leads_to(worktree, path, buffer, target),
         Look::NoTarget(fault) => leads_nowhere(worktree, path, buffer, fault),
-        Look::Nothing(fault) => {
-            kind_and_len(worktree, path) == Err(fault)
-                && open_fault(worktree, path) == Some(fault)
-                && leads_nowhere(worktree, path, buffer, fault)
-        }
+        Look::Nothing(fault) => is_nothing(worktree, path, buffer, fault),
     }
 }
 
