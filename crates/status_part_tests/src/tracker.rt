@@ -283,35 +283,51 @@ fn files_with_no_bytes_pair_where_they_are_tracked(rt: HostRuntime) -> Result<()
     Ok(())
 }
 
+fn drawn_kind(draws: &mut Draws) -> ChangeKind {
+    match draws.below(5) {
+        0 => Modification,
+        1 | 2 => Deletion,
+        _ => Addition,
+    }
+}
+
+fn drawn_path(draws: &mut Draws) -> &'static str {
+    match draws.below(5) {
+        0 => "a",
+        1 => "a/b",
+        2 => "ab",
+        3 => "b",
+        _ => "c",
+    }
+}
+
+fn drawn_mode(draws: &mut Draws) -> EntryKind {
+    match draws.below(8) {
+        0 => EntryKind::Tree,
+        1 => Commit,
+        2 => BlobExecutable,
+        3 | 4 => Link,
+        _ => Blob,
+    }
+}
+
+fn drawn_id(draws: &mut Draws) -> ObjectId {
+    match draws.below(8) {
+        0 => NULL,
+        1 => LONG_FOO,
+        2 => ObjectId::empty_blob(HashKind::Sha1),
+        3 => BAR,
+        _ => FOO,
+    }
+}
+
 // A change that may pair.
 fn drawn_item(draws: &mut Draws) -> Item {
     Item {
-        kind: match draws.below(5) {
-            0 => ChangeKind::Modification,
-            1 | 2 => ChangeKind::Deletion,
-            _ => ChangeKind::Addition,
-        },
-        path: match draws.below(5) {
-            0 => "a",
-            1 => "a/b",
-            2 => "ab",
-            3 => "b",
-            _ => "c",
-        },
-        mode: match draws.below(8) {
-            0 => EntryKind::Tree,
-            1 => EntryKind::Commit,
-            2 => EntryKind::BlobExecutable,
-            3 | 4 => EntryKind::Link,
-            _ => EntryKind::Blob,
-        },
-        id: match draws.below(8) {
-            0 => NULL,
-            1 => LONG_FOO,
-            2 => ObjectId::empty_blob(HashKind::Sha1),
-            3 => BAR,
-            _ => FOO,
-        },
+        kind: drawn_kind(draws),
+        path: drawn_path(draws),
+        mode: drawn_mode(draws),
+        id: drawn_id(draws),
     }
 }
 
