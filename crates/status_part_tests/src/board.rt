@@ -191,19 +191,16 @@ fn is_marked(marks: &mut Vec<u8>, numbers: &[usize]) -> bool {
 }
 
 // Whether each number below a thousand is in one of these lists once.
-fn is_each_once(
-    alloc: Global,
-    one: &[usize],
-    two: &[usize],
-    three: &[usize],
-) -> Result<bool, AllocError> {
-    let mut marks = vec![in alloc; 0u8; 1000]?;
+fn is_each_once(alloc: Global, one: &[usize], two: &[usize], three: &[usize]) -> bool {
+    let Ok(mut marks) = Vec::from_elem(alloc, 0u8, 1000) else {
+        return false;
+    };
     for numbers in [one, two, three] {
         if !is_marked(&mut marks, numbers) {
-            return Ok(false);
+            return false;
         }
     }
-    Ok(!marks.contains(&0))
+    !marks.contains(&0)
 }
 
 // What a board says when three seats come back.
@@ -232,8 +229,7 @@ fn three_threads_draw_each_number_once(rt: HostRuntime) -> Result<(), Fail> {
     let b = seat_of(&rt, &board, &mut seats);
     let c = seat_of(&rt, &board, &mut seats);
     let (one, two, three) = three(&rt, rt.alloc(), &board, a, b, c)?;
-    let once = is_each_once(rt.alloc(), &one.numbers, &two.numbers, &three.numbers)?;
-    assert!(rt; once);
+    assert!(rt; is_each_once(rt.alloc(), &one.numbers, &two.numbers, &three.numbers));
     let tally = Tally {
         drawn: 1000,
         least_reported: None,

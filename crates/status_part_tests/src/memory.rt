@@ -432,17 +432,23 @@ fn is_blob<F: Find>(objects: &F, id: &ObjectId, buffer: &mut Vec<u8>, want: Opti
     }
 }
 
+/// Puts two blobs of one id and then a third, and gives the clone from before the third.
+fn clone_between(objects: &mut MemoryObjects, id: ObjectId) -> Result<MemoryObjects, AllocError> {
+    for blob in [b"first".as_slice(), b"second"] {
+        objects.put(id, blob)?;
+    }
+    let copy = clone_of(objects)?;
+    objects.put(id, b"third")?;
+    Ok(copy)
+}
+
 #[test]
 fn finds_blobs(rt: HostRuntime) -> Result<(), Fail> {
     let (one, other) = (ObjectId::Sha1([1; 20]), ObjectId::Sha256([1; 32]));
     let mut objects = MemoryObjects::new(rt.alloc());
     let mut buffer = Vec::new(rt.alloc());
     assert!(rt; is_blob(&objects, &one, &mut buffer, None));
-    for blob in [b"first".as_slice(), b"second"] {
-        objects.put(one, blob)?;
-    }
-    let copy = clone_of(&objects)?;
-    objects.put(one, b"third")?;
+    let copy = clone_between(&mut objects, one)?;
     assert!(rt; is_blob(&objects, &one, &mut buffer, Some(b"third")));
     assert!(rt; is_blob(&copy, &one, &mut buffer, Some(b"second")));
     assert!(rt; is_blob(&copy, &other, &mut buffer, None));
