@@ -60,6 +60,22 @@ enum Named {
     Copied(usize, usize),
 }
 
+fn named_of(entry: &Rewritten<Node>) -> Named {
+    match entry {
+        Rewritten::Alone(item) => Alone(item.name()),
+        Rewritten::Rewrite {
+            source,
+            destination,
+            copy: true,
+        } => Copied(source.name(), destination.name()),
+        Rewritten::Rewrite {
+            source,
+            destination,
+            copy: false,
+        } => Renamed(source.name(), destination.name()),
+    }
+}
+
 /// A list rewritten, by names, or the place of the bad pair.
 fn rewritten(
     alloc: Global,
@@ -73,19 +89,7 @@ fn rewritten(
     };
     let mut named = Vec::new(alloc);
     for entry in &entries {
-        named.push(match entry {
-            Rewritten::Alone(item) => Alone(item.name()),
-            Rewritten::Rewrite {
-                source,
-                destination,
-                copy: true,
-            } => Copied(source.name(), destination.name()),
-            Rewritten::Rewrite {
-                source,
-                destination,
-                copy: false,
-            } => Renamed(source.name(), destination.name()),
-        })?;
+        named.push(named_of(entry))?;
     }
     Ok(Ok(named))
 }

@@ -83,7 +83,8 @@ fn walked(
     nodes: &[(&str, NodeKind)],
     room: usize,
 ) -> Result<(Outcome, Vec<Found>), Fail> {
-    let (index, worktree) = (index(alloc, entries)?, worktree(alloc, nodes)?);
+    let index = index(alloc, entries)?;
+    let worktree = worktree(alloc, nodes)?;
     let mut keeper = Keeper {
         found: Vec::new(alloc),
         room,
