@@ -292,11 +292,7 @@ fn nodes_are_reported(rt: HostRuntime) -> Result<(), Fail> {
         (b"l", Look::Target("a")),
     ];
     let id = process::id(rt.process());
-    assert_found(&rt, "nodes_are_reported", id, &nodes, &looks)
-}
-
-#[test]
-fn devices_are_reported(rt: HostRuntime) -> Result<(), Fail> {
+    assert_found(&rt, "nodes_are_reported", id, &nodes, &looks)?;
     let look = (b"null".as_slice(), Look::Kind(NodeKind::Other));
     assert_looks(&rt, "/dev", &[look])
 }

@@ -462,11 +462,7 @@ fn refusals_have_words(rt: HostRuntime) -> Result<(), Fail> {
         (TreeError::InTheWay, "in the way"),
         (TreeError::Memory, "Out of memory"),
     ];
-    assert_words(&rt, &rows)
-}
-
-#[test]
-fn blobs_that_are_not_found_have_words(rt: HostRuntime) -> Result<(), Fail> {
+    assert_words(&rt, &rows)?;
     let rows = [
         (FindError::Missing, "missing object"),
         (FindError::Memory, "Out of memory"),

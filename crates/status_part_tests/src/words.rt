@@ -55,11 +55,7 @@ fn errors_have_words(rt: HostRuntime) -> Result<(), Fail> {
         (IndexError::MixedHash { at: 12 }, "mixed hash at 12"),
         (IndexError::Memory, "Out of memory"),
     ];
-    assert_words(&rt, &rows)
-}
-
-#[test]
-fn a_wrong_clock_has_words(rt: HostRuntime) -> Result<(), Fail> {
+    assert_words(&rt, &rows)?;
     let want = "The clock was off when reading file related metadata after updating a file on disk";
     assert_shown(&rt, &TimeError, want)
 }
@@ -92,11 +88,7 @@ fn errors_of_pairs_have_words(rt: HostRuntime) -> Result<(), Fail> {
         (TrackerError::Refused(5), "tracker"),
         (TrackerError::Memory, "Out of memory"),
     ];
-    assert_words(&rt, &rows)
-}
-
-#[test]
-fn refused_pairs_have_words(rt: HostRuntime) -> Result<(), Fail> {
+    assert_words(&rt, &rows)?;
     let rows = [
         (Refused::BadPair { at: 3 }, "bad pair at 3"),
         (Refused::Memory, "Out of memory"),
