@@ -88,7 +88,10 @@ fn counts(asked: &[AtomicUsize; 3]) -> [usize; 3] {
 
 // The size that the cache knows of a path.
 fn size_at(cache: &mut FsCache<'_, Table<'_>>, path: &str) -> Result<Option<u64>, AllocError> {
-    Ok(cache.get(BStr::from(path))?.map(|stat| stat.size))
+    match cache.get(BStr::from(path))? {
+        Some(stat) => Ok(Some(stat.size)),
+        None => Ok(None),
+    }
 }
 
 /// What is known of each path; in the end, how often each directory was asked, and how many were
