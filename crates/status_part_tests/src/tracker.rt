@@ -264,19 +264,24 @@ fn equal_contents_pair_off_by_path(rt: HostRuntime) -> Result<(), Fail> {
     Ok(())
 }
 
-// How many pairs a file with no bytes is in that went and came.
-fn pairs_of_empty(alloc: Global, kind: HashKind, track_empty: bool) -> Result<usize, TrackerError> {
+// How many pairs a tracker finds of a file with no bytes that went and came.
+fn pairs_of_empty<T: Tracker>(
+    alloc: Global,
+    tracker: &mut T,
+    kind: HashKind,
+    track_empty: bool,
+) -> Result<usize, TrackerError> {
     let empty = ObjectId::empty_blob(kind);
     let items = [gone("a", empty), came("b", empty)];
-    let mut tracker = IdentityTracker::new(alloc);
-    Ok(found(alloc, &mut tracker, &items, track_empty)?.len())
+    Ok(found(alloc, tracker, &items, track_empty)?.len())
 }
 
 #[test]
 fn files_with_no_bytes_pair_where_they_are_tracked(rt: HostRuntime) -> Result<(), Fail> {
     for kind in [HashKind::Sha1, HashKind::Sha256] {
+        let mut tracker = IdentityTracker::new(rt.alloc());
         for (track_empty, want) in [(false, 0), (true, 1)] {
-            let pairs = pairs_of_empty(rt.alloc(), kind, track_empty)?;
+            let pairs = pairs_of_empty(rt.alloc(), &mut tracker, kind, track_empty)?;
             assert_eq!(rt; pairs, want, "{kind:?}");
         }
     }
