@@ -5,6 +5,7 @@ ghost use Rattle.status_board.specs.Seats.{fresh};
 
 use status_board::board::{Board, Seat, Tally};
 use std::alloc::{AllocError, Global};
+use std::process::Abort;
 use std::sync::Wait;
 use std::test::Fail;
 use std::thread;
@@ -65,24 +66,44 @@ fn barred(board: &Board, seat: &mut Seat, piece: usize) -> bool
     board.barred(seat, piece)
 }
 
+// A seat that is there.
+fn seat_of<R: Abort>(rt: &R, board: &Board, seats: &mut Vec<Seat>) -> Seat
+    requires { All (λ s. s ≡ fresh board.now.id) seats.old.items }
+    ensures left { All (λ s. s ≡ fresh board.now.id) seats.new.items }
+    ensures taken { result ≡ fresh board.now.id }
+{
+    let Some(seat) = take(board, seats) else {
+        panic!(rt; "a seat is missing")
+    };
+    seat
+}
+
+// Asserts what two seats draw and see of three pieces.
+fn assert_drawn<R: Abort>(rt: &R, board: &Board, s: &mut Seat, t: &mut Seat)
+    requires of_s { s.old.board ≡ board.now.id }
+    requires of_t { t.old.board ≡ board.now.id }
+    requires first { 0 < board.now.id.pieces }
+    requires last { 2 < board.now.id.pieces }
+    ensures keeps_s { s.new.board ≡ board.now.id }
+    ensures keeps_t { t.new.board ≡ board.now.id }
+{
+    assert_eq!(rt; draw(board, s), Some(0));
+    assert_eq!(rt; draw(board, t), Some(1));
+    report_last(board, t);
+    assert!(rt; !barred(board, s, 0));
+    assert_eq!(rt; draw(board, s), Some(2));
+    assert!(rt; barred(board, s, 2));
+    assert_eq!(rt; draw(board, s), None);
+    assert_eq!(rt; draw(board, t), None);
+    assert!(rt; s.is_done() && t.is_done());
+}
+
 #[test]
 fn two_seats_draw_report_and_look(rt: HostRuntime) -> Result<(), Fail> {
     let (board, mut seats) = opened(rt.alloc(), 3, 2)?;
-    let Some(mut t) = take(&board, &mut seats) else {
-        panic!(rt; "a seat is missing")
-    };
-    let Some(mut s) = take(&board, &mut seats) else {
-        panic!(rt; "a seat is missing")
-    };
-    assert_eq!(rt; draw(&board, &mut s), Some(0));
-    assert_eq!(rt; draw(&board, &mut t), Some(1));
-    report_last(&board, &mut t);
-    assert!(rt; !barred(&board, &mut s, 0));
-    assert_eq!(rt; draw(&board, &mut s), Some(2));
-    assert!(rt; barred(&board, &mut s, 2));
-    assert_eq!(rt; draw(&board, &mut s), None);
-    assert_eq!(rt; draw(&board, &mut t), None);
-    assert!(rt; s.is_done() && t.is_done());
+    let mut t = seat_of(&rt, &board, &mut seats);
+    let mut s = seat_of(&rt, &board, &mut seats);
+    assert_drawn(&rt, &board, &mut s, &mut t);
     let mut back = Vec::new(rt.alloc());
     give_back(&board, &mut back, s)?;
     give_back(&board, &mut back, t)?;
@@ -97,9 +118,7 @@ fn two_seats_draw_report_and_look(rt: HostRuntime) -> Result<(), Fail> {
 #[test]
 fn no_tally_without_each_seat(rt: HostRuntime) -> Result<(), Fail> {
     let (board, mut seats) = opened(rt.alloc(), 3, 2)?;
-    let Some(s) = take(&board, &mut seats) else {
-        panic!(rt; "a seat is missing")
-    };
+    let s = seat_of(&rt, &board, &mut seats);
     let mut back = Vec::new(rt.alloc());
     give_back(&board, &mut back, s)?;
     assert_eq!(rt; board.close(back), None);
@@ -159,35 +178,63 @@ fn three<R: Threads + Wait>(
     )
 }
 
+// Marks these numbers by 1, and says whether each was there to be marked.
+fn is_marked(marks: &mut Vec<u8>, numbers: &[usize]) -> bool {
+    for number in numbers {
+        if *number < marks.len() && marks[*number] == 0 {
+            marks[*number] = 1;
+        } else {
+            return false;
+        }
+    }
+    true
+}
+
+// Whether each number below a thousand is in one of these lists once.
+fn is_each_once(alloc: Global, one: &[usize], two: &[usize], three: &[usize]) -> bool {
+    let Ok(mut marks) = Vec::from_elem(alloc, 0u8, 1000) else {
+        return false;
+    };
+    for numbers in [one, two, three] {
+        if !is_marked(&mut marks, numbers) {
+            return false;
+        }
+    }
+    !marks.contains(&0)
+}
+
+// What a board says when three seats come back.
+fn tally_of_three(
+    alloc: Global,
+    board: Board,
+    one: Seat,
+    two: Seat,
+    three: Seat,
+) -> Result<Option<Tally>, AllocError>
+    requires of_one { one.board ≡ board.id }
+    requires of_two { two.board ≡ board.id }
+    requires of_three { three.board ≡ board.id }
+{
+    let mut back = Vec::new(alloc);
+    give_back(&board, &mut back, one)?;
+    give_back(&board, &mut back, two)?;
+    give_back(&board, &mut back, three)?;
+    Ok(board.close(back))
+}
+
 #[test]
 fn three_threads_draw_each_number_once(rt: HostRuntime) -> Result<(), Fail> {
     let (board, mut seats) = opened(rt.alloc(), 1000, 3)?;
-    let Some(a) = take(&board, &mut seats) else {
-        panic!(rt; "a seat is missing")
-    };
-    let Some(b) = take(&board, &mut seats) else {
-        panic!(rt; "a seat is missing")
-    };
-    let Some(c) = take(&board, &mut seats) else {
-        panic!(rt; "a seat is missing")
-    };
+    let a = seat_of(&rt, &board, &mut seats);
+    let b = seat_of(&rt, &board, &mut seats);
+    let c = seat_of(&rt, &board, &mut seats);
     let (one, two, three) = three(&rt, rt.alloc(), &board, a, b, c)?;
-    let mut times = vec![in rt.alloc(); 0u8; 1000]?;
-    for numbers in [&one.numbers, &two.numbers, &three.numbers] {
-        for number in numbers {
-            assert!(rt; *number < times.len() && times[*number] == 0);
-            times[*number] = 1;
-        }
-    }
-    assert!(rt; times.iter().all(|count| *count == 1));
-    let mut back = Vec::new(rt.alloc());
-    give_back(&board, &mut back, one.seat)?;
-    give_back(&board, &mut back, two.seat)?;
-    give_back(&board, &mut back, three.seat)?;
+    assert!(rt; is_each_once(rt.alloc(), &one.numbers, &two.numbers, &three.numbers));
     let tally = Tally {
         drawn: 1000,
         least_reported: None,
     };
-    assert_eq!(rt; board.close(back), Some(tally));
+    let found = tally_of_three(rt.alloc(), board, one.seat, two.seat, three.seat)?;
+    assert_eq!(rt; found, Some(tally));
     Ok(())
 }

@@ -5,6 +5,7 @@ ghost use Rattle.status_index.specs.declared.fault.Fault.TheVariants.{NotFound};
 ghost use Rattle.status_base.specs.declared.worktree.objects.FindError.TheVariants.{Missing};
 
 use crate::pieces::Piece;
+use crate::words::assert_shown;
 use bstr::{BStr, BString};
 use status_base::index::{Flags, Mode, Moment, NewEntry, ObjectId, Stat, State};
 use status_base::worktree::{
@@ -92,7 +93,7 @@ fn index_of_foo(alloc: Global, size: u32) -> Result<State, Error> {
 }
 
 // A file or link of these bytes, whose length is said to be `len`, against `foo` with this size.
-#[derive(Drop)]
+#[derive(Clone, Copy)]
 struct Case<'a> {
     bytes: &'a [u8],
     is_link: bool,
@@ -150,100 +151,111 @@ fn plain(bytes: &[u8], len: u64, size: u32) -> Case<'_> {
     }
 }
 
+// Whether a comparison reports this change after these reads.
+fn is_compared<C: CompareBlobs>(
+    alloc: Global,
+    comparer: C,
+    case: &Case<'_>,
+    change: Option<C::Output>,
+    reads: Reads,
+) -> bool
+where
+    C: Drop,
+    C::Output: PartialEq + Drop,
+{
+    match compare(alloc, comparer, case) {
+        Ok((found, read)) => found == change && read == reads,
+        Err(_) => false,
+    }
+}
+
 #[test]
-fn ids_report_a_change_by_the_new_id(rt: HostRuntime) -> Result<(), Fail> {
-    let alloc = rt.alloc();
+fn ids_report_a_change_by_the_new_id(rt: HostRuntime) {
     let bars = Some(ObjectId::Sha1(BARS));
-    assert_eq!(rt;
-        compare(alloc, HashEq, &plain(b"bars", 4, 3))?,
-        (bars, one_read(4))
-    );
-    assert_eq!(rt;
-        compare(alloc, HashEq, &plain(b"foo", 3, 3))?,
-        (None, one_read(3))
-    );
     let link = Case {
         is_link: true,
         ..plain(b"bars", 4, 3)
     };
-    assert_eq!(rt; compare(alloc, HashEq, &link)?, (bars, one_read(4)));
-    let short = compare(alloc, HashEq, &plain(b"foo", 4, 3));
+    for (case, change) in [
+        (plain(b"bars", 4, 3), bars),
+        (plain(b"foo", 3, 3), None),
+        (link, bars),
+    ] {
+        let reads = one_read(case.len);
+        assert!(rt; is_compared(rt.alloc(), HashEq, &case, change, reads));
+    }
+    let short = compare(rt.alloc(), HashEq, &plain(b"foo", 4, 3));
     assert!(rt; matches!(short, Err(Error::Io(Fault::UnexpectedEnd))));
-    Ok(())
 }
 
 #[test]
-fn sizes_decide_without_a_read(rt: HostRuntime) -> Result<(), Fail> {
-    let alloc = rt.alloc();
-    assert_eq!(rt;
-        compare(alloc, FastEq, &plain(b"bars", 4, 3))?,
-        (Some(()), Reads::default())
-    );
-    assert_eq!(rt;
-        compare(alloc, FastEq, &plain(b"bar", 3, 3))?,
-        (Some(()), one_read(3))
-    );
-    assert_eq!(rt;
-        compare(alloc, FastEq, &plain(b"foo", 3, 0))?,
-        (None, one_read(3))
-    );
-    Ok(())
+fn sizes_decide_without_a_read(rt: HostRuntime) {
+    for (case, change, reads) in [
+        (plain(b"bars", 4, 3), Some(()), Reads::default()),
+        (plain(b"bar", 3, 3), Some(()), one_read(3)),
+        (plain(b"foo", 3, 0), None, one_read(3)),
+    ] {
+        assert!(rt; is_compared(rt.alloc(), FastEq, &case, change, reads));
+    }
 }
 
 #[test]
-fn streams_count_what_they_give(rt: HostRuntime) -> Result<(), Fail> {
+fn streams_count_what_they_give(rt: HostRuntime) {
     let mut buffer: Stream<'_, Piece<'_>> = Stream::new(ToGitOutcome::Buffer(b"foo"), None);
     assert_eq!(rt; buffer.as_bytes(), Some(b"foo".as_slice()));
     assert_eq!(rt; buffer.as_bytes(), Some(b"foo".as_slice()));
     assert_eq!(rt; Stream::bytes(&buffer), 6);
-    let mut file = Stream::new(
-        ToGitOutcome::Unchanged(Piece {
-            bytes: b"foo",
-            fault: Some(Fault::UnexpectedEnd),
-        }),
-        Some(4),
-    );
+}
+
+// Why reading to the end fails.
+fn end_of<S: Read>(stream: &mut S, all: &mut Vec<u8>) -> Option<ErrorKind> {
+    match stream.read_to_end(all) {
+        Ok(_) => None,
+        Err(error) => Some(error.kind()),
+    }
+}
+
+#[test]
+fn streams_of_files_end_by_their_fault(rt: HostRuntime) {
+    let piece = Piece {
+        bytes: b"foo",
+        fault: Some(Fault::UnexpectedEnd),
+    };
+    let mut file = Stream::new(ToGitOutcome::Unchanged(piece), Some(4));
     assert_eq!(rt; file.as_bytes(), None);
     let mut all = Vec::new(rt.alloc());
-    match file.read_to_end(&mut all) {
-        Ok(count) => panic!(rt; "{count} bytes were read to an end"),
-        Err(error) => assert_eq!(rt; error.kind(), ErrorKind::UnexpectedEof),
-    }
+    assert_eq!(rt; end_of(&mut file, &mut all), Some(ErrorKind::UnexpectedEof));
     assert_eq!(rt; all.as_slice(), b"foo".as_slice());
     assert_eq!(rt; (file.size(), Stream::bytes(&file)), (Some(4), 3));
-    Ok(())
 }
 
 #[test]
 fn errors_have_words(rt: HostRuntime) -> Result<(), Fail> {
-    let alloc = rt.alloc();
-    let of_submodule = Error::SubmoduleStatus {
-        rela_path: ByteText::from_slice(alloc, b"d/s")?,
-        text: ByteText::from_slice(alloc, b"no head")?,
+    assert_shown(&rt, &Error::IllformedUtf8, "Could not convert path to UTF8")?;
+    let clock =
+        "The clock was off when reading file related metadata after updating a file on disk";
+    assert_shown(&rt, &Error::Time, clock)?;
+    assert_shown(&rt, &Error::SpawnThread, "Could not start a worker thread")?;
+    assert_shown(&rt, &Error::Memory, "Out of memory")
+}
+
+#[test]
+fn errors_of_reads_have_words(rt: HostRuntime) -> Result<(), Fail> {
+    let io = "IO error while writing blob or reading file metadata or changing filetype";
+    assert_shown(&rt, &Error::Io(Fault::NotFound), io)?;
+    let find = "Failed to obtain blob from object database";
+    assert_shown(&rt, &Error::Find(FindError::Missing), find)
+}
+
+#[test]
+fn errors_of_submodules_have_words(rt: HostRuntime) -> Result<(), Fail> {
+    let error = Error::SubmoduleStatus {
+        rela_path: ByteText::from_slice(rt.alloc(), b"d/s")?,
+        text: ByteText::from_slice(rt.alloc(), b"no head")?,
     };
-    for (error, want) in [
-        (Error::IllformedUtf8, "Could not convert path to UTF8"),
-        (
-            Error::Time,
-            "The clock was off when reading file related metadata after updating a file on disk",
-        ),
-        (
-            Error::Io(Fault::NotFound),
-            "IO error while writing blob or reading file metadata or changing filetype",
-        ),
-        (
-            Error::Find(FindError::Missing),
-            "Failed to obtain blob from object database",
-        ),
-        (
-            of_submodule,
-            "Could not determine status for submodule at 'd/s'",
-        ),
-        (Error::SpawnThread, "Could not start a worker thread"),
-        (Error::Memory, "Out of memory"),
-    ] {
-        let text = format!(in alloc; "{error}")?;
-        assert_eq!(rt; text.as_str(), want);
-    }
-    Ok(())
+    assert_shown(
+        &rt,
+        &error,
+        "Could not determine status for submodule at 'd/s'",
+    )
 }

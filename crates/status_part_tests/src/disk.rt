@@ -7,6 +7,7 @@ use status_index::{HashKind, ObjectId, Time, compute_stream_hash};
 use std::fs::{File, OpenFile, Permissions};
 use std::os::unix::fs::{MetadataExt, PermissionsExt, symlink};
 use std::path::Path;
+use std::process::Abort;
 use std::rt::{Env, Files};
 use std::test::Fail;
 use std::time::{Duration, UNIX_EPOCH};
@@ -26,53 +27,59 @@ fn within<R: AllocGlobal>(rt: &R, folder: &str, name: &str) -> io::Result<String
     Ok(format!(in rt.alloc(); "{folder}/{name}")?)
 }
 
-// Writes a file that was last changed at this time.
-fn write_at<R: Files + AllocGlobal>(
-    rt: &R,
-    folder: &str,
-    name: &str,
-    text: &str,
-    time: Duration,
-) -> io::Result<()>
+// Opens a file for writing.
+fn writer<R: Files>(rt: &R, path: &str) -> io::Result<R::File> {
+    File::options().write(true).open(rt, path)
+}
+
+// What is done at a path in a folder.
+#[derive(Clone, Copy)]
+enum Node<'a> {
+    // A file with this text.
+    File(&'a str),
+    // A link to this target.
+    Link(&'a str),
+    Folder,
+    // The file that is there was last changed at this time.
+    Changed(Duration),
+    // The node that is there has this mode.
+    Mode(u32),
+}
+
+// Has a file last changed at this time.
+fn set_time<R: Files>(rt: &R, path: &str, time: Duration) -> io::Result<()>
 where
     R::File: Drop,
 {
-    let path = within(rt, folder, name)?;
-    fs::write(rt, path.as_str(), text)?;
-    let file = File::options().write(true).open(rt, path.as_str())?;
     let Some(time) = UNIX_EPOCH.checked_add(time) else {
         return Err(io::Error::from(io::ErrorKind::InvalidInput));
     };
-    file.set_times(fs::FileTimes::new().set_modified(time))
+    writer(rt, path)?.set_times(fs::FileTimes::new().set_modified(time))
 }
 
-// What is put into a folder: a file with this text, a link to this target, or a folder.
-#[derive(Clone, Copy)]
-enum Node<'a> {
-    File(&'a str),
-    Link(&'a str),
-    Folder,
+fn put<R: Files>(rt: &R, path: &str, node: Node<'_>) -> io::Result<()>
+where
+    R::File: Drop,
+{
+    match node {
+        Node::File(text) => fs::write(rt, path, text),
+        Node::Link(target) => symlink(rt, target, path),
+        Node::Folder => fs::create_dir(rt, path),
+        Node::Changed(time) => set_time(rt, path, time),
+        Node::Mode(mode) => fs::set_permissions(rt, path, Permissions::from_mode(mode)),
+    }
 }
 
-// Puts these into a folder, in order.
+// Does these in a folder, in order.
 fn fill<R: Files + AllocGlobal>(rt: &R, folder: &str, nodes: &[(&str, Node<'_>)]) -> io::Result<()>
 where
     R::File: Drop,
 {
     for (name, node) in nodes {
         let path = within(rt, folder, *name)?;
-        match *node {
-            Node::File(text) => fs::write(rt, path.as_str(), text)?,
-            Node::Link(target) => symlink(rt, target, path.as_str())?,
-            Node::Folder => fs::create_dir(rt, path.as_str())?,
-        }
+        put(rt, path.as_str(), *node)?;
     }
     Ok(())
-}
-
-fn set_mode<R: Files + AllocGlobal>(rt: &R, folder: &str, name: &str, mode: u32) -> io::Result<()> {
-    let path = within(rt, folder, name)?;
-    fs::set_permissions(rt, path.as_str(), Permissions::from_mode(mode))
 }
 
 // What lstat reports of a node, its stamps aside. A folder may be shared by threads.
@@ -81,15 +88,27 @@ fn kind_and_len<W: Worktree + Sync>(worktree: &W, path: &[u8]) -> Result<(NodeKi
     Ok((found.kind, found.len))
 }
 
-fn kind_of<W: Worktree>(worktree: &W, path: &[u8]) -> Result<NodeKind, Fault> {
-    let found = worktree.lstat(BStr::new(path))?;
-    Ok(found.kind)
+// Whether lstat reports all of this.
+fn is_node<W: Worktree>(worktree: &W, path: &[u8], node: &Metadata) -> bool {
+    match worktree.lstat(BStr::new(path)) {
+        Ok(found) => found == *node,
+        Err(_) => false,
+    }
 }
 
-// The stamps of a node's content and of the node.
-fn stamps<W: Worktree>(worktree: &W, path: &[u8]) -> Result<(Option<Time>, Option<Time>), Fault> {
-    let found = worktree.lstat(BStr::new(path))?;
-    Ok((found.mtime, found.ctime))
+// Whether this is the stamp of a node's content and of the node.
+fn has_stamp<W: Worktree>(worktree: &W, path: &[u8], stamp: Option<Time>) -> bool {
+    match worktree.lstat(BStr::new(path)) {
+        Ok(found) => found.mtime == stamp && found.ctime == stamp,
+        Err(_) => false,
+    }
+}
+
+fn is_of_kind<W: Worktree>(worktree: &W, path: &[u8], kind: NodeKind) -> bool {
+    match worktree.lstat(BStr::new(path)) {
+        Ok(found) => found.kind == kind,
+        Err(_) => false,
+    }
 }
 
 fn open_fault<W: Worktree>(worktree: &W, path: &[u8]) -> Option<Fault> {
@@ -99,186 +118,281 @@ fn open_fault<W: Worktree>(worktree: &W, path: &[u8]) -> Option<Fault> {
     }
 }
 
-fn link_fault<W: Worktree>(worktree: &W, path: &[u8], buffer: &mut Vec<u8>) -> Option<Fault> {
-    worktree.read_link(BStr::new(path), buffer).err()
+// Whether a node is opened, and then a read fails by this.
+fn fails_to_read<W: Worktree>(worktree: &W, path: &[u8], fault: Fault) -> bool {
+    match worktree.open(BStr::new(path)) {
+        Ok(mut file) => file.read_bytes(&mut [0; 8]) == Err(fault),
+        Err(_) => false,
+    }
+}
+
+// Whether reading a link gives this target in place of what the buffer held.
+fn leads_to<W: Worktree>(worktree: &W, path: &[u8], buffer: &mut Vec<u8>, target: &str) -> bool {
+    buffer.extend_from_slice(b"before").is_ok()
+        && worktree.read_link(BStr::new(path), buffer).is_ok()
+        && buffer.as_slice() == target.as_bytes()
+}
+
+// Whether reading a link fails by this, and nothing is left in the buffer.
+fn leads_nowhere<W: Worktree>(
+    worktree: &W,
+    path: &[u8],
+    buffer: &mut Vec<u8>,
+    fault: Fault,
+) -> bool {
+    buffer.extend_from_slice(b"before").is_ok()
+        && worktree.read_link(BStr::new(path), buffer) == Err(fault)
+        && buffer.is_empty()
+}
+
+// Whether each call fails by this.
+fn is_nothing<W: Worktree + Sync>(
+    worktree: &W,
+    path: &[u8],
+    buffer: &mut Vec<u8>,
+    fault: Fault,
+) -> bool {
+    kind_and_len(worktree, path) == Err(fault)
+        && open_fault(worktree, path) == Some(fault)
+        && leads_nowhere(worktree, path, buffer, fault)
+}
+
+// What is to be found at a path.
+#[derive(Clone, Copy)]
+enum Look<'a> {
+    // The kind and the length, or the fault.
+    Lstat(Result<(NodeKind, u64), Fault>),
+    Kind(NodeKind),
+    // All that lstat reports.
+    Whole(Metadata),
+    // Both stamps.
+    Stamp(Option<Time>),
+    // The fault of opening, or None where the node is opened.
+    Open(Option<Fault>),
+    // It is opened, and then a read fails by this.
+    Read(Fault),
+    // A link with this target.
+    Target(&'a str),
+    // Reading a link fails by this.
+    NoTarget(Fault),
+    // Each call fails by this.
+    Nothing(Fault),
+}
+
+fn is_met<W: Worktree + Sync>(
+    worktree: &W,
+    path: &[u8],
+    buffer: &mut Vec<u8>,
+    look: Look<'_>,
+) -> bool {
+    match look {
+        Look::Lstat(want) => kind_and_len(worktree, path) == want,
+        Look::Kind(kind) => is_of_kind(worktree, path, kind),
+        Look::Whole(node) => is_node(worktree, path, &node),
+        Look::Stamp(stamp) => has_stamp(worktree, path, stamp),
+        Look::Open(fault) => open_fault(worktree, path) == fault,
+        Look::Read(fault) => fails_to_read(worktree, path, fault),
+        Look::Target(target) => leads_to(worktree, path, buffer, target),
+        Look::NoTarget(fault) => leads_nowhere(worktree, path, buffer, fault),
+        Look::Nothing(fault) => is_nothing(worktree, path, buffer, fault),
+    }
+}
+
+// Asserts what is found at these paths of a folder.
+fn assert_looks<R: Files + AllocGlobal + Abort + Sync>(
+    rt: &R,
+    folder: &str,
+    looks: &[(&[u8], Look<'_>)],
+) -> Result<(), Fail> {
+    let worktree = DiskWorktree::new(rt, Path::new(folder))?;
+    let mut buffer = Vec::new(rt.alloc());
+    for (path, look) in looks {
+        assert!(rt;
+            is_met(&worktree, *path, &mut buffer, *look),
+            "at {}",
+            BStr::new(*path)
+        );
+    }
+    Ok(())
+}
+
+// Asserts what is found in a folder of a test's own that is filled so.
+fn assert_found<R: Env + Files + AllocGlobal + Abort + Sync>(
+    rt: &R,
+    test: &str,
+    id: u32,
+    nodes: &[(&str, Node<'_>)],
+    looks: &[(&[u8], Look<'_>)],
+) -> Result<(), Fail>
+where
+    R::File: Drop,
+{
+    let folder = new_folder(rt, test, id)?;
+    fill(rt, folder.as_str(), nodes)?;
+    assert_looks(rt, folder.as_str(), looks)?;
+    fs::remove_dir_all(rt, folder.as_str())?;
+    Ok(())
 }
 
 #[test]
 fn stamps_are_reported(rt: HostRuntime) -> Result<(), Fail> {
-    let folder = new_folder(&rt, "stamps_are_reported", process::id(rt.process()))?;
-    let root = folder.as_str();
+    let early = Duration::from_secs(5) + Duration::from_nanos(7);
     let last = Duration::from_secs(4294967295);
     let early_stamp = Some(Time { secs: 5, nsecs: 7 });
     let last_stamp = Some(Time {
         secs: 4294967295,
         nsecs: 0,
     });
-    let early = Duration::from_secs(5) + Duration::from_nanos(7);
-    let cases = [
-        ("a", "foo", early, early_stamp),
-        ("late", "", last, last_stamp),
-        ("later", "", last + Duration::from_secs(1), None),
+    let nodes = [
+        ("a", Node::File("foo")),
+        ("a", Node::Changed(early)),
+        ("late", Node::File("")),
+        ("late", Node::Changed(last)),
+        ("later", Node::File("")),
+        ("later", Node::Changed(last + Duration::from_secs(1))),
     ];
-    for (name, text, time, _stamp) in cases {
-        write_at(&rt, root, name, text, time)?;
-    }
-    let worktree = DiskWorktree::new(&rt, Path::new(root))?;
-    for (name, _text, _time, stamp) in cases {
-        let found = stamps(&worktree, name.as_bytes());
-        assert_eq!(rt; found, Ok((stamp, stamp)), "at {name}");
-    }
-    fs::remove_dir_all(&rt, root)?;
-    Ok(())
+    let looks = [
+        (b"a".as_slice(), Look::Stamp(early_stamp)),
+        (b"late", Look::Stamp(last_stamp)),
+        (b"later", Look::Stamp(None)),
+    ];
+    let id = process::id(rt.process());
+    assert_found(&rt, "stamps_are_reported", id, &nodes, &looks)
 }
+
+// A file that was last changed 5 seconds after the epoch.
+const FILE: Metadata = Metadata {
+    kind: NodeKind::File,
+    len: 3,
+    executable: false,
+    mtime: Some(Time { secs: 5, nsecs: 0 }),
+    ctime: Some(Time { secs: 5, nsecs: 0 }),
+    dev: 0,
+    ino: 0,
+    uid: 0,
+    gid: 0,
+};
 
 #[test]
 fn nodes_are_reported(rt: HostRuntime) -> Result<(), Fail> {
-    let folder = new_folder(&rt, "nodes_are_reported", process::id(rt.process()))?;
-    let root = folder.as_str();
     let name = "control\n\x01 é";
-    write_at(&rt, root, "a", "foo", Duration::from_secs(5))?;
-    set_mode(&rt, root, "a", 0o755)?;
-    let others = [
+    let nodes = [
+        ("a", Node::File("foo")),
+        ("a", Node::Changed(Duration::from_secs(5))),
+        ("a", Node::Mode(0o755)),
         ("l", Node::Link("a")),
         ("d", Node::Folder),
         (name, Node::File("x")),
     ];
-    fill(&rt, root, &others)?;
-    let worktree = DiskWorktree::new(&rt, Path::new(root))?;
-    let changed = Some(Time { secs: 5, nsecs: 0 });
-    let file = Metadata {
-        kind: NodeKind::File,
-        len: 3,
-        executable: false,
-        mtime: changed,
-        ctime: changed,
-        dev: 0,
-        ino: 0,
-        uid: 0,
-        gid: 0,
-    };
-    assert_eq!(rt; worktree.lstat(BStr::new(b"a")), Ok(file));
-    for (path, kind) in [("l", NodeKind::Link), (name, NodeKind::File)] {
-        let found = kind_and_len(&worktree, path.as_bytes());
-        assert_eq!(rt; found, Ok((kind, 1)), "at {path}");
-    }
-    assert_eq!(rt; kind_of(&worktree, b"d"), Ok(NodeKind::Directory));
-    let devices = DiskWorktree::new(&rt, Path::new("/dev"))?;
-    assert_eq!(rt; kind_of(&devices, b"null"), Ok(NodeKind::Other));
-    let mut target = Vec::from_slice(rt.alloc(), b"before")?;
-    assert_eq!(rt; worktree.read_link(BStr::new(b"l"), &mut target), Ok(()));
-    assert_eq!(rt; target.as_slice(), b"a".as_slice());
-    fs::remove_dir_all(&rt, root)?;
-    Ok(())
+    let looks = [
+        (b"a".as_slice(), Look::Whole(FILE)),
+        (b"l", Look::Lstat(Ok((NodeKind::Link, 1)))),
+        (name.as_bytes(), Look::Lstat(Ok((NodeKind::File, 1)))),
+        (b"d", Look::Kind(NodeKind::Directory)),
+        (b"l", Look::Target("a")),
+    ];
+    let id = process::id(rt.process());
+    assert_found(&rt, "nodes_are_reported", id, &nodes, &looks)?;
+    let look = (b"null".as_slice(), Look::Kind(NodeKind::Other));
+    assert_looks(&rt, "/dev", &[look])
 }
 
 #[test]
 fn long_paths_lead_below_the_folder(rt: HostRuntime) -> Result<(), Fail> {
-    let alloc = rt.alloc();
-    let folder = new_folder(&rt, "long_paths", process::id(rt.process()))?;
-    let root = folder.as_str();
-    let mut name = String::new(alloc);
+    let mut name = String::new(rt.alloc());
     for _ in 0..15 {
         name.push_str("long name_")?;
     }
     let name = name.as_str();
     // Of more bytes than a path for which no memory is taken.
-    let path = format!(in alloc; "{name}/{name}")?;
-    let nodes = [(name, Node::Folder), (path.as_str(), Node::File("foo"))];
-    fill(&rt, root, &nodes)?;
-    let worktree = DiskWorktree::new(&rt, Path::new(root))?;
-    assert_eq!(rt;
-        kind_and_len(&worktree, path.as_bytes()),
-        Ok((NodeKind::File, 3))
-    );
-    assert_eq!(rt; open_fault(&worktree, path.as_bytes()), None);
-    fs::remove_dir_all(&rt, root)?;
-    Ok(())
+    let path = within(&rt, name, name)?;
+    let path = path.as_str();
+    let nodes = [(name, Node::Folder), (path, Node::File("foo"))];
+    let looks = [
+        (path.as_bytes(), Look::Lstat(Ok((NodeKind::File, 3)))),
+        (path.as_bytes(), Look::Open(None)),
+    ];
+    let id = process::id(rt.process());
+    assert_found(&rt, "long_paths", id, &nodes, &looks)
 }
 
 #[test]
 fn faults_are_named(rt: HostRuntime) -> Result<(), Fail> {
-    let alloc = rt.alloc();
-    let folder = new_folder(&rt, "faults_are_named", process::id(rt.process()))?;
-    let root = folder.as_str();
     let nodes = [
         ("a", Node::File("foo")),
         ("loop", Node::Link("loop")),
         ("dangling", Node::Link("gone")),
         ("d", Node::Folder),
     ];
-    fill(&rt, root, &nodes)?;
-    let worktree = DiskWorktree::new(&rt, Path::new(root))?;
-    let too_long = [b'x'; 300];
-    let far_too_long = [b'x'; 5000];
-    let cases = [
-        (b"x".as_slice(), Fault::NotFound),
-        (b"x/y", Fault::NotFound),
-        (b"dangling/x", Fault::NotFound),
-        (b"a/b", Fault::NotADirectory),
-        (b"\xff", Fault::IllformedUtf8),
-        (b"d/\xc3", Fault::IllformedUtf8),
-        (b"a\0", Fault::Other(0)),
-        (b"loop/x", Fault::Other(0)),
-        (&too_long, Fault::Other(0)),
-        (&far_too_long, Fault::Other(0)),
+    let looks = [
+        (b"x".as_slice(), Look::Nothing(Fault::NotFound)),
+        (b"x/y", Look::Nothing(Fault::NotFound)),
+        (b"dangling/x", Look::Nothing(Fault::NotFound)),
+        (b"a/b", Look::Nothing(Fault::NotADirectory)),
+        (b"\xff", Look::Nothing(Fault::IllformedUtf8)),
+        (b"d/\xc3", Look::Nothing(Fault::IllformedUtf8)),
+        (b"a\0", Look::Nothing(Fault::Other(0))),
+        (b"loop/x", Look::Nothing(Fault::Other(0))),
+        (&[b'x'; 300], Look::Nothing(Fault::Other(0))),
+        (&[b'x'; 5000], Look::Nothing(Fault::Other(0))),
+        (b"loop", Look::Lstat(Ok((NodeKind::Link, 4)))),
+        (b"loop", Look::Open(Some(Fault::Other(0)))),
+        (b"dangling", Look::Open(Some(Fault::NotFound))),
+        (b"a", Look::NoTarget(Fault::Other(0))),
+        // The system opens a directory, and then refuses to read it.
+        (b"d", Look::Read(Fault::Other(0))),
     ];
-    let mut target = Vec::from_slice(alloc, b"before")?;
-    for (path, fault) in cases {
-        assert_eq!(rt; kind_and_len(&worktree, path), Err(fault));
-        assert_eq!(rt; open_fault(&worktree, path), Some(fault));
-        assert_eq!(rt; link_fault(&worktree, path, &mut target), Some(fault));
-        assert!(rt; target.is_empty());
-    }
-    assert_eq!(rt; kind_and_len(&worktree, b"loop"), Ok((NodeKind::Link, 4)));
-    assert_eq!(rt; open_fault(&worktree, b"loop"), Some(Fault::Other(0)));
-    assert_eq!(rt; open_fault(&worktree, b"dangling"), Some(Fault::NotFound));
-    assert_eq!(rt;
-        link_fault(&worktree, b"a", &mut target),
-        Some(Fault::Other(0))
-    );
-    // The system opens a directory, and then refuses to read it.
-    let mut directory = worktree.open(BStr::new(b"d"))?;
-    assert_eq!(rt; directory.read_bytes(&mut [0; 8]), Err(Fault::Other(0)));
-    let missing = within(&rt, root, "x")?;
-    let nowhere = DiskWorktree::new(&rt, Path::new(missing.as_str()))?;
-    assert_eq!(rt; kind_and_len(&nowhere, b"a"), Err(Fault::NotFound));
-    fs::remove_dir_all(&rt, root)?;
-    Ok(())
+    let id = process::id(rt.process());
+    assert_found(&rt, "faults_are_named", id, &nodes, &looks)
 }
 
-// The system lets root read everything, so that root meets no fault here.
 #[test]
-fn unreadable_nodes_are_refused(rt: HostRuntime) -> Result<(), Fail> {
-    let folder = new_folder(&rt, "unreadable", process::id(rt.process()))?;
-    let root = folder.as_str();
-    let is_root = fs::symlink_metadata(&rt, root)?.uid() == 0;
+fn nothing_is_found_where_no_folder_is(rt: HostRuntime) -> Result<(), Fail> {
+    let folder = new_folder(&rt, "no_folder", process::id(rt.process()))?;
+    fs::remove_dir_all(&rt, folder.as_str())?;
+    let look = (b"a".as_slice(), Look::Lstat(Err(Fault::NotFound)));
+    assert_looks(&rt, folder.as_str(), &[look])
+}
+
+// What lstat says of a file of 3 bytes in a locked folder. The system lets root read everything, so
+// that root meets no fault here.
+fn found_when_locked<R: Files>(rt: &R, folder: &str) -> io::Result<Result<(NodeKind, u64), Fault>> {
+    if fs::symlink_metadata(rt, folder)?.uid() == 0 {
+        return Ok(Ok((NodeKind::File, 3)));
+    }
+    Ok(Err(Fault::PermissionDenied))
+}
+
+// Asserts what is found of a file and a folder that may not be read.
+fn assert_locked<R: Files + AllocGlobal + Abort + Sync>(rt: &R, folder: &str) -> Result<(), Fail>
+where
+    R::File: Drop,
+{
     let nodes = [
         ("a", Node::File("foo")),
         ("d", Node::Folder),
         ("d/b", Node::File("bar")),
+        ("a", Node::Mode(0)),
+        ("d", Node::Mode(0)),
     ];
-    fill(&rt, root, &nodes)?;
-    for locked in ["a", "d"] {
-        set_mode(&rt, root, locked, 0)?;
-    }
-    let worktree = DiskWorktree::new(&rt, Path::new(root))?;
-    assert_eq!(rt; kind_and_len(&worktree, b"a"), Ok((NodeKind::File, 3)));
-    let refused = if is_root {
-        None
-    } else {
-        Some(Fault::PermissionDenied)
-    };
-    for path in ["a", "d/b"] {
-        assert_eq!(rt;
-            open_fault(&worktree, path.as_bytes()),
-            refused,
-            "at {path}"
-        );
-    }
-    assert_eq!(rt; kind_and_len(&worktree, b"d/b").err(), refused);
-    set_mode(&rt, root, "d", 0o700)?;
-    fs::remove_dir_all(&rt, root)?;
+    fill(rt, folder, &nodes)?;
+    let locked = found_when_locked(rt, folder)?;
+    let looks = [
+        (b"a".as_slice(), Look::Lstat(Ok((NodeKind::File, 3)))),
+        (b"a", Look::Open(locked.err())),
+        (b"d/b", Look::Open(locked.err())),
+        (b"d/b", Look::Lstat(locked)),
+    ];
+    assert_looks(rt, folder, &looks)
+}
+
+#[test]
+fn unreadable_nodes_are_refused(rt: HostRuntime) -> Result<(), Fail> {
+    let folder = new_folder(&rt, "unreadable", process::id(rt.process()))?;
+    assert_locked(&rt, folder.as_str())?;
+    // What may not be read can't be taken away.
+    fill(&rt, folder.as_str(), &[("d", Node::Mode(0o700))])?;
+    fs::remove_dir_all(&rt, folder.as_str())?;
     Ok(())
 }
 
@@ -306,46 +420,67 @@ fn shorten<R: Files>(rt: &R, path: &str, len: u64) -> io::Result<()>
 where
     R::File: Drop,
 {
-    let writer = File::options().write(true).open(rt, path)?;
-    writer.set_len(len)
+    writer(rt, path)?.set_len(len)
 }
 
-// The ids are git's.
+// What the id of a file says that shrinks once it is open.
+fn read_shortened<R: Files, W: Worktree>(
+    rt: &R,
+    worktree: &W,
+    path: &str,
+) -> Result<Result<ObjectId, Fault>, Fail>
+where
+    R::File: Drop,
+{
+    let mut file = worktree.open(BStr::new(b"a"))?;
+    shorten(rt, path, 70000)?;
+    Ok(compute_stream_hash(HashKind::Sha1, &mut file, 200000))
+}
+
+// Lengths of files, and git's ids of them.
+const LONG: [(u64, [u8; 20]); 2] = [
+    (
+        65536,
+        [
+            0x88, 0x0b, 0x00, 0x53, 0x89, 0xc6, 0xeb, 0x01, 0x1e, 0x1c, 0x1c, 0x3c, 0xc4, 0x20,
+            0xd7, 0xc0, 0x77, 0xcc, 0xf6, 0xd7,
+        ],
+    ),
+    (
+        200000,
+        [
+            0xa2, 0x13, 0xaa, 0x40, 0xf1, 0x1f, 0x7a, 0xf2, 0xa9, 0xc9, 0xe9, 0x73, 0xdf, 0x59,
+            0x92, 0x78, 0x41, 0x30, 0x60, 0xbb,
+        ],
+    ),
+];
+
+// Asserts how the file `a` is read from a folder, where it stands at this path.
+fn assert_pieces<R: Files + AllocGlobal + Abort>(
+    rt: &R,
+    folder: &str,
+    path: &str,
+) -> Result<(), Fail>
+where
+    R::File: Drop,
+{
+    let worktree = DiskWorktree::new(rt, Path::new(folder))?;
+    for (len, id) in LONG {
+        write_long(rt, path, len)?;
+        let read = read_to(&worktree, len);
+        assert_eq!(rt; read, Ok((Ok(ObjectId::Sha1(id)), Ok(0))), "at {len}");
+    }
+    let read = read_shortened(rt, &worktree, path)?;
+    assert_eq!(rt; read, Err(Fault::UnexpectedEnd));
+    Ok(())
+}
+
 #[test]
 fn files_are_read_in_pieces(rt: HostRuntime) -> Result<(), Fail> {
     let folder = new_folder(&rt, "files_are_read", process::id(rt.process()))?;
-    let root = folder.as_str();
-    let path = within(&rt, root, "a")?;
-    let worktree = DiskWorktree::new(&rt, Path::new(root))?;
-    let cases = [
-        (
-            65536u64,
-            [
-                0x88, 0x0b, 0x00, 0x53, 0x89, 0xc6, 0xeb, 0x01, 0x1e, 0x1c, 0x1c, 0x3c, 0xc4, 0x20,
-                0xd7, 0xc0, 0x77, 0xcc, 0xf6, 0xd7,
-            ],
-        ),
-        (
-            200000,
-            [
-                0xa2, 0x13, 0xaa, 0x40, 0xf1, 0x1f, 0x7a, 0xf2, 0xa9, 0xc9, 0xe9, 0x73, 0xdf, 0x59,
-                0x92, 0x78, 0x41, 0x30, 0x60, 0xbb,
-            ],
-        ),
-    ];
-    for (len, id) in cases {
-        write_long(&rt, path.as_str(), len)?;
-        let read = read_to(&worktree, len)?;
-        assert_eq!(rt; read, (Ok(ObjectId::Sha1(id)), Ok(0)), "at {len}");
-    }
-    // A file that shrinks once it is open.
-    let mut file = worktree.open(BStr::new(b"a"))?;
-    shorten(&rt, path.as_str(), 70000)?;
-    assert_eq!(rt;
-        compute_stream_hash(HashKind::Sha1, &mut file, 200000),
-        Err(Fault::UnexpectedEnd)
-    );
-    fs::remove_dir_all(&rt, root)?;
+    let path = within(&rt, folder.as_str(), "a")?;
+    assert_pieces(&rt, folder.as_str(), path.as_str())?;
+    fs::remove_dir_all(&rt, folder.as_str())?;
     Ok(())
 }
 

@@ -25,13 +25,14 @@ const EMPTY_BY_SHA256: [u8; 32] = [
 
 #[test]
 fn ids_are_those_of_git(rt: HostRuntime) {
-    assert_eq!(rt; compute_hash(HashKind::Sha1, b"foo"), ObjectId::Sha1(FOO));
-    assert_eq!(rt; compute_hash(HashKind::Sha1, b"bar"), ObjectId::Sha1(BAR));
-    assert_eq!(rt; compute_hash(HashKind::Sha1, b""), ObjectId::Sha1(EMPTY));
-    assert_eq!(rt;
-        compute_hash(HashKind::Sha256, b""),
-        ObjectId::Sha256(EMPTY_BY_SHA256)
-    );
+    for (kind, bytes, id) in [
+        (HashKind::Sha1, b"foo".as_slice(), ObjectId::Sha1(FOO)),
+        (HashKind::Sha1, b"bar", ObjectId::Sha1(BAR)),
+        (HashKind::Sha1, b"", ObjectId::Sha1(EMPTY)),
+        (HashKind::Sha256, b"", ObjectId::Sha256(EMPTY_BY_SHA256)),
+    ] {
+        assert_eq!(rt; compute_hash(kind, bytes), id);
+    }
 }
 
 #[test]
@@ -61,8 +62,12 @@ fn hash_foo(fault: Option<Fault>, len: u64) -> Result<ObjectId, Fault> {
 #[test]
 fn streams_are_read_to_their_length(rt: HostRuntime) {
     let planted = Some(Fault::Other(5));
-    assert_eq!(rt; hash_foo(None, 3), Ok(ObjectId::Sha1(FOO)));
-    assert_eq!(rt; hash_foo(None, 4), Err(Fault::UnexpectedEnd));
-    assert_eq!(rt; hash_foo(planted, 3), Ok(ObjectId::Sha1(FOO)));
-    assert_eq!(rt; hash_foo(planted, 4), Err(Fault::Other(5)));
+    for (fault, len, want) in [
+        (None, 3, Ok(ObjectId::Sha1(FOO))),
+        (None, 4, Err(Fault::UnexpectedEnd)),
+        (planted, 3, Ok(ObjectId::Sha1(FOO))),
+        (planted, 4, Err(Fault::Other(5))),
+    ] {
+        assert_eq!(rt; hash_foo(fault, len), want);
+    }
 }

@@ -88,31 +88,37 @@ fn counts(asked: &[AtomicUsize; 3]) -> [usize; 3] {
 
 // The size that the cache knows of a path.
 fn size_at(cache: &mut FsCache<'_, Table<'_>>, path: &str) -> Result<Option<u64>, AllocError> {
-    Ok(cache.get(BStr::from(path))?.map(|stat| stat.size))
+    match cache.get(BStr::from(path))? {
+        Some(stat) => Ok(Some(stat.size)),
+        None => Ok(None),
+    }
 }
 
+/// What is known of each path; in the end, how often each directory was asked, and how many were
+/// listed.
+type Sizes = (&'static [(&'static str, Option<u64>)], [usize; 3], u64);
+
+const SIZES: [Sizes; 4] = [
+    (
+        &[
+            ("test.txt", Some(1)),
+            ("subdir/nested.txt", Some(2)),
+            ("Test.txt", None),
+            ("does-not-exist", None),
+        ],
+        [1, 1, 0],
+        2,
+    ),
+    (&[("d/x", None), ("d/y", None)], [0, 0, 1], 1),
+    (&[("twice", Some(6))], [1, 0, 0], 1),
+    // No file name, so nothing to be listed.
+    (&[("d/", None), ("subdir/", None), ("", None)], [0, 0, 0], 0),
+];
+
 #[test]
-fn each_directory_is_listed_once(rt: HostRuntime) -> Result<(), Fail> {
-    // What is known of each path; in the end, how often each directory was asked, and how many were listed.
-    let cases = [
-        (
-            [
-                ("test.txt", Some(1)),
-                ("subdir/nested.txt", Some(2)),
-                ("Test.txt", None),
-                ("does-not-exist", None),
-            ]
-            .as_slice(),
-            [1, 1, 0],
-            2,
-        ),
-        (&[("d/x", None), ("d/y", None)], [0, 0, 1], 1),
-        (&[("twice", Some(6))], [1, 0, 0], 1),
-        // No file name, so nothing to be listed.
-        (&[("d/", None), ("subdir/", None), ("", None)], [0, 0, 0], 0),
-    ];
+fn each_directory_is_listed_once(rt: HostRuntime) {
     let refuses = AtomicBool::new(false);
-    for (paths, wanted, listings) in cases {
+    for (paths, wanted, listings) in SIZES {
         let asked = no_counts();
         let lister = Table {
             alloc: rt.alloc(),
@@ -121,16 +127,16 @@ fn each_directory_is_listed_once(rt: HostRuntime) -> Result<(), Fail> {
         };
         let mut cache = FsCache::new(rt.alloc(), &lister);
         for (path, size) in paths {
-            assert_eq!(rt; size_at(&mut cache, *path)?, *size, "at {path}");
+            let found = size_at(&mut cache, *path).ok();
+            assert_eq!(rt; found, Some(*size), "at {path}");
         }
         assert_eq!(rt; counts(&asked), wanted);
         assert_eq!(rt; cache.listings(), listings);
     }
-    Ok(())
 }
 
 #[test]
-fn a_refused_listing_is_asked_for_again(rt: HostRuntime) -> Result<(), Fail> {
+fn a_refused_listing_is_asked_for_again(rt: HostRuntime) {
     let (asked, refuses) = (no_counts(), AtomicBool::new(false));
     let lister = Table {
         alloc: rt.alloc(),
@@ -138,16 +144,18 @@ fn a_refused_listing_is_asked_for_again(rt: HostRuntime) -> Result<(), Fail> {
         refuses: &refuses,
     };
     let mut cache = FsCache::new(rt.alloc(), &lister);
-    assert_eq!(rt; size_at(&mut cache, "subdir/nested.txt")?, Some(2));
-    refuses.store(true, Ordering::SeqCst);
-    assert!(rt; size_at(&mut cache, "test.txt").is_err());
-    assert_eq!(rt; cache.listings(), 1);
-    assert_eq!(rt; counts(&asked), [1, 1, 0]);
-    assert_eq!(rt; size_at(&mut cache, "subdir/nested.txt")?, Some(2));
-    assert_eq!(rt; size_at(&mut cache, "test.txt")?, Some(1));
-    assert_eq!(rt; cache.listings(), 2);
-    assert_eq!(rt; counts(&asked), [2, 1, 0]);
-    Ok(())
+    // Whether memory is refused, a path, what is known of it, and what was asked and listed then.
+    for (refused, path, size, wanted, listings) in [
+        (false, "subdir/nested.txt", Some(Some(2)), [0, 1, 0], 1),
+        (true, "test.txt", None, [1, 1, 0], 1),
+        (false, "subdir/nested.txt", Some(Some(2)), [1, 1, 0], 1),
+        (false, "test.txt", Some(Some(1)), [2, 1, 0], 2),
+    ] {
+        refuses.store(refused, Ordering::SeqCst);
+        assert_eq!(rt; size_at(&mut cache, path).ok(), size, "at {path}");
+        assert_eq!(rt; counts(&asked), wanted, "at {path}");
+        assert_eq!(rt; cache.listings(), listings, "at {path}");
+    }
 }
 
 #[test]

@@ -60,6 +60,22 @@ enum Named {
     Copied(usize, usize),
 }
 
+fn named_of(entry: &Rewritten<Node>) -> Named {
+    match entry {
+        Rewritten::Alone(item) => Alone(item.name()),
+        Rewritten::Rewrite {
+            source,
+            destination,
+            copy: true,
+        } => Copied(source.name(), destination.name()),
+        Rewritten::Rewrite {
+            source,
+            destination,
+            copy: false,
+        } => Renamed(source.name(), destination.name()),
+    }
+}
+
 /// A list rewritten, by names, or the place of the bad pair.
 fn rewritten(
     alloc: Global,
@@ -73,19 +89,7 @@ fn rewritten(
     };
     let mut named = Vec::new(alloc);
     for entry in &entries {
-        named.push(match entry {
-            Rewritten::Alone(item) => Alone(item.name()),
-            Rewritten::Rewrite {
-                source,
-                destination,
-                copy: true,
-            } => Copied(source.name(), destination.name()),
-            Rewritten::Rewrite {
-                source,
-                destination,
-                copy: false,
-            } => Renamed(source.name(), destination.name()),
-        })?;
+        named.push(named_of(entry))?;
     }
     Ok(Ok(named))
 }
@@ -285,16 +289,22 @@ fn pairs_of(alloc: Global, rows: &[(usize, usize, bool)]) -> Result<Vec<Pair>, A
     Ok(pairs)
 }
 
+/// Whether a row's list is rewritten, or refused, as it says.
+fn is_row(alloc: Global, row: &Row<'_>) -> Result<bool, AllocError> {
+    let (nodes, pairs, want) = *row;
+    let pairs = pairs_of(alloc, pairs)?;
+    let got = rewritten(alloc, nodes, &pairs)?;
+    Ok(match want {
+        Ok(want) => matches!(&got, Ok(entries) if entries.as_slice() == want),
+        Err(want) => matches!(&got, Err(at) if *at == want),
+    })
+}
+
 #[test]
 fn pairs_become_entries_or_the_first_bad_one_is_named(rt: HostRuntime) -> Result<(), Fail> {
-    let alloc = rt.alloc();
-    for (row, (nodes, pairs, want)) in ROWS.into_iter().enumerate() {
-        let got = rewritten(alloc, nodes, &pairs_of(alloc, pairs)?)?;
-        match (&got, want) {
-            (Ok(entries), Ok(want)) => assert!(rt; entries.as_slice() == want, "row {row}"),
-            (Err(at), Err(want)) => assert_eq!(rt; *at, want, "row {row}"),
-            _ => assert!(rt; false, "row {row}: {got:?}"),
-        }
+    for (at, row) in ROWS.iter().enumerate() {
+        let met = is_row(rt.alloc(), row)?;
+        assert!(rt; met, "row {at}");
     }
     Ok(())
 }
@@ -321,11 +331,39 @@ fn plays_one_part(node: &Node, pairs: &[Pair]) -> bool {
     }
 }
 
+fn is_inside(pair: &Pair, len: usize) -> bool {
+    pair.source < len && pair.destination < len
+}
+
 /// Whether the pairs break no rule.
 fn are_lawful(nodes: &[Node], pairs: &[Pair]) -> bool {
-    let inside = pairs.iter().all(|pair| pair.source < nodes.len()
-        && pair.destination < nodes.len());
-    inside && nodes.iter().all(|node| plays_one_part(node, pairs))
+    for pair in pairs {
+        if !is_inside(pair, nodes.len()) {
+            return false;
+        }
+    }
+    for node in nodes {
+        if !plays_one_part(node, pairs) {
+            return false;
+        }
+    }
+    true
+}
+
+/// The entry in the place of an item by lawful pairs, or None for the source of a rename.
+fn entry_of(name: usize, pairs: &[Pair]) -> Option<Named> {
+    let mut entry = Alone(name);
+    for pair in pairs {
+        if pair.source == name && !pair.copy {
+            return None;
+        }
+        if pair.destination == name && pair.copy {
+            entry = Copied(pair.source, name);
+        } else if pair.destination == name {
+            entry = Renamed(pair.source, name);
+        }
+    }
+    Some(entry)
 }
 
 /// The rewritten list of plain rules: each place is looked up among the pairs.
@@ -341,15 +379,9 @@ fn plain(
     }
     let mut entries = Vec::new(alloc);
     for node in nodes {
-        let name = node.name();
-        if pairs.iter().any(|pair| pair.source == name && !pair.copy) {
-            continue;
+        if let Some(entry) = entry_of(node.name(), pairs) {
+            entries.push(entry)?;
         }
-        entries.push(match pairs.iter().find(|pair| pair.destination == name) {
-            None => Alone(name),
-            Some(pair) if pair.copy => Copied(pair.source, name),
-            Some(pair) => Renamed(pair.source, name),
-        })?;
     }
     Ok(Ok(entries))
 }
@@ -387,33 +419,62 @@ fn drawn_pairs(alloc: Global, draws: &mut Draws, nodes: &[Node]) -> Result<Vec<P
     Ok(pairs)
 }
 
+/// How much was met among drawn lists.
+#[derive(Clone, Copy, Default)]
+struct Met {
+    lists: usize,
+    refusals: usize,
+    renames: usize,
+    copies: usize,
+}
+
+impl Met {
+    /// Counts a list that was rewritten by these pairs.
+    fn add(&mut self, pairs: &[Pair]) {
+        self.lists = self.lists.saturating_add(1);
+        for pair in pairs {
+            if pair.copy {
+                self.copies = self.copies.saturating_add(1);
+            } else {
+                self.renames = self.renames.saturating_add(1);
+            }
+        }
+    }
+}
+
+/// Whether a list is rewritten, or None where that isn't as the plain rules say.
+fn is_list(alloc: Global, nodes: &[Node], pairs: &[Pair]) -> Result<Option<bool>, AllocError> {
+    let got = rewritten(alloc, nodes, pairs)?;
+    let want = plain(alloc, nodes, pairs)?;
+    if got == want {
+        return Ok(Some(got.is_ok()));
+    }
+    Ok(None)
+}
+
+/// Draws a list, and says whether it is rewritten as the plain rules say.
+fn is_plain(alloc: Global, draws: &mut Draws, met: &mut Met) -> Result<bool, AllocError> {
+    let nodes = drawn_nodes(alloc, draws)?;
+    let pairs = drawn_pairs(alloc, draws, &nodes)?;
+    match is_list(alloc, &nodes, &pairs)? {
+        Some(true) => met.add(&pairs),
+        Some(false) => met.refusals = met.refusals.saturating_add(1),
+        None => return Ok(false),
+    }
+    Ok(true)
+}
+
 #[test]
 fn drawn_pairs_rewrite_as_the_plain_rules_say(rt: HostRuntime) -> Result<(), Fail> {
-    let alloc = rt.alloc();
     let mut draws = Draws(1);
-    let (mut lists, mut refusals) = (0usize, 0usize);
-    let (mut renames, mut copies) = (0usize, 0usize);
+    let mut met = Met::default();
     for round in 0..2000u64 {
-        let nodes = drawn_nodes(alloc, &mut draws)?;
-        let pairs = drawn_pairs(alloc, &mut draws, &nodes)?;
-        let got = rewritten(alloc, &nodes, &pairs)?;
-        assert!(rt; got == plain(alloc, &nodes, &pairs)?, "round {round}");
-        if got.is_err() {
-            refusals = refusals.saturating_add(1);
-            continue;
-        }
-        lists = lists.saturating_add(1);
-        let copied = pairs.iter().filter(|pair| pair.copy).count();
-        copies = copies.saturating_add(copied);
-        renames = renames.saturating_add(pairs.len().saturating_sub(copied));
+        let plain = is_plain(rt.alloc(), &mut draws, &mut met)?;
+        assert!(rt; plain, "round {round}");
     }
-    assert!(rt;
-        lists > 1000 && refusals > 500,
-        "{lists} lists, {refusals} refusals"
-    );
-    assert!(rt;
-        renames > 500 && copies > 500,
-        "{renames} renames, {copies} copies"
-    );
+    assert!(rt; met.lists > 1000, "{} lists", met.lists);
+    assert!(rt; met.refusals > 500, "{} refusals", met.refusals);
+    assert!(rt; met.renames > 500, "{} renames", met.renames);
+    assert!(rt; met.copies > 500, "{} copies", met.copies);
     Ok(())
 }

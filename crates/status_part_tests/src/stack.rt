@@ -7,6 +7,7 @@ ghost use Rattle.status_base.specs.Paths.{joined};
 ghost use Rattle.status_base.specs.LinkCheck.{link_check};
 ghost use Rattle.status_base.specs.Verified.{IsVerified};
 
+use crate::words::assert_words;
 use bstr::{BStr, BString};
 use status_base::stack::{StackError, SymlinkCheck};
 use status_base::worktree::{Fault, Metadata, NodeKind, ReadBytes, Worktree};
@@ -257,23 +258,18 @@ fn looks_once_at_each_directory(rt: HostRuntime) -> Result<(), Fail> {
     };
     let mut check = SymlinkCheck::new(rt.alloc(), BString::new(Vec::new(rt.alloc())));
     assert_eq!(rt; check.looks(), 0);
-    // `a` and `a/b`; nothing new; `a/e`.
-    for path in ["a/b/c", "a/b/d", "a/e/f"] {
-        assert!(rt;
-            check.verified_path(&worktree, BStr::from(path)).is_ok(),
-            "at {path}"
-        );
+    // `a` and `a/b`; nothing new; `a/e`; a path that isn't normal is refused before any look.
+    for (path, is_ok, seen) in [
+        ("a/b/c", true, 2),
+        ("a/b/d", true, 2),
+        ("a/e/f", true, 3),
+        ("a/b/../c", false, 3),
+    ] {
+        let answer = check.verified_path(&worktree, BStr::from(path));
+        assert_eq!(rt; answer.is_ok(), is_ok, "at {path}");
+        assert_eq!(rt; check.looks(), seen, "at {path}");
+        assert_eq!(rt; looks.load(Ordering::SeqCst) as u64, seen, "at {path}");
     }
-    assert_eq!(rt; check.looks(), 3);
-    assert_eq!(rt; looks.load(Ordering::SeqCst), 3);
-    // A path that isn't normal is refused before any look.
-    assert!(rt;
-        check
-            .verified_path(&worktree, BStr::from("a/b/../c"))
-            .is_err()
-    );
-    assert_eq!(rt; check.looks(), 3);
-    assert_eq!(rt; looks.load(Ordering::SeqCst), 3);
     Ok(())
 }
 
@@ -292,8 +288,29 @@ fn draw(state: &mut u64) -> &'static str {
     PATHS[(*state >> 33) as usize % PATHS.len()]
 }
 
+/// A check below the root `r`.
+fn below_r(alloc: Global) -> Result<SymlinkCheck, AllocError> {
+    let root = BString::from_slice(alloc, "r")?;
+    Ok(SymlinkCheck::new(alloc, root))
+}
+
+/// Whether a check answers for a path as a fresh one does.
+fn answers_as_fresh(
+    alloc: Global,
+    check: &mut SymlinkCheck,
+    worktree: &Table,
+    path: &str,
+    may_be_absent: bool,
+) -> Result<bool, AllocError> {
+    let mut fresh = below_r(alloc)?;
+    let want = answer(alloc, &mut fresh, worktree, path, may_be_absent)?;
+    let found = answer(alloc, check, worktree, path, may_be_absent)?;
+    Ok(found.as_str() == want.as_str())
+}
+
 #[test]
 fn answers_drawn_queries_as_fresh_checks_do(rt: HostRuntime) -> Result<(), Fail> {
+    let alloc = rt.alloc();
     let worktree = Table {
         answers: &[
             ("a", Ok(NodeKind::Directory)),
@@ -312,20 +329,11 @@ fn answers_drawn_queries_as_fresh_checks_do(rt: HostRuntime) -> Result<(), Fail>
     };
     for seed in 1..9u64 {
         let mut state = seed;
-        let root = BString::from_slice(rt.alloc(), "r")?;
-        let mut check = SymlinkCheck::new(rt.alloc(), root);
+        let mut check = below_r(alloc)?;
         for turn in 0..100 {
             let path = draw(&mut state);
-            let root = BString::from_slice(rt.alloc(), "r")?;
-            let mut fresh = SymlinkCheck::new(rt.alloc(), root);
-            let may_be_absent = turn % 3 == 0;
-            let want = answer(rt.alloc(), &mut fresh, &worktree, path, may_be_absent)?;
-            let found = answer(rt.alloc(), &mut check, &worktree, path, may_be_absent)?;
-            assert_eq!(rt;
-                found.as_str(),
-                want.as_str(),
-                "at {path}, turn {turn} of seed {seed}"
-            );
+            let alike = answers_as_fresh(alloc, &mut check, &worktree, path, turn % 3 == 0)?;
+            assert!(rt; alike, "at {path}, turn {turn} of seed {seed}");
         }
     }
     Ok(())
@@ -333,25 +341,20 @@ fn answers_drawn_queries_as_fresh_checks_do(rt: HostRuntime) -> Result<(), Fail>
 
 #[test]
 fn says_why_a_path_is_refused(rt: HostRuntime) -> Result<(), Fail> {
-    for (error, want) in [
+    let dots = BStr::from("..");
+    let link = BStr::from("l");
+    let rows = [
         (StackError::EmptyPath, "The path is empty"),
         (
-            StackError::NotNormal {
-                component: BStr::from(".."),
-            },
+            StackError::NotNormal { component: dots },
             "The path has the component '..', where none may be empty, `.` or `..`",
         ),
         (
-            StackError::ThroughLink {
-                prefix: BStr::from("l"),
-            },
+            StackError::ThroughLink { prefix: link },
             "Cannot step through symlink to perform an lstat",
         ),
         (StackError::Fault(Fault::NotFound), "not found"),
         (StackError::Memory, "Out of memory"),
-    ] {
-        let text = format!(in rt.alloc(); "{error}")?;
-        assert_eq!(rt; text.as_str(), want);
-    }
-    Ok(())
+    ];
+    assert_words(&rt, &rows)
 }

@@ -3,6 +3,7 @@
 use bstr::BStr;
 use status_index::{Flags, HashKind, IndexError, Mode, Moment, ObjectId, Stat, State};
 use std::alloc::Global;
+use std::process::Abort;
 use std::test::Fail;
 
 const WRITTEN: Moment = Moment { secs: 3, nsecs: 4 };
@@ -59,62 +60,126 @@ fn has_rows(state: &State, rows: &[Row<'_>]) -> bool {
     true
 }
 
-#[test]
-fn puts_an_entry_at_its_place(rt: HostRuntime) -> Result<(), Fail> {
-    let mut state = State::new(rt.alloc(), WRITTEN);
-    put(&mut state, ("b", 0, 1), HashKind::Sha1)?;
-    assert!(rt; has_rows(&state, &[("b", 0, 1)]));
-    put(&mut state, ("a", 0, 2), HashKind::Sha1)?;
-    assert!(rt; has_rows(&state, &[("a", 0, 2), ("b", 0, 1)]));
-    put(&mut state, ("b/c", 0, 3), HashKind::Sha1)?;
-    put(&mut state, ("b-", 0, 4), HashKind::Sha1)?;
-    let rows = [("a", 0, 2), ("b", 0, 1), ("b-", 0, 4), ("b/c", 0, 3)];
-    assert!(rt; has_rows(&state, &rows));
-    assert_eq!(rt; state.timestamp(), WRITTEN);
-    Ok(())
+// What is done to an index.
+#[derive(Clone, Copy)]
+enum Step {
+    Put(Row<'static>),
+    Remove(&'static str),
 }
 
-#[test]
-fn replaces_all_entries_of_a_path(rt: HostRuntime) -> Result<(), Fail> {
-    let rows = [
-        ("a", 0, 1),
-        ("b", 1, 2),
-        ("b", 2, 3),
-        ("b", 3, 4),
-        ("c", 0, 5),
-    ];
-    let mut state = index(rt.alloc(), &rows)?;
-    put(&mut state, ("a", 0, 6), HashKind::Sha1)?;
-    let replaced = [
-        ("a", 0, 6),
-        ("b", 1, 2),
-        ("b", 2, 3),
-        ("b", 3, 4),
-        ("c", 0, 5),
-    ];
-    assert!(rt; has_rows(&state, &replaced));
-    put(&mut state, ("b", 0, 7), HashKind::Sha1)?;
-    assert!(rt; has_rows(&state, &[("a", 0, 6), ("b", 0, 7), ("c", 0, 5)]));
-    put(&mut state, ("c", 2, 8), HashKind::Sha1)?;
-    assert!(rt; has_rows(&state, &[("a", 0, 6), ("b", 0, 7), ("c", 2, 8)]));
-    assert_eq!(rt; state.timestamp(), WRITTEN);
-    Ok(())
-}
-
-#[test]
-fn takes_a_path_out(rt: HostRuntime) -> Result<(), Fail> {
-    let rows = [("a", 0, 1), ("b", 1, 2), ("b", 3, 3), ("b/c", 0, 4)];
-    let mut state = index(rt.alloc(), &rows)?;
-    for absent in ["", "A", "a/", "b/", "c"] {
-        state.remove_path(BStr::new(absent.as_bytes()));
-        assert!(rt; has_rows(&state, &rows), "at {absent}");
+fn take(state: &mut State, step: Step) -> Result<(), IndexError> {
+    match step {
+        Step::Put(row) => put(state, row, HashKind::Sha1),
+        Step::Remove(path) => {
+            state.remove_path(BStr::new(path.as_bytes()));
+            Ok(())
+        }
     }
-    state.remove_path(BStr::new(b"b"));
-    assert!(rt; has_rows(&state, &[("a", 0, 1), ("b/c", 0, 4)]));
-    state.remove_path(BStr::new(b"b/c"));
-    state.remove_path(BStr::new(b"a"));
-    assert!(rt; has_rows(&state, &[]));
-    assert_eq!(rt; state.timestamp(), WRITTEN);
+}
+
+// What is shown, the entries at first, and steps with the entries after each.
+type Steps = (
+    &'static str,
+    &'static [Row<'static>],
+    &'static [(Step, &'static [Row<'static>])],
+);
+
+const STEPS: [Steps; 3] = [
+    (
+        "an entry is put at its place",
+        &[],
+        &[
+            (Step::Put(("b", 0, 1)), &[("b", 0, 1)]),
+            (Step::Put(("a", 0, 2)), &[("a", 0, 2), ("b", 0, 1)]),
+            (
+                Step::Put(("b/c", 0, 3)),
+                &[("a", 0, 2), ("b", 0, 1), ("b/c", 0, 3)],
+            ),
+            (
+                Step::Put(("b-", 0, 4)),
+                &[("a", 0, 2), ("b", 0, 1), ("b-", 0, 4), ("b/c", 0, 3)],
+            ),
+        ],
+    ),
+    (
+        "all entries of a path are replaced",
+        &[
+            ("a", 0, 1),
+            ("b", 1, 2),
+            ("b", 2, 3),
+            ("b", 3, 4),
+            ("c", 0, 5),
+        ],
+        &[
+            (
+                Step::Put(("a", 0, 6)),
+                &[
+                    ("a", 0, 6),
+                    ("b", 1, 2),
+                    ("b", 2, 3),
+                    ("b", 3, 4),
+                    ("c", 0, 5),
+                ],
+            ),
+            (
+                Step::Put(("b", 0, 7)),
+                &[("a", 0, 6), ("b", 0, 7), ("c", 0, 5)],
+            ),
+            (
+                Step::Put(("c", 2, 8)),
+                &[("a", 0, 6), ("b", 0, 7), ("c", 2, 8)],
+            ),
+        ],
+    ),
+    (
+        "a path is taken out",
+        &[("a", 0, 1), ("b", 1, 2), ("b", 3, 3), ("b/c", 0, 4)],
+        &[
+            // These have no entries.
+            (
+                Step::Remove(""),
+                &[("a", 0, 1), ("b", 1, 2), ("b", 3, 3), ("b/c", 0, 4)],
+            ),
+            (
+                Step::Remove("A"),
+                &[("a", 0, 1), ("b", 1, 2), ("b", 3, 3), ("b/c", 0, 4)],
+            ),
+            (
+                Step::Remove("a/"),
+                &[("a", 0, 1), ("b", 1, 2), ("b", 3, 3), ("b/c", 0, 4)],
+            ),
+            (
+                Step::Remove("b/"),
+                &[("a", 0, 1), ("b", 1, 2), ("b", 3, 3), ("b/c", 0, 4)],
+            ),
+            (
+                Step::Remove("c"),
+                &[("a", 0, 1), ("b", 1, 2), ("b", 3, 3), ("b/c", 0, 4)],
+            ),
+            (Step::Remove("b"), &[("a", 0, 1), ("b/c", 0, 4)]),
+            (Step::Remove("b/c"), &[("a", 0, 1)]),
+            (Step::Remove("a"), &[]),
+        ],
+    ),
+];
+
+// Asserts what the entries are after each step, and that the timestamp stays.
+fn assert_steps<R: AllocGlobal + Abort>(rt: &R, row: &Steps) -> Result<(), Fail> {
+    let (name, rows, steps) = *row;
+    let mut state = index(rt.alloc(), rows)?;
+    for (at, (step, after)) in steps.iter().enumerate() {
+        take(&mut state, *step)?;
+        assert!(rt; has_rows(&state, *after), "{name}, step {at}");
+    }
+    assert_eq!(rt; state.timestamp(), WRITTEN, "{name}");
+    Ok(())
+}
+
+#[test]
+fn entries_are_put_and_paths_taken_out(rt: HostRuntime) -> Result<(), Fail> {
+    for row in &STEPS {
+        assert_steps(&rt, row)?;
+    }
     Ok(())
 }
 
@@ -135,6 +200,15 @@ fn a_refused_entry_changes_nothing(rt: HostRuntime) -> Result<(), Fail> {
         assert_eq!(rt; refused, Some(want), "at {path}");
         assert!(rt; has_rows(&state, &rows), "at {path}");
     }
+    Ok(())
+}
+
+// After other entries were refused, and a path was taken out.
+#[test]
+fn the_only_path_may_get_another_kind_of_id(rt: HostRuntime) -> Result<(), Fail> {
+    let mut state = index(rt.alloc(), &[("a", 0, 1), ("c", 0, 2)])?;
+    let refused = put(&mut state, ("d", 0, 3), HashKind::Sha256).err();
+    assert_eq!(rt; refused, Some(IndexError::MixedHash { at: 2 }));
     state.remove_path(BStr::new(b"a"));
     put(&mut state, ("c", 0, 4), HashKind::Sha256)?;
     assert!(rt; has_rows(&state, &[("c", 0, 4)]));

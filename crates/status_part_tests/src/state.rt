@@ -3,6 +3,7 @@
 use bstr::{BStr, BString};
 use status_index::{Flags, HashKind, IndexError, Mode, Moment, NewEntry, ObjectId, Stat, State};
 use std::alloc::{AllocError, Global};
+use std::ops::Range;
 use std::test::Fail;
 
 const PATHS: [&str; 5] = ["a", "a-", "a/b", "a/c", "a0"];
@@ -130,36 +131,49 @@ fn has_paths(state: &State, paths: &[&str]) -> bool {
     true
 }
 
-// What an index keeps of an entry beside its path.
-fn fields_at(state: &State, at: usize) -> Option<(Stat, ObjectId, Flags, Mode)> {
-    let entry = state.entries().get(at)?;
-    Some((entry.stat, entry.id, entry.flags, entry.mode))
+// Whether two indexes have an entry at a place, and keep the same of it beside its path.
+fn are_alike(one: &State, other: &State, at: usize) -> bool {
+    let (Some(one), Some(other)) = (one.entries().get(at), other.entries().get(at)) else {
+        return false;
+    };
+    one.stat == other.stat
+        && one.id == other.id
+        && one.flags == other.flags
+        && one.mode == other.mode
+}
+
+// An index of these paths, pushed in order.
+fn grown(alloc: Global, timestamp: Moment, paths: &[&str]) -> Result<State, IndexError> {
+    let mut state = State::new(alloc, timestamp);
+    for path in paths {
+        push(&mut state, *path, HashKind::Sha1)?;
+    }
+    Ok(state)
+}
+
+#[test]
+fn a_new_index_has_no_paths(rt: HostRuntime) {
+    let moment = Moment { secs: 1, nsecs: 2 };
+    assert!(rt; has_paths(&State::new(rt.alloc(), moment), &[]));
 }
 
 #[test]
 fn an_index_grows_entry_by_entry(rt: HostRuntime) -> Result<(), Fail> {
-    let alloc = rt.alloc();
     let moment = Moment { secs: 1, nsecs: 2 };
-    let mut grown = State::new(alloc, moment);
-    assert!(rt; has_paths(&grown, &[]));
-    for path in PATHS {
-        push(&mut grown, path, HashKind::Sha1)?;
-    }
-    let whole = index(alloc)?;
+    let grown = grown(rt.alloc(), moment, &PATHS)?;
+    let whole = index(rt.alloc())?;
     assert!(rt; has_paths(&grown, &PATHS));
     assert!(rt; has_paths(&whole, &PATHS));
     assert_eq!(rt; grown.timestamp(), moment);
     for at in 0..PATHS.len() {
-        assert_eq!(rt; fields_at(&grown, at), fields_at(&whole, at), "at {at}");
+        assert!(rt; are_alike(&grown, &whole, at), "at {at}");
     }
     Ok(())
 }
 
 #[test]
 fn a_refused_entry_leaves_the_index_as_it_was(rt: HostRuntime) -> Result<(), Fail> {
-    let mut state = State::new(rt.alloc(), Moment::default());
-    push(&mut state, "a", HashKind::Sha1)?;
-    push(&mut state, "b", HashKind::Sha1)?;
+    let mut state = grown(rt.alloc(), Moment::default(), &["a", "b"])?;
     for (path, kind, want) in [
         ("", HashKind::Sha256, IndexError::EmptyPath { at: 2 }),
         ("b", HashKind::Sha256, IndexError::NotAscending { at: 2 }),
@@ -175,21 +189,29 @@ fn a_refused_entry_leaves_the_index_as_it_was(rt: HostRuntime) -> Result<(), Fai
     Ok(())
 }
 
+// The first place of a stretch, and the place behind its last.
+fn ends_of(stretch: Option<Range<usize>>) -> Option<(usize, usize)> {
+    match stretch {
+        Some(range) => Some((range.start, range.end)),
+        None => None,
+    }
+}
+
 #[test]
 fn finds_the_stretch_below_a_prefix(rt: HostRuntime) -> Result<(), Fail> {
     let state = index(rt.alloc())?;
     for (prefix, want, most) in [
-        ("a/", Some(2..4), 6),
-        ("a", Some(0..5), 6),
+        ("a/", Some((2, 4)), 6),
+        ("a", Some((0, 5)), 6),
         ("b", None, 6),
-        ("", Some(0..5), 0),
+        ("", Some((0, 5)), 0),
     ] {
         let prefix_bytes = BStr::new(prefix.as_bytes());
         let (range, compared) = state.prefixed_entries_range_counted(prefix_bytes);
-        assert_eq!(rt; range, want, "at {prefix}");
+        assert_eq!(rt; ends_of(range), want, "at {prefix}");
         assert!(rt; compared <= most, "at {prefix}");
         let range = state.prefixed_entries_range(prefix_bytes);
-        assert_eq!(rt; range, want, "at {prefix}");
+        assert_eq!(rt; ends_of(range), want, "at {prefix}");
     }
     Ok(())
 }
@@ -211,20 +233,23 @@ fn a_stretch_of_a_million_entries_takes_forty_comparisons(rt: HostRuntime) -> Re
     let index = large_index(rt.alloc())?;
     assert_eq!(rt; index.entries().len(), 1_000_000);
     for (prefix, range) in [
-        ("012", Some(12_000..13_000)),
-        ("999999", Some(999_999..1_000_000)),
+        ("012", Some((12_000, 13_000))),
+        ("999999", Some((999_999, 1_000_000))),
         ("x", None),
     ] {
         let (found, compared) = index.prefixed_entries_range_counted(BStr::from(prefix));
-        assert_eq!(rt; found, range);
+        assert_eq!(rt; ends_of(found), range);
         assert!(rt; compared <= 40);
     }
     Ok(())
 }
 
-fn stat_at(state: &State, at: usize) -> Option<Stat> {
-    let entry = state.entries().get(at)?;
-    Some(entry.stat)
+// Whether there is an entry at a place, with this stat.
+fn has_stat(state: &State, at: usize, stat: &Stat) -> bool {
+    match state.entries().get(at) {
+        Some(entry) => entry.stat == *stat,
+        None => false,
+    }
 }
 
 #[test]
@@ -247,7 +272,7 @@ fn changes_one_entry_or_the_timestamp(rt: HostRuntime) -> Result<(), Fail> {
         ("set and smudged", 2, Stat { size: 0, ..stat }),
     ];
     for (name, at, want) in wanted {
-        assert_eq!(rt; stat_at(&state, at), Some(want), "at {name}");
+        assert!(rt; has_stat(&state, at, &want), "at {name}");
     }
     assert_eq!(rt; state.timestamp(), moment);
     Ok(())

@@ -3,6 +3,8 @@
 ghost use Rattle.status_tracker.specs.Changed.{Changed};
 
 use crate::draws::Draws;
+use ChangeKind::{Addition, Deletion, Modification};
+use EntryKind::{Blob, BlobExecutable, Commit, Link};
 use bstr::BStr;
 use status_index::{EntryKind, HashKind, ObjectId};
 use status_tracker::{Change, ChangeKind, IdentityTracker, Rewrites, Tracker, TrackerError};
@@ -68,11 +70,6 @@ fn came(path: &'static str, id: ObjectId) -> Item {
     }
 }
 
-// The same change of another mode.
-fn of_mode(item: Item, mode: EntryKind) -> Item {
-    Item { mode, ..item }
-}
-
 // The places of the pairs that a tracker finds, and whether each is a copy.
 fn found<T: Tracker>(
     alloc: Global,
@@ -87,139 +84,255 @@ fn found<T: Tracker>(
     Ok(places)
 }
 
+// A kind of change, a path, a mode and an id.
+type Given = (ChangeKind, &'static str, EntryKind, ObjectId);
+
+fn items_of(alloc: Global, given: &[Given]) -> Result<Vec<Item>, AllocError> {
+    let mut items = Vec::new(alloc);
+    for (kind, path, mode, id) in given {
+        items.push(Item {
+            kind: *kind,
+            path: *path,
+            mode: *mode,
+            id: *id,
+        })?;
+    }
+    Ok(items)
+}
+
+// What is shown, changes, and the places of the pairs.
+type Row = (&'static str, &'static [Given], &'static [(usize, usize)]);
+
+const ROWS: [Row; 17] = [
+    ("no changes", &[], &[]),
+    (
+        "the first source by path",
+        &[
+            (Deletion, "a", Blob, FOO),
+            (Deletion, "b", Blob, FOO),
+            (Addition, "c", Blob, FOO),
+        ],
+        &[(0, 2)],
+    ),
+    (
+        "the first destination by path",
+        &[
+            (Deletion, "a", Blob, FOO),
+            (Addition, "b", Blob, FOO),
+            (Addition, "c", Blob, FOO),
+        ],
+        &[(0, 1)],
+    ),
+    (
+        "a destination before its source",
+        &[(Deletion, "b", Blob, FOO), (Addition, "a", Blob, FOO)],
+        &[(0, 1)],
+    ),
+    (
+        "by path, not by place",
+        &[
+            (Deletion, "b", Blob, FOO),
+            (Deletion, "a", Blob, FOO),
+            (Addition, "d", Blob, FOO),
+            (Addition, "c", Blob, FOO),
+        ],
+        &[(1, 3), (0, 2)],
+    ),
+    (
+        "a path before those that it begins",
+        &[
+            (Deletion, "ab", Blob, FOO),
+            (Deletion, "a/b", Blob, FOO),
+            (Deletion, "a", Blob, FOO),
+            (Addition, "z", Blob, FOO),
+        ],
+        &[(2, 3)],
+    ),
+    (
+        "by the bytes of paths",
+        &[
+            (Deletion, "ab", Blob, FOO),
+            (Deletion, "a/b", Blob, FOO),
+            (Addition, "z", Blob, FOO),
+        ],
+        &[(1, 2)],
+    ),
+    (
+        "sources of one path by place",
+        &[
+            (Deletion, "a", Blob, FOO),
+            (Deletion, "a", Blob, FOO),
+            (Addition, "b", Blob, FOO),
+        ],
+        &[(0, 2)],
+    ),
+    (
+        "destinations of one path by place",
+        &[
+            (Addition, "b", Blob, FOO),
+            (Addition, "b", Blob, FOO),
+            (Deletion, "a", Blob, FOO),
+        ],
+        &[(2, 0)],
+    ),
+    (
+        "two contents",
+        &[
+            (Deletion, "a", Blob, FOO),
+            (Deletion, "b", Blob, BAR),
+            (Addition, "c", Blob, BAR),
+            (Addition, "d", Blob, FOO),
+        ],
+        &[(0, 3), (1, 2)],
+    ),
+    (
+        "other ids",
+        &[
+            (Deletion, "a", Blob, FOO),
+            (Addition, "b", Blob, LONG_FOO),
+            (Addition, "c", Blob, BAR),
+        ],
+        &[],
+    ),
+    (
+        "a link and a file",
+        &[(Deletion, "a", Link, FOO), (Addition, "b", Blob, FOO)],
+        &[],
+    ),
+    (
+        "links among files",
+        &[
+            (Deletion, "a", Link, FOO),
+            (Deletion, "b", Blob, FOO),
+            (Addition, "c", Link, FOO),
+        ],
+        &[(0, 2)],
+    ),
+    (
+        "an executable file",
+        &[
+            (Deletion, "a", Blob, FOO),
+            (Addition, "b", BlobExecutable, FOO),
+        ],
+        &[(0, 1)],
+    ),
+    (
+        "no ids",
+        &[(Deletion, "a", Blob, NULL), (Addition, "b", Blob, NULL)],
+        &[],
+    ),
+    (
+        "submodules",
+        &[(Deletion, "a", Commit, FOO), (Addition, "b", Commit, FOO)],
+        &[],
+    ),
+    (
+        "a change in place",
+        &[(Modification, "a", Blob, FOO), (Addition, "b", Blob, FOO)],
+        &[],
+    ),
+];
+
+// Whether these are the pairs, in order, and none is a copy.
+fn are_pairs(pairs: &[(usize, usize, bool)], want: &[(usize, usize)]) -> bool {
+    if pairs.len() != want.len() {
+        return false;
+    }
+    for ((source, destination, copy), (from, to)) in pairs.iter().zip(want) {
+        if *source != *from || *destination != *to || *copy {
+            return false;
+        }
+    }
+    true
+}
+
+// Whether a tracker pairs off a row as it says.
+fn is_row<T: Tracker>(alloc: Global, tracker: &mut T, row: &Row) -> Result<bool, TrackerError> {
+    let (_name, given, want) = *row;
+    let items = items_of(alloc, given)?;
+    let pairs = found(alloc, tracker, &items, true)?;
+    Ok(are_pairs(&pairs, want))
+}
+
 #[test]
 fn equal_contents_pair_off_by_path(rt: HostRuntime) -> Result<(), Fail> {
-    let alloc = rt.alloc();
-    let link = EntryKind::Link;
-    let executable = EntryKind::BlobExecutable;
-    let modified = Item {
-        kind: ChangeKind::Modification,
-        ..gone("a", FOO)
-    };
-    let rows: [(&[Item], &[(usize, usize)]); 17] = [
-        (&[], &[]),
-        (&[gone("a", FOO), gone("b", FOO), came("c", FOO)], &[(0, 2)]),
-        (&[gone("a", FOO), came("b", FOO), came("c", FOO)], &[(0, 1)]),
-        (&[gone("b", FOO), came("a", FOO)], &[(0, 1)]),
-        (
-            &[
-                gone("b", FOO),
-                gone("a", FOO),
-                came("d", FOO),
-                came("c", FOO),
-            ],
-            &[(1, 3), (0, 2)],
-        ),
-        (
-            &[
-                gone("ab", FOO),
-                gone("a/b", FOO),
-                gone("a", FOO),
-                came("z", FOO),
-            ],
-            &[(2, 3)],
-        ),
-        (
-            &[gone("ab", FOO), gone("a/b", FOO), came("z", FOO)],
-            &[(1, 2)],
-        ),
-        (&[gone("a", FOO), gone("a", FOO), came("b", FOO)], &[(0, 2)]),
-        (&[came("b", FOO), came("b", FOO), gone("a", FOO)], &[(2, 0)]),
-        (
-            &[
-                gone("a", FOO),
-                gone("b", BAR),
-                came("c", BAR),
-                came("d", FOO),
-            ],
-            &[(0, 3), (1, 2)],
-        ),
-        (&[gone("a", FOO), came("b", LONG_FOO), came("c", BAR)], &[]),
-        (&[of_mode(gone("a", FOO), link), came("b", FOO)], &[]),
-        (
-            &[
-                of_mode(gone("a", FOO), link),
-                gone("b", FOO),
-                of_mode(came("c", FOO), link),
-            ],
-            &[(0, 2)],
-        ),
-        (
-            &[gone("a", FOO), of_mode(came("b", FOO), executable)],
-            &[(0, 1)],
-        ),
-        (&[gone("a", NULL), came("b", NULL)], &[]),
-        (
-            &[
-                of_mode(gone("a", FOO), EntryKind::Commit),
-                of_mode(came("b", FOO), EntryKind::Commit),
-            ],
-            &[],
-        ),
-        (&[modified, came("b", FOO)], &[]),
-    ];
-    let mut tracker = IdentityTracker::new(alloc);
-    for (row, (items, want)) in rows.into_iter().enumerate() {
-        let pairs = found(alloc, &mut tracker, items, true)?;
-        assert_eq!(rt; pairs.len(), want.len(), "row {row}");
-        for ((source, destination, copy), (from, to)) in pairs.iter().zip(want) {
-            assert_eq!(rt; (*source, *destination), (*from, *to), "row {row}");
-            assert!(rt; !*copy, "row {row}");
+    let mut tracker = IdentityTracker::new(rt.alloc());
+    for row in &ROWS {
+        let met = is_row(rt.alloc(), &mut tracker, row)?;
+        assert!(rt; met, "{}", row.0);
+    }
+    Ok(())
+}
+
+// How many pairs a tracker finds of a file with no bytes that went and came.
+fn pairs_of_empty<T: Tracker>(
+    alloc: Global,
+    tracker: &mut T,
+    kind: HashKind,
+    track_empty: bool,
+) -> Result<usize, TrackerError> {
+    let empty = ObjectId::empty_blob(kind);
+    let items = [gone("a", empty), came("b", empty)];
+    Ok(found(alloc, tracker, &items, track_empty)?.len())
+}
+
+#[test]
+fn files_with_no_bytes_pair_where_they_are_tracked(rt: HostRuntime) -> Result<(), Fail> {
+    for kind in [HashKind::Sha1, HashKind::Sha256] {
+        let mut tracker = IdentityTracker::new(rt.alloc());
+        for (track_empty, want) in [(false, 0), (true, 1)] {
+            let pairs = pairs_of_empty(rt.alloc(), &mut tracker, kind, track_empty)?;
+            assert_eq!(rt; pairs, want, "{kind:?}");
         }
     }
     Ok(())
 }
 
-#[test]
-fn files_with_no_bytes_pair_where_they_are_tracked(rt: HostRuntime) -> Result<(), Fail> {
-    let alloc = rt.alloc();
-    for kind in [HashKind::Sha1, HashKind::Sha256] {
-        let empty = ObjectId::empty_blob(kind);
-        let items = [gone("a", empty), came("b", empty)];
-        let mut tracker = IdentityTracker::new(alloc);
-        assert_eq!(rt;
-            found(alloc, &mut tracker, &items, false)?.len(),
-            0,
-            "{kind:?}"
-        );
-        assert_eq!(rt;
-            found(alloc, &mut tracker, &items, true)?.len(),
-            1,
-            "{kind:?}"
-        );
+fn drawn_kind(draws: &mut Draws) -> ChangeKind {
+    match draws.below(5) {
+        0 => Modification,
+        1 | 2 => Deletion,
+        _ => Addition,
     }
-    Ok(())
+}
+
+fn drawn_path(draws: &mut Draws) -> &'static str {
+    match draws.below(5) {
+        0 => "a",
+        1 => "a/b",
+        2 => "ab",
+        3 => "b",
+        _ => "c",
+    }
+}
+
+fn drawn_mode(draws: &mut Draws) -> EntryKind {
+    match draws.below(8) {
+        0 => EntryKind::Tree,
+        1 => Commit,
+        2 => BlobExecutable,
+        3 | 4 => Link,
+        _ => Blob,
+    }
+}
+
+fn drawn_id(draws: &mut Draws) -> ObjectId {
+    match draws.below(8) {
+        0 => NULL,
+        1 => LONG_FOO,
+        2 => ObjectId::empty_blob(HashKind::Sha1),
+        3 => BAR,
+        _ => FOO,
+    }
 }
 
 // A change that may pair.
 fn drawn_item(draws: &mut Draws) -> Item {
     Item {
-        kind: match draws.below(5) {
-            0 => ChangeKind::Modification,
-            1 | 2 => ChangeKind::Deletion,
-            _ => ChangeKind::Addition,
-        },
-        path: match draws.below(5) {
-            0 => "a",
-            1 => "a/b",
-            2 => "ab",
-            3 => "b",
-            _ => "c",
-        },
-        mode: match draws.below(8) {
-            0 => EntryKind::Tree,
-            1 => EntryKind::Commit,
-            2 => EntryKind::BlobExecutable,
-            3 | 4 => EntryKind::Link,
-            _ => EntryKind::Blob,
-        },
-        id: match draws.below(8) {
-            0 => NULL,
-            1 => LONG_FOO,
-            2 => ObjectId::empty_blob(HashKind::Sha1),
-            3 => BAR,
-            _ => FOO,
-        },
+        kind: drawn_kind(draws),
+        path: drawn_path(draws),
+        mode: drawn_mode(draws),
+        id: drawn_id(draws),
     }
 }
 
@@ -237,18 +350,33 @@ fn are_alike(a: &Item, b: &Item) -> bool {
     a.id == b.id && (a.mode == EntryKind::Link) == (b.mode == EntryKind::Link)
 }
 
+// Whether another item, at a place of its own, stands before one by path and place.
+fn is_before(place: usize, other: &Item, at: usize, item: &Item) -> bool {
+    other.path < item.path || (other.path == item.path && place < at)
+}
+
 // How many of a list stand before one of them by path and place, among those that are on its side and like it.
 fn rank(items: &[Item], at: usize, item: &Item, track_empty: bool) -> usize {
-    items
-        .iter()
-        .enumerate()
-        .filter(|(place, other)| {
-            other.kind == item.kind
-                && may_pair(other, track_empty)
-                && are_alike(other, item)
-                && (other.path < item.path || (other.path == item.path && *place < at))
-        })
-        .count()
+    let mut count = 0usize;
+    for (place, other) in items.iter().enumerate() {
+        if other.kind == item.kind
+            && may_pair(other, track_empty)
+            && are_alike(other, item)
+            && is_before(place, other, at, item)
+        {
+            count = count.saturating_add(1);
+        }
+    }
+    count
+}
+
+// Whether one item went and another like it came, both of which may be in a pair.
+fn may_be_pair(source: &Item, destination: &Item, track_empty: bool) -> bool {
+    source.kind == Deletion
+        && destination.kind == Addition
+        && may_pair(source, track_empty)
+        && are_alike(source, destination)
+        && may_pair(destination, track_empty)
 }
 
 // The pairs by what they are: equal ranks of equal contents.
@@ -260,11 +388,7 @@ fn plain_pairs(
     let mut pairs = Vec::new(alloc);
     for (from, source) in items.iter().enumerate() {
         for (to, destination) in items.iter().enumerate() {
-            if source.kind == ChangeKind::Deletion
-                && destination.kind == ChangeKind::Addition
-                && may_pair(source, track_empty)
-                && are_alike(source, destination)
-                && may_pair(destination, track_empty)
+            if may_be_pair(source, destination, track_empty)
                 && rank(items, from, source, track_empty)
                     == rank(items, to, destination, track_empty)
             {
@@ -275,25 +399,54 @@ fn plain_pairs(
     Ok(pairs)
 }
 
+fn drawn_items(alloc: Global, draws: &mut Draws) -> Result<Vec<Item>, AllocError> {
+    let mut items = Vec::new(alloc);
+    for _ in 0..draws.below(40) {
+        items.push(drawn_item(draws))?;
+    }
+    Ok(items)
+}
+
+// Whether these are the wanted pairs, in any order.
+fn are_same_pairs(pairs: &[(usize, usize, bool)], want: &[(usize, usize)]) -> bool {
+    if pairs.len() != want.len() {
+        return false;
+    }
+    for (source, destination, _) in pairs {
+        if !want.contains(&(*source, *destination)) {
+            return false;
+        }
+    }
+    true
+}
+
+// How many pairs a tracker finds, or None where they aren't what a plain count says.
+fn count_of_pairs<T: Tracker>(
+    alloc: Global,
+    tracker: &mut T,
+    items: &[Item],
+    track_empty: bool,
+) -> Result<Option<usize>, TrackerError> {
+    let want = plain_pairs(alloc, items, track_empty)?;
+    let pairs = found(alloc, tracker, items, track_empty)?;
+    if are_same_pairs(&pairs, &want) {
+        return Ok(Some(pairs.len()));
+    }
+    Ok(None)
+}
+
 #[test]
 fn drawn_changes_pair_as_a_plain_count_says(rt: HostRuntime) -> Result<(), Fail> {
-    let alloc = rt.alloc();
     let mut draws = Draws(1);
-    let mut tracker = IdentityTracker::new(alloc);
+    let mut tracker = IdentityTracker::new(rt.alloc());
     let mut met = 0usize;
     for round in 0..200u64 {
         let track_empty = draws.below(2) == 0;
-        let mut items = Vec::new(alloc);
-        for _ in 0..draws.below(40) {
-            items.push(drawn_item(&mut draws))?;
+        let items = drawn_items(rt.alloc(), &mut draws)?;
+        match count_of_pairs(rt.alloc(), &mut tracker, &items, track_empty)? {
+            Some(pairs) => met = met.saturating_add(pairs),
+            None => assert!(rt; false, "round {round}"),
         }
-        let want = plain_pairs(alloc, &items, track_empty)?;
-        let pairs = found(alloc, &mut tracker, &items, track_empty)?;
-        assert_eq!(rt; pairs.len(), want.len(), "round {round}");
-        for (source, destination, _) in &pairs {
-            assert!(rt; want.contains(&(*source, *destination)), "round {round}");
-        }
-        met = met.saturating_add(pairs.len());
     }
     assert!(rt; met > 200, "{met} pairs");
     Ok(())

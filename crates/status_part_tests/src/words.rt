@@ -5,11 +5,35 @@ use status_index::{ByteText, EntryKind, Fault, IndexError, Mode, TimeError};
 use status_rewrites::Refused;
 use status_tracker::TrackerError;
 use status_walk::{IdError, WalkError};
+use std::fmt::Display;
+use std::process::Abort;
 use std::test::Fail;
+
+/// Asserts what is shown of a value.
+pub(crate) fn assert_shown<R: AllocGlobal + Abort, T: Display>(
+    rt: &R,
+    value: &T,
+    want: &str,
+) -> Result<(), Fail> {
+    let text = format!(in rt.alloc(); "{value}")?;
+    assert_eq!(rt; text.as_str(), want);
+    Ok(())
+}
+
+/// Asserts what is shown of each of these.
+pub(crate) fn assert_words<R: AllocGlobal + Abort, T: Display + Copy>(
+    rt: &R,
+    rows: &[(T, &str)],
+) -> Result<(), Fail> {
+    for (value, want) in rows {
+        assert_shown(rt, value, *want)?;
+    }
+    Ok(())
+}
 
 #[test]
 fn faults_have_words(rt: HostRuntime) -> Result<(), Fail> {
-    for (fault, want) in [
+    let rows = [
         (Fault::NotFound, "not found"),
         (Fault::NotADirectory, "not a directory"),
         (Fault::PermissionDenied, "permission denied"),
@@ -19,74 +43,57 @@ fn faults_have_words(rt: HostRuntime) -> Result<(), Fail> {
         (Fault::NotNormal, "not normal"),
         (Fault::Memory, "Out of memory"),
         (Fault::Other(12), "other 12"),
-    ] {
-        let text = format!(in rt.alloc(); "{fault}")?;
-        assert_eq!(rt; text.as_str(), want);
-    }
-    Ok(())
+    ];
+    assert_words(&rt, &rows)
 }
 
 #[test]
 fn errors_have_words(rt: HostRuntime) -> Result<(), Fail> {
-    for (error, want) in [
+    let rows = [
         (IndexError::EmptyPath { at: 3 }, "empty path at 3"),
         (IndexError::NotAscending { at: 0 }, "not ascending at 0"),
         (IndexError::MixedHash { at: 12 }, "mixed hash at 12"),
         (IndexError::Memory, "Out of memory"),
-    ] {
-        let text = format!(in rt.alloc(); "{error}")?;
-        assert_eq!(rt; text.as_str(), want);
-    }
-    let text = format!(in rt.alloc(); "{TimeError}")?;
-    assert_eq!(rt;
-        text.as_str(),
-        "The clock was off when reading file related metadata after updating a file on disk"
-    );
-    Ok(())
+    ];
+    assert_words(&rt, &rows)?;
+    let want = "The clock was off when reading file related metadata after updating a file on disk";
+    assert_shown(&rt, &TimeError, want)
 }
 
 #[test]
 fn errors_of_walks_have_words(rt: HostRuntime) -> Result<(), Fail> {
-    let alloc = rt.alloc();
-    let fault = Fault::NotFound;
     let walk = WalkError::Fault {
-        rela_path: BString::from_slice(alloc, b"a")?,
-        fault,
+        rela_path: BString::from_slice(rt.alloc(), b"a")?,
+        fault: Fault::NotFound,
     };
-    let text = format!(in alloc; "{walk}")?;
-    assert_eq!(rt; text.as_str(), "not found");
-    let text = format!(in alloc; "{}", WalkError::Memory)?;
-    assert_eq!(rt; text.as_str(), "Out of memory");
-    for error in [
-        IdError::Open(fault),
-        IdError::Hash(fault),
-        IdError::ReadLink(fault),
-        IdError::Convert(fault),
-    ] {
-        let text = format!(in alloc; "{error}")?;
-        assert_eq!(rt; text.as_str(), "not found", "at {error:?}");
-    }
-    Ok(())
+    assert_shown(&rt, &walk, "not found")?;
+    assert_shown(&rt, &WalkError::Memory, "Out of memory")
+}
+
+#[test]
+fn errors_of_ids_have_words(rt: HostRuntime) -> Result<(), Fail> {
+    let rows = [
+        (IdError::Open(Fault::NotFound), "not found"),
+        (IdError::Hash(Fault::NotFound), "not found"),
+        (IdError::ReadLink(Fault::NotFound), "not found"),
+        (IdError::Convert(Fault::NotFound), "not found"),
+    ];
+    assert_words(&rt, &rows)
 }
 
 #[test]
 fn errors_of_pairs_have_words(rt: HostRuntime) -> Result<(), Fail> {
-    for (error, want) in [
+    let rows = [
         (TrackerError::BadPair { at: 3 }, "tracker"),
         (TrackerError::Refused(5), "tracker"),
         (TrackerError::Memory, "Out of memory"),
-    ] {
-        let text = format!(in rt.alloc(); "{error}")?;
-        assert_eq!(rt; text.as_str(), want, "at {error:?}");
-    }
-    for (error, want) in [
+    ];
+    assert_words(&rt, &rows)?;
+    let rows = [
         (Refused::BadPair { at: 3 }, "bad pair at 3"),
         (Refused::Memory, "Out of memory"),
-    ] {
-        let text = format!(in rt.alloc(); "{error}")?;
-        assert_eq!(rt; text.as_str(), want, "at {error:?}");
-    }
-    Ok(())
+    ];
+    assert_words(&rt, &rows)
 }
 
 #[test]
