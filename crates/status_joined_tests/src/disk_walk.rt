@@ -296,17 +296,31 @@ fn assert_walks<R: Files + AllocGlobal + Abort, W: Worktree>(
     Ok(())
 }
 
+// Asserts what walks over a folder find, beside an index.
+fn assert_found<R: Files + AllocGlobal + Abort>(rt: &R, root: &str) -> Result<(), Fail> {
+    let index = index(rt.alloc(), &ENTRIES)?;
+    let worktree = DiskWorktree::new(rt, Path::new(root))?;
+    assert_walks(rt, root, &worktree, &index)
+}
+
 #[test]
 fn what_no_entry_has_is_found(rt: HostRuntime) -> Result<(), Fail> {
     let id = process::id(rt.process());
     let folder = filled(&rt, "disk_walk_finds", id, &DIRECTORIES, &FILES)?;
     let root = folder.as_str();
     add_links(&rt, root, &LINKS)?;
-    let index = index(rt.alloc(), &ENTRIES)?;
-    let worktree = DiskWorktree::new(&rt, Path::new(root))?;
-    assert_walks(&rt, root, &worktree, &index)?;
+    assert_found(&rt, root)?;
     fs::remove_dir_all(&rt, root)?;
     Ok(())
+}
+
+// Adds a file of the content `foo` to a folder, and a link to a file `c`.
+fn add_renamed<R: Files + AllocGlobal>(rt: &R, root: &str) -> io::Result<()>
+where
+    R::File: Drop,
+{
+    fs::write(rt, within(rt, root, "d/b")?, "foo")?;
+    add_links(rt, root, &[("c", "d/l")])
 }
 
 // Asserts what is reported of a folder beside an index with an entry of the path `a`.
@@ -336,8 +350,7 @@ fn a_folder_has_untracked_files_and_renames(rt: HostRuntime) -> Result<(), Fail>
     let id = process::id(rt.process());
     let folder = filled(&rt, "disk_walk_joined", id, &["d"], &["c"])?;
     let root = folder.as_str();
-    fs::write(&rt, within(&rt, root, "d/b")?, "foo")?;
-    add_links(&rt, root, &[("c", "d/l")])?;
+    add_renamed(&rt, root)?;
     let lines = "- added \"c\"\n- renamed \"a\" \"d/b\"\n- added \"d/l\"\n";
     assert_joined(&rt, root, lines)?;
     fs::remove_dir_all(&rt, root)?;
@@ -366,14 +379,19 @@ fn assert_nowhere<R: Files + AllocGlobal + Abort>(
     assert_fault(rt, file, &nowhere, Some(("", Fault::NotADirectory)))
 }
 
+// The same of the name `x` and the file `f` of a folder.
+fn assert_nowhere_in<R: Files + AllocGlobal + Abort>(rt: &R, root: &str) -> Result<(), Fail> {
+    let missing = within(rt, root, "x")?;
+    let file = within(rt, root, "f")?;
+    assert_nowhere(rt, missing.as_str(), file.as_str())
+}
+
 #[test]
 fn a_folder_that_is_not_there_has_nothing(rt: HostRuntime) -> Result<(), Fail> {
     let id = process::id(rt.process());
     let folder = filled(&rt, "disk_walk_nowhere", id, &[], &["f"])?;
     let root = folder.as_str();
-    let missing = within(&rt, root, "x")?;
-    let file = within(&rt, root, "f")?;
-    assert_nowhere(&rt, missing.as_str(), file.as_str())?;
+    assert_nowhere_in(&rt, root)?;
     fs::remove_dir_all(&rt, root)?;
     Ok(())
 }
@@ -381,6 +399,12 @@ fn a_folder_that_is_not_there_has_nothing(rt: HostRuntime) -> Result<(), Fail> {
 // Whether root asks.
 fn is_root<R: Files + AllocGlobal>(rt: &R, root: &str) -> io::Result<bool> {
     Ok(fs::symlink_metadata(rt, root)?.uid() == 0)
+}
+
+// Gives the directory `d` of a folder a mode.
+fn set_mode<R: Files + AllocGlobal>(rt: &R, root: &str, mode: u32) -> io::Result<()> {
+    let locked = within(rt, root, "d")?;
+    fs::set_permissions(rt, locked.as_str(), Permissions::from_mode(mode))
 }
 
 // Asserts the path that has a fault where the directory `d` of a folder has this mode. The system lets root read
@@ -391,8 +415,7 @@ fn assert_locked<R: Files + AllocGlobal + Abort>(
     mode: u32,
     path: &str,
 ) -> Result<(), Fail> {
-    let locked = within(rt, root, "d")?;
-    fs::set_permissions(rt, locked.as_str(), Permissions::from_mode(mode))?;
+    set_mode(rt, root, mode)?;
     let refused = if is_root(rt, root)? {
         None
     } else {
@@ -410,8 +433,7 @@ fn directories_that_may_not_be_read_are_faults(rt: HostRuntime) -> Result<(), Fa
     // Without leave to list, and then with that leave alone.
     assert_locked(&rt, root, 0o300, "d")?;
     assert_locked(&rt, root, 0o400, "d/b")?;
-    let locked = within(&rt, root, "d")?;
-    fs::set_permissions(&rt, locked.as_str(), Permissions::from_mode(0o700))?;
+    set_mode(&rt, root, 0o700)?;
     fs::remove_dir_all(&rt, root)?;
     Ok(())
 }
@@ -496,6 +518,19 @@ fn assert_by_letter<R: Files + AllocGlobal + Abort>(
     Ok(())
 }
 
+// Asserts the same of a folder, and of what is added to it.
+fn assert_by_letters<R: Files + AllocGlobal + Abort>(rt: &R, root: &str) -> Result<(), Fail>
+where
+    R::File: Drop,
+{
+    assert_by_letter(rt, root, &WHOLE)?;
+    fill(rt, root, &[], &["d/r"])?;
+    assert_fault(rt, root, &ByLetter, Some(("d/r", Fault::PermissionDenied)))?;
+    // A walk that was ended before comes to no fault.
+    fill(rt, root, &[], &["c"])?;
+    assert_by_letter(rt, root, &FIRST)
+}
+
 #[test]
 fn nodes_are_what_lstat_says(rt: HostRuntime) -> Result<(), Fail> {
     let id = process::id(rt.process());
@@ -503,12 +538,7 @@ fn nodes_are_what_lstat_says(rt: HostRuntime) -> Result<(), Fail> {
     let files = ["d/f", "d/p", "d/g", "g/f", "p/f"];
     let folder = filled(&rt, "disk_walk_lstat", id, &directories, &files)?;
     let root = folder.as_str();
-    assert_by_letter(&rt, root, &WHOLE)?;
-    fill(&rt, root, &[], &["d/r"])?;
-    assert_fault(&rt, root, &ByLetter, Some(("d/r", Fault::PermissionDenied)))?;
-    // A walk that was ended before comes to no fault.
-    fill(&rt, root, &[], &["c"])?;
-    assert_by_letter(&rt, root, &FIRST)?;
+    assert_by_letters(&rt, root)?;
     fs::remove_dir_all(&rt, root)?;
     Ok(())
 }
