@@ -225,19 +225,14 @@ fn assert_over<
     };
     let report = joined(rt, index, worktree, request);
     let text = report.reported(rt.alloc())?;
+    let (name, fault, sorted) = (case.name, case.fault, case.sorted);
     assert!(rt;
         exit_of(&report) == case.exit,
-        "{}: {:?}, sorted: {}",
-        case.name,
-        case.fault,
-        case.sorted
+        "{name}: {fault:?}, sorted: {sorted}"
     );
     assert!(rt;
         text.as_str() == case.lines,
-        "{}: {:?}, sorted: {}: {text}",
-        case.name,
-        case.fault,
-        case.sorted
+        "{name}: {fault:?}, sorted: {sorted}: {text}"
     );
     Ok(())
 }
