@@ -97,7 +97,7 @@ pub struct Row<'a> {
     pub answer: Answer,
 }
 
-/// Nothing lies nowhere. All is walked and sorted, and no renames are looked for.
+/// The index and the worktree have nothing. All is walked and sorted, and no renames are looked for.
 pub const PLAIN: Row<'static> = Row {
     name: "",
     entries: &[],

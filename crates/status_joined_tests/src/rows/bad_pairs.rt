@@ -116,7 +116,7 @@ static FILES: [Row; 2] = [
 ];
 
 #[test]
-fn neither_a_modified_file_nor_two_are_renamed_to_one(rt: HostRuntime) -> Result<(), Fail> {
+fn a_modified_file_is_not_renamed_nor_are_two_to_one(rt: HostRuntime) -> Result<(), Fail> {
     assert_rows(&rt, &FILES)
 }
 

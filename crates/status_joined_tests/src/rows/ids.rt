@@ -148,7 +148,7 @@ static FAULTS: [Row; 5] = [
 ];
 
 #[test]
-fn a_fault_on_the_way_to_an_id_ends_the_status(rt: HostRuntime) -> Result<(), Fail> {
+fn where_ids_are_computed_a_fault_on_the_way_ends_the_status(rt: HostRuntime) -> Result<(), Fail> {
     assert_rows(&rt, &FAULTS)
 }
 

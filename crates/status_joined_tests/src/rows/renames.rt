@@ -71,7 +71,9 @@ static PLACES: [Row; 5] = [
 ];
 
 #[test]
-fn a_rename_is_of_the_first_files_of_a_content(rt: HostRuntime) -> Result<(), Fail> {
+fn renames_are_of_the_first_files_and_stand_at_their_destinations(
+    rt: HostRuntime,
+) -> Result<(), Fail> {
     assert_rows(&rt, &PLACES)
 }
 
@@ -138,6 +140,6 @@ static KINDS: [Row; 7] = [
 ];
 
 #[test]
-fn what_is_no_equal_content_of_a_tracked_kind_is_not_renamed(rt: HostRuntime) -> Result<(), Fail> {
+fn renames_are_of_one_kind_and_of_what_is_tracked(rt: HostRuntime) -> Result<(), Fail> {
     assert_rows(&rt, &KINDS)
 }

@@ -118,7 +118,7 @@ const NODES: [Found<'static>; 6] = [
     },
 ];
 
-/// The directory `d`, which is ignored, and whose nodes aren't reported.
+/// The untracked directory `d`, which stands for nodes that are ignored.
 const COLLAPSED: Found<'static> = Found {
     path: "d",
     disk_kind: Some(Kind::Directory),
