@@ -15,8 +15,11 @@ use std::alloc::{AllocError, Global};
 use std::fs::Permissions;
 use std::os::unix::fs::{MetadataExt, PermissionsExt, symlink};
 use std::path::Path;
+use std::process::Abort;
 use std::rt::{Env, Files};
+use std::sync::Wait;
 use std::test::Fail;
+use std::thread::Threads;
 use std::{env, fs, io, process};
 
 // A new folder for temporary files, of this test's own.
@@ -48,6 +51,34 @@ where
     }
     for name in files {
         fs::write(rt, within(rt, folder, *name)?, "")?;
+    }
+    Ok(())
+}
+
+// Makes a new folder with directories and empty files.
+fn filled<R: Env + Files + AllocGlobal>(
+    rt: &R,
+    test: &str,
+    id: u32,
+    directories: &[&str],
+    files: &[&str],
+) -> io::Result<String>
+where
+    R::File: Drop,
+{
+    let folder = new_folder(rt, test, id)?;
+    fill(rt, folder.as_str(), directories, files)?;
+    Ok(folder)
+}
+
+// Makes links in a folder: to these targets, at these names.
+fn add_links<R: Files + AllocGlobal>(
+    rt: &R,
+    folder: &str,
+    links: &[(&str, &str)],
+) -> io::Result<()> {
+    for (target, name) in links {
+        symlink(rt, *target, within(rt, folder, *name)?)?;
     }
     Ok(())
 }
@@ -121,8 +152,8 @@ impl Delegate for Lines {
 }
 
 // A walk over a folder, by what a worktree's `lstat` says: its lines, and how it ended.
-fn walked<W: Worktree, P: Pathspec>(
-    rt: &HostRuntime,
+fn walked<R: Files + AllocGlobal, W: Worktree, P: Pathspec>(
+    rt: &R,
     root: &str,
     worktree: &W,
     index: &State,
@@ -135,9 +166,32 @@ fn walked<W: Worktree, P: Pathspec>(
     Ok((lines.text, outcome))
 }
 
+/// What a walk finds that hands out no more than it is asked for.
+#[derive(Clone, Copy)]
+struct Wanted<'a> {
+    room: usize,
+    lines: &'a str,
+    outcome: Outcome,
+}
+
+// Asserts what a walk over a folder finds, by what a worktree's `lstat` says.
+fn assert_walked<R: Files + AllocGlobal + Abort, W: Worktree, P: Pathspec>(
+    rt: &R,
+    root: &str,
+    worktree: &W,
+    index: &State,
+    pathspec: &P,
+    wanted: &Wanted<'_>,
+) -> Result<(), WalkError> {
+    let (text, outcome) = walked(rt, root, worktree, index, pathspec, wanted.room)?;
+    assert_eq!(rt; text.as_str(), wanted.lines);
+    assert_eq!(rt; outcome, wanted.outcome);
+    Ok(())
+}
+
 // A walk over all of a folder beside an index without entries, by what a worktree's `lstat` says: its fault.
-fn fault<W: Worktree>(
-    rt: &HostRuntime,
+fn fault<R: Files + AllocGlobal, W: Worktree>(
+    rt: &R,
     root: &str,
     worktree: &W,
 ) -> Result<Option<(BString, Fault)>, Fail> {
@@ -147,6 +201,24 @@ fn fault<W: Worktree>(
         Err(WalkError::Fault { rela_path, fault }) => Ok(Some((rela_path, fault))),
         Err(WalkError::Memory) => Err(Fail::from(AllocError)),
     }
+}
+
+// Asserts the path and the fault of such a walk, or that it has none.
+fn assert_fault<R: Files + AllocGlobal + Abort, W: Worktree>(
+    rt: &R,
+    root: &str,
+    worktree: &W,
+    wanted: Option<(&str, Fault)>,
+) -> Result<(), Fail> {
+    let is_wanted = match fault(rt, root, worktree)? {
+        Some((path, found)) => match wanted {
+            Some((at, fault)) => path.as_bytes() == at.as_bytes() && found == fault,
+            None => false,
+        },
+        None => wanted.is_none(),
+    };
+    assert!(rt; is_wanted, "{wanted:?}");
+    Ok(())
 }
 
 const DIRECTORIES: [&str; 5] = ["a/c", ".git/refs", "n/.git", "sub/y", "empty/e"];
@@ -170,115 +242,198 @@ const FILES: [&str; 16] = [
     "é\n\x01",
 ];
 
-#[test]
-fn what_no_entry_has_is_found(rt: HostRuntime) -> Result<(), Fail> {
-    let alloc = rt.alloc();
-    let folder = new_folder(&rt, "disk_walk_finds", process::id(rt.process()))?;
-    let root = folder.as_str();
-    fill(&rt, root, &DIRECTORIES, &FILES)?;
-    symlink(&rt, "a", within(&rt, root, "l")?)?;
-    symlink(&rt, "gone", within(&rt, root, "sub-")?)?;
-    symlink(&rt, "x", within(&rt, root, "s")?)?;
-    let worktree = DiskWorktree::new(&rt, Path::new(root))?;
-    let entries = [
-        ("a", Mode::File),
-        ("a/t", Mode::File),
-        ("s", Mode::File),
-        ("sub", Mode::Commit),
-        ("t", Mode::File),
-    ];
-    let index = index(alloc, &entries)?;
-    let (text, outcome) = walked(&rt, root, &worktree, &index, &AllPaths, 100)?;
-    assert_eq!(rt;
-        text.as_str(),
-        ".gitignore file\na- file\na/b file\na/c/d file\na0 file\nl link\nn/f file\nsub- link\nsub.x file\nt.x file\né\n\x01 file\n"
-    );
-    let whole = Outcome {
+static LINKS: [(&str, &str); 3] = [("a", "l"), ("gone", "sub-"), ("x", "s")];
+
+static ENTRIES: [(&str, Mode); 5] = [
+    ("a", Mode::File),
+    ("a/t", Mode::File),
+    ("s", Mode::File),
+    ("sub", Mode::Commit),
+    ("t", Mode::File),
+];
+
+/// All of the folder.
+const ALL: Wanted<'static> = Wanted {
+    room: 100,
+    lines: ".gitignore file\na- file\na/b file\na/c/d file\na0 file\nl link\nn/f file\nsub- link\nsub.x file\nt.x file\né\n\x01 file\n",
+    outcome: Outcome {
         emitted: 11,
         cancelled: false,
-    };
-    assert_eq!(rt; outcome, whole);
+    },
+};
 
-    let below = Prefix::new(alloc, BStr::new(b"a/"))?;
-    let (text, _outcome) = walked(&rt, root, &worktree, &index, &below, 100)?;
-    assert_eq!(rt; text.as_str(), "a/b file\na/c/d file\n");
+/// What lies in `a`.
+const BELOW: Wanted<'static> = Wanted {
+    room: 100,
+    lines: "a/b file\na/c/d file\n",
+    outcome: Outcome {
+        emitted: 2,
+        cancelled: false,
+    },
+};
 
-    let (text, outcome) = walked(&rt, root, &worktree, &index, &AllPaths, 3)?;
-    assert_eq!(rt; text.as_str(), ".gitignore file\na- file\na/b file\n");
-    let cut = Outcome {
+/// The first three.
+const CUT: Wanted<'static> = Wanted {
+    room: 3,
+    lines: ".gitignore file\na- file\na/b file\n",
+    outcome: Outcome {
         emitted: 3,
         cancelled: true,
-    };
-    assert_eq!(rt; outcome, cut);
+    },
+};
+
+// Asserts what walks over a folder find, by a worktree and an index.
+fn assert_walks<R: Files + AllocGlobal + Abort, W: Worktree>(
+    rt: &R,
+    root: &str,
+    worktree: &W,
+    index: &State,
+) -> Result<(), Fail> {
+    let below = Prefix::new(rt.alloc(), BStr::new(b"a/"))?;
+    assert_walked(rt, root, worktree, index, &AllPaths, &ALL)?;
+    assert_walked(rt, root, worktree, index, &below, &BELOW)?;
+    assert_walked(rt, root, worktree, index, &AllPaths, &CUT)?;
+    Ok(())
+}
+
+// Asserts what walks over a folder find, beside an index.
+fn assert_found<R: Files + AllocGlobal + Abort>(rt: &R, root: &str) -> Result<(), Fail> {
+    let index = index(rt.alloc(), &ENTRIES)?;
+    let worktree = DiskWorktree::new(rt, Path::new(root))?;
+    assert_walks(rt, root, &worktree, &index)
+}
+
+#[test]
+fn what_no_entry_has_is_found(rt: HostRuntime) -> Result<(), Fail> {
+    let id = process::id(rt.process());
+    let folder = filled(&rt, "disk_walk_finds", id, &DIRECTORIES, &FILES)?;
+    let root = folder.as_str();
+    add_links(&rt, root, &LINKS)?;
+    assert_found(&rt, root)?;
     fs::remove_dir_all(&rt, root)?;
+    Ok(())
+}
+
+// Adds a file of the content `foo` to a folder, and a link to a file `c`.
+fn add_renamed<R: Files + AllocGlobal>(rt: &R, root: &str) -> io::Result<()>
+where
+    R::File: Drop,
+{
+    fs::write(rt, within(rt, root, "d/b")?, "foo")?;
+    add_links(rt, root, &[("c", "d/l")])
+}
+
+// Asserts what is reported of a folder beside an index with an entry of the path `a`.
+fn assert_joined<R: AllocGlobal + Abort + Files + Sync + Threads + Wait>(
+    rt: &R,
+    root: &str,
+    lines: &str,
+) -> Result<(), Fail>
+where
+    R::File: Send,
+    R::Dir: Send,
+{
+    let alloc = rt.alloc();
+    let index = foo_index(alloc, &["a"])?;
+    let worktree = DiskWorktree::new(rt, Path::new(root))?;
+    let walk = DiskWalk::new(rt, Path::new(root))?;
+    let request = Request::rewritten(walk, IdentityTracker::new(alloc));
+    let report = joined(rt, &index, &worktree, request);
+    let text = report.reported(alloc)?;
+    assert_eq!(rt; text.as_str(), lines);
+    assert!(rt; report.answer.is_ok());
     Ok(())
 }
 
 #[test]
 fn a_folder_has_untracked_files_and_renames(rt: HostRuntime) -> Result<(), Fail> {
-    let alloc = rt.alloc();
-    let folder = new_folder(&rt, "disk_walk_joined", process::id(rt.process()))?;
+    let id = process::id(rt.process());
+    let folder = filled(&rt, "disk_walk_joined", id, &["d"], &["c"])?;
     let root = folder.as_str();
-    fill(&rt, root, &["d"], &["c"])?;
-    fs::write(&rt, within(&rt, root, "d/b")?, "foo")?;
-    symlink(&rt, "c", within(&rt, root, "d/l")?)?;
-    let worktree = DiskWorktree::new(&rt, Path::new(root))?;
-    let index = foo_index(alloc, &["a"])?;
-    let walk = DiskWalk::new(&rt, Path::new(root))?;
-    let request = Request::rewritten(walk, IdentityTracker::new(alloc));
-    let report = joined(&rt, &index, &worktree, request);
-    assert_eq!(rt;
-        report.reported(alloc)?.as_str(),
-        "- added \"c\"\n- renamed \"a\" \"d/b\"\n- added \"d/l\"\n"
-    );
-    assert!(rt; report.answer.is_ok());
+    add_renamed(&rt, root)?;
+    let lines = "- added \"c\"\n- renamed \"a\" \"d/b\"\n- added \"d/l\"\n";
+    assert_joined(&rt, root, lines)?;
     fs::remove_dir_all(&rt, root)?;
     Ok(())
+}
+
+/// Nothing is found.
+const NOTHING: Wanted<'static> = Wanted {
+    room: 100,
+    lines: "",
+    outcome: Outcome {
+        emitted: 0,
+        cancelled: false,
+    },
+};
+
+// Asserts that nothing is found where nothing lies, and that a file is no folder.
+fn assert_nowhere<R: Files + AllocGlobal + Abort>(
+    rt: &R,
+    missing: &str,
+    file: &str,
+) -> Result<(), Fail> {
+    let index = index(rt.alloc(), &[])?;
+    let nowhere = DiskWorktree::new(rt, Path::new(missing))?;
+    assert_walked(rt, missing, &nowhere, &index, &AllPaths, &NOTHING)?;
+    assert_fault(rt, file, &nowhere, Some(("", Fault::NotADirectory)))
+}
+
+// The same of the name `x` and the file `f` of a folder.
+fn assert_nowhere_in<R: Files + AllocGlobal + Abort>(rt: &R, root: &str) -> Result<(), Fail> {
+    let missing = within(rt, root, "x")?;
+    let file = within(rt, root, "f")?;
+    assert_nowhere(rt, missing.as_str(), file.as_str())
 }
 
 #[test]
 fn a_folder_that_is_not_there_has_nothing(rt: HostRuntime) -> Result<(), Fail> {
-    let alloc = rt.alloc();
-    let folder = new_folder(&rt, "disk_walk_nowhere", process::id(rt.process()))?;
+    let id = process::id(rt.process());
+    let folder = filled(&rt, "disk_walk_nowhere", id, &[], &["f"])?;
     let root = folder.as_str();
-    fill(&rt, root, &[], &["f"])?;
-    let index = index(alloc, &[])?;
-    let missing = within(&rt, root, "x")?;
-    let nowhere = DiskWorktree::new(&rt, Path::new(missing.as_str()))?;
-    let (text, outcome) = walked(&rt, missing.as_str(), &nowhere, &index, &AllPaths, 100)?;
-    assert!(rt; text.is_empty());
-    assert_eq!(rt; outcome, Outcome::default());
-    let file = within(&rt, root, "f")?;
-    let found = fault(&rt, file.as_str(), &nowhere)?;
-    let want = (BString::new(Vec::new(alloc)), Fault::NotADirectory);
-    assert_eq!(rt; found, Some(want));
+    assert_nowhere_in(&rt, root)?;
     fs::remove_dir_all(&rt, root)?;
     Ok(())
 }
 
-// The system lets root read everything, so that root meets no fault here.
+// Whether root asks.
+fn is_root<R: Files + AllocGlobal>(rt: &R, root: &str) -> io::Result<bool> {
+    Ok(fs::symlink_metadata(rt, root)?.uid() == 0)
+}
+
+// Gives the directory `d` of a folder a mode.
+fn set_mode<R: Files + AllocGlobal>(rt: &R, root: &str, mode: u32) -> io::Result<()> {
+    let locked = within(rt, root, "d")?;
+    fs::set_permissions(rt, locked.as_str(), Permissions::from_mode(mode))
+}
+
+// Asserts the path that has a fault where the directory `d` of a folder has this mode. The system lets root read
+// everything, so that root meets no fault here.
+fn assert_locked<R: Files + AllocGlobal + Abort>(
+    rt: &R,
+    root: &str,
+    mode: u32,
+    path: &str,
+) -> Result<(), Fail> {
+    set_mode(rt, root, mode)?;
+    let refused = if is_root(rt, root)? {
+        None
+    } else {
+        Some((path, Fault::PermissionDenied))
+    };
+    let worktree = DiskWorktree::new(rt, Path::new(root))?;
+    assert_fault(rt, root, &worktree, refused)
+}
+
 #[test]
 fn directories_that_may_not_be_read_are_faults(rt: HostRuntime) -> Result<(), Fail> {
-    let folder = new_folder(&rt, "disk_walk_locked", process::id(rt.process()))?;
+    let id = process::id(rt.process());
+    let folder = filled(&rt, "disk_walk_locked", id, &["d"], &["d/b"])?;
     let root = folder.as_str();
-    let is_root = fs::symlink_metadata(&rt, root)?.uid() == 0;
-    fill(&rt, root, &["d"], &["d/b"])?;
-    let worktree = DiskWorktree::new(&rt, Path::new(root))?;
-    let locked = within(&rt, root, "d")?;
     // Without leave to list, and then with that leave alone.
-    for (mode, path) in [(0o300, "d"), (0o400, "d/b")] {
-        fs::set_permissions(&rt, locked.as_str(), Permissions::from_mode(mode))?;
-        let refused = if is_root {
-            None
-        } else {
-            Some((
-                BString::from_slice(rt.alloc(), path)?,
-                Fault::PermissionDenied,
-            ))
-        };
-        assert_eq!(rt; fault(&rt, root, &worktree)?, refused);
-    }
-    fs::set_permissions(&rt, locked.as_str(), Permissions::from_mode(0o700))?;
+    assert_locked(&rt, root, 0o300, "d")?;
+    assert_locked(&rt, root, 0o400, "d/b")?;
+    set_mode(&rt, root, 0o700)?;
     fs::remove_dir_all(&rt, root)?;
     Ok(())
 }
@@ -332,38 +487,58 @@ impl Worktree for ByLetter {
     }
 }
 
-#[test]
-fn nodes_are_what_lstat_says(rt: HostRuntime) -> Result<(), Fail> {
-    let alloc = rt.alloc();
-    let folder = new_folder(&rt, "disk_walk_lstat", process::id(rt.process()))?;
-    let root = folder.as_str();
-    fill(
-        &rt,
-        root,
-        &["d", "gd", "g", "p"],
-        &["d/f", "d/p", "d/g", "g/f", "p/f"],
-    )?;
-    let index = index(alloc, &[])?;
-    let (text, outcome) = walked(&rt, root, &ByLetter, &index, &AllPaths, 100)?;
-    // What is gone before its `lstat` is passed over.
-    assert_eq!(rt; text.as_str(), "d/f file\nd/p other\np other\n");
-    let whole = Outcome {
+/// What is gone before its `lstat` is passed over.
+const WHOLE: Wanted<'static> = Wanted {
+    room: 100,
+    lines: "d/f file\nd/p other\np other\n",
+    outcome: Outcome {
         emitted: 3,
         cancelled: false,
-    };
-    assert_eq!(rt; outcome, whole);
-    fill(&rt, root, &[], &["d/r"])?;
-    let refused = (BString::from_slice(alloc, "d/r")?, Fault::PermissionDenied);
-    assert_eq!(rt; fault(&rt, root, &ByLetter)?, Some(refused));
-    // A walk that was ended before comes to no fault.
-    fill(&rt, root, &[], &["c"])?;
-    let (text, outcome) = walked(&rt, root, &ByLetter, &index, &AllPaths, 1)?;
-    assert_eq!(rt; text.as_str(), "c file\n");
-    let cut = Outcome {
+    },
+};
+
+/// The first node, before the fault.
+const FIRST: Wanted<'static> = Wanted {
+    room: 1,
+    lines: "c file\n",
+    outcome: Outcome {
         emitted: 1,
         cancelled: true,
-    };
-    assert_eq!(rt; outcome, cut);
+    },
+};
+
+// Asserts what a walk finds beside an index without entries, where the paths' last letters tell what lies there.
+fn assert_by_letter<R: Files + AllocGlobal + Abort>(
+    rt: &R,
+    root: &str,
+    wanted: &Wanted<'_>,
+) -> Result<(), Fail> {
+    let index = index(rt.alloc(), &[])?;
+    assert_walked(rt, root, &ByLetter, &index, &AllPaths, wanted)?;
+    Ok(())
+}
+
+// Asserts the same of a folder, and of what is added to it.
+fn assert_by_letters<R: Files + AllocGlobal + Abort>(rt: &R, root: &str) -> Result<(), Fail>
+where
+    R::File: Drop,
+{
+    assert_by_letter(rt, root, &WHOLE)?;
+    fill(rt, root, &[], &["d/r"])?;
+    assert_fault(rt, root, &ByLetter, Some(("d/r", Fault::PermissionDenied)))?;
+    // A walk that was ended before comes to no fault.
+    fill(rt, root, &[], &["c"])?;
+    assert_by_letter(rt, root, &FIRST)
+}
+
+#[test]
+fn nodes_are_what_lstat_says(rt: HostRuntime) -> Result<(), Fail> {
+    let id = process::id(rt.process());
+    let directories = ["d", "gd", "g", "p"];
+    let files = ["d/f", "d/p", "d/g", "g/f", "p/f"];
+    let folder = filled(&rt, "disk_walk_lstat", id, &directories, &files)?;
+    let root = folder.as_str();
+    assert_by_letters(&rt, root)?;
     fs::remove_dir_all(&rt, root)?;
     Ok(())
 }

@@ -3,8 +3,8 @@
 
 use crate::draws::Draws;
 use crate::given::{
-    BAR, EMPTY, FOO, GivenEntry, GivenNode, LATER, Request, STAGED, file, foo_entry, index, joined,
-    options, worktree,
+    BAR, EMPTY, FOO, GivenEntry, GivenNode, LATER, Report, Request, STAGED, file, foo_entry, index,
+    joined, options, worktree,
 };
 use Stand::{Came, Changed, Gone, Retyped};
 use status_base::index::{Mode, ObjectId, State};
@@ -16,13 +16,16 @@ use status_joined::index_as_worktree_with_renames::{
 use status_tracker::{IdentityTracker, Rewrites};
 use status_walk::UntrackedWalk;
 use std::alloc::{AllocError, Global};
+use std::process::Abort;
+use std::sync::Wait;
 use std::test::Fail;
+use std::thread::Threads;
 
 /// The paths of each case, ascending.
 const PATHS: [&str; 10] = ["a", "b", "d", "d.x", "d/x", "d/y", "e", "e/f/g", "f", "g/h"];
 
 /// What a file holds, or where a link leads.
-#[derive(Clone, Copy, Debug, PartialEq, Eq)]
+#[derive(Clone, Copy, PartialEq, Eq)]
 enum Content {
     Empty,
     Foo,
@@ -55,14 +58,14 @@ impl Content {
 }
 
 /// A file, a link or another node.
-#[derive(Clone, Copy, Debug, PartialEq, Eq)]
+#[derive(Clone, Copy, PartialEq, Eq)]
 struct Thing {
     kind: NodeKind,
     content: Content,
 }
 
 /// A path: what the index has there, a file or a link, and what the worktree has.
-#[derive(Clone, Copy, Debug)]
+#[derive(Clone, Copy)]
 struct Site {
     path: &'static str,
     staged: Option<Thing>,
@@ -70,7 +73,7 @@ struct Site {
 }
 
 /// How the worktree differs from the index at a path.
-#[derive(Clone, Copy, Debug, PartialEq, Eq)]
+#[derive(Clone, Copy, PartialEq, Eq)]
 enum Stand {
     Gone(Thing),
     Retyped(NodeKind),
@@ -178,6 +181,16 @@ fn leads_through(path: &str, above: &str) -> bool {
     }
 }
 
+/// Whether a path leads through no node of these.
+fn is_free(sites: &[Site], path: &str) -> bool {
+    for site in sites {
+        if site.found.is_some() && leads_through(path, site.path) {
+            return false;
+        }
+    }
+    true
+}
+
 /// An index of at most 6 entries, and a worktree in which no node lies below another.
 fn drawn_sites(alloc: Global, draws: &mut Draws) -> Result<Vec<Site>, AllocError> {
     let mut sites: Vec<Site> = Vec::new(alloc);
@@ -188,13 +201,12 @@ fn drawn_sites(alloc: Global, draws: &mut Draws) -> Result<Vec<Site>, AllocError
             room -= 1;
             staged = Some(drawn_thing(draws));
         }
-        let found = drawn_node(draws, staged);
-        let is_free = !sites.iter().any(|site| site.found.is_some()
-            && leads_through(path, site.path));
+        let drawn = drawn_node(draws, staged);
+        let found = if is_free(&sites, path) { drawn } else { None };
         sites.push(Site {
             path,
             staged,
-            found: if is_free { found } else { None },
+            found,
         })?;
     }
     Ok(sites)
@@ -226,8 +238,13 @@ impl Case {
 
     /// How many entries the index has before a path: the place of the path's own.
     fn entries_before(&self, path: usize) -> usize {
-        let before = self.sites.iter().take(path);
-        before.filter(|site| site.staged.is_some()).count()
+        let mut count = 0usize;
+        for (place, site) in self.sites.iter().enumerate() {
+            if place < path && site.staged.is_some() {
+                count = count.saturating_add(1);
+            }
+        }
+        count
     }
 
     /// How many paths before this one stand so.
@@ -264,8 +281,13 @@ impl Case {
 
     /// Whether the thing that is gone from a path came to another.
     fn is_moved(&self, thing: Thing, from: usize) -> bool {
-        (0..self.sites.len()).any(|to| self.stand_at(to) == Some(Came(thing))
-            && self.origin(thing, to) == Some(from))
+        for to in 0..self.sites.len() {
+            let is_came = self.stand_at(to) == Some(Came(thing));
+            if is_came && self.origin(thing, to) == Some(from) {
+                return true;
+            }
+        }
+        false
     }
 
     /// What is reported of the index's entry at a path.
@@ -470,10 +492,13 @@ impl Case {
 
     /// How many nodes a walk hands out.
     fn emitted(&self) -> usize {
-        let sites = self.sites.iter();
-        sites
-            .filter(|site| site.staged.is_none() && site.found.is_some())
-            .count()
+        let mut count = 0usize;
+        for site in &self.sites {
+            if site.staged.is_none() && site.found.is_some() {
+                count = count.saturating_add(1);
+            }
+        }
+        count
     }
 
     /// Whether a status took what it takes, where it reported of so many renames.
@@ -484,9 +509,8 @@ impl Case {
             emitted: self.emitted(),
             cancelled: false,
         });
-        let rewritten = self
-            .rewrites
-            .map(|_| rewrites::Outcome { renames, copies: 0 });
+        let found = rewrites::Outcome { renames, copies: 0 };
+        let rewritten = self.rewrites.is_some().then_some(found);
         tracked.entries_to_process == staged
             && tracked.entries_processed == staged
             && !tracked.interrupted
@@ -497,32 +521,74 @@ impl Case {
 
 /// How many of the lines are renames.
 fn renames_in(lines: &[Line]) -> usize {
-    lines
-        .iter()
-        .filter(|line| matches!(line, Line::Renamed { .. }))
-        .count()
+    let mut count = 0usize;
+    for line in lines {
+        if matches!(line, Line::Renamed { .. }) {
+            count = count.saturating_add(1);
+        }
+    }
+    count
+}
+
+// Asserts that these lines are reported of a case's index and worktree.
+fn assert_lines<R: AllocGlobal + Abort + Threads + Wait>(
+    rt: &R,
+    seed: u64,
+    case: &Case,
+    wanted: &[Line],
+) -> Result<(), Fail> {
+    let alloc = rt.alloc();
+    let index = case.index(alloc)?;
+    let worktree = case.worktree(alloc)?;
+    let request = Request {
+        walk: UntrackedWalk::new(alloc),
+        tracker: IdentityTracker::new(alloc),
+        options: case.options(),
+        interrupt: None,
+    };
+    let report = joined(rt, &index, &worktree, request);
+    assert_report(rt, seed, case, &report, wanted)
+}
+
+// Asserts that these lines are in a report, and that the status took what it takes.
+fn assert_report<R: AllocGlobal + Abort>(
+    rt: &R,
+    seed: u64,
+    case: &Case,
+    report: &Report<'_>,
+    wanted: &[Line],
+) -> Result<(), Fail> {
+    let lines = reported_lines(rt.alloc(), &report.records)?;
+    let is_taken = match &report.answer {
+        Ok(outcome) => case.took(outcome, renames_in(wanted)),
+        Err(_) => false,
+    };
+    assert!(rt;
+        lines.as_slice() == wanted,
+        "seed {seed}: {wanted:?}, not {lines:?}"
+    );
+    assert!(rt; is_taken, "seed {seed}: {:?}", report.answer);
+    Ok(())
+}
+
+// Asserts that of a drawn case is reported what the plain model says. How many lines that are, and how many renames.
+fn assert_drawn<R: AllocGlobal + Abort + Threads + Wait>(
+    rt: &R,
+    seed: u64,
+) -> Result<(usize, usize), Fail> {
+    let alloc = rt.alloc();
+    let case = drawn_case(alloc, seed)?;
+    let wanted = case.plain_lines(alloc)?;
+    assert_lines(rt, seed, &case, &wanted)?;
+    Ok((wanted.len(), renames_in(&wanted)))
 }
 
 #[test]
 fn drawn_cases_are_reported_as_the_plain_model_says(rt: HostRuntime) -> Result<(), Fail> {
-    let alloc = rt.alloc();
     let (mut reported, mut moved) = (0usize, 0usize);
     for seed in 0..2000u64 {
-        let case = drawn_case(alloc, seed)?;
-        let wanted = case.plain_lines(alloc)?;
-        let (index, worktree) = (case.index(alloc)?, case.worktree(alloc)?);
-        let request = Request {
-            walk: UntrackedWalk::new(alloc),
-            tracker: IdentityTracker::new(alloc),
-            options: case.options(),
-            interrupt: None,
-        };
-        let report = joined(&rt, &index, &worktree, request);
-        let lines = reported_lines(alloc, &report.records)?;
-        let (outcome, renames) = (report.answer?, renames_in(&wanted));
-        assert!(rt; lines == wanted, "seed {seed}: {wanted:?}, not {lines:?}");
-        assert!(rt; case.took(&outcome, renames), "seed {seed}: {outcome:?}");
-        reported = reported.saturating_add(lines.len());
+        let (lines, renames) = assert_drawn(&rt, seed)?;
+        reported = reported.saturating_add(lines);
         moved = moved.saturating_add(renames);
     }
     assert!(rt;

@@ -3,24 +3,27 @@
 ghost use Rattle.std.specs.Prelude.{false, Err};
 ghost use Rattle.status_index.specs.declared.fault.Fault.TheVariants.{NotFound};
 
+use crate::exits::{Exit, exit_of};
 use crate::given::{
-    GivenNode, LATER, Report, Request, file, foo_entry, index, joined, later_file, link,
-    mode_entry, options, worktree,
+    GivenNode, LATER, Request, file, foo_entry, index, joined, later_file, link, mode_entry,
+    options, worktree,
 };
 use crate::trackers::Refuses;
-use crate::walks::{Fails, Found, HandsOut, untracked};
+use crate::walks::{Fails, Found, HandsOut, UNTRACKED};
 use bstr::BStr;
 use status_base::index::{Mode, State};
 use status_base::worktree::{Fault, MemoryFile, MemoryWorktree, Metadata, ReadBytes, Worktree};
-use status_call::index_as_worktree;
-use status_joined::index_as_worktree_with_renames::{Error, Options};
-use status_tracker::{IdentityTracker, Rewrites, TrackerError};
-use status_walk::{Kind, WalkError};
+use status_joined::index_as_worktree_with_renames::Options;
+use status_tracker::{IdentityTracker, Rewrites, Tracker, TrackerError};
+use status_walk::{Kind, Walk};
 use std::alloc::Global;
+use std::process::Abort;
+use std::sync::Wait;
 use std::test::Fail;
+use std::thread::Threads;
 
 /// What a worktree has a fault at.
-#[derive(Clone, Copy, Debug, PartialEq, Eq)]
+#[derive(Clone, Copy, PartialEq, Eq)]
 enum Point {
     Lstat,
     Open,
@@ -100,41 +103,6 @@ impl<'a> Worktree for Broken<'a> {
     }
 }
 
-/// How a status ended.
-#[derive(Clone, Copy, Debug, PartialEq, Eq)]
-enum Exit {
-    Reported,
-    Walk(Fault),
-    Entry(Fault),
-    Illformed,
-    Open(Fault),
-    Hash(Fault),
-    ReadLink(Fault),
-    Tracker(TrackerError),
-    Memory,
-    /// By what no part of these statuses answers.
-    Odd,
-}
-
-fn exit_of(report: &Report<'_>) -> Exit {
-    match &report.answer {
-        Ok(_) => Exit::Reported,
-        Err(Error::DirWalk(WalkError::Fault { fault, .. })) => Exit::Walk(*fault),
-        Err(Error::TrackedFileModifications(index_as_worktree::Error::Io(fault))) => {
-            Exit::Entry(*fault)
-        }
-        Err(Error::TrackedFileModifications(index_as_worktree::Error::IllformedUtf8)) => {
-            Exit::Illformed
-        }
-        Err(Error::OpenWorktreeFile(fault)) => Exit::Open(*fault),
-        Err(Error::HashFile(fault)) => Exit::Hash(*fault),
-        Err(Error::ReadLink(fault)) => Exit::ReadLink(*fault),
-        Err(Error::RewriteTracker(error)) => Exit::Tracker(*error),
-        Err(Error::Memory) => Exit::Memory,
-        Err(_) => Exit::Odd,
-    }
-}
-
 /// All faults.
 pub const FAULTS: [Fault; 9] = [
     Fault::NotFound,
@@ -202,26 +170,84 @@ fn broken_worktree<'a>(
 }
 
 /// What the walk finds, the last path first.
-fn nodes() -> [Found<'static>; 3] {
-    let link = Found {
+const NODES: [Found<'static>; 3] = [
+    Found {
+        path: "x",
+        ..UNTRACKED
+    },
+    Found {
+        path: "n",
         disk_kind: Some(Kind::Symlink),
-        ..untracked("n")
-    };
-    [untracked("x"), link, untracked("m")]
+        ..UNTRACKED
+    },
+    Found {
+        path: "m",
+        ..UNTRACKED
+    },
+];
+
+/// Faults of a worktree, and how a status ends that meets them, with its nodes sorted or in the walk's order.
+#[derive(Clone, Copy)]
+struct Case<'a> {
+    name: &'a str,
+    /// The fault that is of this name.
+    fault: Option<Fault>,
+    /// All faults of the worktree.
+    faults: &'a [(Point, &'a str, Fault)],
+    sorted: bool,
+    exit: Exit,
+    lines: &'a str,
 }
 
-/// Asks for renames, in the order of paths or of the index and the walk.
-fn request<'a, K, X>(walk: K, tracker: X, sorted: bool) -> Request<'a, K, X> {
+// Asserts how a case's status ends over an index and a worktree.
+fn assert_over<
+    'a,
+    R: AllocGlobal + Abort + Threads + Wait,
+    K: Walk<Broken<'a>> + Send + Drop,
+    X: Tracker + Drop,
+>(
+    rt: &R,
+    index: &State,
+    worktree: &Broken<'a>,
+    walk: K,
+    tracker: X,
+    case: &Case<'_>,
+) -> Result<(), Fail> {
     let options = options(Some(Rewrites { track_empty: false }));
-    Request {
+    let request = Request {
         walk,
         tracker,
         options: Options {
-            sorting: if sorted { options.sorting } else { None },
+            sorting: if case.sorted { options.sorting } else { None },
             ..options
         },
         interrupt: None,
-    }
+    };
+    let report = joined(rt, index, worktree, request);
+    let text = report.reported(rt.alloc())?;
+    let (name, fault, sorted) = (case.name, case.fault, case.sorted);
+    assert!(rt;
+        exit_of(&report) == case.exit,
+        "{name}: {fault:?}, sorted: {sorted}"
+    );
+    assert!(rt;
+        text.as_str() == case.lines,
+        "{name}: {fault:?}, sorted: {sorted}: {text}"
+    );
+    Ok(())
+}
+
+// Asserts how a case's status ends.
+fn assert_case<
+    'a,
+    R: AllocGlobal + Abort + Threads + Wait,
+    K: Walk<Broken<'a>> + Send + Drop,
+    X: Tracker + Drop,
+>(rt: &R, walk: K, tracker: X, case: &Case<'a>) -> Result<(), Fail> {
+    let alloc = rt.alloc();
+    let index = entries(alloc)?;
+    let worktree = broken_worktree(alloc, case.faults)?;
+    assert_over(rt, &index, &worktree, walk, tracker, case)
 }
 
 /// What is reported where a fault isn't answered: at an entry it is a removal, and of a file that isn't opened no id
@@ -243,50 +269,62 @@ fn reported(point: Point, sorted: bool) -> &'static str {
     }
 }
 
-/// The points at entries and at nodes where this status asks the worktree, each with whether it is at a node.
-const POINTS: [(Point, &str, bool); 8] = [
-    (Point::Lstat, "b", false),
-    (Point::Open, "b", false),
-    (Point::Read, "b", false),
-    (Point::ReadLink, "l", false),
-    (Point::Lstat, "m", true),
-    (Point::Open, "m", true),
-    (Point::Read, "m", true),
-    (Point::ReadLink, "n", true),
+/// A point where this status asks the worktree, and whether it is at a node.
+type Asked<'a> = (&'a str, Point, &'a str, bool);
+
+/// The points at entries and at nodes.
+static POINTS: [Asked; 8] = [
+    ("lstat of b", Point::Lstat, "b", false),
+    ("open of b", Point::Open, "b", false),
+    ("read of b", Point::Read, "b", false),
+    ("target of l", Point::ReadLink, "l", false),
+    ("lstat of m", Point::Lstat, "m", true),
+    ("open of m", Point::Open, "m", true),
+    ("read of m", Point::Read, "m", true),
+    ("target of n", Point::ReadLink, "n", true),
 ];
+
+// Asserts how a status ends that meets a fault at a point.
+fn assert_fault<R: AllocGlobal + Abort + Threads + Wait>(
+    rt: &R,
+    asked: &Asked<'_>,
+    fault: Fault,
+) -> Result<(), Fail> {
+    let (name, point, path, is_node) = *asked;
+    let alloc = rt.alloc();
+    let exit = if is_node {
+        node_exit(point, fault)
+    } else {
+        entry_exit(point, fault)
+    };
+    for sorted in [true, false] {
+        let lines = if exit == Exit::Reported {
+            reported(point, sorted)
+        } else {
+            ""
+        };
+        let case = Case {
+            name,
+            fault: Some(fault),
+            faults: &[(point, path, fault)],
+            sorted,
+            exit,
+            lines,
+        };
+        let walk = HandsOut {
+            alloc,
+            nodes: &NODES,
+        };
+        assert_case(rt, walk, IdentityTracker::new(alloc), &case)?;
+    }
+    Ok(())
+}
 
 #[test]
 fn each_fault_of_the_worktree_has_its_answer(rt: HostRuntime) -> Result<(), Fail> {
-    let alloc = rt.alloc();
-    let (index, nodes) = (entries(alloc)?, nodes());
-    for (point, path, is_node) in POINTS {
+    for asked in &POINTS {
         for fault in FAULTS {
-            let faults = [(point, path, fault)];
-            let worktree = broken_worktree(alloc, &faults)?;
-            let wanted = if is_node {
-                node_exit(point, fault)
-            } else {
-                entry_exit(point, fault)
-            };
-            for sorted in [true, false] {
-                let walk = HandsOut {
-                    alloc,
-                    nodes: &nodes,
-                };
-                let tracker = IdentityTracker::new(alloc);
-                let report = joined(&rt, &index, &worktree, request(walk, tracker, sorted));
-                let text = report.reported(alloc)?;
-                let reported = if wanted == Exit::Reported {
-                    reported(point, sorted)
-                } else {
-                    ""
-                };
-                assert!(rt;
-                    exit_of(&report) == wanted,
-                    "{point:?} of {path}: {fault:?}"
-                );
-                assert!(rt; text.as_str() == reported, "{point:?} of {path}: {fault:?}");
-            }
+            assert_fault(&rt, asked, fault)?;
         }
     }
     Ok(())
@@ -294,89 +332,116 @@ fn each_fault_of_the_worktree_has_its_answer(rt: HostRuntime) -> Result<(), Fail
 
 #[test]
 fn each_fault_of_the_walk_is_its_answer(rt: HostRuntime) -> Result<(), Fail> {
-    let alloc = rt.alloc();
-    let (index, nodes) = (entries(alloc)?, nodes());
-    // Faults of an entry, of a node and of the tracker, which come later.
-    let faults = [
-        (Point::Open, "b", Fault::Other(1)),
-        (Point::Open, "m", Fault::Other(2)),
-    ];
-    let worktree = broken_worktree(alloc, &faults)?;
     for fault in FAULTS {
-        let wanted = match fault {
-            Fault::Memory => Exit::Memory,
-            fault => Exit::Walk(fault),
+        // Faults of an entry, of a node and of the tracker, which come later.
+        let case = Case {
+            name: "the walk",
+            fault: Some(fault),
+            faults: &[
+                (Point::Open, "b", Fault::Other(1)),
+                (Point::Open, "m", Fault::Other(2)),
+            ],
+            sorted: true,
+            exit: match fault {
+                Fault::Memory => Exit::Memory,
+                fault => Exit::Walk(fault),
+            },
+            lines: "",
         };
         let walk = Fails {
-            alloc,
-            nodes: &nodes,
+            alloc: rt.alloc(),
+            nodes: &NODES,
             path: "d",
             fault,
         };
-        let tracker = Refuses(TrackerError::Refused(3));
-        let report = joined(&rt, &index, &worktree, request(walk, tracker, true));
-        assert!(rt; exit_of(&report) == wanted, "{fault:?}");
-        assert!(rt; report.records.is_empty(), "{fault:?}");
+        assert_case(&rt, walk, Refuses(TrackerError::Refused(3)), &case)?;
     }
     Ok(())
 }
 
+const LINK: (Point, &str, Fault) = (Point::ReadLink, "l", Fault::Other(1));
+
+const READ: (Point, &str, Fault) = (Point::Read, "x", Fault::Other(2));
+
+const OPEN: (Point, &str, Fault) = (Point::Open, "m", Fault::Other(3));
+
+const TARGET: (Point, &str, Fault) = (Point::ReadLink, "n", Fault::Other(4));
+
+const FIRST: Case<'static> = Case {
+    name: "all faults",
+    fault: None,
+    faults: &[LINK, READ, OPEN, TARGET],
+    sorted: true,
+    exit: Exit::Entry(Fault::Other(1)),
+    lines: "",
+};
+
+const SECOND: Case<'static> = Case {
+    name: "without the first",
+    faults: &[READ, OPEN, TARGET],
+    exit: Exit::Open(Fault::Other(3)),
+    ..FIRST
+};
+
+const THIRD: Case<'static> = Case {
+    name: "without the first two",
+    faults: &[OPEN, TARGET],
+    exit: Exit::Open(Fault::Other(3)),
+    ..FIRST
+};
+
+const FOURTH: Case<'static> = Case {
+    name: "the last alone",
+    faults: &[TARGET],
+    exit: Exit::ReadLink(Fault::Other(4)),
+    ..FIRST
+};
+
+const FIFTH: Case<'static> = Case {
+    name: "no fault but the tracker's",
+    faults: &[],
+    exit: Exit::Tracker(TrackerError::Refused(5)),
+    ..FIRST
+};
+
+static ORDERS: [Case; 10] = [
+    FIRST,
+    Case {
+        sorted: false,
+        ..FIRST
+    },
+    SECOND,
+    Case {
+        sorted: false,
+        exit: Exit::Hash(Fault::Other(2)),
+        ..SECOND
+    },
+    THIRD,
+    Case {
+        sorted: false,
+        exit: Exit::ReadLink(Fault::Other(4)),
+        ..THIRD
+    },
+    FOURTH,
+    Case {
+        sorted: false,
+        ..FOURTH
+    },
+    FIFTH,
+    Case {
+        sorted: false,
+        ..FIFTH
+    },
+];
+
 #[test]
 fn of_several_faults_the_first_in_order_is_answered(rt: HostRuntime) -> Result<(), Fail> {
-    let alloc = rt.alloc();
-    let (index, nodes) = (entries(alloc)?, nodes());
-    let faults = [
-        (Point::ReadLink, "l", Fault::Other(1)),
-        (Point::Read, "x", Fault::Other(2)),
-        (Point::Open, "m", Fault::Other(3)),
-        (Point::ReadLink, "n", Fault::Other(4)),
-    ];
-    let refused = TrackerError::Refused(5);
-    // How many of the faults are left out, and the answers, sorted and in the walk's order.
-    let rows = [
-        (
-            0usize,
-            Exit::Entry(Fault::Other(1)),
-            Exit::Entry(Fault::Other(1)),
-        ),
-        (1, Exit::Open(Fault::Other(3)), Exit::Hash(Fault::Other(2))),
-        (
-            2,
-            Exit::Open(Fault::Other(3)),
-            Exit::ReadLink(Fault::Other(4)),
-        ),
-        (
-            3,
-            Exit::ReadLink(Fault::Other(4)),
-            Exit::ReadLink(Fault::Other(4)),
-        ),
-        (4, Exit::Tracker(refused), Exit::Tracker(refused)),
-    ];
-    for (without, by_path, by_walk) in rows {
-        let Some(left) = faults.get(without..) else {
-            continue;
+    for case in &ORDERS {
+        let walk = HandsOut {
+            alloc: rt.alloc(),
+            nodes: &NODES,
         };
-        let worktree = broken_worktree(alloc, left)?;
-        for (sorted, wanted) in [(true, by_path), (false, by_walk)] {
-            let walk = HandsOut {
-                alloc,
-                nodes: &nodes,
-            };
-            let report = joined(
-                &rt,
-                &index,
-                &worktree,
-                request(walk, Refuses(refused), sorted),
-            );
-            assert!(rt;
-                exit_of(&report) == wanted,
-                "{without} left out, sorted: {sorted}"
-            );
-            assert!(rt;
-                report.records.is_empty(),
-                "{without} left out, sorted: {sorted}"
-            );
-        }
+        assert_case(&rt, walk, Refuses(TrackerError::Refused(5)), case)?;
     }
     Ok(())
 }

@@ -8,12 +8,13 @@ use crate::given::{Report, Request, file, foo_index, link, tell_handed, worktree
 use bstr::BStr;
 use status_base::index::State;
 use status_base::worktree::{
-    Fault, NoLister, NoSubmodules, ReadBytes, ToGit, ToGitOutcome, Worktree,
+    Fault, MemoryWorktree, NoLister, NoSubmodules, ReadBytes, ToGit, ToGitOutcome, Worktree,
 };
 use status_joined::index_as_worktree_with_renames::{Error, Recorder};
 use status_tracker::{IdentityTracker, Tracker};
 use status_walk::{UntrackedWalk, Walk};
 use std::alloc::AllocError;
+use std::process::Abort;
 use std::sync::Wait;
 use std::test::Fail;
 use std::thread::Threads;
@@ -83,6 +84,25 @@ where
     }
 }
 
+// Asserts that a fault of the filter ends the status, and that nothing is reported.
+fn assert_refused<R: AllocGlobal + Abort + Threads + Wait>(
+    rt: &R,
+    index: &State,
+    worktree: &MemoryWorktree,
+    fault: Fault,
+) {
+    let alloc = rt.alloc();
+    let request = Request::rewritten(UntrackedWalk::new(alloc), IdentityTracker::new(alloc));
+    let report = refused_by(rt, index, worktree, RefusesFiles(fault), request);
+    let is_wanted = match &report.answer {
+        Err(Error::Memory) => fault == Fault::Memory,
+        Err(Error::ConvertToGit(found)) => *found == fault && fault != Fault::Memory,
+        _ => false,
+    };
+    assert!(rt; is_wanted, "{fault:?}");
+    assert!(rt; report.records.is_empty(), "{fault:?}");
+}
+
 #[test]
 fn a_filter_that_refuses_a_node_ends_the_status(rt: HostRuntime) -> Result<(), Fail> {
     let alloc = rt.alloc();
@@ -90,15 +110,7 @@ fn a_filter_that_refuses_a_node_ends_the_status(rt: HostRuntime) -> Result<(), F
     // The link is no file, so the filter isn't asked of it.
     let worktree = worktree(alloc, &[link("b", b"foo"), file("c", b"foo")])?;
     for fault in FAULTS {
-        let request = Request::rewritten(UntrackedWalk::new(alloc), IdentityTracker::new(alloc));
-        let report = refused_by(&rt, &index, &worktree, RefusesFiles(fault), request);
-        let is_wanted = match report.answer {
-            Err(Error::Memory) => fault == Fault::Memory,
-            Err(Error::ConvertToGit(found)) => found == fault && fault != Fault::Memory,
-            _ => false,
-        };
-        assert!(rt; is_wanted, "{fault:?}");
-        assert!(rt; report.records.is_empty(), "{fault:?}");
+        assert_refused(&rt, &index, &worktree, fault);
     }
     Ok(())
 }

@@ -11,15 +11,23 @@ mod drawn;
 #[cfg(test)]
 mod draws;
 #[cfg(test)]
+mod exits;
+#[cfg(test)]
 mod faults;
 #[cfg(test)]
 mod filters;
 #[cfg(test)]
 mod given;
 #[cfg(test)]
+mod halves;
+#[cfg(test)]
+mod looks;
+#[cfg(test)]
 mod memory;
 #[cfg(test)]
 mod rows;
+#[cfg(test)]
+mod tables;
 #[cfg(test)]
 mod trackers;
 #[cfg(test)]

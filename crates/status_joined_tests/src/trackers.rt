@@ -6,20 +6,27 @@ use status_index::{EntryKind, ObjectId};
 use status_tracker::{Change, ChangeKind, Pair, Rewrites, Tracker, TrackerError};
 use std::alloc::Global;
 
-/// A rename, by places of the list.
-pub fn rename(source: usize, destination: usize) -> Pair {
-    Pair {
-        source,
-        destination,
-        copy: false,
-    }
+/// A pair, by places of the list: what it is of, and what that became.
+#[derive(Clone, Copy)]
+pub enum Told {
+    Renamed(usize, usize),
+    Copied(usize, usize),
 }
 
-/// A copy, by places of the list.
-pub fn copy(source: usize, destination: usize) -> Pair {
-    Pair {
-        copy: true,
-        ..rename(source, destination)
+impl Told {
+    fn pair(self) -> Pair {
+        match self {
+            Told::Renamed(source, destination) => Pair {
+                source,
+                destination,
+                copy: false,
+            },
+            Told::Copied(source, destination) => Pair {
+                source,
+                destination,
+                copy: true,
+            },
+        }
     }
 }
 
@@ -27,7 +34,7 @@ pub fn copy(source: usize, destination: usize) -> Pair {
 #[derive(Clone, Copy)]
 pub struct Answers<'a> {
     pub alloc: Global,
-    pub pairs: &'a [Pair],
+    pub pairs: &'a [Told],
 }
 
 impl<'a> Tracker for Answers<'a> {
@@ -38,7 +45,11 @@ impl<'a> Tracker for Answers<'a> {
         _items: &[C],
         _rewrites: Rewrites,
     ) -> Result<Vec<Pair>, TrackerError> {
-        Ok(Vec::from_slice(self.alloc, self.pairs)?)
+        let mut pairs = Vec::new(self.alloc);
+        for told in self.pairs {
+            pairs.push(told.pair())?;
+        }
+        Ok(pairs)
     }
 }
 
@@ -59,7 +70,7 @@ impl Tracker for Refuses {
 }
 
 /// What a tracker saw of a change, but for the path.
-#[derive(Clone, Copy, Debug, PartialEq, Eq)]
+#[derive(Clone, Copy)]
 pub struct Seen {
     pub kind: ChangeKind,
     pub mode: EntryKind,

@@ -11,6 +11,7 @@ use status_joined::index_as_worktree_with_renames::{
 use status_tracker::TrackerError;
 use status_walk::{DirEntry, Kind, Status, WalkError};
 use std::alloc::{AllocError, Global};
+use std::process::Abort;
 use std::test::Fail;
 
 // An index with an entry of the path "a".
@@ -49,36 +50,41 @@ fn rewrite<'index>(
     })
 }
 
+// Of each kind a status of an entry.
+fn status(place: usize) -> EntryStatus<(), ()> {
+    match place {
+        0 => EntryStatus::Conflict {
+            summary: Conflict::BothAdded,
+            entries: [None; 3],
+        },
+        1 => EntryStatus::Change(Change::Removed),
+        2 => EntryStatus::Change(Change::TypeChange {
+            worktree_mode: Mode::Symlink,
+        }),
+        3 => EntryStatus::Change(Change::Modification {
+            executable_bit_changed: true,
+            content_change: None,
+            set_entry_stat_size_zero: false,
+        }),
+        4 => EntryStatus::Change(Change::SubmoduleModification(())),
+        5 => EntryStatus::NeedsUpdate(Stat::default()),
+        _ => EntryStatus::IntentToAdd,
+    }
+}
+
 // Tells each status of an entry of the path "a".
 fn tell_statuses<'index>(
     recorder: &mut Recorder<'index, (), ()>,
     entries: &'index [index::Entry],
     entry: &'index index::Entry,
 ) -> Result<(), AllocError> {
-    for status in [
-        EntryStatus::Conflict {
-            summary: Conflict::BothAdded,
-            entries: [None; 3],
-        },
-        EntryStatus::Change(Change::Removed),
-        EntryStatus::Change(Change::TypeChange {
-            worktree_mode: Mode::Symlink,
-        }),
-        EntryStatus::Change(Change::Modification {
-            executable_bit_changed: true,
-            content_change: None,
-            set_entry_stat_size_zero: false,
-        }),
-        EntryStatus::Change(Change::SubmoduleModification(())),
-        EntryStatus::NeedsUpdate(Stat::default()),
-        EntryStatus::IntentToAdd,
-    ] {
+    for place in 0..7 {
         recorder.visit_entry(Entry::Modification {
             entries,
             entry,
             entry_index: 0,
             rela_path: BStr::from("a"),
-            status,
+            status: status(place),
         })?;
     }
     Ok(())
@@ -100,8 +106,8 @@ fn tell_nodes(alloc: Global, recorder: &mut Recorder<'_, (), ()>) -> Result<(), 
     Ok(())
 }
 
-// Tells a rename from "a" to "b", and a copy of "c" there.
-fn tell_rewrites<'index>(
+// Tells a rename from "a" to "b".
+fn tell_rename<'index>(
     alloc: Global,
     recorder: &mut Recorder<'index, (), ()>,
     entries: &'index [index::Entry],
@@ -114,7 +120,11 @@ fn tell_rewrites<'index>(
         source_rela_path: BStr::from("a"),
         source_status: EntryStatus::Change(Change::Removed),
     };
-    recorder.visit_entry(rewrite(alloc, removed, false)?)?;
+    recorder.visit_entry(rewrite(alloc, removed, false)?)
+}
+
+// Tells a copy from "c" to "b".
+fn tell_copy(alloc: Global, recorder: &mut Recorder<'_, (), ()>) -> Result<(), AllocError> {
     let copied = RewriteSource::CopyFromDirectoryEntry {
         source_dirwalk_entry: node(alloc, "c", Status::Untracked)?,
         source_dirwalk_entry_collapsed_directory_status: None,
@@ -123,108 +133,175 @@ fn tell_rewrites<'index>(
     recorder.visit_entry(rewrite(alloc, copied, true)?)
 }
 
+// All that is told of an index with an entry of the path "a".
+fn recorded<'index>(
+    alloc: Global,
+    entries: &'index [index::Entry],
+    entry: &'index index::Entry,
+) -> Result<Vec<Entry<'index, (), ()>>, AllocError> {
+    let mut recorder = Recorder::new(alloc);
+    tell_statuses(&mut recorder, entries, entry)?;
+    tell_nodes(alloc, &mut recorder)?;
+    tell_rename(alloc, &mut recorder, entries, entry)?;
+    tell_copy(alloc, &mut recorder)?;
+    Ok(recorder.records)
+}
+
+/// A summary, and the paths of the source and the destination.
+type Wanted<'a> = (Option<Summary>, &'a str, &'a str);
+
+// Asserts what a clone of an entry is in a word, and its paths.
+fn assert_entry<R: Abort>(
+    rt: &R,
+    entry: &Entry<'_, (), ()>,
+    wanted: &Wanted<'_>,
+) -> Result<(), AllocError> {
+    let (summary, source, destination) = *wanted;
+    let entry = entry.clone()?;
+    assert_eq!(rt; entry.summary(), summary);
+    assert_eq!(rt; entry.source_rela_path().as_bytes(), source.as_bytes());
+    assert_eq!(rt;
+        entry.destination_rela_path().as_bytes(),
+        destination.as_bytes()
+    );
+    Ok(())
+}
+
+static ENTRIES: [Wanted; 13] = [
+    (Some(Summary::Conflict), "a", "a"),
+    (Some(Summary::Removed), "a", "a"),
+    (Some(Summary::TypeChange), "a", "a"),
+    (Some(Summary::Modified), "a", "a"),
+    (Some(Summary::Modified), "a", "a"),
+    (None, "a", "a"),
+    (Some(Summary::IntentToAdd), "a", "a"),
+    (Some(Summary::Added), "b", "b"),
+    (None, "b", "b"),
+    (None, "b", "b"),
+    (None, "b", "b"),
+    (Some(Summary::Renamed), "a", "b"),
+    (Some(Summary::Copied), "c", "b"),
+];
+
 #[test]
 fn entries_have_a_word_and_paths(rt: HostRuntime) -> Result<(), Fail> {
     let alloc = rt.alloc();
     let index = index(alloc)?;
     let entries = index.entries();
     assert_eq!(rt; entries.len(), 1);
-    let mut recorder = Recorder::new(alloc);
-    tell_statuses(&mut recorder, entries, &entries[0])?;
-    tell_nodes(alloc, &mut recorder)?;
-    tell_rewrites(alloc, &mut recorder, entries, &entries[0])?;
-    let wanted = [
-        (Some(Summary::Conflict), "a", "a"),
-        (Some(Summary::Removed), "a", "a"),
-        (Some(Summary::TypeChange), "a", "a"),
-        (Some(Summary::Modified), "a", "a"),
-        (Some(Summary::Modified), "a", "a"),
-        (None, "a", "a"),
-        (Some(Summary::IntentToAdd), "a", "a"),
-        (Some(Summary::Added), "b", "b"),
-        (None, "b", "b"),
-        (None, "b", "b"),
-        (None, "b", "b"),
-        (Some(Summary::Renamed), "a", "b"),
-        (Some(Summary::Copied), "c", "b"),
-    ];
-    assert_eq!(rt; recorder.records.len(), wanted.len());
-    for (entry, (summary, source, destination)) in recorder.records.iter().zip(wanted) {
-        let entry = entry.clone()?;
-        assert_eq!(rt; entry.summary(), summary);
-        assert_eq!(rt; entry.source_rela_path().as_bytes(), source.as_bytes());
-        assert_eq!(rt;
-            entry.destination_rela_path().as_bytes(),
-            destination.as_bytes()
-        );
+    let records = recorded(alloc, entries, &entries[0])?;
+    assert_eq!(rt; records.len(), ENTRIES.len());
+    for (entry, wanted) in records.iter().zip(&ENTRIES) {
+        assert_entry(&rt, entry, wanted)?;
     }
+    Ok(())
+}
+
+/// An error of the joined call, but for those that hold a path.
+#[derive(Clone, Copy)]
+enum Failure {
+    Illformed,
+    StatusMemory,
+    StatusIo(Fault),
+    Find(FindError),
+    SpawnThread,
+    SetAttributeContext,
+    Open(Fault),
+    Hash(Fault),
+    ReadLink(Fault),
+    Convert(Fault),
+    Tracker(TrackerError),
+    Memory,
+}
+
+fn error(failure: Failure) -> Error {
+    match failure {
+        Failure::Illformed => Error::from(index_as_worktree::Error::IllformedUtf8),
+        Failure::StatusMemory => Error::from(index_as_worktree::Error::Memory),
+        Failure::StatusIo(fault) => Error::from(index_as_worktree::Error::Io(fault)),
+        Failure::Find(error) => Error::from(index_as_worktree::Error::Find(error)),
+        Failure::SpawnThread => Error::SpawnThread,
+        Failure::SetAttributeContext => Error::SetAttributeContext,
+        Failure::Open(fault) => Error::OpenWorktreeFile(fault),
+        Failure::Hash(fault) => Error::HashFile(fault),
+        Failure::ReadLink(fault) => Error::ReadLink(fault),
+        Failure::Convert(fault) => Error::ConvertToGit(fault),
+        Failure::Tracker(error) => Error::from(error),
+        Failure::Memory => Error::from(AllocError),
+    }
+}
+
+static WORDS: [(Failure, &str); 16] = [
+    (Failure::Illformed, "Could not convert path to UTF8"),
+    (
+        Failure::StatusIo(Fault::NotFound),
+        "IO error while writing blob or reading file metadata or changing filetype",
+    ),
+    (Failure::StatusMemory, "Out of memory"),
+    (Failure::StatusIo(Fault::Memory), "Out of memory"),
+    (Failure::Find(FindError::Memory), "Out of memory"),
+    (
+        Failure::Find(FindError::Missing),
+        "Failed to obtain blob from object database",
+    ),
+    (Failure::SpawnThread, "Could not start a worker thread"),
+    (
+        Failure::SetAttributeContext,
+        "Failed to change the context for querying gitattributes to the respective path",
+    ),
+    (
+        Failure::Open(Fault::NotFound),
+        "Could not open worktree file for reading",
+    ),
+    (Failure::Hash(Fault::UnexpectedEnd), "unexpected end"),
+    (
+        Failure::ReadLink(Fault::NotFound),
+        "Could not read worktree link content",
+    ),
+    (Failure::Convert(Fault::Other(12)), "other 12"),
+    (Failure::Tracker(TrackerError::BadPair { at: 3 }), "tracker"),
+    (Failure::Tracker(TrackerError::Refused(7)), "tracker"),
+    (Failure::Tracker(TrackerError::Memory), "Out of memory"),
+    (Failure::Memory, "Out of memory"),
+];
+
+// The error of a submodule at `sub`.
+fn submodule_error(alloc: Global) -> Result<Error, AllocError> {
+    let error = index_as_worktree::Error::SubmoduleStatus {
+        rela_path: ByteText::from_slice(alloc, b"sub")?,
+        text: ByteText::from_slice(alloc, b"no head")?,
+    };
+    Ok(Error::from(error))
+}
+
+// The error of a walk at `d`.
+fn walk_error(alloc: Global) -> Result<Error, AllocError> {
+    Ok(Error::DirWalk(WalkError::Fault {
+        rela_path: BString::from_slice(alloc, "d")?,
+        fault: Fault::PermissionDenied,
+    }))
+}
+
+// Asserts an error's words.
+fn assert_words<R: AllocGlobal + Abort>(
+    rt: &R,
+    error: Error,
+    wanted: &str,
+) -> Result<(), AllocError> {
+    let text = format!(in rt.alloc(); "{error}")?;
+    assert_eq!(rt; text.as_str(), wanted);
     Ok(())
 }
 
 #[test]
 fn errors_of_the_joined_call_have_words(rt: HostRuntime) -> Result<(), Fail> {
     let alloc = rt.alloc();
-    let walk = WalkError::Fault {
-        rela_path: BString::from_slice(alloc, "d")?,
-        fault: Fault::PermissionDenied,
-    };
-    let submodule = index_as_worktree::Error::SubmoduleStatus {
-        rela_path: ByteText::from_slice(alloc, b"sub")?,
-        text: ByteText::from_slice(alloc, b"no head")?,
-    };
-    for (error, want) in [
-        (
-            Error::from(submodule),
-            "Could not determine status for submodule at 'sub'",
-        ),
-        (
-            Error::from(index_as_worktree::Error::IllformedUtf8),
-            "Could not convert path to UTF8",
-        ),
-        (
-            Error::from(index_as_worktree::Error::Io(Fault::NotFound)),
-            "IO error while writing blob or reading file metadata or changing filetype",
-        ),
-        (
-            Error::from(index_as_worktree::Error::Memory),
-            "Out of memory",
-        ),
-        (
-            Error::from(index_as_worktree::Error::Io(Fault::Memory)),
-            "Out of memory",
-        ),
-        (
-            Error::from(index_as_worktree::Error::Find(FindError::Memory)),
-            "Out of memory",
-        ),
-        (
-            Error::from(index_as_worktree::Error::Find(FindError::Missing)),
-            "Failed to obtain blob from object database",
-        ),
-        (Error::DirWalk(walk), "permission denied"),
-        (Error::SpawnThread, "Could not start a worker thread"),
-        (
-            Error::SetAttributeContext,
-            "Failed to change the context for querying gitattributes to the respective path",
-        ),
-        (
-            Error::OpenWorktreeFile(Fault::NotFound),
-            "Could not open worktree file for reading",
-        ),
-        (Error::HashFile(Fault::UnexpectedEnd), "unexpected end"),
-        (
-            Error::ReadLink(Fault::NotFound),
-            "Could not read worktree link content",
-        ),
-        (Error::ConvertToGit(Fault::Other(12)), "other 12"),
-        (Error::from(TrackerError::BadPair { at: 3 }), "tracker"),
-        (Error::from(TrackerError::Refused(7)), "tracker"),
-        (Error::from(TrackerError::Memory), "Out of memory"),
-        (Error::from(AllocError), "Out of memory"),
-    ] {
-        let text = format!(in alloc; "{error}")?;
-        assert_eq!(rt; text.as_str(), want);
+    for (failure, wanted) in &WORDS {
+        assert_words(&rt, error(*failure), *wanted)?;
     }
+    let submodule = "Could not determine status for submodule at 'sub'";
+    assert_words(&rt, submodule_error(alloc)?, submodule)?;
+    assert_words(&rt, walk_error(alloc)?, "permission denied")?;
     Ok(())
 }
 

@@ -19,15 +19,25 @@ pub struct Found<'a> {
     pub collapsed: Option<Status>,
 }
 
-/// An untracked file.
-pub fn untracked(path: &str) -> Found<'_> {
-    Found {
-        path,
-        status: Status::Untracked,
-        disk_kind: Some(Kind::File),
-        collapsed: None,
-    }
-}
+/// An untracked file, but for its path.
+pub const UNTRACKED: Found<'static> = Found {
+    path: "",
+    status: Status::Untracked,
+    disk_kind: Some(Kind::File),
+    collapsed: None,
+};
+
+/// The untracked file `b`.
+pub const B: Found<'static> = Found {
+    path: "b",
+    ..UNTRACKED
+};
+
+/// The untracked file `c`.
+pub const C: Found<'static> = Found {
+    path: "c",
+    ..UNTRACKED
+};
 
 fn entry(alloc: Global, found: &Found<'_>) -> Result<DirEntry, AllocError> {
     Ok(DirEntry {

@@ -1,168 +1,109 @@
 //! Faults of the parts, and which of them is answered.
 
-use crate::given::{Report, Request, failing, file, foo_index, joined, later_file, worktree};
-use crate::trackers::{Answers, Refuses, rename};
-use crate::walks::{Fails, HandsOut, untracked};
-use status_base::worktree::{Fault, MemoryWorktree, Point};
-use status_call::index_as_worktree;
-use status_joined::index_as_worktree_with_renames::Error;
-use status_tracker::TrackerError;
-use status_walk::WalkError;
-use std::alloc::Global;
+use crate::exits::Exit;
+use crate::tables::{Answer, By, Finds, Lies, PLAIN, Row, Staged, assert_rows};
+use crate::trackers::Told;
+use crate::walks::{B, C};
+use status_base::worktree::{Fault, Point};
+use status_tracker::{Rewrites, TrackerError};
 use std::test::Fail;
 
-// A worktree where the tracked `a` was written anew and the untracked `b` and `c` lie, with faults.
-fn planted(alloc: Global, faults: &[(Point, &str, Fault)]) -> Result<MemoryWorktree, Fail> {
-    let nodes = [
-        later_file("a", b"bar"),
-        file("b", b"foo"),
-        file("c", b"foo"),
-    ];
-    Ok(failing(worktree(alloc, &nodes)?, faults)?)
-}
+/// The tracked `a` was written anew, and the untracked `b` and `c` lie beside it. No renames are looked for.
+const FOUND: Row<'static> = Row {
+    entries: &[("a", Staged::Foo)],
+    nodes: &[
+        ("a", Lies::Later("bar")),
+        ("b", Lies::File("foo")),
+        ("c", Lies::File("foo")),
+    ],
+    walk: By::HandsOut(&[B]),
+    tracker: Finds::Answers(&[]),
+    ..PLAIN
+};
 
-// Whether the walk's fault at `d` ended the status, and nothing was reported.
-fn is_walk_fault(report: &Report<'_>, wanted: Fault) -> bool {
-    match &report.answer {
-        Err(Error::DirWalk(WalkError::Fault { rela_path, fault })) => {
-            report.records.is_empty() && rela_path.as_bytes() == "d".as_bytes() && *fault == wanted
-        }
-        _ => false,
-    }
-}
+/// The same, and renames are looked for.
+const TRACKED: Row<'static> = Row {
+    rewrites: Some(Rewrites { track_empty: false }),
+    ..FOUND
+};
 
-// Whether a fault of an entry ended the status, and nothing was reported.
-fn is_tracked_fault(report: &Report<'_>, wanted: Fault) -> bool {
-    match &report.answer {
-        Err(Error::TrackedFileModifications(index_as_worktree::Error::Io(fault))) => {
-            report.records.is_empty() && *fault == wanted
-        }
-        _ => false,
-    }
-}
-
-// Whether the fault of opening a node ended the status, and nothing was reported.
-fn is_open_fault(report: &Report<'_>, wanted: Fault) -> bool {
-    match &report.answer {
-        Err(Error::OpenWorktreeFile(fault)) => report.records.is_empty() && *fault == wanted,
-        _ => false,
-    }
-}
-
-#[test]
-fn a_fault_of_the_walk_comes_before_one_of_an_entry(rt: HostRuntime) -> Result<(), Fail> {
-    let alloc = rt.alloc();
-    let index = foo_index(alloc, &["a"])?;
-    let worktree = planted(alloc, &[(Point::Open, "a", Fault::PermissionDenied)])?;
-    let nodes = [untracked("b")];
-    let walk = Fails {
-        alloc,
-        nodes: &nodes,
-        path: "d",
-        fault: Fault::Other(3),
-    };
-    let tracker = Answers { alloc, pairs: &[] };
-    let report = joined(&rt, &index, &worktree, Request::sorted(walk, tracker));
-    assert!(rt; is_walk_fault(&report, Fault::Other(3)));
-    let walk = HandsOut {
-        alloc,
-        nodes: &nodes,
-    };
-    let report = joined(&rt, &index, &worktree, Request::sorted(walk, tracker));
-    assert!(rt; is_tracked_fault(&report, Fault::PermissionDenied));
-    Ok(())
-}
-
-#[test]
-fn a_fault_of_an_entry_comes_before_one_of_a_node(rt: HostRuntime) -> Result<(), Fail> {
-    let alloc = rt.alloc();
-    let index = foo_index(alloc, &["a"])?;
-    let both = [
-        (Point::Open, "a", Fault::PermissionDenied),
-        (Point::Open, "b", Fault::Other(7)),
-    ];
-    let worktree = planted(alloc, &both)?;
-    let nodes = [untracked("b")];
-    let walk = HandsOut {
-        alloc,
-        nodes: &nodes,
-    };
-    let tracker = Answers { alloc, pairs: &[] };
-    let report = joined(&rt, &index, &worktree, Request::rewritten(walk, tracker));
-    assert!(rt; is_tracked_fault(&report, Fault::PermissionDenied));
-    Ok(())
-}
-
-#[test]
-fn the_first_node_of_the_list_has_the_fault(rt: HostRuntime) -> Result<(), Fail> {
-    let alloc = rt.alloc();
-    let index = foo_index(alloc, &["a"])?;
-    let both = [
-        (Point::Open, "c", Fault::Other(8)),
-        (Point::Open, "b", Fault::Other(7)),
-    ];
-    let worktree = planted(alloc, &both)?;
+static RANKS: [Row; 6] = [
+    Row {
+        name: "a fault of the walk comes before one of an entry",
+        faults: &[(Point::Open, "a", Fault::PermissionDenied)],
+        walk: By::Fails(&[B], Fault::Other(3)),
+        answer: Answer::Fails(Exit::Walk(Fault::Other(3))),
+        ..FOUND
+    },
+    Row {
+        name: "without a fault of the walk that of the entry comes",
+        faults: &[(Point::Open, "a", Fault::PermissionDenied)],
+        answer: Answer::Fails(Exit::Entry(Fault::PermissionDenied)),
+        ..FOUND
+    },
+    Row {
+        name: "a fault of an entry comes before one of a node",
+        faults: &[
+            (Point::Open, "a", Fault::PermissionDenied),
+            (Point::Open, "b", Fault::Other(7)),
+        ],
+        answer: Answer::Fails(Exit::Entry(Fault::PermissionDenied)),
+        ..TRACKED
+    },
     // The list is sorted before ids are computed.
-    let nodes = [untracked("c"), untracked("b")];
-    let walk = HandsOut {
-        alloc,
-        nodes: &nodes,
-    };
-    let tracker = Answers { alloc, pairs: &[] };
-    let report = joined(&rt, &index, &worktree, Request::rewritten(walk, tracker));
-    assert!(rt; is_open_fault(&report, Fault::Other(7)));
-    Ok(())
-}
+    Row {
+        name: "the first node of the list has the fault",
+        faults: &[
+            (Point::Open, "c", Fault::Other(8)),
+            (Point::Open, "b", Fault::Other(7)),
+        ],
+        walk: By::HandsOut(&[C, B]),
+        answer: Answer::Fails(Exit::Open(Fault::Other(7))),
+        ..TRACKED
+    },
+    Row {
+        name: "a fault of a node comes before a refusal of the tracker",
+        faults: &[(Point::Open, "b", Fault::Other(7))],
+        tracker: Finds::Refuses(TrackerError::Refused(7)),
+        answer: Answer::Fails(Exit::Open(Fault::Other(7))),
+        ..TRACKED
+    },
+    Row {
+        name: "a fault of a node comes before a bad pair of the tracker",
+        faults: &[(Point::Open, "b", Fault::Other(7))],
+        tracker: Finds::Answers(&[Told::Renamed(1, 0)]),
+        answer: Answer::Fails(Exit::Open(Fault::Other(7))),
+        ..TRACKED
+    },
+];
 
 #[test]
-fn a_fault_of_a_node_comes_before_one_of_the_tracker(rt: HostRuntime) -> Result<(), Fail> {
-    let alloc = rt.alloc();
-    let index = foo_index(alloc, &["a"])?;
-    let worktree = planted(alloc, &[(Point::Open, "b", Fault::Other(7))])?;
-    let nodes = [untracked("b")];
-    let walk = HandsOut {
-        alloc,
-        nodes: &nodes,
-    };
-    let refuses = Refuses(TrackerError::Refused(7));
-    let report = joined(&rt, &index, &worktree, Request::rewritten(walk, refuses));
-    assert!(rt; is_open_fault(&report, Fault::Other(7)));
-    let pairs = [rename(1, 0)];
-    let bad = Answers {
-        alloc,
-        pairs: &pairs,
-    };
-    let report = joined(&rt, &index, &worktree, Request::rewritten(walk, bad));
-    assert!(rt; is_open_fault(&report, Fault::Other(7)));
-    Ok(())
+fn of_two_faults_that_of_the_part_before_is_answered(rt: HostRuntime) -> Result<(), Fail> {
+    assert_rows(&rt, &RANKS)
 }
+
+static MEMORY: [Row; 3] = [
+    Row {
+        name: "of the walk",
+        walk: By::Fails(&[B], Fault::Memory),
+        answer: Answer::Fails(Exit::Memory),
+        ..FOUND
+    },
+    Row {
+        name: "of an entry",
+        faults: &[(Point::Open, "a", Fault::Memory)],
+        answer: Answer::Fails(Exit::Memory),
+        ..TRACKED
+    },
+    Row {
+        name: "of a node",
+        faults: &[(Point::Open, "b", Fault::Memory)],
+        answer: Answer::Fails(Exit::Memory),
+        ..TRACKED
+    },
+];
 
 #[test]
 fn want_of_memory_in_any_part_is_one_error(rt: HostRuntime) -> Result<(), Fail> {
-    let alloc = rt.alloc();
-    let index = foo_index(alloc, &["a"])?;
-    let nodes = [untracked("b")];
-    let fails = Fails {
-        alloc,
-        nodes: &nodes,
-        path: "d",
-        fault: Fault::Memory,
-    };
-    let tracker = Answers { alloc, pairs: &[] };
-    let clean = planted(alloc, &[])?;
-    let report = joined(&rt, &index, &clean, Request::sorted(fails, tracker));
-    assert!(rt; matches!(report.answer, Err(Error::Memory)));
-    assert!(rt; report.records.is_empty());
-    for path in ["a", "b"] {
-        let faults = [(Point::Open, path, Fault::Memory)];
-        let worktree = planted(alloc, &faults)?;
-        let walk = HandsOut {
-            alloc,
-            nodes: &nodes,
-        };
-        let report = joined(&rt, &index, &worktree, Request::rewritten(walk, tracker));
-        assert!(rt; matches!(report.answer, Err(Error::Memory)));
-        assert!(rt; report.records.is_empty());
-    }
-    Ok(())
+    assert_rows(&rt, &MEMORY)
 }

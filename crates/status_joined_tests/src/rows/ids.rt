@@ -1,193 +1,217 @@
 //! Ids of nodes, as a tracker sees them, and faults on the way to them.
 
-use crate::given::{
-    BAR, FOO, Request, failing, file, foo_entry, foo_index, index, joined, later_file, link,
-    mode_entry, short_file, worktree,
-};
-use crate::trackers::{Answers, Notes, Seen};
-use crate::walks::{Found, HandsOut, untracked};
+use crate::exits::Exit;
+use crate::given::{BAR, FOO};
+use crate::tables::{Answer, By, Finds, Lies, REWRITTEN, Row, Staged, assert_by, assert_rows};
+use crate::trackers::{Notes, Seen};
+use crate::walks::{B, Found, HandsOut, UNTRACKED};
 use status_base::index::{EntryKind, Mode, ObjectId};
-use status_base::worktree::{Fault, MemoryWorktree, Point, TreeError};
-use status_joined::index_as_worktree_with_renames::Error;
+use status_base::worktree::{Fault, Point};
 use status_tracker::ChangeKind;
 use status_walk::Kind;
-use std::alloc::Global;
+use std::process::Abort;
 use std::sync::Wait;
 use std::test::Fail;
 use std::thread::Threads;
 
 const NULL: ObjectId = ObjectId::Sha1([0; 20]);
 
-// A file of the walk, by its id.
-fn added(id: ObjectId) -> Seen {
-    Seen {
-        kind: ChangeKind::Addition,
-        mode: EntryKind::Blob,
-        id,
+/// What a tracker sees of a change, with its id where that counts.
+type Wanted = (ChangeKind, EntryKind, Option<ObjectId>);
+
+// Whether these are the changes that a tracker saw.
+fn is_seen(seen: &[Seen], wanted: &[Wanted]) -> bool {
+    if seen.len() != wanted.len() {
+        return false;
     }
-}
-
-// A worktree with the file `b`, which has faults.
-fn planted(alloc: Global, faults: &[(Point, &str, Fault)]) -> Result<MemoryWorktree, TreeError> {
-    let nodes = [file("b", b"foo"), link("l", b"foo"), short_file("s")];
-    failing(worktree(alloc, &nodes)?, faults)
-}
-
-#[test]
-fn a_file_that_is_gone_or_may_not_be_read_has_the_null_id(rt: HostRuntime) -> Result<(), Fail> {
-    let alloc = rt.alloc();
-    let index = foo_index(alloc, &[])?;
-    let nodes = [untracked("b")];
-    for fault in [Fault::PermissionDenied, Fault::NotFound, Fault::Interrupted] {
-        let faults = [(Point::Open, "b", fault)];
-        let worktree = planted(alloc, &faults)?;
-        let mut seen = Vec::new(alloc);
-        let walk = HandsOut {
-            alloc,
-            nodes: &nodes,
+    for (one, (kind, mode, id)) in seen.iter().zip(wanted) {
+        let is_id = match id {
+            Some(id) => one.id == *id,
+            None => true,
         };
-        let tracker = Notes {
-            alloc,
-            seen: &mut seen,
-        };
-        let report = joined(&rt, &index, &worktree, Request::rewritten(walk, tracker));
-        assert_eq!(rt; report.reported(alloc)?.as_str(), "- added \"b\"\n");
-        assert!(rt; seen.as_slice() == [added(NULL)].as_slice());
+        if !is_id || one.kind != *kind || one.mode != *mode {
+            return false;
+        }
     }
-    Ok(())
+    true
 }
 
-// What a node's fault makes the status answer. Nothing is reported.
-fn answer<R: AllocGlobal + Threads + Wait>(
+// Asserts what is reported of a row and what a tracker sees of it, where these nodes are handed out.
+fn assert_seen<R: AllocGlobal + Abort + Threads + Wait>(
     rt: &R,
-    node: Found<'_>,
-    faults: &[(Point, &str, Fault)],
-) -> Result<Option<Error>, Fail> {
+    row: &Row<'_>,
+    nodes: &[Found<'_>],
+    wanted: &[Wanted],
+) -> Result<(), Fail> {
     let alloc = rt.alloc();
-    let index = foo_index(alloc, &[])?;
-    let worktree = planted(alloc, faults)?;
-    let nodes = [node];
-    let walk = HandsOut {
-        alloc,
-        nodes: &nodes,
-    };
-    let tracker = Answers { alloc, pairs: &[] };
-    let report = joined(rt, &index, &worktree, Request::rewritten(walk, tracker));
-    if !report.records.is_empty() {
-        return Ok(None);
-    }
-    Ok(report.answer.err())
-}
-
-#[test]
-fn a_fault_on_the_way_to_an_id_ends_the_status(rt: HostRuntime) -> Result<(), Fail> {
-    let open = answer(&rt, untracked("b"), &[(Point::Open, "b", Fault::Other(7))])?;
-    assert!(rt; matches!(open, Some(Error::OpenWorktreeFile(Fault::Other(7)))));
-    // The length of a file is asked for as well, and here a missing file is a fault.
-    let lstat = answer(&rt, untracked("b"), &[(Point::Lstat, "b", Fault::NotFound)])?;
-    assert!(rt; matches!(lstat, Some(Error::OpenWorktreeFile(Fault::NotFound))));
-    let short = answer(&rt, untracked("s"), &[])?;
-    assert!(rt; matches!(short, Some(Error::HashFile(Fault::UnexpectedEnd))));
-    let link = Found {
-        disk_kind: Some(Kind::Symlink),
-        ..untracked("l")
-    };
-    let target = answer(&rt, link, &[(Point::ReadLink, "l", Fault::NotFound)])?;
-    assert!(rt; matches!(target, Some(Error::ReadLink(Fault::NotFound))));
-    Ok(())
-}
-
-#[test]
-fn without_rewrites_no_id_is_computed(rt: HostRuntime) -> Result<(), Fail> {
-    let alloc = rt.alloc();
-    let index = foo_index(alloc, &[])?;
-    let worktree = planted(alloc, &[(Point::Open, "b", Fault::Other(7))])?;
-    let nodes = [untracked("b")];
-    let walk = HandsOut {
-        alloc,
-        nodes: &nodes,
-    };
-    let tracker = Answers { alloc, pairs: &[] };
-    let report = joined(&rt, &index, &worktree, Request::sorted(walk, tracker));
-    assert!(rt; report.answer.is_ok());
-    assert_eq!(rt; report.reported(alloc)?.as_str(), "- added \"b\"\n");
-    Ok(())
-}
-
-// What of a node a tracker sees that has no content.
-fn without_content(mode: EntryKind) -> Seen {
-    Seen {
-        mode,
-        ..added(NULL)
-    }
-}
-
-#[test]
-fn a_tracker_sees_kinds_and_ids(rt: HostRuntime) -> Result<(), Fail> {
-    let alloc = rt.alloc();
-    let index = index(
-        alloc,
-        &[
-            foo_entry("a"),
-            mode_entry("e", Mode::FileExecutable),
-            mode_entry("k", Mode::Symlink),
-            foo_entry("m"),
-        ],
-    )?;
-    let nodes = [
-        later_file("m", b"bar"),
-        file("n", b"bar"),
-        link("o", b"foo"),
-    ];
-    let worktree = worktree(alloc, &nodes)?;
-    let kinds = [
-        ("n", Some(Kind::File)),
-        ("o", Some(Kind::Symlink)),
-        ("p", Some(Kind::Directory)),
-        ("q", Some(Kind::Repository)),
-        ("r", None),
-    ];
-    let nodes = kinds.map(|(path, disk_kind)| Found {
-        disk_kind,
-        ..untracked(path)
-    });
-    let walk = HandsOut {
-        alloc,
-        nodes: &nodes,
-    };
+    let index = row.index(alloc)?;
+    let worktree = row.worktree(alloc)?;
     let mut seen = Vec::new(alloc);
+    let walk = HandsOut { alloc, nodes };
     let tracker = Notes {
         alloc,
         seen: &mut seen,
     };
-    let report = joined(&rt, &index, &worktree, Request::rewritten(walk, tracker));
-    assert!(rt; report.answer.is_ok());
-    let removed = |mode| Seen {
-        kind: ChangeKind::Deletion,
-        mode,
-        id: FOO,
-    };
-    assert_eq!(rt; seen.len(), 9);
-    assert_eq!(rt; seen[0], removed(EntryKind::Blob));
-    assert_eq!(rt; seen[1], removed(EntryKind::BlobExecutable));
-    assert_eq!(rt; seen[2], removed(EntryKind::Link));
-    assert_eq!(rt;
-        (seen[3].kind, seen[3].mode),
-        (ChangeKind::Modification, EntryKind::Blob)
-    );
-    let link = Seen {
-        mode: EntryKind::Link,
-        ..added(FOO)
-    };
-    assert!(rt;
-        seen[4..]
-            == [
-                added(BAR),
-                link,
-                without_content(EntryKind::Tree),
-                without_content(EntryKind::Tree),
-                without_content(EntryKind::Blob),
-            ]
-    );
+    assert_by(rt, &index, &worktree, walk, tracker, row)?;
+    assert!(rt; is_seen(&seen, wanted), "{}", row.name);
     Ok(())
+}
+
+/// The file `b`, the link `l` and the file `s`, which ends before its length, are all that there is. Renames are looked
+/// for, and a tracker answers none.
+const FOUND: Row<'static> = Row {
+    nodes: &[
+        ("b", Lies::File("foo")),
+        ("l", Lies::Link("foo")),
+        ("s", Lies::Short),
+    ],
+    walk: By::HandsOut(&[B]),
+    tracker: Finds::Answers(&[]),
+    ..REWRITTEN
+};
+
+/// The file `b` is reported.
+const ADDED: Row<'static> = Row {
+    lines: "- added \"b\"\n",
+    answer: Answer::Takes(Some(1), Some((0, 0))),
+    ..FOUND
+};
+
+static UNREAD: [Row; 3] = [
+    Row {
+        name: "a file that may not be read",
+        faults: &[(Point::Open, "b", Fault::PermissionDenied)],
+        ..ADDED
+    },
+    Row {
+        name: "a file that is gone",
+        faults: &[(Point::Open, "b", Fault::NotFound)],
+        ..ADDED
+    },
+    Row {
+        name: "a file whose opening is interrupted",
+        faults: &[(Point::Open, "b", Fault::Interrupted)],
+        ..ADDED
+    },
+];
+
+#[test]
+fn a_file_that_is_gone_or_may_not_be_read_has_the_null_id(rt: HostRuntime) -> Result<(), Fail> {
+    let wanted = [(ChangeKind::Addition, EntryKind::Blob, Some(NULL))];
+    for row in &UNREAD {
+        assert_seen(&rt, row, &[B], &wanted)?;
+    }
+    Ok(())
+}
+
+static FAULTS: [Row; 5] = [
+    Row {
+        name: "a file that can't be opened",
+        faults: &[(Point::Open, "b", Fault::Other(7))],
+        answer: Answer::Fails(Exit::Open(Fault::Other(7))),
+        ..FOUND
+    },
+    Row {
+        name: "the length of a file is asked for as well, and here a missing file is a fault",
+        faults: &[(Point::Lstat, "b", Fault::NotFound)],
+        answer: Answer::Fails(Exit::Open(Fault::NotFound)),
+        ..FOUND
+    },
+    Row {
+        name: "a file that ends before its length",
+        walk: By::HandsOut(&[Found {
+            path: "s",
+            ..UNTRACKED
+        }]),
+        answer: Answer::Fails(Exit::Hash(Fault::UnexpectedEnd)),
+        ..FOUND
+    },
+    Row {
+        name: "a link that can't be read",
+        faults: &[(Point::ReadLink, "l", Fault::NotFound)],
+        walk: By::HandsOut(&[Found {
+            path: "l",
+            disk_kind: Some(Kind::Symlink),
+            ..UNTRACKED
+        }]),
+        answer: Answer::Fails(Exit::ReadLink(Fault::NotFound)),
+        ..FOUND
+    },
+    Row {
+        name: "without rewrites no id is computed",
+        faults: &[(Point::Open, "b", Fault::Other(7))],
+        rewrites: None,
+        lines: "- added \"b\"\n",
+        answer: Answer::Takes(Some(1), None),
+        ..FOUND
+    },
+];
+
+#[test]
+fn where_ids_are_computed_a_fault_on_the_way_ends_the_status(rt: HostRuntime) -> Result<(), Fail> {
+    assert_rows(&rt, &FAULTS)
+}
+
+/// Entries of three kinds that are removed, one that is modified, and nodes.
+const MANY: Row<'static> = Row {
+    name: "kinds and ids",
+    entries: &[
+        ("a", Staged::Foo),
+        ("e", Staged::Mode(Mode::FileExecutable)),
+        ("k", Staged::Mode(Mode::Symlink)),
+        ("m", Staged::Foo),
+    ],
+    nodes: &[
+        ("m", Lies::Later("bar")),
+        ("n", Lies::File("bar")),
+        ("o", Lies::Link("foo")),
+    ],
+    lines: "0 removed \"a\"\n1 removed \"e\"\n2 removed \"k\"\n3 modified \"m\"\n- added \"n\"\n- added \"o\"\n- added \"p\"\n- added \"q\"\n- added \"r\"\n",
+    answer: Answer::Takes(Some(5), Some((0, 0))),
+    ..REWRITTEN
+};
+
+static NODES: [Found; 5] = [
+    Found {
+        path: "n",
+        ..UNTRACKED
+    },
+    Found {
+        path: "o",
+        disk_kind: Some(Kind::Symlink),
+        ..UNTRACKED
+    },
+    Found {
+        path: "p",
+        disk_kind: Some(Kind::Directory),
+        ..UNTRACKED
+    },
+    Found {
+        path: "q",
+        disk_kind: Some(Kind::Repository),
+        ..UNTRACKED
+    },
+    Found {
+        path: "r",
+        disk_kind: None,
+        ..UNTRACKED
+    },
+];
+
+static SEEN: [Wanted; 9] = [
+    (ChangeKind::Deletion, EntryKind::Blob, Some(FOO)),
+    (ChangeKind::Deletion, EntryKind::BlobExecutable, Some(FOO)),
+    (ChangeKind::Deletion, EntryKind::Link, Some(FOO)),
+    (ChangeKind::Modification, EntryKind::Blob, None),
+    (ChangeKind::Addition, EntryKind::Blob, Some(BAR)),
+    (ChangeKind::Addition, EntryKind::Link, Some(FOO)),
+    // What has no content.
+    (ChangeKind::Addition, EntryKind::Tree, Some(NULL)),
+    (ChangeKind::Addition, EntryKind::Tree, Some(NULL)),
+    (ChangeKind::Addition, EntryKind::Blob, Some(NULL)),
+];
+
+#[test]
+fn a_tracker_sees_kinds_and_ids(rt: HostRuntime) -> Result<(), Fail> {
+    assert_seen(&rt, &MANY, &NODES, &SEEN)
 }

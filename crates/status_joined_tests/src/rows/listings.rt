@@ -4,11 +4,12 @@ use crate::given::{Report, Request, STAGED, file, foo_index, tell_handed, worktr
 use bstr::{BStr, BString};
 use status_base::fscache::Stat;
 use status_base::index::State;
-use status_base::worktree::{Lister, Listing, NoFilter, NoSubmodules, Worktree};
+use status_base::worktree::{Lister, Listing, MemoryWorktree, NoFilter, NoSubmodules, Worktree};
 use status_joined::index_as_worktree_with_renames::{Options, Recorder};
 use status_tracker::{IdentityTracker, Tracker};
 use status_walk::{UntrackedWalk, Walk};
 use std::alloc::{AllocError, Global};
+use std::process::Abort;
 use std::sync::Wait;
 use std::test::Fail;
 use std::thread::Threads;
@@ -86,27 +87,41 @@ where
     }
 }
 
+// Asserts what is reported of an index and a worktree with the option `fscache` and without it.
+fn assert_listed<R: AllocGlobal + Abort + Threads + Wait>(
+    rt: &R,
+    index: &State,
+    worktree: &MemoryWorktree,
+    fscache: bool,
+    lines: &str,
+) -> Result<(), Fail> {
+    let alloc = rt.alloc();
+    let request = Request::rewritten(UntrackedWalk::new(alloc), IdentityTracker::new(alloc));
+    let request = Request {
+        options: Options {
+            fscache,
+            ..request.options
+        },
+        ..request
+    };
+    let lister = OneFile { alloc, name: "a" };
+    let report = listed_by(rt, index, worktree, lister, request);
+    let text = report.reported(alloc)?;
+    assert!(rt; text.as_str() == lines, "fscache {fscache}: {text}");
+    assert!(rt; report.answer.is_ok(), "fscache {fscache}");
+    Ok(())
+}
+
 #[test]
 fn entries_are_looked_up_in_listings_and_nodes_arent(rt: HostRuntime) -> Result<(), Fail> {
     let alloc = rt.alloc();
     let index = foo_index(alloc, &["a", "b"])?;
     let worktree = worktree(alloc, &[file("c", b"foo")])?;
-    for (fscache, reported) in [
+    for (fscache, lines) in [
         (false, "1 removed \"b\"\n- renamed \"a\" \"c\"\n"),
         (true, "- renamed \"b\" \"c\"\n"),
     ] {
-        let request = Request::rewritten(UntrackedWalk::new(alloc), IdentityTracker::new(alloc));
-        let request = Request {
-            options: Options {
-                fscache,
-                ..request.options
-            },
-            ..request
-        };
-        let lister = OneFile { alloc, name: "a" };
-        let report = listed_by(&rt, &index, &worktree, lister, request);
-        assert_eq!(rt; report.reported(alloc)?.as_str(), reported);
-        assert!(rt; report.answer.is_ok());
+        assert_listed(&rt, &index, &worktree, fscache, lines)?;
     }
     Ok(())
 }

@@ -1,6 +1,7 @@
 //! Both halves at the same time.
 
 use crate::given::{Request, foo_index, joined, worktree};
+use crate::halves::{Wanted, assert_report};
 use crate::trackers::Answers;
 use crate::walks::Meets;
 use crate::worktrees::Waiting;
@@ -25,7 +26,11 @@ fn the_walk_and_the_status_run_at_the_same_time(rt: HostRuntime) -> Result<(), F
     };
     let request = Request::sorted(walk, Answers { alloc, pairs: &[] });
     let report = joined(&rt, &index, &worktree, request);
-    assert!(rt; report.answer.is_ok());
-    assert_eq!(rt; report.reported(alloc)?.as_str(), "0 removed \"a\"\n");
-    Ok(())
+    let wanted = Wanted {
+        lines: "0 removed \"a\"\n",
+        entries: (1, 1),
+        nodes: 0,
+        is_ended: false,
+    };
+    assert_report(&rt, &report, &wanted)
 }

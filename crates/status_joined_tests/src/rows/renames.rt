@@ -1,17 +1,10 @@
 //! Renames by equal content.
 
-use crate::given::{
-    FOO, GivenEntry, Request, empty_entry, file, foo_entry, index, joined, link, mode_entry,
-    options, worktree,
-};
+use crate::looks::Look;
+use crate::tables::{Answer, Lies, PLAIN, REWRITTEN, Row, Staged, assert_rows};
 use status_base::index::{HashKind, Mode, ObjectId};
-use status_call::index_as_worktree::{Change, EntryStatus};
-use status_joined::index_as_worktree_with_renames::{
-    Entry, Options, RewriteSource, Summary, rewrites,
-};
-use status_tracker::{IdentityTracker, Rewrites};
-use status_walk::{Status, UntrackedWalk};
-use std::alloc::Global;
+use status_joined::index_as_worktree_with_renames::Summary;
+use status_tracker::Rewrites;
 use std::test::Fail;
 
 // The id of `foo`, by git in a repository of SHA-256.
@@ -20,196 +13,133 @@ const LONG_FOO: ObjectId = ObjectId::Sha256([
     0xce, 0x32, 0x55, 0xae, 0xca, 0xa1, 0xa6, 0xda, 0x7b, 0x1c, 0xdc, 0x92, 0xb9, 0x0e, 0x02, 0x5e,
 ]);
 
-// Asks for renames by equal content.
-fn request(alloc: Global, options: Options) -> Request<'static, UntrackedWalk, IdentityTracker> {
-    Request {
-        walk: UntrackedWalk::new(alloc),
-        tracker: IdentityTracker::new(alloc),
-        options,
-        interrupt: None,
-    }
-}
-
-// Options with which renames are looked for.
-fn tracked(track_empty: bool) -> Options {
-    options(Some(Rewrites { track_empty }))
-}
-
-// So many renames, and no copies.
-fn renamed(renames: usize) -> Option<rewrites::Outcome> {
-    Some(rewrites::Outcome { renames, copies: 0 })
-}
-
-#[test]
-fn the_first_untracked_file_of_a_content_is_the_renamed_one(rt: HostRuntime) -> Result<(), Fail> {
-    let alloc = rt.alloc();
-    let index = index(alloc, &[foo_entry("a")])?;
-    let worktree = worktree(alloc, &[file("b", b"foo"), file("c", b"foo")])?;
-    let report = joined(&rt, &index, &worktree, request(alloc, tracked(false)));
-    assert_eq!(rt;
-        report.reported(alloc)?.as_str(),
-        "- renamed \"a\" \"b\"\n- added \"c\"\n"
-    );
-    assert_eq!(rt; report.answer?.rewrites, renamed(1));
-    Ok(())
-}
-
-#[test]
-fn the_first_removed_file_of_a_content_is_the_renamed_one(rt: HostRuntime) -> Result<(), Fail> {
-    let alloc = rt.alloc();
-    let index = index(alloc, &[foo_entry("a"), foo_entry("b")])?;
-    let worktree = worktree(alloc, &[file("c", b"foo")])?;
-    let report = joined(&rt, &index, &worktree, request(alloc, tracked(false)));
+static PLACES: [Row; 5] = [
+    Row {
+        name: "the first untracked file of a content is the renamed one",
+        entries: &[("a", Staged::Foo)],
+        nodes: &[("b", Lies::File("foo")), ("c", Lies::File("foo"))],
+        lines: "- renamed \"a\" \"b\"\n- added \"c\"\n",
+        answer: Answer::Takes(Some(2), Some((1, 0))),
+        ..REWRITTEN
+    },
     // The rename stands where its destination does.
-    assert_eq!(rt;
-        report.reported(alloc)?.as_str(),
-        "1 removed \"b\"\n- renamed \"a\" \"c\"\n"
-    );
-    assert_eq!(rt; report.answer?.rewrites, renamed(1));
-    Ok(())
-}
+    Row {
+        name: "the first removed file of a content is the renamed one",
+        entries: &[("a", Staged::Foo), ("b", Staged::Foo)],
+        nodes: &[("c", Lies::File("foo"))],
+        lines: "1 removed \"b\"\n- renamed \"a\" \"c\"\n",
+        answer: Answer::Takes(Some(1), Some((1, 0))),
+        ..REWRITTEN
+    },
+    Row {
+        name: "renames stand at their destinations",
+        entries: &[("m", Staged::Foo), ("z", Staged::Foo)],
+        nodes: &[("a", Lies::File("bar")), ("b", Lies::File("foo"))],
+        lines: "- added \"a\"\n- renamed \"m\" \"b\"\n1 removed \"z\"\n",
+        answer: Answer::Takes(Some(2), Some((1, 0))),
+        ..REWRITTEN
+    },
+    Row {
+        name: "in no order, the index's entries come first",
+        entries: &[("m", Staged::Foo), ("z", Staged::Foo)],
+        nodes: &[("a", Lies::File("bar")), ("b", Lies::File("foo"))],
+        sorted: false,
+        lines: "1 removed \"z\"\n- added \"a\"\n- renamed \"m\" \"b\"\n",
+        answer: Answer::Takes(Some(2), Some((1, 0))),
+        ..REWRITTEN
+    },
+    Row {
+        name: "a rename has the entry and the node",
+        entries: &[("a", Staged::Empty), ("b", Staged::Foo)],
+        nodes: &[("c", Lies::File("foo"))],
+        lines: "0 removed \"a\"\n- renamed \"b\" \"c\"\n",
+        looks: &[
+            (
+                1,
+                Look::Renamed {
+                    entries: 2,
+                    place: 1,
+                    from: "b",
+                    to: "c",
+                },
+            ),
+            (1, Look::Summed(Summary::Renamed, "b", "c")),
+        ],
+        answer: Answer::Takes(Some(1), Some((1, 0))),
+        ..REWRITTEN
+    },
+];
 
 #[test]
-fn renames_stand_at_their_destinations(rt: HostRuntime) -> Result<(), Fail> {
-    let alloc = rt.alloc();
-    let index = index(alloc, &[foo_entry("m"), foo_entry("z")])?;
-    let worktree = worktree(alloc, &[file("a", b"bar"), file("b", b"foo")])?;
-    let report = joined(&rt, &index, &worktree, request(alloc, tracked(false)));
-    assert_eq!(rt;
-        report.reported(alloc)?.as_str(),
-        "- added \"a\"\n- renamed \"m\" \"b\"\n1 removed \"z\"\n"
-    );
-    // In no order, the index's entries come first.
-    let options = Options {
-        sorting: None,
-        ..tracked(false)
-    };
-    let report = joined(&rt, &index, &worktree, request(alloc, options));
-    assert_eq!(rt;
-        report.reported(alloc)?.as_str(),
-        "1 removed \"z\"\n- added \"a\"\n- renamed \"m\" \"b\"\n"
-    );
-    Ok(())
+fn renames_are_of_the_first_files_and_stand_at_their_destinations(
+    rt: HostRuntime,
+) -> Result<(), Fail> {
+    assert_rows(&rt, &PLACES)
 }
+
+static KINDS: [Row; 7] = [
+    Row {
+        name: "a link isn't renamed to a file",
+        entries: &[("a", Staged::Mode(Mode::Symlink))],
+        nodes: &[("b", Lies::File("foo"))],
+        lines: "0 removed \"a\"\n- added \"b\"\n",
+        answer: Answer::Takes(Some(1), Some((0, 0))),
+        ..REWRITTEN
+    },
+    Row {
+        name: "a link is renamed to a link",
+        entries: &[("a", Staged::Mode(Mode::Symlink))],
+        nodes: &[("b", Lies::Link("foo"))],
+        lines: "- renamed \"a\" \"b\"\n",
+        answer: Answer::Takes(Some(1), Some((1, 0))),
+        ..REWRITTEN
+    },
+    Row {
+        name: "files with no bytes aren't renamed where they aren't tracked",
+        entries: &[("a", Staged::Empty)],
+        nodes: &[("b", Lies::File(""))],
+        lines: "0 removed \"a\"\n- added \"b\"\n",
+        answer: Answer::Takes(Some(1), Some((0, 0))),
+        ..REWRITTEN
+    },
+    Row {
+        name: "files with no bytes are renamed where they are tracked",
+        entries: &[("a", Staged::Empty)],
+        nodes: &[("b", Lies::File(""))],
+        rewrites: Some(Rewrites { track_empty: true }),
+        lines: "- renamed \"a\" \"b\"\n",
+        answer: Answer::Takes(Some(1), Some((1, 0))),
+        ..PLAIN
+    },
+    Row {
+        name: "ids of nodes are of the kind that is asked for: SHA-256",
+        entries: &[("a", Staged::Id(LONG_FOO))],
+        nodes: &[("b", Lies::File("foo"))],
+        object_hash: HashKind::Sha256,
+        lines: "- renamed \"a\" \"b\"\n",
+        answer: Answer::Takes(Some(1), Some((1, 0))),
+        ..REWRITTEN
+    },
+    Row {
+        name: "ids of nodes are of the kind that is asked for: SHA-1",
+        entries: &[("a", Staged::Id(LONG_FOO))],
+        nodes: &[("b", Lies::File("foo"))],
+        object_hash: HashKind::Sha1,
+        lines: "0 removed \"a\"\n- added \"b\"\n",
+        answer: Answer::Takes(Some(1), Some((0, 0))),
+        ..REWRITTEN
+    },
+    Row {
+        name: "without rewrites no renames are looked for",
+        entries: &[("a", Staged::Foo)],
+        nodes: &[("b", Lies::File("foo"))],
+        lines: "0 removed \"a\"\n- added \"b\"\n",
+        answer: Answer::Takes(Some(1), None),
+        ..PLAIN
+    },
+];
 
 #[test]
-fn links_and_files_are_no_renames_of_each_other(rt: HostRuntime) -> Result<(), Fail> {
-    let alloc = rt.alloc();
-    let index = index(alloc, &[mode_entry("a", Mode::Symlink)])?;
-    let nodes = [
-        (
-            file("b", b"foo"),
-            "0 removed \"a\"\n- added \"b\"\n",
-            renamed(0),
-        ),
-        (link("b", b"foo"), "- renamed \"a\" \"b\"\n", renamed(1)),
-    ];
-    for (node, wanted, outcome) in nodes {
-        let worktree = worktree(alloc, &[node])?;
-        let report = joined(&rt, &index, &worktree, request(alloc, tracked(false)));
-        assert_eq!(rt; report.reported(alloc)?.as_str(), wanted);
-        assert_eq!(rt; report.answer?.rewrites, outcome);
-    }
-    Ok(())
-}
-
-#[test]
-fn files_with_no_bytes_are_renamed_where_they_are_tracked(rt: HostRuntime) -> Result<(), Fail> {
-    let alloc = rt.alloc();
-    let index = index(alloc, &[empty_entry("a")])?;
-    let worktree = worktree(alloc, &[file("b", b"")])?;
-    let report = joined(&rt, &index, &worktree, request(alloc, tracked(false)));
-    assert_eq!(rt;
-        report.reported(alloc)?.as_str(),
-        "0 removed \"a\"\n- added \"b\"\n"
-    );
-    assert_eq!(rt; report.answer?.rewrites, renamed(0));
-    let report = joined(&rt, &index, &worktree, request(alloc, tracked(true)));
-    assert_eq!(rt; report.reported(alloc)?.as_str(), "- renamed \"a\" \"b\"\n");
-    assert_eq!(rt; report.answer?.rewrites, renamed(1));
-    Ok(())
-}
-
-#[test]
-fn ids_of_nodes_are_of_the_kind_that_is_asked_for(rt: HostRuntime) -> Result<(), Fail> {
-    let alloc = rt.alloc();
-    let long = GivenEntry {
-        id: LONG_FOO,
-        ..foo_entry("a")
-    };
-    let index = index(alloc, &[long])?;
-    let worktree = worktree(alloc, &[file("b", b"foo")])?;
-    for (object_hash, wanted) in [
-        (HashKind::Sha256, "- renamed \"a\" \"b\"\n"),
-        (HashKind::Sha1, "0 removed \"a\"\n- added \"b\"\n"),
-    ] {
-        let options = Options {
-            object_hash,
-            ..tracked(false)
-        };
-        let report = joined(&rt, &index, &worktree, request(alloc, options));
-        assert_eq!(rt; report.reported(alloc)?.as_str(), wanted);
-    }
-    Ok(())
-}
-
-#[test]
-fn without_rewrites_no_renames_are_looked_for(rt: HostRuntime) -> Result<(), Fail> {
-    let alloc = rt.alloc();
-    let index = index(alloc, &[foo_entry("a")])?;
-    let worktree = worktree(alloc, &[file("b", b"foo")])?;
-    let report = joined(&rt, &index, &worktree, request(alloc, options(None)));
-    assert_eq!(rt;
-        report.reported(alloc)?.as_str(),
-        "0 removed \"a\"\n- added \"b\"\n"
-    );
-    assert_eq!(rt; report.answer?.rewrites, None);
-    Ok(())
-}
-
-// Whether an entry is the rename of the entry at a place, with its path, of an index of so many entries, to a file of the
-// content `foo`.
-fn is_rename(
-    record: &Entry<'_, ObjectId, ()>,
-    entries: usize,
-    from: (usize, &str),
-    to: &str,
-) -> bool {
-    let Entry::Rewrite {
-        source: RewriteSource::RewriteFromIndex {
-            index_entries,
-            source_entry,
-            source_entry_index,
-            source_rela_path,
-            source_status: EntryStatus::Change(Change::Removed),
-        },
-        dirwalk_entry,
-        dirwalk_entry_collapsed_directory_status: None,
-        dirwalk_entry_id: FOO,
-        copy: false,
-    } = record
-    else {
-        return false;
-    };
-    index_entries.len() == entries
-        && source_entry.id == FOO
-        && *source_entry_index == from.0
-        && source_rela_path.as_bytes() == from.1.as_bytes()
-        && dirwalk_entry.rela_path.as_bytes() == to.as_bytes()
-        && dirwalk_entry.status == Status::Untracked
-}
-
-#[test]
-fn a_rename_has_the_entry_and_the_node(rt: HostRuntime) -> Result<(), Fail> {
-    let alloc = rt.alloc();
-    let index = index(alloc, &[empty_entry("a"), foo_entry("b")])?;
-    let worktree = worktree(alloc, &[file("c", b"foo")])?;
-    let report = joined(&rt, &index, &worktree, request(alloc, tracked(false)));
-    assert_eq!(rt; report.records.len(), 2);
-    let rename = &report.records[1];
-    assert!(rt; is_rename(rename, 2, (1, "b"), "c"));
-    assert_eq!(rt; rename.summary(), Some(Summary::Renamed));
-    assert_eq!(rt; rename.source_rela_path().as_bytes(), "b".as_bytes());
-    assert_eq!(rt; rename.destination_rela_path().as_bytes(), "c".as_bytes());
-    Ok(())
+fn renames_are_of_one_kind_and_of_what_is_tracked(rt: HostRuntime) -> Result<(), Fail> {
+    assert_rows(&rt, &KINDS)
 }

@@ -1,15 +1,16 @@
 //! A submodule of a type of the test's own, which reports an option of a number.
 
-use crate::given::{Request, index, mode_entry, tell_handed};
+use crate::given::{GivenNode, Request, file, index, mode_entry, tell_handed, worktree};
 use bstr::BStr;
 use status_base::index::{Entry, Mode, ObjectId, State};
 use status_base::worktree::{
-    MemoryWorktree, NoFilter, NoLister, Node, NodeKind, SubmoduleFault, SubmoduleStatus, Worktree,
+    MemoryWorktree, NoFilter, NoLister, NodeKind, SubmoduleFault, SubmoduleStatus, Worktree,
 };
 use status_call::index_as_worktree::{Change, EntryStatus};
 use status_joined::index_as_worktree_with_renames::{self as joined, Outcome, Recorder};
 use status_tracker::{IdentityTracker, Tracker};
 use status_walk::{UntrackedWalk, Walk};
+use std::process::Abort;
 use std::sync::Wait;
 use std::test::Fail;
 use std::thread::Threads;
@@ -67,47 +68,46 @@ where
     )
 }
 
+// Whether the one record is that the submodule changed in so many places.
+fn is_changed(records: &[joined::Entry<'_, ObjectId, Option<u64>>], places: Option<u64>) -> bool {
+    match records {
+        [
+            joined::Entry::Modification {
+                entry_index: 0,
+                status: EntryStatus::Change(Change::SubmoduleModification(found)),
+                ..
+            },
+        ] => *found == places,
+        _ => false,
+    }
+}
+
+// Asserts what is reported of an index whose submodules changed in so many places.
+fn assert_changed<R: AllocGlobal + Abort + Threads + Wait>(
+    rt: &R,
+    index: &State,
+    worktree: &MemoryWorktree,
+    places: Option<u64>,
+) {
+    let alloc = rt.alloc();
+    let mut recorder = Recorder::new(alloc);
+    let request = Request::sorted(UntrackedWalk::new(alloc), IdentityTracker::new(alloc));
+    let changed = Changed { places };
+    let answer = tell_changed(rt, index, worktree, &mut recorder, changed, request);
+    assert!(rt; answer.is_ok(), "{places:?}");
+    assert!(rt; is_changed(&recorder.records, places), "{places:?}");
+}
+
 #[test]
 fn a_submodule_reports_a_type_of_the_callers(rt: HostRuntime) -> Result<(), Fail> {
     let alloc = rt.alloc();
     let index = index(alloc, &[mode_entry("sub", Mode::Commit)])?;
-    let mut worktree = MemoryWorktree::new(alloc);
-    let directory = Node {
+    let directory = GivenNode {
         kind: NodeKind::Directory,
-        bytes: Vec::new(alloc),
-        len: 0,
-        executable: false,
-        mtime: None,
-        ctime: None,
-        dev: 0,
-        ino: 0,
-        uid: 0,
-        gid: 0,
+        ..file("sub", b"")
     };
-    worktree.put(BStr::from("sub"), directory)?;
-    for places in [None, Some(7)] {
-        let mut recorder = Recorder::new(alloc);
-        let request = Request::sorted(UntrackedWalk::new(alloc), IdentityTracker::new(alloc));
-        let answer = tell_changed(
-            &rt,
-            &index,
-            &worktree,
-            &mut recorder,
-            Changed { places },
-            request,
-        );
-        assert!(rt; answer.is_ok());
-        assert_eq!(rt; recorder.records.len(), 1);
-        assert!(rt;
-            matches!(
-                &recorder.records[0],
-                joined::Entry::Modification {
-                    entry_index: 0,
-                    status: EntryStatus::Change(Change::SubmoduleModification(found)),
-                    ..
-                } if *found == places
-            )
-        );
-    }
+    let worktree = worktree(alloc, &[directory])?;
+    assert_changed(&rt, &index, &worktree, None);
+    assert_changed(&rt, &index, &worktree, Some(7));
     Ok(())
 }

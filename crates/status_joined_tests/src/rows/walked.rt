@@ -1,233 +1,163 @@
 //! What a walk finds, beside what the index has.
 
-use crate::given::{
-    Request, file, foo_entry, foo_index, index, joined, later_file, link, mode_entry, options,
-    other, worktree,
-};
-use crate::trackers::Answers;
-use crate::walks::{Found, HandsOut, untracked};
-use status_base::index::{Mode, ObjectId};
-use status_joined::index_as_worktree_with_renames::{Entry, Options};
-use status_walk::{Kind, Outcome, Status, UntrackedWalk};
-use std::alloc::Global;
+use crate::looks::Look;
+use crate::tables::{Answer, By, Lies, PLAIN, Row, Staged, assert_rows};
+use crate::walks::{B, C, Found, UNTRACKED};
+use status_base::index::Mode;
+use status_walk::{Kind, Status};
 use std::test::Fail;
 
-// A tracker that isn't called.
-fn none(alloc: Global) -> Answers<'static> {
-    Answers { alloc, pairs: &[] }
-}
-
-// How a walk ends that hands out so many nodes.
-fn handed_out(emitted: usize) -> Outcome {
-    Outcome {
-        emitted,
-        cancelled: false,
-    }
-}
-
-// Whether an entry is a node just as it was handed out.
-fn is_node(record: &Entry<'_, ObjectId, ()>, node: &Found<'_>) -> bool {
-    match record {
-        Entry::DirectoryContents {
-            entry,
-            collapsed_directory_status,
-        } => {
-            entry.rela_path.as_bytes() == node.path.as_bytes()
-                && entry.status == node.status
-                && entry.disk_kind == node.disk_kind
-                && *collapsed_directory_status == node.collapsed
-        }
-        _ => false,
-    }
-}
-
-#[test]
-fn what_is_untracked_comes_beside_what_was_removed(rt: HostRuntime) -> Result<(), Fail> {
-    let alloc = rt.alloc();
-    let index = foo_index(alloc, &["a"])?;
-    let nodes = [file("b", b"foo"), link("c/d", b"b"), other("p")];
-    let worktree = worktree(alloc, &nodes)?;
-    let request = Request::sorted(UntrackedWalk::new(alloc), none(alloc));
-    let report = joined(&rt, &index, &worktree, request);
+static WALKED: [Row; 3] = [
     // A node that can't be tracked is handed out, and dropped.
-    assert_eq!(rt;
-        report.reported(alloc)?.as_str(),
-        "0 removed \"a\"\n- added \"b\"\n- added \"c/d\"\n"
-    );
-    let outcome = report.answer?;
-    assert_eq!(rt; outcome.dirwalk, Some(handed_out(3)));
-    assert_eq!(rt; outcome.rewrites, None);
-    Ok(())
-}
+    Row {
+        name: "what is untracked comes beside what was removed",
+        entries: &[("a", Staged::Foo)],
+        nodes: &[
+            ("b", Lies::File("foo")),
+            ("c/d", Lies::Link("b")),
+            ("p", Lies::Other),
+        ],
+        lines: "0 removed \"a\"\n- added \"b\"\n- added \"c/d\"\n",
+        answer: Answer::Takes(Some(3), None),
+        ..PLAIN
+    },
+    Row {
+        name: "nothing in a submodule is walked",
+        entries: &[("sub", Staged::Mode(Mode::Commit))],
+        nodes: &[("sub/x", Lies::File("foo"))],
+        lines: "",
+        answer: Answer::Takes(Some(0), None),
+        ..PLAIN
+    },
+    Row {
+        name: "nothing is walked where the options do not have it",
+        entries: &[("a", Staged::Foo)],
+        nodes: &[("b", Lies::File("foo"))],
+        dirwalk: false,
+        lines: "0 removed \"a\"\n",
+        answer: Answer::Takes(None, None),
+        ..PLAIN
+    },
+];
 
 #[test]
-fn at_equal_paths_the_index_comes_first(rt: HostRuntime) -> Result<(), Fail> {
-    let alloc = rt.alloc();
-    let index = foo_index(alloc, &["a", "c"])?;
-    let worktree = worktree(alloc, &[])?;
-    let nodes = [untracked("b"), untracked("a")];
-    let walk = HandsOut {
-        alloc,
-        nodes: &nodes,
-    };
-    let report = joined(&rt, &index, &worktree, Request::sorted(walk, none(alloc)));
-    assert_eq!(rt;
-        report.reported(alloc)?.as_str(),
-        "0 removed \"a\"\n- added \"a\"\n- added \"b\"\n1 removed \"c\"\n"
-    );
-    // In no order, the index comes first, and the nodes as they were handed out.
-    let request = Request {
-        options: Options {
-            sorting: None,
-            ..options(None)
-        },
-        ..Request::sorted(walk, none(alloc))
-    };
-    let report = joined(&rt, &index, &worktree, request);
-    assert_eq!(rt;
-        report.reported(alloc)?.as_str(),
-        "0 removed \"a\"\n1 removed \"c\"\n- added \"b\"\n- added \"a\"\n"
-    );
-    Ok(())
+fn what_is_untracked_comes_where_it_is_walked(rt: HostRuntime) -> Result<(), Fail> {
+    assert_rows(&rt, &WALKED)
 }
 
-#[test]
-fn nothing_in_a_submodule_is_walked(rt: HostRuntime) -> Result<(), Fail> {
-    let alloc = rt.alloc();
-    let index = index(alloc, &[mode_entry("sub", Mode::Commit)])?;
-    let worktree = worktree(alloc, &[file("sub/x", b"foo")])?;
-    let request = Request::sorted(UntrackedWalk::new(alloc), none(alloc));
-    let report = joined(&rt, &index, &worktree, request);
-    assert_eq!(rt; report.reported(alloc)?.as_str(), "");
-    assert_eq!(rt; report.answer?.dirwalk, Some(handed_out(0)));
-    Ok(())
-}
+const A: Found<'static> = Found {
+    path: "a",
+    ..UNTRACKED
+};
+
+static ORDERED: [Row; 3] = [
+    Row {
+        name: "at equal paths the index comes first",
+        entries: &[("a", Staged::Foo), ("c", Staged::Foo)],
+        walk: By::HandsOut(&[B, A]),
+        lines: "0 removed \"a\"\n- added \"a\"\n- added \"b\"\n1 removed \"c\"\n",
+        answer: Answer::Takes(Some(2), None),
+        ..PLAIN
+    },
+    Row {
+        name: "in no order, the index comes first, and the nodes as they were handed out",
+        entries: &[("a", Staged::Foo), ("c", Staged::Foo)],
+        walk: By::HandsOut(&[B, A]),
+        sorted: false,
+        lines: "0 removed \"a\"\n1 removed \"c\"\n- added \"b\"\n- added \"a\"\n",
+        answer: Answer::Takes(Some(2), None),
+        ..PLAIN
+    },
+    Row {
+        name: "a walk that hands out nothing leaves the index alone",
+        entries: &[("a", Staged::Foo)],
+        nodes: &[("b", Lies::File("foo"))],
+        walk: By::HandsOut(&[]),
+        lines: "0 removed \"a\"\n",
+        answer: Answer::Takes(Some(0), None),
+        ..PLAIN
+    },
+];
 
 #[test]
-fn what_needs_an_update_or_is_ignored_has_no_summary(rt: HostRuntime) -> Result<(), Fail> {
-    let alloc = rt.alloc();
-    let index = foo_index(alloc, &["a"])?;
-    let worktree = worktree(alloc, &[later_file("a", b"foo")])?;
-    let ignored = Found {
+fn what_is_handed_out_comes_after_the_index_at_equal_paths(rt: HostRuntime) -> Result<(), Fail> {
+    assert_rows(&rt, &ORDERED)
+}
+
+/// What is tracked, and what can't be, and what is reported of other nodes.
+const NODES: [Found<'static>; 6] = [
+    Found {
+        status: Status::Tracked,
+        ..A
+    },
+    Found {
+        disk_kind: Some(Kind::Untrackable),
+        ..B
+    },
+    Found {
         status: Status::Ignored,
-        ..untracked("b")
-    };
-    let walk = HandsOut {
-        alloc,
-        nodes: &[ignored],
-    };
-    let report = joined(&rt, &index, &worktree, Request::sorted(walk, none(alloc)));
-    assert_eq!(rt;
-        report.reported(alloc)?.as_str(),
-        "0 update \"a\"\n- ignored \"b\"\n"
-    );
-    for entry in &report.records {
-        assert_eq!(rt; entry.summary(), None);
-    }
-    Ok(())
-}
+        disk_kind: Some(Kind::Untrackable),
+        ..C
+    },
+    Found {
+        path: "d",
+        status: Status::Ignored,
+        disk_kind: Some(Kind::Directory),
+        collapsed: Some(Status::Untracked),
+    },
+    Found {
+        path: "e",
+        status: Status::Pruned,
+        disk_kind: None,
+        collapsed: None,
+    },
+    Found {
+        path: "f",
+        disk_kind: Some(Kind::Repository),
+        ..UNTRACKED
+    },
+];
 
-#[test]
-fn what_is_tracked_or_cannot_be_is_dropped(rt: HostRuntime) -> Result<(), Fail> {
-    let alloc = rt.alloc();
-    let index = foo_index(alloc, &[])?;
-    let worktree = worktree(alloc, &[])?;
-    let nodes = [
-        Found {
-            status: Status::Tracked,
-            ..untracked("a")
-        },
-        Found {
-            disk_kind: Some(Kind::Untrackable),
-            ..untracked("b")
-        },
-        Found {
+/// The untracked directory `d`, which stands for nodes that are ignored.
+const COLLAPSED: Found<'static> = Found {
+    path: "d",
+    disk_kind: Some(Kind::Directory),
+    collapsed: Some(Status::Ignored),
+    ..UNTRACKED
+};
+
+static STATUSES: [Row; 3] = [
+    Row {
+        name: "what needs an update or is ignored has no summary",
+        entries: &[("a", Staged::Foo)],
+        nodes: &[("a", Lies::Later("foo"))],
+        walk: By::HandsOut(&[Found {
             status: Status::Ignored,
-            disk_kind: Some(Kind::Untrackable),
-            ..untracked("c")
-        },
-        Found {
-            status: Status::Ignored,
-            disk_kind: Some(Kind::Directory),
-            collapsed: Some(Status::Untracked),
-            ..untracked("d")
-        },
-        Found {
-            status: Status::Pruned,
-            disk_kind: None,
-            ..untracked("e")
-        },
-        Found {
-            disk_kind: Some(Kind::Repository),
-            ..untracked("f")
-        },
-    ];
-    let walk = HandsOut {
-        alloc,
-        nodes: &nodes,
-    };
-    let report = joined(&rt, &index, &worktree, Request::sorted(walk, none(alloc)));
-    assert_eq!(rt;
-        report.reported(alloc)?.as_str(),
-        "- ignored \"d\"\n- pruned \"e\"\n- added \"f\"\n"
-    );
-    assert_eq!(rt; report.answer?.dirwalk, Some(handed_out(6)));
-    Ok(())
-}
+            ..B
+        }]),
+        lines: "0 update \"a\"\n- ignored \"b\"\n",
+        looks: &[(0, Look::NoSummary), (1, Look::NoSummary)],
+        answer: Answer::Takes(Some(1), None),
+        ..PLAIN
+    },
+    Row {
+        name: "what is tracked or can't be is dropped",
+        walk: By::HandsOut(&NODES),
+        lines: "- ignored \"d\"\n- pruned \"e\"\n- added \"f\"\n",
+        answer: Answer::Takes(Some(6), None),
+        ..PLAIN
+    },
+    Row {
+        name: "the status of a directory that stands for its nodes is reported",
+        walk: By::HandsOut(&[A, COLLAPSED]),
+        lines: "- added \"a\"\n- added \"d\"\n",
+        looks: &[(0, Look::Node(A)), (1, Look::Node(COLLAPSED))],
+        answer: Answer::Takes(Some(2), None),
+        ..PLAIN
+    },
+];
 
 #[test]
-fn the_status_of_a_directory_that_stands_for_its_nodes_is_reported(
-    rt: HostRuntime,
-) -> Result<(), Fail> {
-    let alloc = rt.alloc();
-    let index = foo_index(alloc, &[])?;
-    let worktree = worktree(alloc, &[])?;
-    let nodes = [
-        untracked("a"),
-        Found {
-            disk_kind: Some(Kind::Directory),
-            collapsed: Some(Status::Ignored),
-            ..untracked("d")
-        },
-    ];
-    let walk = HandsOut {
-        alloc,
-        nodes: &nodes,
-    };
-    let report = joined(&rt, &index, &worktree, Request::sorted(walk, none(alloc)));
-    assert_eq!(rt; report.records.len(), nodes.len());
-    for (record, node) in report.records.iter().zip(nodes) {
-        assert!(rt; is_node(record, &node));
-    }
-    Ok(())
-}
-
-#[test]
-fn a_walk_that_hands_out_nothing_leaves_the_index_alone(rt: HostRuntime) -> Result<(), Fail> {
-    let alloc = rt.alloc();
-    let index = index(alloc, &[foo_entry("a")])?;
-    let worktree = worktree(alloc, &[file("b", b"foo")])?;
-    let walk = HandsOut { alloc, nodes: &[] };
-    let report = joined(&rt, &index, &worktree, Request::sorted(walk, none(alloc)));
-    assert_eq!(rt; report.reported(alloc)?.as_str(), "0 removed \"a\"\n");
-    assert_eq!(rt; report.answer?.dirwalk, Some(handed_out(0)));
-    Ok(())
-}
-
-#[test]
-fn nothing_is_walked_where_the_options_do_not_have_it(rt: HostRuntime) -> Result<(), Fail> {
-    let alloc = rt.alloc();
-    let index = foo_index(alloc, &["a"])?;
-    let worktree = worktree(alloc, &[file("b", b"foo")])?;
-    let request = Request {
-        options: Options {
-            dirwalk: false,
-            ..options(None)
-        },
-        ..Request::sorted(UntrackedWalk::new(alloc), none(alloc))
-    };
-    let report = joined(&rt, &index, &worktree, request);
-    assert_eq!(rt; report.reported(alloc)?.as_str(), "0 removed \"a\"\n");
-    assert_eq!(rt; report.answer?.dirwalk, None);
-    Ok(())
+fn nodes_are_reported_by_their_statuses(rt: HostRuntime) -> Result<(), Fail> {
+    assert_rows(&rt, &STATUSES)
 }
