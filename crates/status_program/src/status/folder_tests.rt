@@ -215,12 +215,24 @@ fn a_device_is_a_file(rt: HostRuntime) -> Result<(), Fail> {
     Ok(())
 }
 
+// Makes this folder the working one, and asserts what is printed of folders from there on.
+fn assert_relative<R: AllocGlobal + Abort + Env + Files + Sync + Threads + Wait>(
+    rt: &R,
+    root: &str,
+) -> io::Result<()>
+where
+    R::File: Send,
+    R::Dir: Send,
+{
+    make_all(rt, root, &RELATIVE_NODES)?;
+    env::set_current_dir(rt, root)?;
+    assert_folders(rt, "", "", &RELATIVE)
+}
+
 #[test]
 fn a_relative_folder_starts_at_the_working_folder(rt: HostRuntime) -> Result<(), Fail> {
     let folder = new_folder(&rt, "a_relative_folder", process::id(rt.process()))?;
-    make_all(&rt, folder.as_str(), &RELATIVE_NODES)?;
-    env::set_current_dir(&rt, folder.as_str())?;
-    assert_folders(&rt, "", "", &RELATIVE)?;
+    assert_relative(&rt, folder.as_str())?;
     fs::remove_dir_all(&rt, folder.as_str())?;
     Ok(())
 }
@@ -251,7 +263,7 @@ fn set_late<R: Files + AllocGlobal>(rt: &R, path: &str) -> io::Result<()> {
     file.set_times(FileTimes::new().set_modified(past))
 }
 
-// Asserts that only root reads the locked file. Root may read every file.
+// Asserts that only root reads a file that nobody may read. Root may read every file.
 fn assert_locked<R: AllocGlobal + Abort + Files + Sync + Threads + Wait>(
     rt: &R,
     root: &str,
@@ -260,6 +272,7 @@ where
     R::File: Send,
     R::Dir: Send,
 {
+    make_locked(rt, root)?;
     let (lines, fault) = if is_of_root(rt, root)? {
         ("0 update \"locked\"\n", "")
     } else {
@@ -285,7 +298,6 @@ where
 #[test]
 fn what_cannot_be_read_is_a_fault(rt: HostRuntime) -> Result<(), Fail> {
     let folder = new_folder(&rt, "what_cannot_be_read", process::id(rt.process()))?;
-    make_locked(&rt, folder.as_str())?;
     assert_locked(&rt, folder.as_str())?;
     assert_too_long(&rt, folder.as_str())?;
     fs::remove_dir_all(&rt, folder.as_str())?;
