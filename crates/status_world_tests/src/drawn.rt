@@ -4,7 +4,7 @@ use crate::given::{Setting, Step, at, new_world};
 use crate::plain::PlainMaps;
 use gix_status::index::{Moment, stat};
 use gix_status::index_as_worktree::{Change, EntryStatus};
-use gix_status::world::{Comparer, Refusal, Report, Run};
+use gix_status::world::{Comparer, Refusal, Report, Run, World};
 use std::alloc::{AllocError, Global};
 use std::ops::Range;
 use std::process::Abort;
@@ -177,21 +177,29 @@ fn setting_of(number: u64) -> Setting {
     }
 }
 
+/// Whether the world's answer to a step is that of the maps.
+fn follow_step<R: AllocGlobal + Threads + Wait>(
+    rt: &R,
+    world: &mut World,
+    watch: &mut Watch,
+    step: Step,
+) -> Result<bool, AllocError> {
+    let event = step.event(rt.alloc())?;
+    let answer = world.apply(rt, &event);
+    watch.agrees(step, answer)
+}
+
 /// Draws a history in the setting of this number, and asserts that each run reports the changes that the maps have. Gives
 /// how many entries got the size 0.
 fn follow_history<R: Abort + AllocGlobal + Threads + Wait>(rt: &R, seed: u64) -> Result<u32, Fail> {
-    let alloc = rt.alloc();
     let setting = setting_of(seed);
     let mut draws = Draws { state: seed };
-    let mut watch = Watch::new(alloc, setting.executable_bit);
-    let mut world = new_world(alloc, at(5, 0), setting)?;
+    let mut watch = Watch::new(rt.alloc(), setting.executable_bit);
+    let mut world = new_world(rt.alloc(), at(5, 0), setting)?;
     for turn in 0..10_000 {
         let step = draws.step(world.clock());
-        let answer = world.apply(rt, &step.event(alloc)?);
-        assert!(rt;
-            watch.agrees(step, answer)?,
-            "{step:?}, turn {turn} of seed {seed}"
-        );
+        let agrees = follow_step(rt, &mut world, &mut watch, step)?;
+        assert!(rt; agrees, "{step:?}, turn {turn} of seed {seed}");
     }
     assert!(rt; watch.is_enough(), "seed {seed}");
     Ok(watch.smudged)

@@ -42,23 +42,31 @@ pub enum Step {
 impl Step {
     /// The event.
     pub fn event(self, alloc: Global) -> Result<Event, AllocError> {
-        Ok(match self {
-            Step::Tick(seconds) => Event::Tick(seconds),
-            Step::Nanos(nanoseconds) => Event::TickNanos(nanoseconds),
-            Step::Write(path, text) => {
-                Event::Write(path_of(alloc, path)?, bytes_of(alloc, text)?)
-            }
-            Step::Link(path, target) => {
-                Event::Link(path_of(alloc, path)?, bytes_of(alloc, target)?)
-            }
+        match self {
+            Step::Tick(seconds) => Ok(Event::Tick(seconds)),
+            Step::Nanos(nanoseconds) => Ok(Event::TickNanos(nanoseconds)),
+            Step::Write(path, text) => write_of(alloc, path, text),
+            Step::Link(path, target) => link_of(alloc, path, target),
             Step::Executable(path, executable) => {
-                Event::SetExecutable(path_of(alloc, path)?, executable)
+                Ok(Event::SetExecutable(path_of(alloc, path)?, executable))
             }
-            Step::Remove(path) => Event::Remove(path_of(alloc, path)?),
-            Step::Stage(path) => Event::Stage(path_of(alloc, path)?),
-            Step::Run(run) => Event::Run(run),
-        })
+            Step::Remove(path) => Ok(Event::Remove(path_of(alloc, path)?)),
+            Step::Stage(path) => Ok(Event::Stage(path_of(alloc, path)?)),
+            Step::Run(run) => Ok(Event::Run(run)),
+        }
     }
+}
+
+fn write_of(alloc: Global, path: &str, text: &str) -> Result<Event, AllocError> {
+    let path = path_of(alloc, path)?;
+    let bytes = bytes_of(alloc, text)?;
+    Ok(Event::Write(path, bytes))
+}
+
+fn link_of(alloc: Global, path: &str, target: &str) -> Result<Event, AllocError> {
+    let path = path_of(alloc, path)?;
+    let bytes = bytes_of(alloc, target)?;
+    Ok(Event::Link(path, bytes))
 }
 
 fn path_of(alloc: Global, path: &str) -> Result<BString, AllocError> {
@@ -83,20 +91,31 @@ pub fn at(secs: u32, nsecs: u32) -> Moment {
     Moment { secs, nsecs }
 }
 
-/// A run by ids, one entry a piece and two workers at most, whose answers are stored at a moment.
+/// A run by ids, one entry a piece and two workers at most, whose answers are stored in second 5.
+pub const RUN: Run = Run {
+    comparer: Comparer::Hash,
+    chunk_size: 1,
+    thread_limit: Some(2),
+    stamp: Moment { secs: 5, nsecs: 0 },
+};
+
+/// The same at a moment.
 pub fn run_at(stamp: Moment) -> Step {
-    Step::Run(Run {
-        comparer: Comparer::Hash,
-        chunk_size: 1,
-        thread_limit: Some(2),
-        stamp,
-    })
+    Step::Run(Run { stamp, ..RUN })
 }
 
-/// The same, at a whole second.
-pub fn run(second: u32) -> Step {
-    run_at(at(second, 0))
-}
+/// That run, and the same a second and two later.
+pub const RUN_5: Step = Step::Run(RUN);
+
+pub const RUN_6: Step = Step::Run(Run {
+    stamp: Moment { secs: 6, nsecs: 0 },
+    ..RUN
+});
+
+pub const RUN_7: Step = Step::Run(Run {
+    stamp: Moment { secs: 7, nsecs: 0 },
+    ..RUN
+});
 
 /// What counts in a world.
 #[derive(Clone, Copy, Debug)]
@@ -165,6 +184,16 @@ pub fn history<R: AllocGlobal + Threads + Wait>(
     steps: &[Step],
 ) -> Result<Replay, Refusal> {
     history_at(rt, at(5, 0), setting, steps)
+}
+
+/// The world after these steps.
+pub fn world_after<R: AllocGlobal + Threads + Wait>(
+    rt: &R,
+    setting: Setting,
+    steps: &[Step],
+) -> Result<World, Refusal> {
+    let Replay { world, .. } = history(rt, setting, steps)?;
+    Ok(world)
 }
 
 /// What comes of further steps in a world.

@@ -1,11 +1,14 @@
 //! Refused events, which leave the world as it was.
 
 use crate::given::{BAR, FOO, SECONDS, Step, at, go_on, history_at, run_at};
-use crate::reports::{changed, one_read, racy, reports_are};
+use crate::reports::{RACY, READ, Said, Wanted, reports_are};
 use gix_status::index::{Flags, HashKind, Mode, Moment, Stat, State, Time};
-use gix_status::world::{Replay, World};
+use gix_status::world::{Refusal, Replay, World};
 use std::alloc::{AllocError, Global};
+use std::process::Abort;
+use std::sync::Wait;
 use std::test::Fail;
+use std::thread::Threads;
 
 // Whether an index was written at this moment and has the one entry that was staged then.
 fn is_as_before(index: &State, moment: Moment) -> bool {
@@ -32,32 +35,77 @@ fn is_as_before(index: &State, moment: Moment) -> bool {
     }
 }
 
+const FIVE: Moment = Moment { secs: 5, nsecs: 0 };
+
+const EIGHT: Moment = Moment { secs: 8, nsecs: 0 };
+
+const LAST_SECOND: Moment = Moment {
+    secs: 4_294_967_295,
+    nsecs: 0,
+};
+
+const LAST: Moment = Moment {
+    secs: 4_294_967_295,
+    nsecs: 999_999_999,
+};
+
+// Just after second 5.
+const AFTER_FIVE: Moment = Moment { secs: 5, nsecs: 1 };
+
+// No moments: a second has no such nanosecond.
+const NO_MOMENT: Moment = Moment {
+    secs: 5,
+    nsecs: 1_000_000_000,
+};
+
+const NO_MOMENT_LATER: Moment = Moment {
+    secs: 6,
+    nsecs: 1_000_000_000,
+};
+
+const NO_MOMENT_EARLIER: Moment = Moment {
+    secs: 4,
+    nsecs: 1_000_000_000,
+};
+
 // Clocks, events that are refused then, and why.
-fn refusals() -> [(Moment, Step, &'static str); 19] {
-    let (five, eight) = (at(5, 0), at(8, 0));
-    [
-        (at(u32::MAX, 0), Step::Tick(1), "ClockEnd"),
-        (at(u32::MAX, 999_999_999), Step::Nanos(1), "ClockEnd"),
-        (eight, Step::Write("", "x"), "BadPath"),
-        (eight, Step::Link("a/../b", "x"), "BadPath"),
-        (eight, Step::Executable(".", true), "BadPath"),
-        (eight, Step::Remove("/a"), "BadPath"),
-        (eight, Step::Stage("a/"), "BadPath"),
-        // A file is above, or the path is a folder.
-        (eight, Step::Write("a/b", "x"), "InTheWay"),
-        (eight, Step::Link("a/b/c", "x"), "InTheWay"),
-        (eight, Step::Write("d", "x"), "InTheWay"),
-        (eight, Step::Link("d", "x"), "InTheWay"),
-        (eight, Step::Executable("b", true), "NotAFile"),
-        (eight, Step::Executable("d", true), "NotAFile"),
-        (eight, Step::Remove("b"), "NotAFile"),
-        (eight, Step::Remove("d"), "NotAFile"),
-        (eight, run_at(at(9, 0)), "StampLater"),
-        (five, run_at(at(5, 1)), "StampLater"),
-        (five, run_at(at(5, 1_000_000_000)), "BadMoment"),
-        (five, run_at(at(6, 1_000_000_000)), "BadMoment"),
-    ]
-}
+static REFUSALS: [(Moment, Step, &str); 15] = [
+    (LAST_SECOND, Step::Tick(1), "ClockEnd"),
+    (LAST, Step::Nanos(1), "ClockEnd"),
+    (EIGHT, Step::Write("", "x"), "BadPath"),
+    (EIGHT, Step::Link("a/../b", "x"), "BadPath"),
+    (EIGHT, Step::Executable(".", true), "BadPath"),
+    (EIGHT, Step::Remove("/a"), "BadPath"),
+    (EIGHT, Step::Stage("a/"), "BadPath"),
+    // A file is above, or the path is a folder.
+    (EIGHT, Step::Write("a/b", "x"), "InTheWay"),
+    (EIGHT, Step::Link("a/b/c", "x"), "InTheWay"),
+    (EIGHT, Step::Write("d", "x"), "InTheWay"),
+    (EIGHT, Step::Link("d", "x"), "InTheWay"),
+    (EIGHT, Step::Executable("b", true), "NotAFile"),
+    (EIGHT, Step::Executable("d", true), "NotAFile"),
+    (EIGHT, Step::Remove("b"), "NotAFile"),
+    (EIGHT, Step::Remove("d"), "NotAFile"),
+];
+
+// Clocks, stamps of runs that are refused then, and why.
+static REFUSED_RUNS: [(Moment, Moment, &str); 4] = [
+    (EIGHT, Moment { secs: 9, nsecs: 0 }, "StampLater"),
+    (FIVE, AFTER_FIVE, "StampLater"),
+    (FIVE, NO_MOMENT, "BadMoment"),
+    (FIVE, NO_MOMENT_LATER, "BadMoment"),
+];
+
+// Clocks and timestamps of a beginning, and why it is refused.
+static STARTS: [(Moment, Moment, &str); 7] = [
+    (AFTER_FIVE, AFTER_FIVE, "None"),
+    (AFTER_FIVE, FIVE, "None"),
+    (FIVE, AFTER_FIVE, "Some(StampLater)"),
+    (FIVE, Moment { secs: 6, nsecs: 0 }, "Some(StampLater)"),
+    (NO_MOMENT, FIVE, "Some(BadMoment)"),
+    (FIVE, NO_MOMENT_EARLIER, "Some(BadMoment)"),
+    (FIVE, NO_MOMENT_LATER, "Some(BadMoment)"),
+];
 
 // `a` was staged and written again, and `d` is a folder; then a step, and a run that isn't to be.
 fn steps_with(step: Step) -> [Step; 6] {
@@ -101,43 +149,63 @@ fn is_refused(
     )
 }
 
-// Whether the rewritten file is reported as ever.
-fn is_rewrite_reported(replayed: Replay) -> bool {
-    let first = [(0, "a", changed(BAR, true))];
-    let second = [(0, "a", changed(BAR, false))];
-    reports_are(
-        replayed,
-        &[(&first, racy(one_read(3))), (&second, one_read(3))],
-    )
+// What is reported of the rewritten file, as ever.
+static REWRITE: [Wanted; 2] = [
+    (&[(0, "a", Said::Changed(BAR, true))], RACY),
+    (&[(0, "a", Said::Changed(BAR, false))], READ),
+];
+
+// Asserts that a step is refused for this reason, and leaves the world as it was.
+fn assert_refused<R: AllocGlobal + Abort + Threads + Wait>(
+    rt: &R,
+    clock: Moment,
+    step: Step,
+    reason: &str,
+) -> Result<(), Refusal> {
+    let replayed = history_at(rt, clock, SECONDS, &steps_with(step))?;
+    assert!(rt;
+        is_refused(rt.alloc(), &replayed, clock, reason)?,
+        "{step:?}"
+    );
+    let replayed = go_on(rt, replayed.world, &steps_after(clock))?;
+    assert!(rt; reports_are(replayed, &REWRITE), "{step:?}");
+    Ok(())
+}
+
+// Asserts why a beginning with this clock and this timestamp is refused.
+fn assert_start<R: AllocGlobal + Abort>(
+    rt: &R,
+    clock: Moment,
+    timestamp: Moment,
+    wanted: &str,
+) -> Result<(), AllocError> {
+    let alloc = rt.alloc();
+    let start = World::new(alloc, HashKind::Sha1, clock, timestamp, SECONDS.stat, false);
+    let refusal = format!(in alloc; "{:?}", start.err())?;
+    assert_eq!(rt; refusal.as_str(), wanted, "{clock:?}, {timestamp:?}");
+    Ok(())
 }
 
 #[test]
 fn refused_event_ends_a_replay_and_leaves_the_world_as_it_was(rt: HostRuntime) -> Result<(), Fail> {
-    let alloc = rt.alloc();
-    for (clock, step, reason) in refusals() {
-        let replayed = history_at(&rt, clock, SECONDS, &steps_with(step))?;
-        assert!(rt; is_refused(alloc, &replayed, clock, reason)?, "{step:?}");
-        let replayed = go_on(&rt, replayed.world, &steps_after(clock))?;
-        assert!(rt; is_rewrite_reported(replayed), "{step:?}");
+    for (clock, step, reason) in &REFUSALS {
+        assert_refused(&rt, *clock, *step, reason)?;
+    }
+    Ok(())
+}
+
+#[test]
+fn refused_run_ends_a_replay_and_leaves_the_world_as_it_was(rt: HostRuntime) -> Result<(), Fail> {
+    for (clock, stamp, reason) in &REFUSED_RUNS {
+        assert_refused(&rt, *clock, run_at(*stamp), reason)?;
     }
     Ok(())
 }
 
 #[test]
 fn beginning_is_refused_for_its_moments(rt: HostRuntime) -> Result<(), Fail> {
-    let alloc = rt.alloc();
-    for (clock, timestamp, wanted) in [
-        (at(5, 1), at(5, 1), "None"),
-        (at(5, 1), at(5, 0), "None"),
-        (at(5, 0), at(5, 1), "Some(StampLater)"),
-        (at(5, 0), at(6, 0), "Some(StampLater)"),
-        (at(5, 1_000_000_000), at(5, 0), "Some(BadMoment)"),
-        (at(5, 0), at(4, 1_000_000_000), "Some(BadMoment)"),
-        (at(5, 0), at(6, 1_000_000_000), "Some(BadMoment)"),
-    ] {
-        let start = World::new(alloc, HashKind::Sha1, clock, timestamp, SECONDS.stat, false);
-        let refusal = format!(in alloc; "{:?}", start.err())?;
-        assert_eq!(rt; refusal.as_str(), wanted, "{clock:?}, {timestamp:?}");
+    for (clock, timestamp, wanted) in &STARTS {
+        assert_start(&rt, *clock, *timestamp, wanted)?;
     }
     Ok(())
 }

@@ -1,12 +1,15 @@
 //! Indexes that are opened in a world, and histories in which that happens.
 
-use crate::given::{BAR, FOO, SECONDS, Step, at, events, history, new_world, run};
-use crate::reports::{are, changed, one_read, racy};
+use crate::given::{
+    BAR, FOO, RUN_5, RUN_6, RUN_7, SECONDS, Step, at, events, new_world, world_after,
+};
+use crate::reports::{RACY, READ, Said as Change, Wanted, are};
 use bstr::{BStr, BString};
 use gix_status::index::{Flags, Mode, Moment, ObjectId, Stat, State, Time};
-use gix_status::world::{Event, Refusal, Replay, World};
+use gix_status::world::{Event, Refusal, World};
 use status_reopening::{ReopenedReplay, Stop, replay_reopening};
-use std::alloc::Global;
+use std::alloc::{AllocError, Global};
+use std::process::Abort;
 use std::sync::Wait;
 use std::test::Fail;
 use std::thread::Threads;
@@ -17,7 +20,7 @@ struct Said {
     path: &'static str,
     size: u32,
     id: ObjectId,
-    flags: Flags,
+    is_up_to_date: bool,
     mode: Mode,
     written: Moment,
     // Whether the same is said of `b` too.
@@ -25,17 +28,64 @@ struct Said {
 }
 
 // What it says of a file of three bytes at `a` that was staged in second 5.
-fn staged() -> Said {
-    Said {
-        path: "a",
-        size: 3,
-        id: FOO,
-        flags: Flags::default(),
-        mode: Mode::File,
-        written: at(5, 0),
-        has_more: false,
-    }
-}
+const SAME: Said = Said {
+    path: "a",
+    size: 3,
+    id: FOO,
+    is_up_to_date: false,
+    mode: Mode::File,
+    written: Moment { secs: 5, nsecs: 0 },
+    has_more: false,
+};
+
+// What indexes say, and whether they are opened.
+static SAYINGS: [(Said, bool); 8] = [
+    (SAME, true),
+    (Said { path: "b", ..SAME }, false),
+    (Said { size: 0, ..SAME }, false),
+    (Said { id: BAR, ..SAME }, false),
+    (
+        Said {
+            is_up_to_date: true,
+            ..SAME
+        },
+        false,
+    ),
+    (
+        Said {
+            mode: Mode::FileExecutable,
+            ..SAME
+        },
+        false,
+    ),
+    (
+        Said {
+            written: Moment { secs: 5, nsecs: 1 },
+            ..SAME
+        },
+        false,
+    ),
+    (
+        Said {
+            has_more: true,
+            ..SAME
+        },
+        false,
+    ),
+];
+
+// A racy file, with a reopening before each of the later stretches. The last one has an event that is refused.
+static STRETCHES: [&[Step]; 4] = [
+    &[Step::Write("a", "foo"), Step::Stage("a")],
+    &[Step::Write("a", "bar"), Step::Tick(1), RUN_6],
+    &[],
+    &[Step::Tick(1), RUN_7, Step::Remove("b"), RUN_7],
+];
+
+static REPORTS: [Wanted; 2] = [
+    (&[(0, "a", Change::Changed(BAR, true))], RACY),
+    (&[(0, "a", Change::Changed(BAR, false))], READ),
+];
 
 fn index_of(alloc: Global, said: Said) -> Result<State, Fail> {
     let time = Time { secs: 5, nsecs: 0 };
@@ -45,96 +95,80 @@ fn index_of(alloc: Global, said: Said) -> Result<State, Fail> {
         size: said.size,
         ..Stat::default()
     };
+    let flags = if said.is_up_to_date {
+        Flags::UPTODATE
+    } else {
+        Flags::default()
+    };
     let mut index = State::new(alloc, said.written);
-    index.push_entry(stat, said.id, said.flags, said.mode, BStr::from(said.path))?;
+    index.push_entry(stat, said.id, flags, said.mode, BStr::from(said.path))?;
     if said.has_more {
-        index.push_entry(stat, said.id, said.flags, said.mode, BStr::from("b"))?;
+        index.push_entry(stat, said.id, flags, said.mode, BStr::from("b"))?;
     }
     Ok(index)
 }
 
-// A world in which a file of three bytes is staged.
-fn staged_world<R: AllocGlobal + Threads + Wait>(rt: &R) -> Result<World, Refusal> {
-    let Replay { world, .. } = history(rt, SECONDS, &[Step::Write("a", "foo"), Step::Stage("a")])?;
-    Ok(world)
-}
-
-#[test]
-fn only_an_index_that_says_the_same_is_opened(rt: HostRuntime) -> Result<(), Fail> {
-    let same = staged();
-    let cases = [
-        (same, true),
-        (Said { path: "b", ..same }, false),
-        (Said { size: 0, ..same }, false),
-        (Said { id: BAR, ..same }, false),
-        (
-            Said {
-                flags: Flags::UPTODATE,
-                ..same
-            },
-            false,
-        ),
-        (
-            Said {
-                mode: Mode::FileExecutable,
-                ..same
-            },
-            false,
-        ),
-        (
-            Said {
-                written: at(5, 1),
-                ..same
-            },
-            false,
-        ),
-        (
-            Said {
-                has_more: true,
-                ..same
-            },
-            false,
-        ),
-    ];
-    let mut world = staged_world(&rt)?;
-    for (said, is_opened) in cases {
-        let index = index_of(rt.alloc(), said)?;
-        match world.reopen(index) {
-            Ok(()) => assert!(rt; is_opened, "{said:?}"),
-            Err(Refusal::OtherIndex) => assert!(rt; !is_opened, "{said:?}"),
-            Err(refusal) => assert!(rt; false, "{refusal:?}"),
-        }
-        assert_eq!(rt; world.index().entries().len(), 1);
-        assert_eq!(rt; world.index().timestamp(), at(5, 0));
+// Asserts whether an index is opened in the world in which a file of three bytes is staged, and that the world says what
+// it said.
+fn assert_reopened<R: AllocGlobal + Abort>(
+    rt: &R,
+    world: &mut World,
+    said: Said,
+    is_opened: bool,
+) -> Result<(), Fail> {
+    let index = index_of(rt.alloc(), said)?;
+    match world.reopen(index) {
+        Ok(()) => assert!(rt; is_opened, "{said:?}"),
+        Err(Refusal::OtherIndex) => assert!(rt; !is_opened, "{said:?}"),
+        Err(refusal) => assert!(rt; false, "{refusal:?}"),
     }
+    assert_eq!(rt; world.index().entries().len(), 1);
+    assert_eq!(rt; world.index().timestamp(), at(5, 0));
     Ok(())
 }
 
 #[test]
+fn only_an_index_that_says_the_same_is_opened(rt: HostRuntime) -> Result<(), Fail> {
+    let mut world = world_after(&rt, SECONDS, STRETCHES[0])?;
+    for (said, is_opened) in &SAYINGS {
+        assert_reopened(&rt, &mut world, *said, *is_opened)?;
+    }
+    Ok(())
+}
+
+// Appends the events of steps as a stretch.
+fn push_events(
+    stretches: &mut Vec<Vec<Event>>,
+    alloc: Global,
+    steps: &[Step],
+) -> Result<(), AllocError> {
+    stretches.push(events(alloc, steps)?)?;
+    Ok(())
+}
+
+fn stretches_of(alloc: Global, stretches: &[&[Step]]) -> Result<Vec<Vec<Event>>, AllocError> {
+    let mut made = Vec::new(alloc);
+    for steps in stretches {
+        push_events(&mut made, alloc, steps)?;
+    }
+    Ok(made)
+}
+
+// What comes of stretches in an empty world.
+fn reopened<R: AllocGlobal + Threads + Wait>(
+    rt: &R,
+    stretches: &[Vec<Event>],
+) -> Result<ReopenedReplay, Refusal> {
+    let world = new_world(rt.alloc(), at(5, 0), SECONDS)?;
+    Ok(replay_reopening(rt, rt.alloc(), world, stretches))
+}
+
+#[test]
 fn reopenings_leave_the_reports(rt: HostRuntime) -> Result<(), Fail> {
-    let alloc = rt.alloc();
-    let mut stretches = Vec::new(alloc);
-    stretches.push(events(alloc, &[Step::Write("a", "foo"), Step::Stage("a")])?)?;
-    stretches.push(events(alloc, &[Step::Write("a", "bar"), Step::Tick(1), run(6)])?)?;
-    stretches.push(Vec::new(alloc))?;
-    stretches.push(events(alloc, &[Step::Tick(1), run(7), Step::Remove("b"), run(7)])?)?;
-    let world = new_world(alloc, at(5, 0), SECONDS)?;
-    let ReopenedReplay {
-        reports,
-        stopped,
-        ..
-    } = replay_reopening(&rt, alloc, world, &stretches);
-    let (first, second) = (
-        [(0, "a", changed(BAR, true))],
-        [(0, "a", changed(BAR, false))],
-    );
-    assert!(rt;
-        are(
-            &reports,
-            &[(&first, racy(one_read(3))), (&second, one_read(3))]
-        )
-    );
-    match stopped {
+    let stretches = stretches_of(rt.alloc(), &STRETCHES)?;
+    let replayed = reopened(&rt, &stretches)?;
+    assert!(rt; are(&replayed.reports, &REPORTS));
+    match replayed.stopped {
         Some(
             Stop::Event {
                 stretch: 3,
@@ -147,24 +181,34 @@ fn reopenings_leave_the_reports(rt: HostRuntime) -> Result<(), Fail> {
     Ok(())
 }
 
+// A path that is no text.
+fn odd_path(alloc: Global) -> Result<BString, AllocError> {
+    BString::from_slice(alloc, b"\xff")
+}
+
+// The events that stage an empty file there.
+fn odd_events(alloc: Global) -> Result<Vec<Event>, AllocError> {
+    let mut odd = Vec::new(alloc);
+    odd.push(Event::Write(odd_path(alloc)?, Vec::new(alloc)))?;
+    odd.push(Event::Stage(odd_path(alloc)?))?;
+    Ok(odd)
+}
+
+// Those events, and a run after a reopening.
+fn odd_stretches(alloc: Global) -> Result<Vec<Vec<Event>>, AllocError> {
+    let mut stretches = Vec::new(alloc);
+    stretches.push(odd_events(alloc)?)?;
+    push_events(&mut stretches, alloc, &[RUN_5])?;
+    Ok(stretches)
+}
+
 #[test]
 fn a_path_that_is_no_text_is_not_opened_again(rt: HostRuntime) -> Result<(), Fail> {
-    let alloc = rt.alloc();
-    let mut odd = Vec::new(alloc);
-    odd.push(Event::Write(BString::from_slice(alloc, b"\xff")?, Vec::new(alloc)))?;
-    odd.push(Event::Stage(BString::from_slice(alloc, b"\xff")?))?;
-    let mut stretches = Vec::new(alloc);
-    stretches.push(odd)?;
-    stretches.push(events(alloc, &[run(5)])?)?;
-    let world = new_world(alloc, at(5, 0), SECONDS)?;
-    let ReopenedReplay {
-        world,
-        reports,
-        stopped,
-    } = replay_reopening(&rt, alloc, world, &stretches);
-    assert_eq!(rt; reports.len(), 0);
-    assert_eq!(rt; world.index().entries().len(), 1);
-    match stopped {
+    let stretches = odd_stretches(rt.alloc())?;
+    let replayed = reopened(&rt, &stretches)?;
+    assert_eq!(rt; replayed.reports.len(), 0);
+    assert_eq!(rt; replayed.world.index().entries().len(), 1);
+    match replayed.stopped {
         Some(
             Stop::Opening {
                 stretch: 1,

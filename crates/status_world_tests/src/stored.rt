@@ -5,6 +5,7 @@ use gix_status::index::{Flags, HashKind, IndexError, Mode, Moment, ObjectId, Sta
 use serde_json::Value;
 use status_stored::{LoadError, ReopenError, StoreError, load_index, reopened, store_index};
 use std::alloc::Global;
+use std::process::Abort;
 use std::test::Fail;
 
 // The entries `foo` at "a" and `bar` at "b", with what has no default but in `size` and `mtime`.
@@ -82,6 +83,9 @@ const NO_INDEX: [(&str, IndexError); 3] = [
     ),
 ];
 
+// Paths of which two are no text.
+const ODD_PATHS: [&[u8]; 3] = [b"a", b"b\xff", b"c\xff"];
+
 // What is read of a JSON text.
 fn loaded(alloc: Global, text: &str) -> Result<Result<State, LoadError>, Fail> {
     let value = Value::from_str(alloc, text)?;
@@ -93,87 +97,138 @@ fn stored(alloc: Global, state: &State) -> Result<String, Fail> {
     Ok(store_index(alloc, state)?.to_string(alloc)?)
 }
 
+// The index that a text says.
+fn index_of(alloc: Global, text: &str) -> Result<State, Fail> {
+    Ok(loaded(alloc, text)??)
+}
+
+// The same, stored and opened again.
+fn index_again(alloc: Global, text: &str) -> Result<State, Fail> {
+    let state = index_of(alloc, text)?;
+    Ok(reopened(alloc, &state)?)
+}
+
+// Asserts that an index is stored as this text.
+fn assert_stored<R: AllocGlobal + Abort>(rt: &R, state: &State, wanted: &str) -> Result<(), Fail> {
+    let text = stored(rt.alloc(), state)?;
+    assert_eq!(rt; text.as_str(), wanted);
+    Ok(())
+}
+
 #[test]
 fn all_keys_are_stored_in_their_order(rt: HostRuntime) -> Result<(), Fail> {
-    let alloc = rt.alloc();
-    let state = loaded(alloc, GIVEN)??;
-    assert_eq!(rt; stored(alloc, &state)?.as_str(), STORED);
-    Ok(())
+    let state = index_of(rt.alloc(), GIVEN)?;
+    assert_stored(&rt, &state, STORED)
 }
 
 #[test]
 fn what_is_stored_is_read(rt: HostRuntime) -> Result<(), Fail> {
-    let alloc = rt.alloc();
-    for text in [STORED, FULL] {
-        let state = loaded(alloc, text)??;
-        assert_eq!(rt; stored(alloc, &reopened(alloc, &state)?)?.as_str(), text);
+    for text in &[STORED, FULL] {
+        let state = index_again(rt.alloc(), text)?;
+        assert_stored(&rt, &state, text)?;
     }
     Ok(())
+}
+
+// The flags of an index's first entry.
+fn first_flags(state: &State) -> Option<Flags> {
+    match state.entries() {
+        [entry, ..] => Some(entry.flags),
+        [] => None,
+    }
 }
 
 #[test]
 fn an_entry_says_its_flags_and_stage(rt: HostRuntime) -> Result<(), Fail> {
-    let state = loaded(rt.alloc(), FULL)??;
-    let flags = state.entries().first().map(|entry| entry.flags);
+    let state = index_of(rt.alloc(), FULL)?;
     let wanted = Flags::ASSUME_VALID | Flags::FSMONITOR_VALID | Flags::from_stage(2);
-    assert_eq!(rt; flags, Some(wanted));
+    assert_eq!(rt; first_flags(&state), Some(wanted));
     Ok(())
+}
+
+// Asserts that a text is refused by this error.
+fn assert_refused<R: AllocGlobal + Abort>(
+    rt: &R,
+    text: &str,
+    error: LoadError,
+) -> Result<(), Fail> {
+    let refused = loaded(rt.alloc(), text)?.err();
+    assert_eq!(rt; refused, Some(error), "{text}");
+    Ok(())
+}
+
+// Asserts that these entries are refused by this error.
+fn assert_entries_refused<R: AllocGlobal + Abort>(
+    rt: &R,
+    entries: &str,
+    error: LoadError,
+) -> Result<(), Fail> {
+    let text = format!(in rt.alloc(); r#"{{"timestamp":[9,0],"index":[{entries}]}}"#)?;
+    assert_refused(rt, text.as_str(), error)
+}
+
+// Asserts that an entry with these members is refused for its form.
+fn assert_members_refused<R: AllocGlobal + Abort>(rt: &R, members: &str) -> Result<(), Fail> {
+    let id = "19102815663d23f8b75a47e7a01965dcdc96468c";
+    let entry = format!(in rt.alloc(); r#"{{"path":"a","id":"{id}",{members}}}"#)?;
+    assert_entries_refused(rt, entry.as_str(), LoadError::Form)
 }
 
 #[test]
 fn wrong_forms_are_refused(rt: HostRuntime) -> Result<(), Fail> {
-    let alloc = rt.alloc();
     for members in &WRONG_MEMBERS {
-        let id = "19102815663d23f8b75a47e7a01965dcdc96468c";
-        let entry = format!(in alloc; r#"{{"path":"a","id":"{id}",{members}}}"#)?;
-        let text = format!(in alloc; r#"{{"timestamp":[9,0],"index":[{entry}]}}"#)?;
-        let refused = loaded(alloc, text.as_str())?.err();
-        assert_eq!(rt; refused, Some(LoadError::Form), "{members}");
+        assert_members_refused(&rt, members)?;
     }
     for text in &WRONG_VALUES {
-        assert_eq!(rt; loaded(alloc, text)?.err(), Some(LoadError::Form), "{text}");
+        assert_refused(&rt, text, LoadError::Form)?;
     }
     Ok(())
 }
 
 #[test]
 fn entries_that_are_no_index_are_refused(rt: HostRuntime) -> Result<(), Fail> {
-    let alloc = rt.alloc();
     for (entries, error) in &NO_INDEX {
-        let text = format!(in alloc; r#"{{"timestamp":[9,0],"index":[{entries}]}}"#)?;
-        let refused = loaded(alloc, text.as_str())?.err();
-        assert_eq!(rt; refused, Some(LoadError::Index(*error)), "{entries}");
+        assert_entries_refused(&rt, entries, LoadError::Index(*error))?;
     }
     Ok(())
 }
 
-#[test]
-fn the_first_path_that_is_no_text_is_named(rt: HostRuntime) -> Result<(), Fail> {
-    let alloc = rt.alloc();
+// An index of these paths, of which nothing else is known.
+fn index_of_paths(alloc: Global, paths: &[&[u8]]) -> Result<State, IndexError> {
     let mut state = State::new(alloc, Moment::default());
-    for path in [b"a".as_slice(), b"b\xff", b"c\xff"] {
-        let id = ObjectId::null(HashKind::Sha1);
+    let id = ObjectId::null(HashKind::Sha1);
+    for path in paths {
         let path = BStr::new(path);
         state.push_entry(Stat::default(), id, Flags::default(), Mode::File, path)?;
     }
-    let refused = store_index(alloc, &state).err();
+    Ok(state)
+}
+
+#[test]
+fn the_first_path_that_is_no_text_is_named(rt: HostRuntime) -> Result<(), Fail> {
+    let state = index_of_paths(rt.alloc(), &ODD_PATHS)?;
+    let refused = store_index(rt.alloc(), &state).err();
     assert_eq!(rt; refused, Some(StoreError::NotUtf8 { at: 1 }));
-    let refused = reopened(alloc, &state).err();
+    let refused = reopened(rt.alloc(), &state).err();
     assert_eq!(rt; refused, Some(ReopenError::NotUtf8 { at: 1 }));
     Ok(())
 }
 
 #[test]
-fn errors_are_told(rt: HostRuntime) -> Result<(), Fail> {
-    let alloc = rt.alloc();
+fn errors_of_storing_are_told(rt: HostRuntime) -> Result<(), Fail> {
     let stored = StoreError::NotUtf8 { at: 1 };
-    let text = format!(in alloc; "{stored}, {}", StoreError::Memory)?;
+    let text = format!(in rt.alloc(); "{stored}, {}", StoreError::Memory)?;
     assert_eq!(rt;
         text.as_str(),
         "the path of entry 1 isn't UTF-8, Out of memory"
     );
+    Ok(())
+}
+
+#[test]
+fn errors_of_loading_are_told(rt: HostRuntime) -> Result<(), Fail> {
     let no_index = LoadError::Index(IndexError::MixedHash { at: 2 });
-    let text = format!(in alloc; "{}, {no_index}, {}", LoadError::Form, LoadError::Memory)?;
+    let text = format!(in rt.alloc(); "{}, {no_index}, {}", LoadError::Form, LoadError::Memory)?;
     assert_eq!(rt;
         text.as_str(),
         "a key is missing or has a wrong form, mixed hash at 2, Out of memory"

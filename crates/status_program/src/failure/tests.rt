@@ -8,17 +8,12 @@ use gix_status::tracker::TrackerError;
 use gix_status::walk::WalkError;
 use gix_status::worktree::{ByteText, Fault, FindError, TreeError};
 use gix_status::world::Refusal;
+use std::alloc::{AllocError, Global};
 use std::io;
 use std::process::Abort;
 use std::test::Fail;
 
-// Asserts that a failure ends the program with status 1 and this line.
-fn assert_reported<R: AllocGlobal + Abort>(rt: &R, failure: Failure, line: &str) {
-    let mut faults = Vec::new(rt.alloc());
-    let status = failure.report(rt.alloc(), "d/f", &mut faults);
-    assert_eq!(rt; status, 1, "at {line}");
-    assert_eq!(rt; faults.as_slice(), line.as_bytes(), "at {line}");
-}
+// Errors of each kind come one after the other, and not in an array: to drop an array of them takes a long proof.
 
 static FAULTS: [(Fault, &str); 9] = [
     (Fault::NotFound, "status failed: not found\n"),
@@ -38,170 +33,201 @@ static FAULTS: [(Fault, &str); 9] = [
     ),
 ];
 
+// Asserts that a failure ends the program with status 1 and this line.
+fn assert_reported_at<R: AllocGlobal + Abort>(rt: &R, name: &str, failure: Failure, line: &str) {
+    let mut faults = Vec::new(rt.alloc());
+    let status = failure.report(rt.alloc(), "d/f", &mut faults);
+    assert_eq!(rt; status, 1, "at {name}");
+    assert_eq!(rt; faults.as_slice(), line.as_bytes(), "at {name}");
+}
+
+// The same, where the line says which failure it is.
+fn assert_reported<R: AllocGlobal + Abort>(rt: &R, failure: Failure, line: &str) {
+    assert_reported_at(rt, line, failure, line);
+}
+
+// Asserts the line of an error of a status.
+fn assert_failed<R: AllocGlobal + Abort>(rt: &R, error: Error, line: &str) {
+    assert_reported(rt, Failure::from(error), line);
+}
+
+// Asserts the line of an error of a status with renames.
+fn assert_joined<R: AllocGlobal + Abort>(rt: &R, error: JoinedError, line: &str) {
+    assert_reported(rt, Failure::from(error), line);
+}
+
+// Asserts the line of a refused event.
+fn assert_refused<R: AllocGlobal + Abort>(rt: &R, refusal: Refusal, line: &str) {
+    assert_reported(rt, Failure::of_event(refusal, 3), line);
+}
+
+// Asserts that a failure is want of memory.
+fn assert_memory<R: AllocGlobal + Abort>(rt: &R, name: &str, failure: Failure) {
+    assert_reported_at(rt, name, failure, "out of memory\n");
+}
+
+// The error of a submodule, whose path has to be quoted.
+fn submodule_error(alloc: Global) -> Result<Error, AllocError> {
+    Ok(Error::SubmoduleStatus {
+        rela_path: ByteText::from_slice(alloc, b"d/\"s\"\n\xff")?,
+        text: ByteText::from_slice(alloc, b"no words of its own")?,
+    })
+}
+
+// The error of a walk that has this fault at `d`.
+fn walk_error(alloc: Global, fault: Fault) -> Result<JoinedError, AllocError> {
+    let rela_path = BString::from_slice(alloc, "d")?;
+    Ok(JoinedError::DirWalk(WalkError::Fault { rela_path, fault }))
+}
+
 #[test]
 fn each_error_of_a_status_has_its_words(rt: HostRuntime) -> Result<(), Fail> {
     for (fault, line) in &FAULTS {
-        assert_reported(&rt, Failure::from(Error::Io(*fault)), line);
+        assert_failed(&rt, Error::Io(*fault), line);
     }
-    let submodule = Error::SubmoduleStatus {
-        rela_path: ByteText::from_slice(rt.alloc(), b"d/\"s\"\n\xff")?,
-        text: ByteText::from_slice(rt.alloc(), b"no words of its own")?,
-    };
-    let cases = [
-        (Error::IllformedUtf8, "status failed: ill-formed UTF-8\n"),
-        (Error::Time, "status failed: time\n"),
-        (
-            Error::Find(FindError::Missing),
-            "status failed: missing object\n",
-        ),
-        (
-            submodule,
-            "status failed: submodule \"d/\\\"s\\\"\\n\u{fffd}\"\n",
-        ),
-        (Error::SpawnThread, "status failed: no thread\n"),
-    ];
-    for (error, line) in cases {
-        assert_reported(&rt, Failure::from(error), line);
-    }
+    let submodule = submodule_error(rt.alloc())?;
+    assert_failed(
+        &rt,
+        submodule,
+        "status failed: submodule \"d/\\\"s\\\"\\n\u{fffd}\"\n",
+    );
+    assert_failed(
+        &rt,
+        Error::IllformedUtf8,
+        "status failed: ill-formed UTF-8\n",
+    );
+    assert_failed(&rt, Error::Time, "status failed: time\n");
+    let missing = Error::Find(FindError::Missing);
+    assert_failed(&rt, missing, "status failed: missing object\n");
+    assert_failed(&rt, Error::SpawnThread, "status failed: no thread\n");
     Ok(())
+}
+
+// Asserts the words of the errors of a status with renames that name a fault.
+fn assert_joined_faults<R: AllocGlobal + Abort>(rt: &R) {
+    let open = JoinedError::OpenWorktreeFile(Fault::Other(7));
+    assert_joined(rt, open, "status failed: open: other 7\n");
+    let hash = JoinedError::HashFile(Fault::UnexpectedEnd);
+    assert_joined(rt, hash, "status failed: hash: unexpected end\n");
+    let link = JoinedError::ReadLink(Fault::IllformedUtf8);
+    assert_joined(rt, link, "status failed: read link: ill-formed UTF-8\n");
+    let convert = JoinedError::ConvertToGit(Fault::Interrupted);
+    assert_joined(rt, convert, "status failed: convert: interrupted\n");
+}
+
+// Asserts that the errors of a status have their words in one with renames too.
+fn assert_joined_errors<R: AllocGlobal + Abort>(rt: &R) {
+    let fault = JoinedError::TrackedFileModifications(Error::Io(Fault::NotNormal));
+    assert_joined(rt, fault, "status failed: not normal\n");
+    let time = JoinedError::TrackedFileModifications(Error::Time);
+    assert_joined(rt, time, "status failed: time\n");
+    let thread = JoinedError::TrackedFileModifications(Error::SpawnThread);
+    assert_joined(rt, thread, "status failed: no thread\n");
 }
 
 #[test]
 fn each_error_of_a_status_with_renames_has_its_words(rt: HostRuntime) -> Result<(), Fail> {
-    let walk = WalkError::Fault {
-        rela_path: BString::from_slice(rt.alloc(), "d")?,
-        fault: Fault::PermissionDenied,
-    };
-    let cases = [
-        (
-            JoinedError::DirWalk(walk),
-            "status failed: walk: permission denied\n",
-        ),
-        (
-            JoinedError::TrackedFileModifications(Error::Io(Fault::NotNormal)),
-            "status failed: not normal\n",
-        ),
-        (
-            JoinedError::TrackedFileModifications(Error::Time),
-            "status failed: time\n",
-        ),
-        (
-            JoinedError::TrackedFileModifications(Error::SpawnThread),
-            "status failed: no thread\n",
-        ),
-        (JoinedError::SpawnThread, "status failed: no thread\n"),
-        (
-            JoinedError::OpenWorktreeFile(Fault::Other(7)),
-            "status failed: open: other 7\n",
-        ),
-        (
-            JoinedError::HashFile(Fault::UnexpectedEnd),
-            "status failed: hash: unexpected end\n",
-        ),
-        (
-            JoinedError::ReadLink(Fault::IllformedUtf8),
-            "status failed: read link: ill-formed UTF-8\n",
-        ),
-        (
-            JoinedError::ConvertToGit(Fault::Interrupted),
-            "status failed: convert: interrupted\n",
-        ),
-        (
-            JoinedError::RewriteTracker(TrackerError::BadPair { at: 3 }),
-            "status failed: tracker\n",
-        ),
-        (
-            JoinedError::RewriteTracker(TrackerError::Refused(4)),
-            "status failed: tracker\n",
-        ),
-        (
-            JoinedError::SetAttributeContext,
-            "status failed: attributes\n",
-        ),
-    ];
-    for (error, line) in cases {
-        assert_reported(&rt, Failure::from(error), line);
-    }
+    let walk = walk_error(rt.alloc(), Fault::PermissionDenied)?;
+    assert_joined(&rt, walk, "status failed: walk: permission denied\n");
+    assert_joined_errors(&rt);
+    assert_joined_faults(&rt);
+    assert_joined(&rt, JoinedError::SpawnThread, "status failed: no thread\n");
+    let pair = JoinedError::RewriteTracker(TrackerError::BadPair { at: 3 });
+    assert_joined(&rt, pair, "status failed: tracker\n");
+    let refused = JoinedError::RewriteTracker(TrackerError::Refused(4));
+    assert_joined(&rt, refused, "status failed: tracker\n");
+    let attributes = JoinedError::SetAttributeContext;
+    assert_joined(&rt, attributes, "status failed: attributes\n");
     Ok(())
 }
 
 #[test]
 fn each_refusal_has_its_words(rt: HostRuntime) {
-    let cases = [
-        (Refusal::ClockEnd, "refused 3: clock end\n"),
-        (Refusal::BadPath, "refused 3: bad path\n"),
-        (Refusal::InTheWay, "refused 3: in the way\n"),
-        (Refusal::TooLarge, "refused 3: too large\n"),
-        (Refusal::NotAFile, "refused 3: not a file\n"),
-        (Refusal::StampLater, "refused 3: stamp later\n"),
-        (Refusal::Interrupted, "refused 3: interrupted\n"),
-        (Refusal::Run(Error::SpawnThread), "refused 3: run failed\n"),
-        (Refusal::BadMoment, "refused 3: bad moment\n"),
-        (Refusal::OtherIndex, "refused 3: other index\n"),
-    ];
-    for (refusal, line) in cases {
-        assert_reported(&rt, Failure::of_event(refusal, 3), line);
-    }
+    assert_refused(&rt, Refusal::ClockEnd, "refused 3: clock end\n");
+    assert_refused(&rt, Refusal::BadPath, "refused 3: bad path\n");
+    assert_refused(&rt, Refusal::InTheWay, "refused 3: in the way\n");
+    assert_refused(&rt, Refusal::TooLarge, "refused 3: too large\n");
+    assert_refused(&rt, Refusal::NotAFile, "refused 3: not a file\n");
+    assert_refused(&rt, Refusal::StampLater, "refused 3: stamp later\n");
+    assert_refused(&rt, Refusal::Interrupted, "refused 3: interrupted\n");
+    let failed = Refusal::Run(Error::SpawnThread);
+    assert_refused(&rt, failed, "refused 3: run failed\n");
+    assert_refused(&rt, Refusal::BadMoment, "refused 3: bad moment\n");
+    assert_refused(&rt, Refusal::OtherIndex, "refused 3: other index\n");
+}
+
+// Want of memory before a status.
+fn assert_memory_before<R: AllocGlobal + Abort>(rt: &R) {
+    assert_memory(rt, "a buffer", Failure::Memory);
+    let unread = io::Error::from(io::ErrorKind::OutOfMemory);
+    assert_memory(rt, "reading", Failure::of_reading(unread));
+    assert_memory(rt, "a profile", Failure::from(ProfileError::Memory));
+    let index = ProfileError::from(IndexError::Memory);
+    assert_memory(rt, "an index", Failure::from(index));
+    assert_memory(rt, "a node", Failure::of_node(TreeError::Memory, 3));
+    assert_memory(rt, "a start", Failure::of_start(Refusal::Memory));
+}
+
+// Want of memory in a status, by itself and as a run.
+fn assert_memory_of_a_status<R: AllocGlobal + Abort>(rt: &R) {
+    assert_memory(rt, "a status", Failure::from(Error::Memory));
+    let fault = Error::Io(Fault::Memory);
+    assert_memory(rt, "a status' fault", Failure::from(fault));
+    let find = Error::Find(FindError::Memory);
+    assert_memory(rt, "an object", Failure::from(find));
+    let event = Failure::of_event(Refusal::Memory, 3);
+    assert_memory(rt, "an event", event);
+    let run = Failure::of_event(Refusal::Run(Error::Memory), 3);
+    assert_memory(rt, "a run", run);
+    let fault = Refusal::Run(Error::Io(Fault::Memory));
+    assert_memory(rt, "a run's fault", Failure::of_event(fault, 3));
+}
+
+// Asserts that an error of a status with renames is want of memory.
+fn assert_joined_memory<R: AllocGlobal + Abort>(rt: &R, name: &str, error: JoinedError) {
+    assert_memory(rt, name, Failure::from(error));
+}
+
+// Want of memory in a status with renames.
+fn assert_memory_of_renames<R: AllocGlobal + Abort>(rt: &R) {
+    assert_joined_memory(rt, "a joined status", JoinedError::Memory);
+    let modifications = JoinedError::TrackedFileModifications(Error::Memory);
+    assert_joined_memory(rt, "its modifications", modifications);
+    let walk = JoinedError::DirWalk(WalkError::Memory);
+    assert_joined_memory(rt, "its walk", walk);
+    let open = JoinedError::OpenWorktreeFile(Fault::Memory);
+    assert_joined_memory(rt, "a file", open);
+    assert_joined_memory(rt, "a hash", JoinedError::HashFile(Fault::Memory));
+    assert_joined_memory(rt, "a link", JoinedError::ReadLink(Fault::Memory));
+    let convert = JoinedError::ConvertToGit(Fault::Memory);
+    assert_joined_memory(rt, "a filter", convert);
+    let tracker = JoinedError::RewriteTracker(TrackerError::Memory);
+    assert_joined_memory(rt, "a tracker", tracker);
+    assert_memory(rt, "a line", Failure::Joined(JoinedError::Memory));
 }
 
 #[test]
 fn want_of_memory_has_one_line_wherever_it_is_met(rt: HostRuntime) -> Result<(), Fail> {
-    let unread = io::Error::from(io::ErrorKind::OutOfMemory);
-    let walk = WalkError::Fault {
-        rela_path: BString::from_slice(rt.alloc(), "d")?,
-        fault: Fault::Memory,
-    };
-    let cases = [
-        Failure::Memory,
-        Failure::of_reading(unread),
-        Failure::from(ProfileError::Memory),
-        Failure::from(ProfileError::from(IndexError::Memory)),
-        Failure::of_node(TreeError::Memory, 3),
-        Failure::from(Error::Memory),
-        Failure::from(Error::Io(Fault::Memory)),
-        Failure::from(Error::Find(FindError::Memory)),
-        Failure::of_start(Refusal::Memory),
-        Failure::of_event(Refusal::Memory, 3),
-        Failure::of_event(Refusal::Run(Error::Memory), 3),
-        Failure::of_event(Refusal::Run(Error::Io(Fault::Memory)), 3),
-        Failure::from(JoinedError::Memory),
-        Failure::from(JoinedError::TrackedFileModifications(Error::Memory)),
-        Failure::from(JoinedError::DirWalk(WalkError::Memory)),
-        Failure::from(JoinedError::DirWalk(walk)),
-        Failure::from(JoinedError::OpenWorktreeFile(Fault::Memory)),
-        Failure::from(JoinedError::HashFile(Fault::Memory)),
-        Failure::from(JoinedError::ReadLink(Fault::Memory)),
-        Failure::from(JoinedError::ConvertToGit(Fault::Memory)),
-        Failure::from(JoinedError::RewriteTracker(TrackerError::Memory)),
-        Failure::Joined(JoinedError::Memory),
-    ];
-    for failure in cases {
-        assert_reported(&rt, failure, "out of memory\n");
-    }
+    let walk = walk_error(rt.alloc(), Fault::Memory)?;
+    assert_joined_memory(&rt, "a walk's fault", walk);
+    assert_memory_before(&rt);
+    assert_memory_of_a_status(&rt);
+    assert_memory_of_renames(&rt);
     Ok(())
 }
 
 #[test]
 fn what_comes_before_a_status_has_its_line(rt: HostRuntime) {
-    let cases = [
-        (Failure::Unreadable, "cannot read d/f\n"),
-        (Failure::from(ProfileError::NotJson), "not JSON\n"),
-        (
-            Failure::from(ProfileError::Bad(Key::Timestamp)),
-            "bad profile: timestamp\n",
-        ),
-        (
-            Failure::from(ProfileError::from(IndexError::EmptyPath { at: 12 })),
-            "bad index: empty path at 12\n",
-        ),
-        (
-            Failure::of_node(TreeError::InTheWay, 7),
-            "bad worktree: in the way at 7\n",
-        ),
-        // Where the output can't be written nothing more is printed.
-        (Failure::Output, ""),
-    ];
-    for (failure, line) in cases {
-        assert_reported(&rt, failure, line);
-    }
+    assert_reported(&rt, Failure::Unreadable, "cannot read d/f\n");
+    let no_json = Failure::from(ProfileError::NotJson);
+    assert_reported(&rt, no_json, "not JSON\n");
+    let key = Failure::from(ProfileError::Bad(Key::Timestamp));
+    assert_reported(&rt, key, "bad profile: timestamp\n");
+    let index = ProfileError::from(IndexError::EmptyPath { at: 12 });
+    let index = Failure::from(index);
+    assert_reported(&rt, index, "bad index: empty path at 12\n");
+    let node = Failure::of_node(TreeError::InTheWay, 7);
+    assert_reported(&rt, node, "bad worktree: in the way at 7\n");
+    // Where the output can't be written nothing more is printed.
+    assert_reported_at(&rt, "an output", Failure::Output, "");
 }

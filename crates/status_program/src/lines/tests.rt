@@ -2,9 +2,67 @@ use crate::lines::{path_value, status_line, total_line};
 use bstr::BStr;
 use gix_status::index::{Flags, HashKind, Mode, ObjectId, Stat};
 use gix_status::index_as_worktree::{Change, Conflict, ConflictIndexEntry, EntryStatus, Outcome};
+use std::alloc::AllocError;
+use std::process::Abort;
 use std::test::Fail;
 
 type Told = EntryStatus<ObjectId, ()>;
+
+// What a record says.
+#[derive(Clone, Copy)]
+enum Said {
+    Removed,
+    Type(Mode),
+    // Whether the executability, the content and the entry's size change.
+    Modified(bool, bool, bool),
+    Submodule,
+    Update,
+    Intent,
+    // Which of the three stages there are.
+    Conflict(Conflict, bool, bool, bool),
+}
+
+// Records of each kind, and their words.
+static RECORDS: [(Said, &str); 17] = [
+    (Said::Removed, "removed"),
+    (Said::Type(Mode::Symlink), "type 120000"),
+    (Said::Type(Mode::Dir), "type 040000"),
+    (Said::Modified(false, true, false), "modified -c-"),
+    (Said::Modified(true, true, true), "modified xcs"),
+    (Said::Modified(true, false, false), "modified x--"),
+    (Said::Modified(false, true, true), "modified -cs"),
+    (Said::Submodule, "submodule"),
+    (Said::Update, "update"),
+    (Said::Intent, "intent"),
+    (
+        Said::Conflict(Conflict::BothDeleted, true, false, false),
+        "conflict both-deleted 1",
+    ),
+    (
+        Said::Conflict(Conflict::AddedByUs, false, true, false),
+        "conflict added-by-us 2",
+    ),
+    (
+        Said::Conflict(Conflict::DeletedByThem, true, true, false),
+        "conflict deleted-by-them 12",
+    ),
+    (
+        Said::Conflict(Conflict::AddedByThem, false, false, true),
+        "conflict added-by-them 3",
+    ),
+    (
+        Said::Conflict(Conflict::DeletedByUs, true, false, true),
+        "conflict deleted-by-us 13",
+    ),
+    (
+        Said::Conflict(Conflict::BothAdded, false, true, true),
+        "conflict both-added 23",
+    ),
+    (
+        Said::Conflict(Conflict::BothModified, true, true, true),
+        "conflict both-modified 123",
+    ),
+];
 
 fn modification(executable: bool, content: bool, size: bool) -> Told {
     let id = ObjectId::null(HashKind::Sha1);
@@ -15,70 +73,49 @@ fn modification(executable: bool, content: bool, size: bool) -> Told {
     })
 }
 
-fn conflict(summary: Conflict, stages: [bool; 3]) -> Told {
-    let kept = ConflictIndexEntry {
+// The entry of a stage, where there is one.
+fn stage(is_there: bool) -> Option<ConflictIndexEntry> {
+    if !is_there {
+        return None;
+    }
+    Some(ConflictIndexEntry {
         id: ObjectId::null(HashKind::Sha1),
         flags: Flags::default(),
         mode: Mode::File,
-    };
-    let entries = stages.map(|is_there| if is_there { Some(kept) } else { None });
-    EntryStatus::Conflict { summary, entries }
+    })
 }
 
-fn type_change(worktree_mode: Mode) -> Told {
-    EntryStatus::Change(Change::TypeChange { worktree_mode })
+fn told(said: Said) -> Told {
+    match said {
+        Said::Removed => EntryStatus::Change(Change::Removed),
+        Said::Type(worktree_mode) => EntryStatus::Change(Change::TypeChange { worktree_mode }),
+        Said::Modified(executable, content, size) => modification(executable, content, size),
+        Said::Submodule => EntryStatus::Change(Change::SubmoduleModification(())),
+        Said::Update => EntryStatus::NeedsUpdate(Stat::default()),
+        Said::Intent => EntryStatus::IntentToAdd,
+        Said::Conflict(summary, base, ours, theirs) => {
+            let entries = [stage(base), stage(ours), stage(theirs)];
+            EntryStatus::Conflict { summary, entries }
+        }
+    }
+}
+
+// Asserts that a record at `f` has these words.
+fn assert_record<R: AllocGlobal + Abort>(
+    rt: &R,
+    said: Said,
+    words: &str,
+) -> Result<(), AllocError> {
+    let line = status_line(rt.alloc(), 12, BStr::new(b"f"), &told(said))?;
+    let wanted = format!(in rt.alloc(); "12 {words} \"f\"\n")?;
+    assert_eq!(rt; line.as_str(), wanted.as_str(), "at {words}");
+    Ok(())
 }
 
 #[test]
 fn each_record_has_its_line(rt: HostRuntime) -> Result<(), Fail> {
-    let alloc = rt.alloc();
-    let cases = [
-        (EntryStatus::Change(Change::Removed), "removed"),
-        (type_change(Mode::Symlink), "type 120000"),
-        (type_change(Mode::Dir), "type 040000"),
-        (modification(false, true, false), "modified -c-"),
-        (modification(true, true, true), "modified xcs"),
-        (modification(true, false, false), "modified x--"),
-        (modification(false, true, true), "modified -cs"),
-        (
-            EntryStatus::Change(Change::SubmoduleModification(())),
-            "submodule",
-        ),
-        (EntryStatus::NeedsUpdate(Stat::default()), "update"),
-        (EntryStatus::IntentToAdd, "intent"),
-        (
-            conflict(Conflict::BothDeleted, [true, false, false]),
-            "conflict both-deleted 1",
-        ),
-        (
-            conflict(Conflict::AddedByUs, [false, true, false]),
-            "conflict added-by-us 2",
-        ),
-        (
-            conflict(Conflict::DeletedByThem, [true, true, false]),
-            "conflict deleted-by-them 12",
-        ),
-        (
-            conflict(Conflict::AddedByThem, [false, false, true]),
-            "conflict added-by-them 3",
-        ),
-        (
-            conflict(Conflict::DeletedByUs, [true, false, true]),
-            "conflict deleted-by-us 13",
-        ),
-        (
-            conflict(Conflict::BothAdded, [false, true, true]),
-            "conflict both-added 23",
-        ),
-        (
-            conflict(Conflict::BothModified, [true, true, true]),
-            "conflict both-modified 123",
-        ),
-    ];
-    for (status, words) in cases {
-        let line = status_line(alloc, 12, BStr::new(b"f"), &status)?;
-        let wanted = format!(in alloc; "12 {words} \"f\"\n")?;
-        assert_eq!(rt; line.as_str(), wanted.as_str());
+    for (said, words) in &RECORDS {
+        assert_record(&rt, *said, words)?;
     }
     Ok(())
 }
@@ -93,12 +130,22 @@ static PATHS: [(&[u8], &str); 6] = [
     (b"a\xff", "\"a\u{fffd}\""),
 ];
 
+// Asserts the JSON text of a path.
+fn assert_path<R: AllocGlobal + Abort>(
+    rt: &R,
+    path: &[u8],
+    wanted: &str,
+) -> Result<(), AllocError> {
+    let value = path_value(rt.alloc(), BStr::new(path))?;
+    let text = format!(in rt.alloc(); "{value}")?;
+    assert_eq!(rt; text.as_str(), wanted, "at {wanted}");
+    Ok(())
+}
+
 #[test]
 fn paths_are_json_texts(rt: HostRuntime) -> Result<(), Fail> {
-    for (path, wanted) in PATHS {
-        let value = path_value(rt.alloc(), BStr::new(path))?;
-        let text = format!(in rt.alloc(); "{value}")?;
-        assert_eq!(rt; text.as_str(), wanted);
+    for (path, wanted) in &PATHS {
+        assert_path(&rt, path, wanted)?;
     }
     Ok(())
 }

@@ -53,8 +53,17 @@ const MOST: Stat = Stat {
     size: 4294967295,
 };
 
-static ENTRIES: [(&str, WantedEntry); 7] = [
+// What counts behind fields that do not.
+const BEHIND: Frame = (
+    r#"{"timestamp":[9,0],"index":[{"#,
+    r#","path":"a","id":"19102815663d23f8b75a47e7a01965dcdc96468c","mode":"100644","stage":0,"flags":[],"size":0,"mtime":[0,0]}],"worktree":[]}"#,
+);
+
+// Fields of entries in their frame, the way that reads them first, and the entry.
+static ENTRIES: [(Frame, Way, &str, WantedEntry); 29] = [
     (
+        ENTRY,
+        Way::Quick,
         r#""path":"a\u00e9","id":"473a0f4c3be8a93681a267e3b1e9a7dcda1185436fe141f7749120a303721813","stage":2,"mode":"100755","size":1,"mtime":[2,3],"ctime":[4,5],"dev":6,"ino":7,"uid":8,"gid":9,"flags":["uptodate","skip-worktree","assume-valid","fsmonitor-valid","intent-to-add"],"more":null"#,
         WantedEntry {
             path: "aé",
@@ -73,6 +82,8 @@ static ENTRIES: [(&str, WantedEntry); 7] = [
     ),
     // Keys come in any order.
     (
+        ENTRY,
+        Way::Quick,
         r#""gid":9,"uid":8,"ino":7,"dev":6,"ctime":[4,5],"mtime":[2,3],"size":1,"flags":["uptodate"],"stage":3,"mode":"120000","id":"19102815663d23f8b75a47e7a01965dcdc96468c","path":"a""#,
         WantedEntry {
             mode: Mode::Symlink,
@@ -84,6 +95,8 @@ static ENTRIES: [(&str, WantedEntry); 7] = [
     ),
     // Of equal keys the last counts.
     (
+        ENTRY,
+        Way::Quick,
         r#""path":"bcd","id":"473a0f4c3be8a93681a267e3b1e9a7dcda1185436fe141f7749120a303721813","mode":"120000","stage":1,"flags":["uptodate"],"size":3,"mtime":[1,0],"id":"19102815663d23f8b75a47e7a01965dcdc96468c","flags":[],"mode":"100755","stage":2,"size":4,"mtime":[2,0],"path":"a""#,
         WantedEntry {
             mode: Mode::FileExecutable,
@@ -99,58 +112,189 @@ static ENTRIES: [(&str, WantedEntry); 7] = [
     ),
     // Keys of nodes are unknown.
     (
+        ENTRY,
+        Way::Quick,
         r#""path":"a","id":"19102815663d23f8b75a47e7a01965dcdc96468c","kind":"pipe","hex":"0","text":1,"executable":null"#,
         PLAIN_ENTRY,
     ),
     // Digits of an id may be large.
     (
+        ENTRY,
+        Way::Quick,
         r#""path":"a","id":"19102815663D23F8B75A47E7A01965DCDC96468C""#,
         PLAIN_ENTRY,
     ),
     (
+        ENTRY,
+        Way::Quick,
         r#""path":"a","id":"19102815663d23F8b75a47E7a01965dcdC96468c""#,
         PLAIN_ENTRY,
     ),
     (
+        ENTRY,
+        Way::Quick,
         r#""path":"a","id":"473A0F4C3BE8A93681A267E3B1E9A7DCDA1185436FE141F7749120A303721813""#,
         WantedEntry {
             id: EMPTY,
             ..PLAIN_ENTRY
         },
     ),
-];
-
-static MODES: [(&str, Mode); 5] = [
-    (r#""mode":"040000""#, Mode::Dir),
-    (r#""mode":"100644""#, Mode::File),
-    (r#""mode":"100755""#, Mode::FileExecutable),
-    (r#""mode":"120000""#, Mode::Symlink),
-    (r#""mode":"160000""#, Mode::Commit),
-];
-
-// Flags add up.
-static FLAGS: [(&str, &[Flags]); 6] = [
-    (r#""flags":["uptodate"]"#, &[Flags::UPTODATE]),
-    (r#""flags":["skip-worktree"]"#, &[Flags::SKIP_WORKTREE]),
-    (r#""flags":["assume-valid"]"#, &[Flags::ASSUME_VALID]),
-    (r#""flags":["fsmonitor-valid"]"#, &[Flags::FSMONITOR_VALID]),
-    (r#""flags":["intent-to-add"]"#, &[Flags::INTENT_TO_ADD]),
+    // A ctime that is missing is the mtime.
     (
-        r#""flags":["intent-to-add","uptodate","intent-to-add"]"#,
-        &[Flags::UPTODATE, Flags::INTENT_TO_ADD],
+        FIELD,
+        Way::Quick,
+        r#""mtime":[2,3]"#,
+        WantedEntry {
+            stat: MTIME_ALONE,
+            ..PLAIN_ENTRY
+        },
     ),
-];
-
-static STATS: [(&str, Stat); 2] = [
-    (r#""mtime":[2,3]"#, MTIME_ALONE),
+    // Numbers go up to 32 bits.
     (
+        FIELD,
+        Way::Quick,
         r#""size":4294967295,"dev":4294967295,"ino":4294967295,"uid":4294967295,"gid":4294967295,"mtime":[4294967295,0],"ctime":[0,4294967295]"#,
-        MOST,
+        WantedEntry {
+            stat: MOST,
+            ..PLAIN_ENTRY
+        },
+    ),
+    // The modes.
+    (
+        FIELD,
+        Way::Quick,
+        r#""mode":"040000""#,
+        WantedEntry {
+            mode: Mode::Dir,
+            ..PLAIN_ENTRY
+        },
+    ),
+    (
+        FIELD,
+        Way::Quick,
+        r#""mode":"100644""#,
+        WantedEntry {
+            mode: Mode::File,
+            ..PLAIN_ENTRY
+        },
+    ),
+    (
+        FIELD,
+        Way::Quick,
+        r#""mode":"100755""#,
+        WantedEntry {
+            mode: Mode::FileExecutable,
+            ..PLAIN_ENTRY
+        },
+    ),
+    (
+        FIELD,
+        Way::Quick,
+        r#""mode":"120000""#,
+        WantedEntry {
+            mode: Mode::Symlink,
+            ..PLAIN_ENTRY
+        },
+    ),
+    (
+        FIELD,
+        Way::Quick,
+        r#""mode":"160000""#,
+        WantedEntry {
+            mode: Mode::Commit,
+            ..PLAIN_ENTRY
+        },
+    ),
+    // Flags add up.
+    (
+        FIELD,
+        Way::Quick,
+        r#""flags":["uptodate"]"#,
+        WantedEntry {
+            flags: &[Flags::UPTODATE],
+            ..PLAIN_ENTRY
+        },
+    ),
+    (
+        FIELD,
+        Way::Quick,
+        r#""flags":["skip-worktree"]"#,
+        WantedEntry {
+            flags: &[Flags::SKIP_WORKTREE],
+            ..PLAIN_ENTRY
+        },
+    ),
+    (
+        FIELD,
+        Way::Quick,
+        r#""flags":["assume-valid"]"#,
+        WantedEntry {
+            flags: &[Flags::ASSUME_VALID],
+            ..PLAIN_ENTRY
+        },
+    ),
+    (
+        FIELD,
+        Way::Quick,
+        r#""flags":["fsmonitor-valid"]"#,
+        WantedEntry {
+            flags: &[Flags::FSMONITOR_VALID],
+            ..PLAIN_ENTRY
+        },
+    ),
+    (
+        FIELD,
+        Way::Quick,
+        r#""flags":["intent-to-add"]"#,
+        WantedEntry {
+            flags: &[Flags::INTENT_TO_ADD],
+            ..PLAIN_ENTRY
+        },
+    ),
+    (
+        FIELD,
+        Way::Quick,
+        r#""flags":["intent-to-add","uptodate","intent-to-add"]"#,
+        WantedEntry {
+            flags: &[Flags::UPTODATE, Flags::INTENT_TO_ADD],
+            ..PLAIN_ENTRY
+        },
+    ),
+    // The first of equal keys may have any form. The quick way reads nothing then.
+    (BEHIND, Way::Careful, r#""path":null"#, PLAIN_ENTRY),
+    (BEHIND, Way::Careful, r#""id":"0""#, PLAIN_ENTRY),
+    (BEHIND, Way::Careful, r#""mode":{"more":[1]}"#, PLAIN_ENTRY),
+    (BEHIND, Way::Careful, r#""stage":4"#, PLAIN_ENTRY),
+    (BEHIND, Way::Careful, r#""flags":[[]]"#, PLAIN_ENTRY),
+    (BEHIND, Way::Careful, r#""size":1e1"#, PLAIN_ENTRY),
+    (BEHIND, Way::Careful, r#""mtime":[1]"#, PLAIN_ENTRY),
+    // The quick way reads no word with an escape.
+    (
+        FIELD,
+        Way::Careful,
+        r#""mode":"10075\u0035","flags":["uptodate"]"#,
+        WantedEntry {
+            mode: Mode::FileExecutable,
+            flags: &[Flags::UPTODATE],
+            ..PLAIN_ENTRY
+        },
+    ),
+    (
+        FIELD,
+        Way::Careful,
+        r#""mode":"100755","flags":["\u0075ptodate"]"#,
+        WantedEntry {
+            mode: Mode::FileExecutable,
+            flags: &[Flags::UPTODATE],
+            ..PLAIN_ENTRY
+        },
     ),
 ];
 
-static NODES: [(&str, WantedNode); 8] = [
+// Fields of nodes, the way that reads them first, and the node.
+static NODES: [(Way, &str, WantedNode); 18] = [
     (
+        Way::Quick,
         r#""path":"d/e""#,
         WantedNode {
             path: "d/e",
@@ -159,6 +303,7 @@ static NODES: [(&str, WantedNode); 8] = [
     ),
     // The kinds, with all that a node may say.
     (
+        Way::Quick,
         r#""path":"d/e","kind":"file","text":"x\u00e9","executable":true,"mtime":[2,3],"ctime":[4,5],"dev":6,"ino":7,"uid":8,"gid":9,"more":null"#,
         WantedNode {
             path: "d/e",
@@ -169,6 +314,7 @@ static NODES: [(&str, WantedNode); 8] = [
         },
     ),
     (
+        Way::Quick,
         r#""path":"d/e","kind":"link","hex":"FF00","text":3,"executable":true,"mtime":[2,3],"ctime":[4,5],"dev":6,"ino":7,"uid":8,"gid":9,"more":null"#,
         WantedNode {
             path: "d/e",
@@ -179,6 +325,7 @@ static NODES: [(&str, WantedNode); 8] = [
         },
     ),
     (
+        Way::Quick,
         r#""path":"d/e","kind":"directory","executable":true,"mtime":[2,3],"ctime":[4,5],"dev":6,"ino":7,"uid":8,"gid":9,"more":null"#,
         WantedNode {
             path: "d/e",
@@ -189,6 +336,7 @@ static NODES: [(&str, WantedNode); 8] = [
         },
     ),
     (
+        Way::Quick,
         r#""path":"d/e","kind":"other","executable":true,"mtime":[2,3],"ctime":[4,5],"dev":6,"ino":7,"uid":8,"gid":9,"more":null"#,
         WantedNode {
             path: "d/e",
@@ -199,6 +347,7 @@ static NODES: [(&str, WantedNode); 8] = [
         },
     ),
     (
+        Way::Quick,
         r#""path":"a","mtime":[2,3]"#,
         WantedNode {
             stat: MTIME_ALONE,
@@ -207,6 +356,7 @@ static NODES: [(&str, WantedNode); 8] = [
     ),
     // Of equal keys the last counts.
     (
+        Way::Quick,
         r#""path":"b","kind":"link","text":"x","path":"a","text":"yz","kind":"other""#,
         WantedNode {
             kind: NodeKind::Other,
@@ -216,18 +366,92 @@ static NODES: [(&str, WantedNode); 8] = [
     ),
     // Keys of entries are unknown.
     (
+        Way::Quick,
         r#""path":"a","id":"0","mode":1,"stage":4,"flags":null,"size":0.5"#,
         PLAIN_NODE,
     ),
-];
-
-// Digits come before a text.
-static DIGITS: [(&str, &[u8]); 5] = [
-    (r#""path":"a","hex":"FF00","text":"x""#, b"\xff\x00"),
-    (r#""path":"a","text":"x","hex":"fF""#, b"\xff"),
-    (r#""path":"a","text":"x","hex":"""#, b""),
-    (r#""path":"a","hex":"01","text":"x","hex":"02""#, b"\x02"),
-    (r#""path":"a","hex":"01","text":{"hex":"02"}"#, b"\x01"),
+    // Digits come before a text.
+    (
+        Way::Quick,
+        r#""path":"a","hex":"FF00","text":"x""#,
+        WantedNode {
+            bytes: b"\xff\x00",
+            ..PLAIN_NODE
+        },
+    ),
+    (
+        Way::Quick,
+        r#""path":"a","text":"x","hex":"fF""#,
+        WantedNode {
+            bytes: b"\xff",
+            ..PLAIN_NODE
+        },
+    ),
+    (
+        Way::Quick,
+        r#""path":"a","text":"x","hex":"""#,
+        WantedNode {
+            bytes: b"",
+            ..PLAIN_NODE
+        },
+    ),
+    (
+        Way::Quick,
+        r#""path":"a","hex":"01","text":"x","hex":"02""#,
+        WantedNode {
+            bytes: b"\x02",
+            ..PLAIN_NODE
+        },
+    ),
+    (
+        Way::Quick,
+        r#""path":"a","hex":"01","text":{"hex":"02"}"#,
+        WantedNode {
+            bytes: b"\x01",
+            ..PLAIN_NODE
+        },
+    ),
+    // The quick way reads a text before it knows of the digits.
+    (
+        Way::Careful,
+        r#""path":"a","text":3,"hex":"07""#,
+        WantedNode {
+            bytes: b"\x07",
+            ..PLAIN_NODE
+        },
+    ),
+    (
+        Way::Careful,
+        r#""path":"a","text":null,"hex":"07""#,
+        WantedNode {
+            bytes: b"\x07",
+            ..PLAIN_NODE
+        },
+    ),
+    (
+        Way::Careful,
+        r#""path":"a","text":{},"hex":"07""#,
+        WantedNode {
+            bytes: b"\x07",
+            ..PLAIN_NODE
+        },
+    ),
+    (
+        Way::Careful,
+        r#""path":"a","text":{"path":"b"},"hex":"07""#,
+        WantedNode {
+            bytes: b"\x07",
+            ..PLAIN_NODE
+        },
+    ),
+    (
+        Way::Careful,
+        r#""path":"a","text":[[1]],"hex":"07""#,
+        WantedNode {
+            bytes: b"\x07",
+            ..PLAIN_NODE
+        },
+    ),
 ];
 
 static ESCAPES: [(&str, &str); 5] = [
@@ -236,38 +460,6 @@ static ESCAPES: [(&str, &str); 5] = [
     (r#""\ud83d\ude00x""#, "\u{1f600}x"),
     (r#""\u0000""#, "\0"),
     (r#""é""#, "é"),
-];
-
-// The first of equal keys may have any form. The quick way reads nothing then.
-static UNCOUNTED: [&str; 7] = [
-    r#""path":null"#,
-    r#""id":"0""#,
-    r#""mode":{"more":[1]}"#,
-    r#""stage":4"#,
-    r#""flags":[[]]"#,
-    r#""size":1e1"#,
-    r#""mtime":[1]"#,
-];
-
-// What counts behind those.
-const BEHIND: Frame = (
-    r#"{"timestamp":[9,0],"index":[{"#,
-    r#","path":"a","id":"19102815663d23f8b75a47e7a01965dcdc96468c","mode":"100644","stage":0,"flags":[],"size":0,"mtime":[0,0]}],"worktree":[]}"#,
-);
-
-// The quick way reads no word with an escape.
-static ESCAPED_WORDS: [&str; 2] = [
-    r#""mode":"10075\u0035","flags":["uptodate"]"#,
-    r#""mode":"100755","flags":["\u0075ptodate"]"#,
-];
-
-// The quick way reads a text before it knows of the digits.
-static UNCOUNTED_TEXTS: [&str; 5] = [
-    r#""path":"a","text":3,"hex":"07""#,
-    r#""path":"a","text":null,"hex":"07""#,
-    r#""path":"a","text":{},"hex":"07""#,
-    r#""path":"a","text":{"path":"b"},"hex":"07""#,
-    r#""path":"a","text":[[1]],"hex":"07""#,
 ];
 
 static UNKNOWN: [&str; 6] = [
@@ -312,51 +504,57 @@ fn assert_node_read<R: AllocGlobal + Abort>(
     Ok(())
 }
 
-#[test]
-fn entries_are_read(rt: HostRuntime) -> Result<(), Fail> {
-    for (fields, entry) in &ENTRIES {
-        assert_entry_read(&rt, ENTRY, Way::Quick, fields, entry)?;
-    }
-    for (field, stat) in &STATS {
-        let entry = WantedEntry {
-            stat: *stat,
-            ..PLAIN_ENTRY
-        };
-        assert_entry_read(&rt, FIELD, Way::Quick, field, &entry)?;
-    }
-    Ok(())
+// Asserts that a text with escapes is read as a path.
+fn assert_path_read<R: AllocGlobal + Abort>(
+    rt: &R,
+    text: &str,
+    path: &'static str,
+) -> Result<(), AllocError> {
+    let fields = format!(in rt.alloc();
+        r#""p\u0061th":{text},"id":"19102815663d23f8b75a47e7a01965dcdc96468c""#
+    )?;
+    let entry = WantedEntry {
+        path,
+        ..PLAIN_ENTRY
+    };
+    assert_entry_read(rt, ENTRY, Way::Quick, fields.as_str(), &entry)
+}
+
+// Asserts that a text with escapes is read as a content.
+fn assert_content_read<R: AllocGlobal + Abort>(
+    rt: &R,
+    text: &str,
+    content: &'static str,
+) -> Result<(), AllocError> {
+    let fields = format!(in rt.alloc(); r#""path":"\u0061","text":{text}"#)?;
+    let node = WantedNode {
+        bytes: content.as_bytes(),
+        ..PLAIN_NODE
+    };
+    assert_node_read(rt, Way::Quick, fields.as_str(), &node)
+}
+
+// Asserts that this value is ignored at keys that are unknown.
+fn assert_ignored<R: AllocGlobal + Abort>(rt: &R, value: &str) -> Result<(), AllocError> {
+    let fields = format!(in rt.alloc();
+        r#""more":{value},"path":"a","Path":{value},"id":"19102815663d23f8b75a47e7a01965dcdc96468c","paths":{value},"":{value}"#
+    )?;
+    assert_entry_read(rt, ENTRY, Way::Quick, fields.as_str(), &PLAIN_ENTRY)?;
+    assert_node_read(rt, Way::Quick, fields.as_str(), &PLAIN_NODE)
 }
 
 #[test]
-fn modes_and_flags_are_read(rt: HostRuntime) -> Result<(), Fail> {
-    for (field, mode) in &MODES {
-        let entry = WantedEntry {
-            mode: *mode,
-            ..PLAIN_ENTRY
-        };
-        assert_entry_read(&rt, FIELD, Way::Quick, field, &entry)?;
-    }
-    for (field, flags) in &FLAGS {
-        let entry = WantedEntry {
-            flags,
-            ..PLAIN_ENTRY
-        };
-        assert_entry_read(&rt, FIELD, Way::Quick, field, &entry)?;
+fn entries_are_read(rt: HostRuntime) -> Result<(), Fail> {
+    for (frame, first, fields, entry) in &ENTRIES {
+        assert_entry_read(&rt, *frame, *first, fields, entry)?;
     }
     Ok(())
 }
 
 #[test]
 fn nodes_are_read(rt: HostRuntime) -> Result<(), Fail> {
-    for (fields, node) in &NODES {
-        assert_node_read(&rt, Way::Quick, fields, node)?;
-    }
-    for (fields, bytes) in &DIGITS {
-        let node = WantedNode {
-            bytes,
-            ..PLAIN_NODE
-        };
-        assert_node_read(&rt, Way::Quick, fields, &node)?;
+    for (first, fields, node) in &NODES {
+        assert_node_read(&rt, *first, fields, node)?;
     }
     Ok(())
 }
@@ -364,43 +562,8 @@ fn nodes_are_read(rt: HostRuntime) -> Result<(), Fail> {
 #[test]
 fn escapes_are_read(rt: HostRuntime) -> Result<(), Fail> {
     for (text, wanted) in &ESCAPES {
-        let fields = format!(in rt.alloc();
-            r#""p\u0061th":{text},"id":"19102815663d23f8b75a47e7a01965dcdc96468c""#
-        )?;
-        let entry = WantedEntry {
-            path: wanted,
-            ..PLAIN_ENTRY
-        };
-        assert_entry_read(&rt, ENTRY, Way::Quick, fields.as_str(), &entry)?;
-        let fields = format!(in rt.alloc(); r#""path":"\u0061","text":{text}"#)?;
-        let node = WantedNode {
-            bytes: wanted.as_bytes(),
-            ..PLAIN_NODE
-        };
-        assert_node_read(&rt, Way::Quick, fields.as_str(), &node)?;
-    }
-    Ok(())
-}
-
-#[test]
-fn what_does_not_count_may_be_wrong(rt: HostRuntime) -> Result<(), Fail> {
-    for field in &UNCOUNTED {
-        assert_entry_read(&rt, BEHIND, Way::Careful, field, &PLAIN_ENTRY)?;
-    }
-    let node = WantedNode {
-        bytes: b"\x07",
-        ..PLAIN_NODE
-    };
-    for fields in &UNCOUNTED_TEXTS {
-        assert_node_read(&rt, Way::Careful, fields, &node)?;
-    }
-    let entry = WantedEntry {
-        mode: Mode::FileExecutable,
-        flags: &[Flags::UPTODATE],
-        ..PLAIN_ENTRY
-    };
-    for field in &ESCAPED_WORDS {
-        assert_entry_read(&rt, FIELD, Way::Careful, field, &entry)?;
+        assert_path_read(&rt, text, wanted)?;
+        assert_content_read(&rt, text, wanted)?;
     }
     Ok(())
 }
@@ -408,11 +571,7 @@ fn what_does_not_count_may_be_wrong(rt: HostRuntime) -> Result<(), Fail> {
 #[test]
 fn unknown_keys_are_ignored(rt: HostRuntime) -> Result<(), Fail> {
     for value in &UNKNOWN {
-        let fields = format!(in rt.alloc();
-            r#""more":{value},"path":"a","Path":{value},"id":"19102815663d23f8b75a47e7a01965dcdc96468c","paths":{value},"":{value}"#
-        )?;
-        assert_entry_read(&rt, ENTRY, Way::Quick, fields.as_str(), &PLAIN_ENTRY)?;
-        assert_node_read(&rt, Way::Quick, fields.as_str(), &PLAIN_NODE)?;
+        assert_ignored(&rt, value)?;
     }
     Ok(())
 }

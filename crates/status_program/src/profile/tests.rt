@@ -1,9 +1,11 @@
 use crate::profile::ProfileError::{self, Bad, Index, NotJson};
 use crate::profile::list::Way;
 use crate::profile::members::Members;
+use crate::profile::options::ProfileOptions;
 use crate::profile::{Key, Kind, Place, Profile, profile_of};
+use bstr::BString;
 use gix_status::index::{
-    Entry, Flags, HashKind, IndexError, Mode, Moment, ObjectId, Stat, Time, stat,
+    Entry, Flags, HashKind, IndexError, Mode, Moment, ObjectId, Stat, State, Time, stat,
 };
 use gix_status::index_as_worktree::{Capabilities, Options};
 use gix_status::worktree::{Metadata, Node, NodeKind};
@@ -50,7 +52,7 @@ const CTIME: Frame = (
 );
 
 // What an entry is read as.
-#[derive(Drop)]
+#[derive(Clone, Copy)]
 pub struct WantedEntry {
     pub path: &'static str,
     pub id: ObjectId,
@@ -61,7 +63,7 @@ pub struct WantedEntry {
 }
 
 // What a node is read as. The size of its stat is not looked at.
-#[derive(Drop)]
+#[derive(Clone, Copy)]
 pub struct WantedNode {
     pub path: &'static str,
     pub kind: NodeKind,
@@ -71,7 +73,7 @@ pub struct WantedNode {
 }
 
 // What a profile is read as.
-#[derive(Drop)]
+#[derive(Clone, Copy)]
 pub struct Wanted<'a> {
     pub hash: HashKind,
     pub timestamp: Moment,
@@ -764,6 +766,19 @@ fn read_in(alloc: Global, way: Way, text: &[u8]) -> Result<Profile, ProfileError
     }
 }
 
+// The same, where no way has to be the only one.
+fn read(alloc: Global, only: Option<Way>, text: &str) -> Result<Profile, ProfileError> {
+    match only {
+        Some(way) => read_in(alloc, way, text.as_bytes()),
+        None => Profile::from_json(alloc, text.as_bytes()),
+    }
+}
+
+// Why a text is no profile, if it is none.
+fn error_of(alloc: Global, only: Option<Way>, text: &str) -> Option<ProfileError> {
+    read(alloc, only, text).err()
+}
+
 // The text of a part of a profile in its frame.
 pub fn framed(alloc: Global, frame: Frame, part: &str) -> Result<String, AllocError> {
     let (front, back) = frame;
@@ -773,25 +788,20 @@ pub fn framed(alloc: Global, frame: Frame, part: &str) -> Result<String, AllocEr
 // Asserts that a text is read as this profile, by this way and those after it alone and as the program does, and by no
 // way before.
 pub fn assert_read<R: AllocGlobal + Abort>(rt: &R, text: &str, first: Way, wanted: &Wanted<'_>) {
-    let bytes = text.as_bytes();
-    let alloc = rt.alloc();
-    assert_said(rt, text, Profile::from_json(alloc, bytes), wanted);
-    assert_said(rt, text, read_in(alloc, Way::Careful, bytes), wanted);
-    let quick = read_in(alloc, Way::Quick, bytes);
+    assert_said(rt, text, None, wanted);
+    assert_said(rt, text, Some(Way::Careful), wanted);
     match first {
-        Way::Quick => assert_said(rt, text, quick, wanted),
-        Way::Careful => assert!(rt; quick.is_err(), "at {text}"),
+        Way::Quick => assert_said(rt, text, Some(Way::Quick), wanted),
+        Way::Careful => {
+            let refused = error_of(rt.alloc(), Some(Way::Quick), text);
+            assert!(rt; refused.is_some(), "at {text}");
+        }
     }
 }
 
-// Asserts that what was read is this profile.
-fn assert_said<R: Abort>(
-    rt: &R,
-    text: &str,
-    profile: Result<Profile, ProfileError>,
-    wanted: &Wanted<'_>,
-) {
-    match profile {
+// Asserts that what is read is this profile.
+fn assert_said<R: AllocGlobal + Abort>(rt: &R, text: &str, only: Option<Way>, wanted: &Wanted<'_>) {
+    match read(rt.alloc(), only, text) {
         Ok(profile) => assert_profile(rt, text, &profile, wanted),
         Err(error) => panic!(rt; "{error} at {text}"),
     }
@@ -799,59 +809,85 @@ fn assert_said<R: Abort>(
 
 fn assert_profile<R: Abort>(rt: &R, text: &str, profile: &Profile, wanted: &Wanted<'_>) {
     assert_eq!(rt; profile.hash, wanted.hash, "at {text}");
-    assert_eq!(rt; profile.index.timestamp(), wanted.timestamp, "at {text}");
-    let options = &profile.options;
-    assert_eq!(rt; options.status, *wanted.status, "at {text}");
-    assert_eq!(rt; options.comparer, wanted.comparer, "at {text}");
-    assert_eq!(rt;
-        options.prefix.as_bytes(),
-        wanted.prefix.as_bytes(),
-        "at {text}"
+    let timestamp = profile.index.timestamp();
+    assert_eq!(rt; timestamp, wanted.timestamp, "at {text}");
+    assert_eq!(rt; profile.options.status, *wanted.status, "at {text}");
+    assert!(rt; are_options(&profile.options, wanted), "options at {text}");
+    assert!(rt;
+        are_entries(&profile.index, wanted.entries),
+        "entries at {text}"
     );
-    assert_eq!(rt; options.untracked, wanted.untracked, "at {text}");
-    assert_eq!(rt; options.renames, wanted.renames, "at {text}");
-    assert_eq!(rt; options.sort, wanted.sort, "at {text}");
-    assert_eq!(rt; options.counts, wanted.counts, "at {text}");
-    let entries = profile.index.entries();
-    assert_eq!(rt; entries.len(), wanted.entries.len(), "at {text}");
-    for (entry, wanted) in entries.iter().zip(wanted.entries) {
-        let path = entry.path_in(profile.index.path_backing());
-        assert_entry(rt, text, path.as_bytes(), entry, wanted);
-    }
-    assert_place(rt, text, &profile.place, wanted);
+    assert!(rt; is_place(&profile.place, wanted), "worktree at {text}");
 }
 
-fn assert_entry<R: Abort>(rt: &R, text: &str, path: &[u8], entry: &Entry, wanted: &WantedEntry) {
-    assert_eq!(rt; path, wanted.path.as_bytes(), "at {text}");
-    assert_eq!(rt; entry.id, wanted.id, "at {text}");
-    assert_eq!(rt; entry.mode, wanted.mode, "at {text}");
+// Whether the program's own options are these.
+fn are_options(options: &ProfileOptions, wanted: &Wanted<'_>) -> bool {
+    options.comparer == wanted.comparer
+        && options.prefix.as_bytes() == wanted.prefix.as_bytes()
+        && options.untracked == wanted.untracked
+        && options.renames == wanted.renames
+        && options.sort == wanted.sort
+        && options.counts == wanted.counts
+}
+
+fn are_entries(index: &State, wanted: &[WantedEntry]) -> bool {
+    let entries = index.entries();
+    if entries.len() != wanted.len() {
+        return false;
+    }
+    for (entry, wanted) in entries.iter().zip(wanted) {
+        let path = entry.path_in(index.path_backing());
+        if !is_entry(path.as_bytes(), entry, wanted) {
+            return false;
+        }
+    }
+    true
+}
+
+fn is_entry(path: &[u8], entry: &Entry, wanted: &WantedEntry) -> bool {
+    path == wanted.path.as_bytes()
+        && entry.id == wanted.id
+        && entry.mode == wanted.mode
+        && entry.flags == flags_of(wanted)
+        && entry.stat == wanted.stat
+}
+
+// The stage and the flags of an entry.
+fn flags_of(wanted: &WantedEntry) -> Flags {
     let mut flags = Flags::from_stage(wanted.stage);
     for flag in wanted.flags {
         flags = flags | *flag;
     }
-    assert_eq!(rt; entry.flags, flags, "at {text}");
-    assert_eq!(rt; entry.stat, wanted.stat, "at {text}");
+    flags
 }
 
-fn assert_place<R: Abort>(rt: &R, text: &str, place: &Place, wanted: &Wanted<'_>) {
+fn is_place(place: &Place, wanted: &Wanted<'_>) -> bool {
     match place {
-        Place::Folder(folder) => {
-            assert_eq!(rt; Some(folder.as_str()), wanted.folder, "at {text}");
-        }
-        Place::Nodes(nodes) => {
-            assert_eq!(rt; None, wanted.folder, "at {text}");
-            assert_eq!(rt; nodes.len(), wanted.nodes.len(), "at {text}");
-            for ((path, node), wanted) in nodes.iter().zip(wanted.nodes) {
-                assert_node(rt, text, path.as_bytes(), node, wanted);
-            }
-        }
+        Place::Folder(folder) => wanted.folder == Some(folder.as_str()),
+        Place::Nodes(nodes) => wanted.folder.is_none() && are_nodes(nodes, wanted.nodes),
     }
 }
 
-fn assert_node<R: Abort>(rt: &R, text: &str, path: &[u8], node: &Node, wanted: &WantedNode) {
-    assert_eq!(rt; path, wanted.path.as_bytes(), "at {text}");
-    assert_eq!(rt; node.bytes.as_slice(), wanted.bytes, "at {text}");
-    let metadata = Metadata {
+fn are_nodes(nodes: &[(BString, Node)], wanted: &[WantedNode]) -> bool {
+    if nodes.len() != wanted.len() {
+        return false;
+    }
+    for ((path, node), wanted) in nodes.iter().zip(wanted) {
+        if !is_node(path.as_bytes(), node, wanted) {
+            return false;
+        }
+    }
+    true
+}
+
+fn is_node(path: &[u8], node: &Node, wanted: &WantedNode) -> bool {
+    path == wanted.path.as_bytes()
+        && node.bytes.as_slice() == wanted.bytes
+        && node.metadata() == metadata_of(wanted)
+}
+
+fn metadata_of(wanted: &WantedNode) -> Metadata {
+    Metadata {
         kind: wanted.kind,
         len: wanted.bytes.len() as u64,
         executable: wanted.executable,
@@ -861,23 +897,31 @@ fn assert_node<R: Abort>(rt: &R, text: &str, path: &[u8], node: &Node, wanted: &
         ino: wanted.stat.ino,
         uid: wanted.stat.uid,
         gid: wanted.stat.gid,
-    };
-    assert_eq!(rt; node.metadata(), metadata, "at {text}");
+    }
 }
 
 // Asserts that a text is refused by this error, and in the quick way by any: by the same where the entries are no index.
 fn assert_refused<R: AllocGlobal + Abort>(rt: &R, text: &str, error: ProfileError) {
-    let alloc = rt.alloc();
-    let bytes = text.as_bytes();
-    let whole = Profile::from_json(alloc, bytes).err();
-    assert_eq!(rt; whole, Some(error), "at {text}");
-    let careful = read_in(alloc, Way::Careful, bytes).err();
-    assert_eq!(rt; careful, Some(error), "at {text}");
-    let quick = read_in(alloc, Way::Quick, bytes).err();
-    assert!(rt; quick.is_some(), "at {text}");
-    if let Index(_) = error {
-        assert_eq!(rt; quick, Some(error), "at {text}");
+    assert_error(rt, text, None, error);
+    assert_error(rt, text, Some(Way::Careful), error);
+    match error {
+        Index(_) => assert_error(rt, text, Some(Way::Quick), error),
+        _ => {
+            let quick = error_of(rt.alloc(), Some(Way::Quick), text);
+            assert!(rt; quick.is_some(), "at {text}");
+        }
     }
+}
+
+// Asserts that a text is refused by this error.
+fn assert_error<R: AllocGlobal + Abort>(
+    rt: &R,
+    text: &str,
+    only: Option<Way>,
+    error: ProfileError,
+) {
+    let refused = error_of(rt.alloc(), only, text);
+    assert_eq!(rt; refused, Some(error), "at {text}");
 }
 
 // Asserts that each of these values is refused in a frame behind this front.
@@ -888,12 +932,19 @@ fn assert_all_refused<R: AllocGlobal + Abort>(
     values: &[&str],
     error: ProfileError,
 ) -> Result<(), AllocError> {
+    let (before, behind) = frame;
     for value in values {
-        let part = format!(in rt.alloc(); "{front}{value}")?;
-        let text = framed(rt.alloc(), frame, part.as_str())?;
+        let text = format!(in rt.alloc(); "{before}{front}{value}{behind}")?;
         assert_refused(rt, text.as_str(), error);
     }
     Ok(())
+}
+
+// So many lists in one another.
+fn lists(alloc: Global, levels: usize) -> Result<String, AllocError> {
+    let begins = "[".repeat(alloc, levels)?;
+    let ends = "]".repeat(alloc, levels)?;
+    format!(in alloc; "{begins}{ends}")
 }
 
 // Asserts that these lists in one another are refused within a profile.
@@ -904,9 +955,8 @@ fn assert_lists_refused<R: AllocGlobal + Abort>(
     back: &str,
     error: ProfileError,
 ) -> Result<(), AllocError> {
-    let begins = "[".repeat(rt.alloc(), levels)?;
-    let ends = "]".repeat(rt.alloc(), levels)?;
-    let text = format!(in rt.alloc(); "{front}{begins}{ends}{back}")?;
+    let lists = lists(rt.alloc(), levels)?;
+    let text = format!(in rt.alloc(); "{front}{lists}{back}")?;
     assert_refused(rt, text.as_str(), error);
     Ok(())
 }
@@ -918,12 +968,22 @@ fn whole_profiles_are_read(rt: HostRuntime) {
     }
 }
 
+// Asserts that an option of the status is read, and changes nothing else.
+fn assert_option<R: AllocGlobal + Abort>(
+    rt: &R,
+    option: &str,
+    status: &Options,
+) -> Result<(), AllocError> {
+    let text = framed(rt.alloc(), OPTIONS, option)?;
+    let wanted = Wanted { status, ..PLAIN };
+    assert_read(rt, text.as_str(), Way::Quick, &wanted);
+    Ok(())
+}
+
 #[test]
 fn an_option_of_the_status_changes_only_itself(rt: HostRuntime) -> Result<(), Fail> {
     for (option, status) in &STATUS_OPTIONS {
-        let text = framed(rt.alloc(), OPTIONS, option)?;
-        let wanted = Wanted { status, ..PLAIN };
-        assert_read(&rt, text.as_str(), Way::Quick, &wanted);
+        assert_option(&rt, option, status)?;
     }
     Ok(())
 }
@@ -933,10 +993,14 @@ fn values_of_a_wrong_form_are_refused(rt: HostRuntime) -> Result<(), Fail> {
     for (frame, front, values, error) in &WRONG_FORMS {
         assert_all_refused(&rt, *frame, front, values, *error)?;
     }
+    Ok(())
+}
+
+#[test]
+fn a_byte_that_is_no_utf_8_is_refused(rt: HostRuntime) {
     let bytes = b"{\"hash\":\"\xff\"}".as_slice();
     let error = Profile::from_json(rt.alloc(), bytes).err();
-    assert_eq!(rt; error, Some(NotJson), "where a byte is no UTF-8");
-    Ok(())
+    assert_eq!(rt; error, Some(NotJson));
 }
 
 #[test]

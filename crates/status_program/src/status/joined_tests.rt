@@ -1,8 +1,12 @@
 use crate::status::tests::{
     BAR, Case, EMPTY, FOO, LONGER, SAME, STAGED, STAGED_EMPTY, assert_cases, assert_printed,
-    profile,
 };
+use std::alloc::AllocError;
+use std::process::Abort;
+use std::rt::Files;
+use std::sync::Wait;
 use std::test::Fail;
+use std::thread::Threads;
 
 // The id of `foo` by SHA-256, by git.
 const FOO_SHA256: &str = "a65ca4376b51e98097fec3a009b7e5adce3255aecaa1a6da7b1cdc92b90e025e";
@@ -12,7 +16,7 @@ const LINK: &str = r#""mode":"120000""#;
 
 const LINK_NODE: &str = r#""kind":"link","text":"foo""#;
 
-static UNTRACKED: [Case; 7] = [
+static UNTRACKED: [Case; 9] = [
     (
         "what isn't tracked, with the counts of what is",
         r#""untracked":true,"sort":true,"counts":true"#,
@@ -74,9 +78,23 @@ static UNTRACKED: [Case; 7] = [
         &[("a", LONGER), ("c", SAME)],
         "0 modified -c- \"a\"\n1 removed \"b\"\ntotal: to process 2, processed 2, skipped 0, lstat 2, to update 0, racy 0, read 1, bytes 4\n",
     ),
+    (
+        "a prefix of tracked and untracked paths",
+        r#""untracked":true,"sort":true,"counts":true,"prefix":"d""#,
+        &[("a", FOO, STAGED), ("d/x", FOO, STAGED)],
+        &[("b", SAME), ("d/y", SAME), ("e", SAME)],
+        "1 removed \"d/x\"\n- added \"d/y\"\ntotal: to process 1, processed 1, skipped 1, lstat 1, to update 0, racy 0, read 0, bytes 0\n",
+    ),
+    (
+        "a prefix of untracked paths alone",
+        r#""untracked":true,"counts":true,"prefix":"z""#,
+        &[("a", FOO, STAGED)],
+        &[("y", SAME), ("z", SAME)],
+        "- added \"z\"\ntotal: to process 1, processed 1, skipped 1, lstat 0, to update 0, racy 0, read 0, bytes 0\n",
+    ),
 ];
 
-static RENAMES: [Case; 12] = [
+static RENAMES: [Case; 13] = [
     (
         "the first by path is the renamed one",
         r#""untracked":true,"renames":true,"sort":true"#,
@@ -161,23 +179,6 @@ static RENAMES: [Case; 12] = [
         &[("b", SAME)],
         "0 removed \"a\"\n",
     ),
-];
-
-static PREFIXES: [Case; 3] = [
-    (
-        "a prefix of tracked and untracked paths",
-        r#""untracked":true,"sort":true,"counts":true,"prefix":"d""#,
-        &[("a", FOO, STAGED), ("d/x", FOO, STAGED)],
-        &[("b", SAME), ("d/y", SAME), ("e", SAME)],
-        "1 removed \"d/x\"\n- added \"d/y\"\ntotal: to process 1, processed 1, skipped 1, lstat 1, to update 0, racy 0, read 0, bytes 0\n",
-    ),
-    (
-        "a prefix of untracked paths alone",
-        r#""untracked":true,"counts":true,"prefix":"z""#,
-        &[("a", FOO, STAGED)],
-        &[("y", SAME), ("z", SAME)],
-        "- added \"z\"\ntotal: to process 1, processed 1, skipped 1, lstat 0, to update 0, racy 0, read 0, bytes 0\n",
-    ),
     (
         "no renames from outside a prefix",
         r#""untracked":true,"renames":true,"prefix":"b""#,
@@ -207,36 +208,29 @@ fn renamed_files_are_reported(rt: HostRuntime) -> Result<(), Fail> {
     Ok(())
 }
 
-#[test]
-fn a_prefix_is_of_untracked_paths_too(rt: HostRuntime) -> Result<(), Fail> {
-    assert_cases(&rt, &PREFIXES)?;
+// Asserts these lines where ids are of this kind, and the entry has this one.
+fn assert_kind<R: AllocGlobal + Abort + Files + Sync + Threads + Wait>(
+    rt: &R,
+    hash: &str,
+    id: &str,
+    lines: &str,
+) -> Result<(), AllocError>
+where
+    R::File: Send,
+    R::Dir: Send,
+{
+    let text = format!(in rt.alloc();
+        r#"{{"hash":"{hash}","timestamp":[9,0],"options":{{"untracked":true,"renames":true}},
+"index":[{{"path":"a","id":"{id}"}}],"worktree":[{{"path":"b","text":"foo"}}]}}"#
+    )?;
+    assert_printed(rt, text.as_str(), text.as_str(), lines, "");
     Ok(())
 }
 
 #[test]
 fn untracked_files_have_ids_of_the_profiles_kind(rt: HostRuntime) -> Result<(), Fail> {
     for (hash, id, lines) in &KINDS {
-        let text = format!(in rt.alloc();
-            r#"{{"hash":"{hash}","timestamp":[9,0],"options":{{"untracked":true,"renames":true}},
-"index":[{{"path":"a","id":"{id}"}}],"worktree":[{{"path":"b","text":"foo"}}]}}"#
-        )?;
-        assert_printed(&rt, text.as_str(), text.as_str(), lines, "");
-    }
-    Ok(())
-}
-
-#[test]
-fn a_fault_leaves_no_lines(rt: HostRuntime) -> Result<(), Fail> {
-    for options in [r#""untracked":true"#, r#""sort":true,"counts":true"#] {
-        let entries = [("a", FOO, STAGED), ("a//b", FOO, STAGED)];
-        let text = profile(rt.alloc(), options, &entries, &[("a", LONGER)])?;
-        assert_printed(
-            &rt,
-            options,
-            text.as_str(),
-            "",
-            "status failed: not normal\n",
-        );
+        assert_kind(&rt, hash, id, lines)?;
     }
     Ok(())
 }

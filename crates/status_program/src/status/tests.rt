@@ -45,7 +45,7 @@ pub type Case = (
     &'static str,
 );
 
-static FILES: [Case; 11] = [
+static FILES: [Case; 15] = [
     (
         "a changed file",
         r#""counts":true,"chunk_size":1,"thread_limit":2"#,
@@ -121,6 +121,39 @@ static FILES: [Case; 11] = [
         &[("a", AS_LONG)],
         "0 modified -c- \"a\"\ntotal: to process 1, processed 1, skipped 0, lstat 1, to update 0, racy 0, read 1, bytes 3\n",
     ),
+    (
+        "paths outside a prefix are skipped",
+        r#""counts":true,"prefix":"b""#,
+        &[("a", FOO, STAGED), ("b", FOO, STAGED), ("c", FOO, STAGED)],
+        &[("a", SAME), ("c", SAME)],
+        "1 removed \"b\"\ntotal: to process 1, processed 1, skipped 2, lstat 1, to update 0, racy 0, read 0, bytes 0\n",
+    ),
+    (
+        "a prefix of no path skips every entry",
+        r#""counts":true,"prefix":"z""#,
+        &[("a", FOO, STAGED), ("b", FOO, STAGED), ("c", FOO, STAGED)],
+        &[("a", SAME), ("c", SAME)],
+        "total: to process 3, processed 3, skipped 3, lstat 0, to update 0, racy 0, read 0, bytes 0\n",
+    ),
+    (
+        "a prefix may be a whole path",
+        r#""counts":true,"prefix":"d/x""#,
+        &[
+            ("a", FOO, STAGED),
+            ("d/x", FOO, STAGED),
+            ("d/xy", FOO, STAGED),
+            ("d/y", FOO, STAGED),
+        ],
+        &[("d/z", SAME)],
+        "1 removed \"d/x\"\n2 removed \"d/xy\"\ntotal: to process 2, processed 2, skipped 2, lstat 2, to update 0, racy 0, read 0, bytes 0\n",
+    ),
+    (
+        "a prefix serves either comparer",
+        r#""counts":true,"prefix":"b","comparer":"fast""#,
+        &[("a", FOO, STAGED), ("b", FOO, STAGED)],
+        &[("a", LONGER), ("b", LONGER)],
+        "1 modified -c- \"b\"\ntotal: to process 1, processed 1, skipped 1, lstat 1, to update 0, racy 0, read 0, bytes 0\n",
+    ),
 ];
 
 static CONFLICTS: [Case; 5] = [
@@ -181,42 +214,6 @@ static CONFLICTS: [Case; 5] = [
         ],
         &[("f", SAME)],
         "1 conflict deleted-by-us 13 \"f\"\ntotal: to process 3, processed 2, skipped 0, lstat 1, to update 0, racy 0, read 0, bytes 0\n",
-    ),
-];
-
-static PREFIXES: [Case; 4] = [
-    (
-        "paths outside a prefix are skipped",
-        r#""counts":true,"prefix":"b""#,
-        &[("a", FOO, STAGED), ("b", FOO, STAGED), ("c", FOO, STAGED)],
-        &[("a", SAME), ("c", SAME)],
-        "1 removed \"b\"\ntotal: to process 1, processed 1, skipped 2, lstat 1, to update 0, racy 0, read 0, bytes 0\n",
-    ),
-    (
-        "a prefix of no path skips every entry",
-        r#""counts":true,"prefix":"z""#,
-        &[("a", FOO, STAGED), ("b", FOO, STAGED), ("c", FOO, STAGED)],
-        &[("a", SAME), ("c", SAME)],
-        "total: to process 3, processed 3, skipped 3, lstat 0, to update 0, racy 0, read 0, bytes 0\n",
-    ),
-    (
-        "a prefix may be a whole path",
-        r#""counts":true,"prefix":"d/x""#,
-        &[
-            ("a", FOO, STAGED),
-            ("d/x", FOO, STAGED),
-            ("d/xy", FOO, STAGED),
-            ("d/y", FOO, STAGED),
-        ],
-        &[("d/z", SAME)],
-        "1 removed \"d/x\"\n2 removed \"d/xy\"\ntotal: to process 2, processed 2, skipped 2, lstat 2, to update 0, racy 0, read 0, bytes 0\n",
-    ),
-    (
-        "a prefix serves either comparer",
-        r#""counts":true,"prefix":"b","comparer":"fast""#,
-        &[("a", FOO, STAGED), ("b", FOO, STAGED)],
-        &[("a", LONGER), ("b", LONGER)],
-        "1 modified -c- \"b\"\ntotal: to process 1, processed 1, skipped 1, lstat 1, to update 0, racy 0, read 0, bytes 0\n",
     ),
 ];
 
@@ -303,6 +300,17 @@ const NO_ENTRIES: &str =
 // Outputs with room for so many bytes, and what stands there in the end.
 static FULL: [(usize, &str); 2] = [(0, ""), (5, "total")];
 
+// An entry behind `a` whose path isn't normal.
+const NOT_NORMAL: &[Entry] = &[("a", FOO, STAGED), ("a//b", FOO, STAGED)];
+
+// Options, the file `a`, and the lines before the fault.
+static FAULTS: [(&str, &[Node], &str); 3] = [
+    (COUNTS, &[("a", AS_LONG)], "0 modified -c- \"a\"\n"),
+    // Lines that wait for what isn't tracked, or to be sorted, are not printed.
+    (r#""untracked":true"#, &[("a", LONGER)], ""),
+    (r#""sort":true,"counts":true"#, &[("a", LONGER)], ""),
+];
+
 // Where the output can't be flushed: options, entries, and the lines before. The worktree has `a`, which was changed.
 static UNFLUSHED: [(&str, &str, &[Entry], &str); 4] = [
     (
@@ -388,25 +396,35 @@ fn push_item(items: &mut String, item: &str) -> Result<(), AllocError> {
     items.push_str(item)
 }
 
+// The items of entries.
+fn entry_items(alloc: Global, entries: &[Entry]) -> Result<String, AllocError> {
+    let mut items = String::new(alloc);
+    for (path, id, members) in entries {
+        let item = format!(in alloc; r#"{{"path":"{path}","id":"{id}",{members}}}"#)?;
+        push_item(&mut items, item.as_str())?;
+    }
+    Ok(items)
+}
+
+// The items of nodes.
+fn node_items(alloc: Global, nodes: &[Node]) -> Result<String, AllocError> {
+    let mut items = String::new(alloc);
+    for (path, members) in nodes {
+        let item = format!(in alloc; r#"{{"path":"{path}",{members}}}"#)?;
+        push_item(&mut items, item.as_str())?;
+    }
+    Ok(items)
+}
+
 // A profile that was written in second 9, with these options as members.
-pub fn profile(
+fn profile(
     alloc: Global,
     options: &str,
     entries: &[Entry],
     nodes: &[Node],
 ) -> Result<String, AllocError> {
-    let mut index = String::new(alloc);
-    for entry in entries {
-        let (path, id, members) = *entry;
-        let item = format!(in alloc; r#"{{"path":"{path}","id":"{id}",{members}}}"#)?;
-        push_item(&mut index, item.as_str())?;
-    }
-    let mut worktree = String::new(alloc);
-    for node in nodes {
-        let (path, members) = *node;
-        let item = format!(in alloc; r#"{{"path":"{path}",{members}}}"#)?;
-        push_item(&mut worktree, item.as_str())?;
-    }
+    let index = entry_items(alloc, entries)?;
+    let worktree = node_items(alloc, nodes)?;
     format!(in alloc;
         r#"{{"timestamp":[9,0],"options":{{{options}}},"index":[{index}],"worktree":[{worktree}]}}"#
     )
@@ -442,12 +460,6 @@ fn conflicts_are_reported_once(rt: HostRuntime) -> Result<(), Fail> {
 }
 
 #[test]
-fn paths_outside_a_prefix_are_skipped(rt: HostRuntime) -> Result<(), Fail> {
-    assert_cases(&rt, &PREFIXES)?;
-    Ok(())
-}
-
-#[test]
 fn a_profile_that_is_refused_is_reported(rt: HostRuntime) {
     for (text, fault) in &REFUSED {
         assert_printed(&rt, text, text, "", fault);
@@ -467,12 +479,28 @@ fn a_file_that_cannot_be_read_is_reported(rt: HostRuntime) {
     assert_eq!(rt; faults.as_slice(), b"cannot read d/f\n".as_slice());
 }
 
+// Asserts that these lines stand before the fault of an entry that comes behind `a`.
+fn assert_fault<R: AllocGlobal + Abort + Files + Sync + Threads + Wait>(
+    rt: &R,
+    options: &str,
+    nodes: &[Node],
+    lines: &str,
+) -> Result<(), AllocError>
+where
+    R::File: Send,
+    R::Dir: Send,
+{
+    let text = profile(rt.alloc(), options, NOT_NORMAL, nodes)?;
+    let fault = "status failed: not normal\n";
+    assert_printed(rt, options, text.as_str(), lines, fault);
+    Ok(())
+}
+
 #[test]
 fn the_records_before_a_fault_stay_printed(rt: HostRuntime) -> Result<(), Fail> {
-    let entries = [("a", FOO, STAGED), ("a//b", FOO, STAGED)];
-    let text = profile(rt.alloc(), COUNTS, &entries, &[("a", AS_LONG)])?;
-    let fault = "status failed: not normal\n";
-    assert_printed(&rt, "a//b", text.as_str(), "0 modified -c- \"a\"\n", fault);
+    for (options, nodes, lines) in &FAULTS {
+        assert_fault(&rt, options, nodes, lines)?;
+    }
     Ok(())
 }
 
@@ -484,12 +512,26 @@ fn a_full_output_is_a_failure_with_no_line(rt: HostRuntime) {
     }
 }
 
+// Asserts that these lines stand on an output that can't be flushed then.
+fn assert_unflushed<R: AllocGlobal + Abort + Files + Sync + Threads + Wait>(
+    rt: &R,
+    unflushed: &(&str, &str, &[Entry], &str),
+) -> Result<(), AllocError>
+where
+    R::File: Send,
+    R::Dir: Send,
+{
+    let (name, options, entries, lines) = *unflushed;
+    let text = profile(rt.alloc(), options, entries, &[("a", LONGER)])?;
+    let paper = Paper::flushed_below(rt.alloc(), lines.len());
+    assert_answer(rt, name, text.as_str().as_bytes(), paper, (1, lines, ""));
+    Ok(())
+}
+
 #[test]
 fn an_output_that_is_not_flushed_is_a_failure_with_no_line(rt: HostRuntime) -> Result<(), Fail> {
-    for (name, options, entries, lines) in &UNFLUSHED {
-        let text = profile(rt.alloc(), options, entries, &[("a", LONGER)])?;
-        let paper = Paper::flushed_below(rt.alloc(), lines.len());
-        assert_answer(&rt, name, text.as_str().as_bytes(), paper, (1, lines, ""));
+    for unflushed in &UNFLUSHED {
+        assert_unflushed(&rt, unflushed)?;
     }
     Ok(())
 }
