@@ -53,7 +53,7 @@ fn assert_recorded<R: AllocGlobal + Threads + Wait + Abort>(
     let report = status_of(rt, &index, &worktree, HashEq, plain_request(rt.alloc()));
     let entries = [kept(1, stages), kept(2, stages), kept(3, stages)];
     let wanted = EntryStatus::Conflict { summary, entries };
-    assert!(rt; report.is_all(&[(0, "f", wanted)]), "{stages:?}");
+    assert!(rt; report.is_each(&["f"], &wanted), "{stages:?}");
     Ok(())
 }
 

@@ -22,7 +22,7 @@ fn a_path_of_ten_thousand_components_is_followed(rt: HostRuntime) -> Result<(), 
     let index = foo_index(rt.alloc(), &[path])?;
     let worktree = worktree(rt.alloc(), &[later_file(path, b"bar")])?;
     let report = status_of(&rt, &index, &worktree, HashEq, plain_request(rt.alloc()));
-    assert!(rt; report.is_all(&[(0, path, changed(BAR))]));
+    assert!(rt; report.is_each(&[path], &changed(BAR)));
     assert!(rt; report.took(&one_file_read(3)));
     Ok(())
 }
