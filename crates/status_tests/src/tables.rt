@@ -233,8 +233,8 @@ pub enum OfSubmodules<'a, U> {
 
 impl<U: Copy + PartialEq> OfSubmodules<'_, U> {
     /// Whether a report says so.
-    pub fn is_told(&self, report: &Report<'_, ObjectId, U>) -> bool {
-        match *self {
+    pub fn is_told(self, report: &Report<'_, ObjectId, U>) -> bool {
+        match self {
             OfSubmodules::Changed(count, told) => {
                 report.took(&files_found(count)) && are_changed(report, told)
             }

@@ -28,12 +28,13 @@ fn listed_size(found: Option<Stat>) -> Option<u64> {
     Some(found?.size)
 }
 
-#[test]
-fn a_folder_is_listed(rt: HostRuntime) -> Result<(), Fail> {
-    let folder = own_folder(&rt, "a_folder_is_listed")?;
-    let root = folder.as_str();
-    write_files(&rt, root)?;
-    let lister = FolderLister { rt: &rt, root };
+// Asserts which files are listed in a folder of two, and that two directories are listed for that.
+fn assert_listed<R: AllocGlobal + Abort>(
+    rt: &R,
+    system: &HostRuntime,
+    root: &str,
+) -> Result<(), Fail> {
+    let lister = FolderLister { rt: system, root };
     let mut cache = FsCache::new(rt.alloc(), &lister);
     for (path, size) in [
         ("test.txt", Some(3)),
@@ -45,7 +46,15 @@ fn a_folder_is_listed(rt: HostRuntime) -> Result<(), Fail> {
         assert_eq!(rt; listed_size(found), size, "at {path}");
     }
     assert_eq!(rt; cache.listings(), 2);
-    fs::remove_dir_all(&rt, root)?;
+    Ok(())
+}
+
+#[test]
+fn a_folder_is_listed(rt: HostRuntime) -> Result<(), Fail> {
+    let folder = own_folder(&rt, "a_folder_is_listed")?;
+    write_files(&rt, folder.as_str())?;
+    assert_listed(&rt, &rt, folder.as_str())?;
+    fs::remove_dir_all(&rt, folder.as_str())?;
     Ok(())
 }
 
@@ -86,12 +95,11 @@ fn assert_told<R: AllocGlobal + Threads + Wait + Abort>(
 #[test]
 fn a_listed_folder_has_the_same_status(rt: HostRuntime) -> Result<(), Fail> {
     let folder = own_folder(&rt, "a_listed_folder")?;
-    let root = folder.as_str();
-    write_files(&rt, root)?;
+    write_files(&rt, folder.as_str())?;
     // Of the listed folder only what no listing knows is looked at.
     for (fscache, lstats) in [(false, 4), (true, 1)] {
-        assert_told(&rt, &rt, root, fscache, lstats)?;
+        assert_told(&rt, &rt, folder.as_str(), fscache, lstats)?;
     }
-    fs::remove_dir_all(&rt, root)?;
+    fs::remove_dir_all(&rt, folder.as_str())?;
     Ok(())
 }

@@ -72,11 +72,11 @@ fn blobs_may_lie_in_a_folder(rt: HostRuntime) -> Result<(), Fail> {
 }
 
 // Asserts that the blob of the first or of the second of two entries is missing. What is reported before it is `told`.
-fn assert_lacking<R: AllocGlobal + Files + Sync + Threads + Wait + Abort>(
+fn assert_lacking<'a, R: AllocGlobal + Files + Sync + Threads + Wait + Abort>(
     rt: &R,
     folder: &str,
-    name: &str,
-    told: &[(usize, &str, Told<u64>)],
+    name: &'a str,
+    told: &'a [(usize, &'a str, Told<u64>)],
 ) -> Result<(), Fail>
 where
     R::File: Send,

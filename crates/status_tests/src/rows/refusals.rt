@@ -54,12 +54,11 @@ fn a_filter_that_fails_at_each_entry(rt: HostRuntime) -> Result<(), Fail> {
     let index = foo_index(rt.alloc(), &PATHS)?;
     for place in 0..PATHS.len() {
         // The files from a place on were changed, and those before it are gone.
-        let (gone, there) = (&PATHS[..place], &PATHS[place..]);
-        let worktree = bar_worktree(rt.alloc(), there)?;
+        let worktree = bar_worktree(rt.alloc(), &PATHS[place..])?;
         for fault in FAULTS {
             for way in WAYS {
                 assert!(rt;
-                    is_refused(&rt, &index, &worktree, gone, fault, way),
+                    is_refused(&rt, &index, &worktree, &PATHS[..place], fault, way),
                     "{place}, {fault}"
                 );
             }
@@ -118,10 +117,9 @@ fn a_submodule_that_fails_at_each_entry(rt: HostRuntime) -> Result<(), Fail> {
     for (place, path) in PATHS.iter().enumerate() {
         let index = index_with_submodule(rt.alloc(), place)?;
         let worktree = worktree_with_submodule(rt.alloc(), place)?;
-        let before = &PATHS[..place];
         for way in WAYS {
             assert!(rt;
-                is_failed(&rt, &index, &worktree, before, *path, way),
+                is_failed(&rt, &index, &worktree, &PATHS[..place], *path, way),
                 "{path}"
             );
         }

@@ -66,9 +66,6 @@ fn status_by<'index, R: Threads + Wait>(
     run_rounds(rt, alloc, &considered, 1, &workers, &decider, recorder)
 }
 
-// A stack that no thread can have.
-const TOO_LARGE: Option<usize> = Some(usize::MAX);
-
 // Whether the status is refused a thread, and nothing is reported.
 fn is_refused<R: AllocGlobal + Threads + Wait>(
     rt: &R,
@@ -107,11 +104,12 @@ fn removed_by<R: AllocGlobal + Threads + Wait>(
 fn a_refused_thread_ends_the_status_and_nothing_is_reported(rt: HostRuntime) -> Result<(), Fail> {
     let index = foo_index(rt.alloc(), &["a", "b", "c"])?;
     let one = foo_index(rt.alloc(), &["a"])?;
-    assert!(rt; is_refused(&rt, &index, 2, TOO_LARGE));
+    let too_large = Some(usize::MAX);
+    assert!(rt; is_refused(&rt, &index, 2, too_large));
     // The caller alone starts no thread.
-    assert_eq!(rt; removed_by(&rt, &index, 1, TOO_LARGE), Some(3));
+    assert_eq!(rt; removed_by(&rt, &index, 1, too_large), Some(3));
     // One entry has one piece, so one worker, which is the caller.
-    assert_eq!(rt; removed_by(&rt, &one, 2, TOO_LARGE), Some(1));
+    assert_eq!(rt; removed_by(&rt, &one, 2, too_large), Some(1));
     assert_eq!(rt; removed_by(&rt, &index, 2, None), Some(3));
     Ok(())
 }
