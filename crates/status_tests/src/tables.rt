@@ -30,8 +30,8 @@ pub enum Told<T> {
     TypeChange(Mode),
     /// The file of a promise.
     IntentToAdd,
-    /// A conflict, and whether it has each of the stages, whose entries are plain ones.
-    Conflict(Conflict, bool, bool, bool),
+    /// A conflict of plain entries, and their stages, each in its place: 0 where it is missing.
+    Conflict(Conflict, [u32; 3]),
 }
 
 impl<T: Copy> Told<T> {
@@ -52,17 +52,17 @@ impl<T: Copy> Told<T> {
                 EntryStatus::Change(Change::TypeChange { worktree_mode })
             }
             Told::IntentToAdd => EntryStatus::IntentToAdd,
-            Told::Conflict(summary, base, ours, theirs) => EntryStatus::Conflict {
+            Told::Conflict(summary, [base, ours, theirs]) => EntryStatus::Conflict {
                 summary,
-                entries: [kept(1, base), kept(2, ours), kept(3, theirs)],
+                entries: [kept(base), kept(ours), kept(theirs)],
             },
         }
     }
 }
 
-// What a conflict keeps of a plain entry of a stage, where it has that.
-fn kept(stage: u32, is_there: bool) -> Option<ConflictIndexEntry> {
-    is_there.then_some(ConflictIndexEntry {
+// What a conflict keeps of a plain entry of a stage. None where that is 0.
+fn kept(stage: u32) -> Option<ConflictIndexEntry> {
+    (stage > 0).then_some(ConflictIndexEntry {
         id: FOO,
         flags: Flags::from_stage(stage),
         mode: Mode::File,

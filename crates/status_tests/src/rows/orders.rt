@@ -106,7 +106,7 @@ fn flags_are_ordered_by_their_bits(rt: HostRuntime) {
     assert_ascending(&rt, &flags);
 }
 
-// The outcome whose field at a place is 1, counted from the last field, which is the first place. All others are 0.
+// The outcome whose field at a place is 1, counted from the last field, and all others 0. At place 0 all are.
 fn outcome_at(place: usize) -> Outcome {
     Outcome {
         interrupted: place == 1,

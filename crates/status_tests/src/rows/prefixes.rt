@@ -29,6 +29,15 @@ fn below(entries: usize, outside_prefix: usize) -> Counts {
     }
 }
 
+// The counts where the pathspec excludes each of so many entries.
+fn outside(entries: usize) -> Counts {
+    Counts {
+        lstats: 0,
+        outside_pathspec: entries,
+        ..Counts::found(entries)
+    }
+}
+
 // The name of each row is the prefix.
 #[test]
 fn only_paths_below_a_prefix_are_considered(rt: HostRuntime) -> Result<(), Fail> {
@@ -45,11 +54,7 @@ fn only_paths_below_a_prefix_are_considered(rt: HostRuntime) -> Result<(), Fail>
         entries: &[foo_entry("a"), foo_entry("b"), foo_entry("c")],
         nodes: &[],
         told: &[],
-        answer: Answer::Takes(Counts {
-            lstats: 0,
-            outside_pathspec: 3,
-            ..Counts::found(3)
-        }),
+        answer: Answer::Takes(outside(3)),
     };
     // A prefix may be a whole path.
     let whole_path = Row {

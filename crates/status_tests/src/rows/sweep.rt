@@ -153,41 +153,13 @@ fn wanted() -> [(usize, &'static str, Told<ObjectId>); 20] {
         // A promise, and the file is there.
         (9, "j-intent", Told::IntentToAdd),
         // One record a path, for each set of stages.
-        (
-            14,
-            "o1",
-            Told::Conflict(Conflict::BothDeleted, true, false, false),
-        ),
-        (
-            15,
-            "o2",
-            Told::Conflict(Conflict::AddedByUs, false, true, false),
-        ),
-        (
-            16,
-            "o3",
-            Told::Conflict(Conflict::DeletedByThem, true, true, false),
-        ),
-        (
-            18,
-            "o4",
-            Told::Conflict(Conflict::AddedByThem, false, false, true),
-        ),
-        (
-            19,
-            "o5",
-            Told::Conflict(Conflict::DeletedByUs, true, false, true),
-        ),
-        (
-            21,
-            "o6",
-            Told::Conflict(Conflict::BothAdded, false, true, true),
-        ),
-        (
-            23,
-            "o7",
-            Told::Conflict(Conflict::BothModified, true, true, true),
-        ),
+        (14, "o1", Told::Conflict(Conflict::BothDeleted, [1, 0, 0])),
+        (15, "o2", Told::Conflict(Conflict::AddedByUs, [0, 2, 0])),
+        (16, "o3", Told::Conflict(Conflict::DeletedByThem, [1, 2, 0])),
+        (18, "o4", Told::Conflict(Conflict::AddedByThem, [0, 0, 3])),
+        (19, "o5", Told::Conflict(Conflict::DeletedByUs, [1, 0, 3])),
+        (21, "o6", Told::Conflict(Conflict::BothAdded, [0, 2, 3])),
+        (23, "o7", Told::Conflict(Conflict::BothModified, [1, 2, 3])),
         // The stat agrees but isn't older than the index: the content is read, is another, and would hide later on.
         (26, "p-racy", Told::Modified(false, Some(BAR), true)),
         // The same, where the content is the same.
