@@ -40,6 +40,19 @@ where
     status_of(rt, index, worktree, HashEq, request)
 }
 
+// Whether the first three paths are reported, and the fourth may not be read.
+fn is_denied<R: AllocGlobal + Threads + Wait, W: Worktree + Sync>(
+    rt: &R,
+    index: &State,
+    worktree: &W,
+) -> bool
+where
+    W::File: Send,
+{
+    let report = status_one_by_one(rt, index, worktree);
+    report.is_each(&["a", "b", "c"], &changed(BAR)) && report.failed_by(Fault::PermissionDenied)
+}
+
 // How often a call that fails at `d` looks at `d` and opens it, and then the same of `e`, where it ends the status.
 fn calls_until<R: AllocGlobal + Threads + Wait>(rt: &R, point: Point) -> Result<[usize; 4], Fail> {
     let paths = ["a", "b", "c", "d", "e"];
@@ -59,10 +72,7 @@ fn calls_until<R: AllocGlobal + Threads + Wait>(rt: &R, point: Point) -> Result<
         looks: &later_looks,
         opens: &later_opens,
     };
-    let report = status_one_by_one(rt, &index, &counted);
-    if !report.is_each(&["a", "b", "c"], &changed(BAR))
-        || !report.failed_by(Fault::PermissionDenied)
-    {
+    if !is_denied(rt, &index, &counted) {
         return Err(Fail::new("other records, or another fault"));
     }
     Ok([
@@ -165,6 +175,19 @@ fn a_read_that_fails_is_not_tried_again(rt: HostRuntime) -> Result<(), Fail> {
     Ok(())
 }
 
+// Whether the file `a` is reported as the long one, and its bytes are all that is read.
+fn is_long<R: AllocGlobal + Threads + Wait, W: Worktree + Sync>(
+    rt: &R,
+    worktree: &W,
+) -> Result<bool, Fail>
+where
+    W::File: Send,
+{
+    let index = foo_index(rt.alloc(), &["a"])?;
+    let report = status_one_by_one(rt, &index, worktree);
+    Ok(report.is_each(&["a"], &changed(LONG)) && report.took(&one_file_read(200_000)))
+}
+
 #[test]
 fn a_long_file_is_opened_once_and_read_in_large_pieces(rt: HostRuntime) -> Result<(), Fail> {
     let content = Vec::from_elem(rt.alloc(), b'x', 200_000)?;
@@ -180,10 +203,7 @@ fn a_long_file_is_opened_once_and_read_in_large_pieces(rt: HostRuntime) -> Resul
         looks: &looks,
         opens: &opens,
     };
-    let index = foo_index(rt.alloc(), &["a"])?;
-    let report = status_one_by_one(&rt, &index, &worktree);
-    assert!(rt; report.is_each(&["a"], &changed(LONG)));
-    assert!(rt; report.took(&one_file_read(200_000)));
+    assert!(rt; is_long(&rt, &worktree)?);
     assert_eq!(rt; looks.load(Ordering::SeqCst), 1);
     assert_eq!(rt; opens.load(Ordering::SeqCst), 1);
     // Four of 64 KiB give the bytes, and one more may meet the end.

@@ -17,7 +17,7 @@ use gix_status::index_as_worktree::traits::HashEq;
 use gix_status::worktree::{
     AllPaths, Fault, MemoryObjects, MemoryWorktree, NoFilter, NoSubmodules,
 };
-use std::alloc::Global;
+use std::alloc::{AllocError, Global};
 use std::sync::Wait;
 use std::test::Fail;
 use std::thread::Threads;
@@ -153,28 +153,30 @@ fn worktree_of_bars(alloc: Global) -> Result<MemoryWorktree, Fail> {
     Ok(worktree(alloc, &nodes)?)
 }
 
-// Whether the status by the lengths of blobs reports that the files before a place were changed, and lacks a blob.
+// Whether the status by the lengths of blobs reports that these files were changed, and lacks a blob.
 fn is_lacking<R: AllocGlobal + Threads + Wait>(
     rt: &R,
-    place: usize,
+    index: &State,
+    worktree: &MemoryWorktree,
+    before: &[&str],
     way: (usize, usize),
-) -> Result<bool, Fail> {
-    let index = index_lacking(rt.alloc(), place)?;
-    let worktree = worktree_of_bars(rt.alloc())?;
+) -> Result<bool, AllocError> {
     let objects = foo_blob(rt.alloc())?;
     let request = Request::new(NoSubmodules, objects, AllPaths, NoFilter, by_way(way));
-    let report = status_with(rt, &index, &worktree, BlobLength, request, None);
-    let Some(before) = PATHS.get(..place) else {
-        return Ok(false);
-    };
+    let report = status_with(rt, index, worktree, BlobLength, request, None);
     Ok(report.lacks_blob() && report.is_each(before, &changed(4)))
 }
 
 #[test]
 fn a_blob_that_is_missing_at_each_entry(rt: HostRuntime) -> Result<(), Fail> {
+    let worktree = worktree_of_bars(rt.alloc())?;
     for place in 0..PATHS.len() {
+        let index = index_lacking(rt.alloc(), place)?;
         for way in WAYS {
-            assert!(rt; is_lacking(&rt, place, way)?, "{place}");
+            assert!(rt;
+                is_lacking(&rt, &index, &worktree, &PATHS[..place], way)?,
+                "{place}"
+            );
         }
     }
     Ok(())
