@@ -2,7 +2,9 @@
 
 use bstr::{BStr, BString};
 use gix_status::index::{Flags, IndexError, Mode, Moment, NewEntry, ObjectId, Stat, State, Time};
-use gix_status::worktree::{MemoryWorktree, Node, NodeKind, TreeError};
+use gix_status::worktree::{
+    Fault, MemoryObjects, MemoryWorktree, Node, NodeKind, Point, TreeError,
+};
 use std::alloc::{AllocError, Global};
 use std::test::Fail;
 
@@ -124,9 +126,14 @@ pub fn index(alloc: Global, written: u32, entries: &[GivenEntry<'_>]) -> Result<
 
 /// The index of plain entries at these paths, with no racy one.
 pub fn foo_index(alloc: Global, paths: &[&str]) -> Result<State, IndexError> {
+    mode_index(alloc, Mode::File, paths)
+}
+
+/// The index of entries of a mode at these paths.
+pub fn mode_index(alloc: Global, mode: Mode, paths: &[&str]) -> Result<State, IndexError> {
     let mut entries = Vec::new(alloc);
     for path in paths {
-        entries.push(foo_entry(*path))?;
+        entries.push(mode_entry(*path, mode))?;
     }
     index(alloc, WRITTEN, &entries)
 }
@@ -227,4 +234,24 @@ pub fn bar_worktree(alloc: Global, paths: &[&str]) -> Result<MemoryWorktree, Fai
         nodes.push(later_file(*path, b"bar"))?;
     }
     Ok(worktree(alloc, &nodes)?)
+}
+
+/// The same, where calls at some paths meet faults.
+pub fn planted_worktree(
+    alloc: Global,
+    paths: &[&str],
+    planted: &[(&str, Point, Fault)],
+) -> Result<MemoryWorktree, Fail> {
+    let mut worktree = bar_worktree(alloc, paths)?;
+    for (path, point, fault) in planted {
+        worktree.plant(BStr::from(*path), *point, *fault)?;
+    }
+    Ok(worktree)
+}
+
+/// The blob of the plain entries, and no other.
+pub fn foo_blob(alloc: Global) -> Result<MemoryObjects, AllocError> {
+    let mut objects = MemoryObjects::new(alloc);
+    objects.put(FOO, b"foo")?;
+    Ok(objects)
 }

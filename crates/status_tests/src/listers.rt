@@ -7,6 +7,8 @@ use gix_status::fscache::Stat;
 use gix_status::worktree::disk::metadata_of;
 use gix_status::worktree::{Lister, Listing, Metadata, NodeKind};
 use std::alloc::{AllocError, Global};
+use std::fs::DirEntry;
+use std::rt::Files;
 use std::{fs, io};
 
 /// A directory's path and its names with their stats, or None where it can't be listed.
@@ -82,13 +84,22 @@ fn listed_below(
     let path = format!(in alloc; "{root}/{directory}")?;
     let mut entries = Vec::new(alloc);
     for found in fs::read_dir(rt, path.as_str())? {
-        let found = found?;
-        let node = metadata_of(&found.metadata()?);
-        if let Some(stat) = listed(&node) {
-            entries.push((BString::from_slice(alloc, found.file_name())?, stat))?;
-        }
+        add(alloc, &mut entries, &found?)?;
     }
     Ok(entries)
+}
+
+// Adds a name with its stat to a list, where a listing has a word for its node.
+fn add<R: Files>(
+    alloc: Global,
+    entries: &mut Vec<(BString, Stat)>,
+    found: &DirEntry<R>,
+) -> io::Result<()> {
+    let node = metadata_of(&found.metadata()?);
+    if let Some(stat) = listed(&node) {
+        entries.push((BString::from_slice(alloc, found.file_name())?, stat))?;
+    }
+    Ok(())
 }
 
 // What a listing says of a node. None where it has no word for it: it isn't of the three kinds, or a stamp isn't known.

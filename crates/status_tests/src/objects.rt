@@ -47,6 +47,12 @@ impl<'a, R: Files + AllocGlobal> Find for FolderObjects<'a, R> {
     }
 }
 
+// The path of a blob's file.
+fn path_of<R: AllocGlobal>(rt: &R, folder: &str, id: &ObjectId) -> io::Result<String> {
+    let name = hex::encode(rt.alloc(), id.as_bytes())?;
+    Ok(format!(in rt.alloc(); "{folder}/{name}")?)
+}
+
 // Reads the file of a blob.
 fn read_blob<R: Files + AllocGlobal>(
     rt: &R,
@@ -54,8 +60,7 @@ fn read_blob<R: Files + AllocGlobal>(
     id: &ObjectId,
     buffer: &mut Vec<u8>,
 ) -> io::Result<()> {
-    let name = hex::encode(rt.alloc(), id.as_bytes())?;
-    let path = format!(in rt.alloc(); "{folder}/{name}")?;
+    let path = path_of(rt, folder, id)?;
     let mut file = fs::open(rt, path.as_str())?;
     buffer.clear();
     file.read_to_end(buffer)?;

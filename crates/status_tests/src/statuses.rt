@@ -12,8 +12,8 @@ use gix_status::index_as_worktree::{
     VisitEntry, index_as_worktree,
 };
 use gix_status::worktree::{
-    AllPaths, Fault, Find, Lister, MemoryObjects, NoFilter, NoLister, NoSubmodules, Pathspec,
-    SubmoduleStatus, ToGit, Worktree,
+    AllPaths, Fault, Find, FindError, Lister, MemoryObjects, NoFilter, NoLister, NoSubmodules,
+    Pathspec, SubmoduleStatus, ToGit, Worktree,
 };
 use std::alloc::Global;
 use std::sync::Wait;
@@ -86,28 +86,6 @@ pub fn files_read(files: usize, bytes: u64) -> Outcome {
         worktree_bytes: bytes,
         ..files_found(files)
     }
-}
-
-/// What it takes to compare one file with a blob of so many bytes. The file isn't read.
-pub fn one_blob_read(bytes: u64) -> Outcome {
-    Outcome {
-        odb_objects_read: 1,
-        odb_bytes: bytes,
-        ..one_file()
-    }
-}
-
-/// The same, where one entry turns out to need a new stat.
-pub fn with_update(outcome: Outcome) -> Outcome {
-    Outcome {
-        entries_to_update: 1,
-        ..outcome
-    }
-}
-
-/// What it takes to find one file of which nothing is read.
-pub fn one_file() -> Outcome {
-    files_found(1)
 }
 
 /// What it takes to find so many files, or that they aren't there. Nothing is read.
@@ -446,6 +424,24 @@ impl<'index, T, U> Report<'index, T, U> {
         }
     }
 
+    /// Whether the status failed by the submodule at a path, with this text.
+    pub fn failed_at(&self, path: &str, text: &str) -> bool {
+        match &self.answer {
+            Err(
+                Error::SubmoduleStatus {
+                    rela_path,
+                    text: found,
+                },
+            ) => rela_path.as_bytes() == path.as_bytes() && found.as_bytes() == text.as_bytes(),
+            _ => false,
+        }
+    }
+
+    /// Whether the status failed by a blob that is missing.
+    pub fn lacks_blob(&self) -> bool {
+        matches!(&self.answer, Err(Error::Find(FindError::Missing)))
+    }
+
     /// Whether each record has the entry that stands at its place of this index, and that entry's path.
     pub fn is_of(&self, index: &State) -> bool {
         for record in &self.records {
@@ -477,19 +473,6 @@ fn is_same(entry: &Entry, other: &Entry, index: &State) -> bool {
 }
 
 impl<'index, T: PartialEq, U: PartialEq> Report<'index, T, U> {
-    /// Whether these are all the records: each by its entry's place and path, and its status.
-    pub fn is_all(&self, wanted: &[(usize, &str, EntryStatus<T, U>)]) -> bool {
-        if self.records.len() != wanted.len() {
-            return false;
-        }
-        for (record, (at, path, status)) in self.records.iter().zip(wanted) {
-            if !is_record(record, *at, *path, status) {
-                return false;
-            }
-        }
-        true
-    }
-
     /// Whether there is one record for each of the first entries, which have these paths, all with the same status.
     pub fn is_each(&self, paths: &[&str], status: &EntryStatus<T, U>) -> bool {
         if self.records.len() != paths.len() {
@@ -514,4 +497,15 @@ pub fn is_record<T: PartialEq, U: PartialEq>(
     record.entry_index == at
         && record.relative_path.as_bytes() == path.as_bytes()
         && record.status == *status
+}
+
+/// Whether records are of the first entries of an index, none of which has a file.
+pub fn are_removed<T, U>(records: &[Record<'_, T, U>]) -> bool {
+    for (at, record) in records.iter().enumerate() {
+        let is_removed = matches!(record.status, EntryStatus::Change(Change::Removed));
+        if record.entry_index != at || !is_removed {
+            return false;
+        }
+    }
+    true
 }

@@ -1,13 +1,14 @@
 //! Rows of tables: a small index and worktree, and what a status has to report of them and take.
 
-use crate::given::{GivenEntry, GivenNode, WRITTEN, index, worktree};
+use crate::given::{FOO, GivenEntry, GivenNode, WRITTEN, index, worktree};
 use crate::statuses::{
-    FileRequest, Report, changed, files_found, is_record, plain_request, removed, status_of,
+    FileRequest, Report, changed, files_found, is_record, plain_request, removed,
+    status_by_lengths, status_of,
 };
-use gix_status::index::Stat;
+use gix_status::index::{Flags, Mode, ObjectId, Stat};
 use gix_status::index_as_worktree::traits::CompareBlobs;
-use gix_status::index_as_worktree::{EntryStatus, Outcome};
-use gix_status::worktree::{Fault, Pathspec, ToGit};
+use gix_status::index_as_worktree::{Change, Conflict, ConflictIndexEntry, EntryStatus, Outcome};
+use gix_status::worktree::{Fault, Find, Pathspec, ToGit};
 use std::process::Abort;
 use std::sync::Wait;
 use std::test::Fail;
@@ -22,16 +23,66 @@ pub enum Told<T> {
     Updated(Stat),
     /// No file is there.
     Removed,
+    /// Whether executability changed, which other content there is, and whether the size is to be
+    /// set to zero.
+    Modified(bool, Option<T>, bool),
+    /// A node of another mode.
+    TypeChange(Mode),
+    /// The file of a promise.
+    IntentToAdd,
+    /// A conflict of plain entries, and their stages, each in its place: 0 where it is missing.
+    Conflict(Conflict, [u32; 3]),
 }
 
 impl<T: Copy> Told<T> {
-    fn status(self) -> EntryStatus<T, ()> {
+    /// The status of a record that tells this.
+    pub fn status(self) -> EntryStatus<T, ()> {
         match self {
             Told::Changed(content) => changed(content),
             Told::Updated(stat) => EntryStatus::NeedsUpdate(stat),
             Told::Removed => removed(),
+            Told::Modified(executable_bit_changed, content_change, set_entry_stat_size_zero) => {
+                EntryStatus::Change(Change::Modification {
+                    executable_bit_changed,
+                    content_change,
+                    set_entry_stat_size_zero,
+                })
+            }
+            Told::TypeChange(worktree_mode) => {
+                EntryStatus::Change(Change::TypeChange { worktree_mode })
+            }
+            Told::IntentToAdd => EntryStatus::IntentToAdd,
+            Told::Conflict(summary, [base, ours, theirs]) => EntryStatus::Conflict {
+                summary,
+                entries: [kept(base), kept(ours), kept(theirs)],
+            },
         }
     }
+}
+
+// What a conflict keeps of a plain entry of a stage. None where that is 0.
+fn kept(stage: u32) -> Option<ConflictIndexEntry> {
+    (stage > 0).then_some(ConflictIndexEntry {
+        id: FOO,
+        flags: Flags::from_stage(stage),
+        mode: Mode::File,
+    })
+}
+
+/// Whether these are all the records of a report, each by its place, its path, and what it tells.
+pub fn are_told<T: Copy + PartialEq>(
+    report: &Report<'_, T, ()>,
+    told: &[(usize, &str, Told<T>)],
+) -> bool {
+    if report.records.len() != told.len() {
+        return false;
+    }
+    for (record, (at, path, told)) in report.records.iter().zip(told) {
+        if !is_record(record, *at, *path, &told.status()) {
+            return false;
+        }
+    }
+    true
 }
 
 /// What a status takes, where its entries are found or known not to be there. All other counts
@@ -43,6 +94,8 @@ pub struct Counts {
     pub updates: usize,
     pub files: usize,
     pub bytes: u64,
+    pub blobs: usize,
+    pub blob_bytes: u64,
     pub outside_prefix: usize,
     pub outside_pathspec: usize,
 }
@@ -56,6 +109,8 @@ impl Counts {
             updates: 0,
             files: 0,
             bytes: 0,
+            blobs: 0,
+            blob_bytes: 0,
             outside_prefix: 0,
             outside_pathspec: 0,
         }
@@ -70,12 +125,23 @@ impl Counts {
         }
     }
 
+    /// An lstat of one file, which isn't read, and a read of its blob of so many bytes.
+    pub const fn one_blob(blob_bytes: u64) -> Counts {
+        Counts {
+            blobs: 1,
+            blob_bytes,
+            ..Counts::found(1)
+        }
+    }
+
     fn outcome(&self) -> Outcome {
         Outcome {
             symlink_metadata_calls: self.lstats,
             entries_to_update: self.updates,
             worktree_files_read: self.files,
             worktree_bytes: self.bytes,
+            odb_objects_read: self.blobs,
+            odb_bytes: self.blob_bytes,
             entries_skipped_by_common_prefix: self.outside_prefix,
             entries_skipped_by_pathspec: self.outside_pathspec,
             ..files_found(self.entries)
@@ -88,6 +154,18 @@ impl Counts {
 pub enum Answer {
     Takes(Counts),
     FailsBy(Fault),
+    LacksBlob,
+}
+
+impl Answer {
+    /// Whether a report ends so.
+    pub fn is_of<T, U>(self, report: &Report<'_, T, U>) -> bool {
+        match self {
+            Answer::Takes(counts) => report.took(&counts.outcome()),
+            Answer::FailsBy(fault) => report.failed_by(fault),
+            Answer::LacksBlob => report.lacks_blob(),
+        }
+    }
 }
 
 /// An index and a worktree, and what is reported: each record's place and path, and what it tells.
@@ -98,29 +176,6 @@ pub struct Row<'a, T> {
     pub nodes: &'a [GivenNode<'a>],
     pub told: &'a [(usize, &'a str, Told<T>)],
     pub answer: Answer,
-}
-
-impl<T: Copy + PartialEq> Row<'_, T> {
-    // Whether these are all the records of a report.
-    fn is_told(&self, report: &Report<'_, T, ()>) -> bool {
-        if report.records.len() != self.told.len() {
-            return false;
-        }
-        for (record, (at, path, told)) in report.records.iter().zip(self.told) {
-            if !is_record(record, *at, *path, &told.status()) {
-                return false;
-            }
-        }
-        true
-    }
-
-    // Whether a report ends as it has to.
-    fn is_answered(&self, report: &Report<'_, T, ()>) -> bool {
-        match self.answer {
-            Answer::Takes(counts) => report.took(&counts.outcome()),
-            Answer::FailsBy(fault) => report.failed_by(fault),
-        }
-    }
 }
 
 /// Asserts what a row's status reports, for all paths as they are.
@@ -148,7 +203,61 @@ where
     let index = index(rt.alloc(), WRITTEN, row.entries)?;
     let worktree = worktree(rt.alloc(), row.nodes)?;
     let report = status_of(rt, &index, &worktree, compare, request);
-    assert!(rt; row.is_told(&report), "{}", row.name);
-    assert!(rt; row.is_answered(&report), "{}", row.name);
+    assert!(rt; are_told(&report, row.told), "{}", row.name);
+    assert!(rt; row.answer.is_of(&report), "{}", row.name);
     Ok(())
+}
+
+/// The same, by the lengths of files and of blobs.
+pub fn assert_row_by_lengths<R: AllocGlobal + Threads + Wait + Abort, O: Find + Send + Drop>(
+    rt: &R,
+    objects: O,
+    row: &Row<'_, u64>,
+) -> Result<(), Fail> {
+    let index = index(rt.alloc(), WRITTEN, row.entries)?;
+    let worktree = worktree(rt.alloc(), row.nodes)?;
+    let report = status_by_lengths(rt, &index, &worktree, objects);
+    assert!(rt; are_told(&report, row.told), "{}", row.name);
+    assert!(rt; row.answer.is_of(&report), "{}", row.name);
+    Ok(())
+}
+
+/// What is reported of submodules, each of which is looked at once.
+#[derive(Clone, Copy)]
+pub enum OfSubmodules<'a, U> {
+    /// There are so many, of which these changed: their places and paths, and how.
+    Changed(usize, &'a [(usize, &'a str, U)]),
+    /// The one at a path fails by a text, and nothing is reported.
+    Fails(&'a str, &'a str),
+}
+
+impl<U: Copy + PartialEq> OfSubmodules<'_, U> {
+    /// Whether a report says so.
+    pub fn is_told(self, report: &Report<'_, ObjectId, U>) -> bool {
+        match self {
+            OfSubmodules::Changed(count, told) => {
+                report.took(&files_found(count)) && are_changed(report, told)
+            }
+            OfSubmodules::Fails(path, text) => {
+                report.records.is_empty() && report.failed_at(path, text)
+            }
+        }
+    }
+}
+
+// Whether these are all the records of a report, each of a submodule that changed.
+fn are_changed<U: Copy + PartialEq>(
+    report: &Report<'_, ObjectId, U>,
+    told: &[(usize, &str, U)],
+) -> bool {
+    if report.records.len() != told.len() {
+        return false;
+    }
+    for (record, (at, path, change)) in report.records.iter().zip(told) {
+        let status = EntryStatus::Change(Change::SubmoduleModification(*change));
+        if !is_record(record, *at, *path, &status) {
+            return false;
+        }
+    }
+    true
 }

@@ -1,43 +1,53 @@
 //! Comparers of a caller's own.
 
-use crate::given::{FOO, LATER, foo_index, later_file, stat, worktree};
-use crate::statuses::{changed, one_blob_read, removed, status_by_lengths, with_update};
-use gix_status::index_as_worktree::{EntryStatus, Error};
-use gix_status::worktree::{FindError, MemoryObjects};
+use crate::given::{LATER, foo_blob, foo_entry, later_file, stat};
+use crate::tables::{Answer, Counts, Row, Told, assert_row_by_lengths};
+use gix_status::worktree::MemoryObjects;
 use std::test::Fail;
 
 #[test]
 fn a_comparer_may_read_the_blob(rt: HostRuntime) -> Result<(), Fail> {
-    let alloc = rt.alloc();
-    let index = foo_index(alloc, &["a"])?;
-
-    let mut objects = MemoryObjects::new(alloc);
-    objects.put(FOO, b"foo")?;
-    let longer = worktree(alloc, &[later_file("a", b"bars")])?;
-    let report = status_by_lengths(&rt, &index, &longer, objects);
-    assert!(rt; report.is_all(&[(0, "a", changed(4))]));
-    assert!(rt; report.took(&one_blob_read(3)));
-
-    let mut objects = MemoryObjects::new(alloc);
-    objects.put(FOO, b"foo")?;
-    let as_long = worktree(alloc, &[later_file("a", b"bar")])?;
-    let report = status_by_lengths(&rt, &index, &as_long, objects);
-    assert!(rt; report.is_all(&[(0, "a", EntryStatus::NeedsUpdate(stat(LATER, 3)))]));
-    assert!(rt; report.took(&with_update(one_blob_read(3))));
-
-    let report = status_by_lengths(&rt, &index, &as_long, MemoryObjects::new(alloc));
-    assert!(rt; report.records.is_empty());
-    assert!(rt; matches!(&report.answer, Err(Error::Find(FindError::Missing))));
+    let longer = Row {
+        name: "a longer file",
+        entries: &[foo_entry("a")],
+        nodes: &[later_file("a", b"bars")],
+        told: &[(0, "a", Told::Changed(4))],
+        answer: Answer::Takes(Counts::one_blob(3)),
+    };
+    let as_long = Row {
+        name: "a file of the same length",
+        entries: &[foo_entry("a")],
+        nodes: &[later_file("a", b"bar")],
+        told: &[(0, "a", Told::Updated(stat(LATER, 3)))],
+        answer: Answer::Takes(Counts {
+            updates: 1,
+            ..Counts::one_blob(3)
+        }),
+    };
+    for row in [longer, as_long] {
+        assert_row_by_lengths(&rt, foo_blob(rt.alloc())?, &row)?;
+    }
     Ok(())
 }
 
 #[test]
 fn the_records_before_a_missing_blob_are_reported(rt: HostRuntime) -> Result<(), Fail> {
-    let alloc = rt.alloc();
-    let index = foo_index(alloc, &["a", "b", "c"])?;
-    let worktree = worktree(alloc, &[later_file("b", b"bar")])?;
-    let report = status_by_lengths(&rt, &index, &worktree, MemoryObjects::new(alloc));
-    assert!(rt; report.is_all(&[(0, "a", removed())]));
-    assert!(rt; matches!(&report.answer, Err(Error::Find(FindError::Missing))));
+    let alone = Row {
+        name: "no entry before it",
+        entries: &[foo_entry("a")],
+        nodes: &[later_file("a", b"bar")],
+        told: &[],
+        answer: Answer::LacksBlob,
+    };
+    let second = Row {
+        name: "an entry before it",
+        entries: &[foo_entry("a"), foo_entry("b"), foo_entry("c")],
+        nodes: &[later_file("b", b"bar")],
+        told: &[(0, "a", Told::Removed)],
+        answer: Answer::LacksBlob,
+    };
+    for row in [alone, second] {
+        assert_row_by_lengths(&rt, MemoryObjects::new(rt.alloc()), &row)?;
+    }
     Ok(())
 }

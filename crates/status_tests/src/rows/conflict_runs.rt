@@ -2,8 +2,9 @@
 
 use crate::given::staged_index;
 use bstr::BStr;
-use gix_status::index::{Entry, Mode, PathStorage};
+use gix_status::index::{Entry, Mode, PathStorage, State};
 use gix_status::index_as_worktree::Conflict;
+use std::alloc::{AllocError, Global};
 use std::test::Fail;
 
 // The conflict of `f` from a place on, how many entries follow, and the modes by stage.
@@ -23,6 +24,16 @@ fn conflict_at(
 
 fn mode_of(entry: Option<&Entry>) -> Option<Mode> {
     Some(entry?.mode)
+}
+
+// Whether the conflict of `f` from a place on is this one.
+fn is_conflict(
+    entries: &[Entry],
+    backing: &PathStorage,
+    start: usize,
+    wanted: Option<(Conflict, usize, [Option<Mode>; 3])>,
+) -> bool {
+    conflict_at(entries, backing, start) == wanted
 }
 
 #[test]
@@ -45,42 +56,57 @@ fn names_the_conflict_by_the_stages(rt: HostRuntime) -> Result<(), Fail> {
     ];
     for (stages, wanted) in rows {
         let state = staged_index(rt.alloc(), stages)?;
-        let found = conflict_at(state.entries(), state.path_backing(), 0);
-        assert_eq!(rt; found, wanted, "{stages:?}");
+        assert!(rt;
+            is_conflict(state.entries(), state.path_backing(), 0, wanted),
+            "{stages:?}"
+        );
     }
     Ok(())
+}
+
+// A copy of an entry, with another mode.
+fn with_mode(entry: &Entry, mode: Mode) -> Result<Entry, AllocError> {
+    let mut copy = entry.clone()?;
+    copy.mode = mode;
+    Ok(copy)
+}
+
+// Each entry of an index twice, the second time as an executable file.
+fn doubled(alloc: Global, state: &State) -> Result<Vec<Entry>, AllocError> {
+    let mut entries = Vec::new(alloc);
+    for entry in state.entries() {
+        entries.push(entry.clone()?)?;
+        entries.push(with_mode(entry, Mode::FileExecutable)?)?;
+    }
+    Ok(entries)
 }
 
 #[test]
 fn keeps_the_last_of_a_stage_among_three_entries(rt: HostRuntime) -> Result<(), Fail> {
     let state = staged_index(rt.alloc(), &[("f", 2), ("f", 3)])?;
-    let mut entries = Vec::new(rt.alloc());
-    for entry in state.entries() {
-        entries.push(entry.clone()?)?;
-        let mut again = entry.clone()?;
-        again.mode = Mode::FileExecutable;
-        entries.push(again)?;
-    }
+    let entries = doubled(rt.alloc(), &state)?;
     let modes = [None, Some(Mode::FileExecutable), Some(Mode::File)];
-    assert_eq!(rt;
-        conflict_at(&entries, state.path_backing(), 0),
-        Some((Conflict::BothAdded, 2, modes))
-    );
+    let wanted = Some((Conflict::BothAdded, 2, modes));
+    assert!(rt; is_conflict(&entries, state.path_backing(), 0, wanted));
     Ok(())
+}
+
+// The entries of an index from the last to the first.
+fn reversed(alloc: Global, state: &State) -> Result<Vec<Entry>, AllocError> {
+    let mut entries = Vec::new(alloc);
+    for entry in state.entries().iter().rev() {
+        entries.push(entry.clone()?)?;
+    }
+    Ok(entries)
 }
 
 #[test]
 fn stages_may_stand_out_of_place(rt: HostRuntime) -> Result<(), Fail> {
     let state = staged_index(rt.alloc(), &[("f", 1), ("f", 3)])?;
-    let mut entries = Vec::new(rt.alloc());
-    for entry in state.entries().iter().rev() {
-        entries.push(entry.clone()?)?;
-    }
+    let entries = reversed(rt.alloc(), &state)?;
     let file = Some(Mode::File);
-    assert_eq!(rt;
-        conflict_at(&entries, state.path_backing(), 0),
-        Some((Conflict::DeletedByUs, 1, [file, None, file]))
-    );
+    let wanted = Some((Conflict::DeletedByUs, 1, [file, None, file]));
+    assert!(rt; is_conflict(&entries, state.path_backing(), 0, wanted));
     Ok(())
 }
 
@@ -89,11 +115,8 @@ fn finds_nothing_past_the_end(rt: HostRuntime) -> Result<(), Fail> {
     let state = staged_index(rt.alloc(), &[("f", 1), ("f", 2)])?;
     for back in 0..4 {
         let start = usize::MAX - back;
-        assert_eq!(rt;
-            conflict_at(state.entries(), state.path_backing(), start),
-            None
-        );
+        assert!(rt; is_conflict(state.entries(), state.path_backing(), start, None));
     }
-    assert_eq!(rt; conflict_at(state.entries(), state.path_backing(), 2), None);
+    assert!(rt; is_conflict(state.entries(), state.path_backing(), 2, None));
     Ok(())
 }

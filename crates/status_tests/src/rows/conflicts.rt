@@ -2,9 +2,10 @@
 
 use crate::given::{BAR, BARS, FOO, GivenEntry, WRITTEN, index, stage_entry, worktree};
 use crate::statuses::{plain_request, status_of};
-use gix_status::index::Mode;
+use gix_status::index::{IndexError, Mode, State};
 use gix_status::index_as_worktree::traits::HashEq;
 use gix_status::index_as_worktree::{Conflict, ConflictIndexEntry, EntryStatus};
+use std::alloc::Global;
 use std::process::Abort;
 use std::sync::Wait;
 use std::test::Fail;
@@ -37,6 +38,15 @@ fn kept(stage: u32, stages: &[u32]) -> Option<ConflictIndexEntry> {
         .then_some(ConflictIndexEntry { id, flags, mode })
 }
 
+// The index of the entries of these stages.
+fn index_of(alloc: Global, stages: &[u32]) -> Result<State, IndexError> {
+    let mut sides = Vec::new(alloc);
+    for stage in stages {
+        sides.push(side(*stage))?;
+    }
+    index(alloc, WRITTEN, &sides)
+}
+
 // Asserts that the entries of these stages are recorded as this conflict, each in the place of its
 // stage.
 fn assert_recorded<R: AllocGlobal + Threads + Wait + Abort>(
@@ -44,16 +54,12 @@ fn assert_recorded<R: AllocGlobal + Threads + Wait + Abort>(
     stages: &[u32],
     summary: Conflict,
 ) -> Result<(), Fail> {
-    let mut sides = Vec::new(rt.alloc());
-    for stage in stages {
-        sides.push(side(*stage))?;
-    }
-    let index = index(rt.alloc(), WRITTEN, &sides)?;
+    let index = index_of(rt.alloc(), stages)?;
     let worktree = worktree(rt.alloc(), &[])?;
     let report = status_of(rt, &index, &worktree, HashEq, plain_request(rt.alloc()));
     let entries = [kept(1, stages), kept(2, stages), kept(3, stages)];
     let wanted = EntryStatus::Conflict { summary, entries };
-    assert!(rt; report.is_all(&[(0, "f", wanted)]), "{stages:?}");
+    assert!(rt; report.is_each(&["f"], &wanted), "{stages:?}");
     Ok(())
 }
 

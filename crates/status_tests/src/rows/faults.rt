@@ -1,7 +1,7 @@
 //! Faults of a worktree.
 
 use crate::collectors::Full;
-use crate::given::{BAR, bar_worktree, foo_index};
+use crate::given::{BAR, bar_worktree, foo_index, planted_worktree};
 use crate::statuses::{
     Report, changed, one_file_read, options, plain_request, report_to, request_with, status_of,
 };
@@ -10,7 +10,7 @@ use bstr::BStr;
 use gix_status::index::{ObjectId, State};
 use gix_status::index_as_worktree::traits::HashEq;
 use gix_status::index_as_worktree::{Error, Options, Recorder};
-use gix_status::worktree::{Fault, Node, Point, Worktree};
+use gix_status::worktree::{Fault, MemoryWorktree, Node, Point, Worktree};
 use std::sync::Wait;
 use std::sync::atomic::{AtomicUsize, Ordering};
 use std::test::Fail;
@@ -40,12 +40,24 @@ where
     status_of(rt, index, worktree, HashEq, request)
 }
 
+// Whether the first three paths are reported, and the fourth may not be read.
+fn is_denied<R: AllocGlobal + Threads + Wait, W: Worktree + Sync>(
+    rt: &R,
+    index: &State,
+    worktree: &W,
+) -> bool
+where
+    W::File: Send,
+{
+    let report = status_one_by_one(rt, index, worktree);
+    report.is_each(&["a", "b", "c"], &changed(BAR)) && report.failed_by(Fault::PermissionDenied)
+}
+
 // How often a call that fails at `d` looks at `d` and opens it, and then the same of `e`, where it ends the status.
 fn calls_until<R: AllocGlobal + Threads + Wait>(rt: &R, point: Point) -> Result<[usize; 4], Fail> {
-    let alloc = rt.alloc();
     let paths = ["a", "b", "c", "d", "e"];
-    let mut files = bar_worktree(alloc, &paths)?;
-    files.plant(BStr::from("d"), point, Fault::PermissionDenied)?;
+    let index = foo_index(rt.alloc(), &paths)?;
+    let files = planted_worktree(rt.alloc(), &paths, &[("d", point, Fault::PermissionDenied)])?;
     let (looks, opens) = (AtomicUsize::new(0), AtomicUsize::new(0));
     let (later_looks, later_opens) = (AtomicUsize::new(0), AtomicUsize::new(0));
     let failing = Counted {
@@ -60,11 +72,7 @@ fn calls_until<R: AllocGlobal + Threads + Wait>(rt: &R, point: Point) -> Result<
         looks: &later_looks,
         opens: &later_opens,
     };
-    let index = foo_index(alloc, &paths)?;
-    let report = status_one_by_one(rt, &index, &counted);
-    if !report.is_each(&["a", "b", "c"], &changed(BAR))
-        || !report.failed_by(Fault::PermissionDenied)
-    {
+    if !is_denied(rt, &index, &counted) {
         return Err(Fail::new("other records, or another fault"));
     }
     Ok([
@@ -123,22 +131,25 @@ fn a_collector_that_is_refused_memory_ends_the_status(rt: HostRuntime) -> Result
     Ok(())
 }
 
-#[test]
-fn a_file_of_an_unknown_time_ends_the_status(rt: HostRuntime) -> Result<(), Fail> {
-    let alloc = rt.alloc();
-    let paths = ["a", "b", "c"];
-    let mut files = bar_worktree(alloc, &paths)?;
-    let Some(node) = files.remove(BStr::from("b")) else {
+// Takes the time of the file at a path.
+fn take_time(worktree: &mut MemoryWorktree, path: &str) -> Result<(), Fail> {
+    let Some(node) = worktree.remove(BStr::from(path)) else {
         return Err(Fail::new("the file isn't there"));
     };
-    files.put(
-        BStr::from("b"),
-        Node {
-            mtime: None,
-            ..node
-        },
-    )?;
-    let index = foo_index(alloc, &paths)?;
+    let untimed = Node {
+        mtime: None,
+        ..node
+    };
+    worktree.put(BStr::from(path), untimed)?;
+    Ok(())
+}
+
+#[test]
+fn a_file_of_an_unknown_time_ends_the_status(rt: HostRuntime) -> Result<(), Fail> {
+    let paths = ["a", "b", "c"];
+    let index = foo_index(rt.alloc(), &paths)?;
+    let mut files = bar_worktree(rt.alloc(), &paths)?;
+    take_time(&mut files, "b")?;
     let report = status_one_by_one(&rt, &index, &files);
     assert!(rt; report.is_each(&["a"], &changed(BAR)));
     assert!(rt; matches!(&report.answer, Err(Error::Time)));
@@ -157,11 +168,24 @@ fn a_read_that_fails_is_not_tried_again(rt: HostRuntime) -> Result<(), Fail> {
     let files = [("a", Ok(bar)), ("b", Ok(interrupted)), ("c", Ok(bar))];
     let index = foo_index(rt.alloc(), &["a", "b", "c"])?;
     let report = status_one_by_one(&rt, &index, &Files::new(&files));
-    assert!(rt; report.is_all(&[(0, "a", changed(BAR))]));
+    assert!(rt; report.is_each(&["a"], &changed(BAR)));
     assert!(rt; report.failed_by(Fault::Interrupted));
     // One of `a`, and of `b` the one that gave bytes and the one that failed.
     assert_eq!(rt; reads.load(Ordering::SeqCst), 3);
     Ok(())
+}
+
+// Whether the file `a` is reported as the long one, and its bytes are all that is read.
+fn is_long<R: AllocGlobal + Threads + Wait, W: Worktree + Sync>(
+    rt: &R,
+    worktree: &W,
+) -> Result<bool, Fail>
+where
+    W::File: Send,
+{
+    let index = foo_index(rt.alloc(), &["a"])?;
+    let report = status_one_by_one(rt, &index, worktree);
+    Ok(report.is_each(&["a"], &changed(LONG)) && report.took(&one_file_read(200_000)))
 }
 
 #[test]
@@ -179,10 +203,7 @@ fn a_long_file_is_opened_once_and_read_in_large_pieces(rt: HostRuntime) -> Resul
         looks: &looks,
         opens: &opens,
     };
-    let index = foo_index(rt.alloc(), &["a"])?;
-    let report = status_one_by_one(&rt, &index, &worktree);
-    assert!(rt; report.is_all(&[(0, "a", changed(LONG))]));
-    assert!(rt; report.took(&one_file_read(200_000)));
+    assert!(rt; is_long(&rt, &worktree)?);
     assert_eq!(rt; looks.load(Ordering::SeqCst), 1);
     assert_eq!(rt; opens.load(Ordering::SeqCst), 1);
     // Four of 64 KiB give the bytes, and one more may meet the end.

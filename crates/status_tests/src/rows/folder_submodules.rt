@@ -1,18 +1,21 @@
 //! Submodules in folders of the disk, whose statuses are statuses of their own.
 
-use crate::folders::{new_folder, within, write_staged};
-use crate::given::{WRITTEN, foo_index, index, mode_entry};
-use crate::statuses::{Report, files_found, one_file, options, status_of_submodules};
+use crate::folders::{fill_directory, own_folder, write_staged};
+use crate::given::{foo_index, mode_index};
+use crate::statuses::{Report, options, status_of_submodules};
 use crate::submodules::FolderSubmodules;
+use crate::tables::OfSubmodules;
 use gix_status::index::{Mode, ObjectId, State};
-use gix_status::index_as_worktree::{Change, EntryStatus, Error, Options};
+use gix_status::index_as_worktree::Options;
 use gix_status::worktree::DiskWorktree;
 use std::alloc::AllocError;
+use std::fs;
 use std::path::Path;
+use std::process::Abort;
+use std::rt::Files;
 use std::sync::Wait;
 use std::test::Fail;
 use std::thread::Threads;
-use std::{fs, process};
 
 // What git's Rust library says of a file's fault.
 const FAULT_OF_A_FILE: &str =
@@ -42,67 +45,97 @@ fn status_of_folder<'index, R: AllocGlobal + Sync + Threads + Wait>(
     Ok(status_of_submodules(rt, index, &worktree, submodules, options))
 }
 
+/// Submodules, the plain entries of each one's index, and what is reported by so many workers.
+#[derive(Clone, Copy)]
+struct Row<'a> {
+    name: &'a str,
+    submodules: &'a [&'a str],
+    entries: &'a [&'a str],
+    workers: usize,
+    told: OfSubmodules<'a, usize>,
+}
+
+// Asserts what is reported of the submodules in a folder.
+fn assert_row<R: AllocGlobal + Sync + Threads + Wait + Abort>(
+    rt: &R,
+    system: &HostRuntime,
+    root: &str,
+    row: &Row<'_>,
+) -> Result<(), Fail> {
+    let index = mode_index(rt.alloc(), Mode::Commit, row.submodules)?;
+    let entries = foo_index(rt.alloc(), row.entries)?;
+    let report = status_of_folder(rt, system, &index, root, row.workers, &entries)?;
+    assert!(rt; row.told.is_told(&report), "{}", row.name);
+    Ok(())
+}
+
+// Asserts what is reported of one submodule, whose file changes.
+fn assert_one<R: AllocGlobal + Files + Sync + Threads + Wait + Abort>(
+    rt: &R,
+    system: &HostRuntime,
+    root: &str,
+) -> Result<(), Fail> {
+    let clean = Row {
+        name: "as it was staged",
+        submodules: &["sub"],
+        entries: &["a"],
+        workers: 1,
+        told: OfSubmodules::Changed(1, &[]),
+    };
+    let changed = Row {
+        name: "its file was changed",
+        submodules: &["sub"],
+        entries: &["a"],
+        workers: 1,
+        told: OfSubmodules::Changed(1, &[(0, "sub", 1)]),
+    };
+    let failed = Row {
+        name: "a path that isn't normal is a fault",
+        submodules: &["sub"],
+        entries: &["a//b"],
+        workers: 1,
+        told: OfSubmodules::Fails("sub", FAULT_OF_A_FILE),
+    };
+    fill_directory(rt, root, "sub", &[("a", "foo")])?;
+    assert_row(rt, system, root, &clean)?;
+    write_staged(rt, root, "sub/a", "bars")?;
+    assert_row(rt, system, root, &changed)?;
+    assert_row(rt, system, root, &failed)
+}
+
 #[test]
 fn a_submodule_may_have_a_status_of_its_own(rt: HostRuntime) -> Result<(), Fail> {
-    let alloc = rt.alloc();
-    let folder = new_folder(&rt, "a_submodule_may_have", process::id(rt.process()))?;
-    let root = folder.as_str();
-    let sub = within(&rt, root, "sub")?;
-    fs::create_dir(&rt, sub.as_str())?;
-    write_staged(&rt, sub.as_str(), "a", "foo")?;
-    let index = index(alloc, WRITTEN, &[mode_entry("sub", Mode::Commit)])?;
-    let submodule_index = foo_index(alloc, &["a"])?;
+    let folder = own_folder(&rt, "a_submodule_may_have")?;
+    assert_one(&rt, &rt, folder.as_str())?;
+    fs::remove_dir_all(&rt, folder.as_str())?;
+    Ok(())
+}
 
-    let clean = status_of_folder(&rt, &rt, &index, root, 1, &submodule_index)?;
-    assert!(rt; clean.records.is_empty());
-    assert!(rt; clean.took(&one_file()));
-
-    write_staged(&rt, sub.as_str(), "a", "bars")?;
-    let changed = status_of_folder(&rt, &rt, &index, root, 1, &submodule_index)?;
-    let wanted = EntryStatus::Change(Change::SubmoduleModification(1));
-    assert!(rt; changed.is_all(&[(0, "sub", wanted)]));
-    assert!(rt; changed.took(&one_file()));
-
-    // A path that isn't normal is a fault.
-    let submodule_index = foo_index(alloc, &["a//b"])?;
-    let failed = status_of_folder(&rt, &rt, &index, root, 1, &submodule_index)?;
-    assert!(rt; failed.records.is_empty());
-    assert!(rt;
-        matches!(
-        &failed.answer,
-        Err(Error::SubmoduleStatus { rela_path, text })
-            if rela_path.as_bytes() == b"sub".as_slice()
-                && text.as_bytes() == FAULT_OF_A_FILE.as_bytes()
-    )
-    );
-    fs::remove_dir_all(&rt, root)?;
+// Asserts what is reported of two submodules by one worker and by two. The second has another `a` and no `b`.
+fn assert_two<R: AllocGlobal + Files + Sync + Threads + Wait + Abort>(
+    rt: &R,
+    system: &HostRuntime,
+    root: &str,
+) -> Result<(), Fail> {
+    fill_directory(rt, root, "one", &[("a", "foo"), ("b", "foo")])?;
+    fill_directory(rt, root, "two", &[("a", "bars")])?;
+    for (name, workers) in [("one worker", 1), ("two workers", 2)] {
+        let row = Row {
+            name,
+            submodules: &["one", "two"],
+            entries: &["a", "b"],
+            workers,
+            told: OfSubmodules::Changed(2, &[(1, "two", 2)]),
+        };
+        assert_row(rt, system, root, &row)?;
+    }
     Ok(())
 }
 
 #[test]
 fn submodules_have_their_statuses_in_threads(rt: HostRuntime) -> Result<(), Fail> {
-    let alloc = rt.alloc();
-    let folder = new_folder(&rt, "submodules_have_statuses", process::id(rt.process()))?;
-    let root = folder.as_str();
-    let (one, two) = (within(&rt, root, "one")?, within(&rt, root, "two")?);
-    fs::create_dir(&rt, one.as_str())?;
-    write_staged(&rt, one.as_str(), "a", "foo")?;
-    write_staged(&rt, one.as_str(), "b", "foo")?;
-    // The second has another `a` and no `b`.
-    fs::create_dir(&rt, two.as_str())?;
-    write_staged(&rt, two.as_str(), "a", "bars")?;
-    let entries = [
-        mode_entry("one", Mode::Commit),
-        mode_entry("two", Mode::Commit),
-    ];
-    let index = index(alloc, WRITTEN, &entries)?;
-    let submodule_index = foo_index(alloc, &["a", "b"])?;
-    for workers in [1, 2] {
-        let report = status_of_folder(&rt, &rt, &index, root, workers, &submodule_index)?;
-        let wanted = EntryStatus::Change(Change::SubmoduleModification(2));
-        assert!(rt; report.is_all(&[(1, "two", wanted)]), "{workers}");
-        assert!(rt; report.took(&files_found(2)), "{workers}");
-    }
-    fs::remove_dir_all(&rt, root)?;
+    let folder = own_folder(&rt, "submodules_have_statuses")?;
+    assert_two(&rt, &rt, folder.as_str())?;
+    fs::remove_dir_all(&rt, folder.as_str())?;
     Ok(())
 }

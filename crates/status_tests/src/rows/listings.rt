@@ -1,20 +1,18 @@
 //! Listings of directories in place of `lstat`.
 
-use crate::given::{GivenNode, STAGED, WRITTEN, file, index, later_link, mode_entry, worktree};
+use crate::given::{GivenNode, STAGED, file, later_link, mode_index, worktree};
 use crate::listers::{Directories, Directory};
-use crate::statuses::{files_found, one_file, one_file_read, options, removed, status_listed};
+use crate::statuses::{Report, options, status_listed};
+use crate::tables::{Answer, Counts, Told};
 use crate::worktrees::Counted;
 use gix_status::fscache::Stat;
-use gix_status::index::{Mode, ObjectId, State};
-use gix_status::index_as_worktree::{Capabilities, Change, EntryStatus, Options, Outcome};
-use std::alloc::Global;
+use gix_status::index::{Mode, ObjectId};
+use gix_status::index_as_worktree::{Capabilities, Options};
 use std::process::Abort;
 use std::sync::Wait;
 use std::sync::atomic::{AtomicUsize, Ordering};
 use std::test::Fail;
 use std::thread::Threads;
-
-type Status = EntryStatus<ObjectId, ()>;
 
 /// A listed file of three bytes that is as old as the entries.
 const LISTED: Stat = Stat {
@@ -48,17 +46,18 @@ const DIRECTORIES: [Directory<'static>; 3] = [
 ];
 
 /// What is reported of each entry, and what the status takes.
-type Answer = (Option<Status>, Outcome);
+type Listed = (Option<Told<ObjectId>>, Counts);
 
 /// Entries at some paths, and what is answered with listings and without. The entries are
 /// alike: `lstat` is called on the paths of all, or of none.
-#[derive(Drop)]
+#[derive(Clone, Copy)]
 struct Row<'a> {
+    first: &'a str,
     paths: &'a [&'a str],
     mode: Mode,
     executable_bit: bool,
-    listed: Answer,
-    unlisted: Answer,
+    listed: Listed,
+    unlisted: Listed,
 }
 
 // Each file is as it was staged. A link stands in place of the directory `l`.
@@ -77,23 +76,26 @@ fn nodes() -> [GivenNode<'static>; 6] {
 }
 
 // What it takes to find one file without a call of `lstat` on its path, or that it isn't there.
-fn one_file_listed() -> Outcome {
-    Outcome {
-        symlink_metadata_calls: 0,
-        ..one_file()
+fn not_looked_at() -> Counts {
+    Counts {
+        lstats: 0,
+        ..Counts::found(1)
+    }
+}
+
+// A row of plain files, of which one is the first.
+fn of_files<'a>(first: &'a str, paths: &'a [&'a str], listed: Listed, unlisted: Listed) -> Row<'a> {
+    Row {
+        first,
+        paths,
+        mode: Mode::File,
+        executable_bit: false,
+        listed,
+        unlisted,
     }
 }
 
 impl Row<'_> {
-    // An index of its entries.
-    fn index(&self, alloc: Global) -> Result<State, Fail> {
-        let mut entries = Vec::new(alloc);
-        for path in self.paths {
-            entries.push(mode_entry(*path, self.mode))?;
-        }
-        Ok(index(alloc, WRITTEN, &entries)?)
-    }
-
     fn options(&self, fscache: bool) -> Options {
         Options {
             fs: Capabilities {
@@ -104,6 +106,25 @@ impl Row<'_> {
             ..options()
         }
     }
+
+    // Whether a report, and how often the first path was looked at and opened, are as they are to be.
+    fn is_met(
+        &self,
+        fscache: bool,
+        report: &Report<'_, ObjectId, ()>,
+        looks: usize,
+        opens: usize,
+    ) -> bool {
+        let (told, took) = if fscache { self.listed } else { self.unlisted };
+        let is_told = match told {
+            Some(told) => report.is_each(self.paths, &told.status()),
+            None => report.records.is_empty(),
+        };
+        is_told
+            && Answer::Takes(took).is_of(report)
+            && looks == took.lstats.min(1)
+            && opens == took.files.min(1)
+    }
 }
 
 // Asserts what a row's status answers, with listings or without.
@@ -112,95 +133,58 @@ fn assert_row<R: AllocGlobal + Threads + Wait + Abort>(
     row: &Row<'_>,
     fscache: bool,
 ) -> Result<(), Fail> {
-    let alloc = rt.alloc();
-    let index = row.index(alloc)?;
-    let Some(first) = row.paths.first() else {
-        return Err(Fail::new("a row has no path"));
-    };
+    let index = mode_index(rt.alloc(), row.mode, row.paths)?;
     let (looks, opens) = (AtomicUsize::new(0), AtomicUsize::new(0));
     let worktree = Counted {
-        worktree: worktree(alloc, &nodes())?,
-        path: *first,
+        worktree: worktree(rt.alloc(), &nodes())?,
+        path: row.first,
         looks: &looks,
         opens: &opens,
     };
     let lister = Directories {
-        alloc,
+        alloc: rt.alloc(),
         directories: &DIRECTORIES,
     };
     let report = status_listed(rt, &index, &worktree, lister, row.options(fscache));
-    let (status, took) = if fscache { &row.listed } else { &row.unlisted };
-    let is_reported = match status {
-        Some(status) => report.is_each(row.paths, status),
-        None => report.records.is_empty(),
-    };
-    assert!(rt; is_reported, "{first}, {fscache}");
-    assert!(rt; report.took(took), "{first}, {fscache}");
     let (looks, opens) = (looks.load(Ordering::SeqCst), opens.load(Ordering::SeqCst));
-    assert_eq!(rt;
-        looks,
-        took.symlink_metadata_calls.min(1),
-        "{first}, {fscache}"
-    );
-    assert_eq!(rt;
-        opens,
-        took.worktree_files_read.min(1),
-        "{first}, {fscache}"
+    assert!(rt;
+        row.is_met(fscache, &report, looks, opens),
+        "{}, {fscache}",
+        row.first
     );
     Ok(())
 }
 
 #[test]
 fn listings_stand_in_place_of_lstat(rt: HostRuntime) -> Result<(), Fail> {
-    let not_executable = EntryStatus::Change(Change::Modification {
-        executable_bit_changed: true,
-        content_change: None,
-        set_entry_stat_size_zero: false,
-    });
+    let found = (None, Counts::found(1));
+    let unlooked = (Some(Told::Removed), not_looked_at());
     // The file is read where its executability seems to have changed.
-    let read_but_not_looked_at = Outcome {
-        symlink_metadata_calls: 0,
-        ..one_file_read(3)
+    let read = Counts {
+        lstats: 0,
+        ..Counts::one_read(3)
     };
     let rows = [
-        Row {
-            paths: &["clean"],
-            mode: Mode::File,
-            executable_bit: false,
-            listed: (None, one_file_listed()),
-            unlisted: (None, one_file()),
-        },
-        Row {
-            paths: &["directory"],
-            mode: Mode::File,
-            executable_bit: false,
-            listed: (Some(removed()), one_file_listed()),
-            unlisted: (None, one_file()),
-        },
+        of_files("clean", &["clean"], (None, not_looked_at()), found),
+        of_files("directory", &["directory"], unlooked, found),
         // A listed file is never executable.
         Row {
+            first: "executable",
             paths: &["executable"],
             mode: Mode::FileExecutable,
             executable_bit: true,
-            listed: (Some(not_executable), read_but_not_looked_at),
-            unlisted: (None, one_file()),
+            listed: (Some(Told::Modified(true, None, false)), read),
+            unlisted: found,
         },
         // A directory that can't be listed.
-        Row {
-            paths: &["d/x", "d/y"],
-            mode: Mode::File,
-            executable_bit: false,
-            listed: (None, files_found(2)),
-            unlisted: (None, files_found(2)),
-        },
+        of_files(
+            "d/x",
+            &["d/x", "d/y"],
+            (None, Counts::found(2)),
+            (None, Counts::found(2)),
+        ),
         // No path leads through a link, whatever is listed below it.
-        Row {
-            paths: &["l/x"],
-            mode: Mode::File,
-            executable_bit: false,
-            listed: (Some(removed()), one_file_listed()),
-            unlisted: (Some(removed()), one_file_listed()),
-        },
+        of_files("l/x", &["l/x"], unlooked, unlooked),
     ];
     for row in &rows {
         assert_row(&rt, row, true)?;

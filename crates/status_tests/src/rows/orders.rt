@@ -6,6 +6,7 @@ use gix_status::index::{Flags, Mode, Moment, ObjectId, Stat, Time};
 use gix_status::index_as_worktree::{Change, Conflict, ConflictIndexEntry, EntryStatus, Outcome};
 use std::cmp::Ordering;
 use std::process::Abort;
+use std::test::Fail;
 
 // Asserts that each value is below the next.
 fn assert_ascending<R: AllocGlobal + Abort, T: Ord>(rt: &R, values: &[T]) {
@@ -105,64 +106,34 @@ fn flags_are_ordered_by_their_bits(rt: HostRuntime) {
     assert_ascending(&rt, &flags);
 }
 
+// The outcome whose field at a place is 1, counted from the last field, and all others 0. At place 0 all are.
+fn outcome_at(place: usize) -> Outcome {
+    Outcome {
+        interrupted: place == 1,
+        odb_objects_read: usize::from(place == 2),
+        odb_bytes: u64::from(place == 3),
+        worktree_files_read: usize::from(place == 4),
+        worktree_bytes: u64::from(place == 5),
+        racy_clean: usize::from(place == 6),
+        entries_to_update: usize::from(place == 7),
+        symlink_metadata_calls: usize::from(place == 8),
+        entries_skipped_by_entry_flags: usize::from(place == 9),
+        entries_skipped_by_pathspec: usize::from(place == 10),
+        entries_skipped_by_common_prefix: usize::from(place == 11),
+        entries_processed: usize::from(place == 12),
+        entries_to_process: usize::from(place == 13),
+    }
+}
+
 #[test]
-fn outcomes_are_ordered_by_their_fields_in_turn(rt: HostRuntime) {
-    let outcomes = [
-        Outcome::default(),
-        Outcome {
-            interrupted: true,
-            ..Outcome::default()
-        },
-        Outcome {
-            odb_objects_read: 1,
-            ..Outcome::default()
-        },
-        Outcome {
-            odb_bytes: 1,
-            ..Outcome::default()
-        },
-        Outcome {
-            worktree_files_read: 1,
-            ..Outcome::default()
-        },
-        Outcome {
-            worktree_bytes: 1,
-            ..Outcome::default()
-        },
-        Outcome {
-            racy_clean: 1,
-            ..Outcome::default()
-        },
-        Outcome {
-            entries_to_update: 1,
-            ..Outcome::default()
-        },
-        Outcome {
-            symlink_metadata_calls: 1,
-            ..Outcome::default()
-        },
-        Outcome {
-            entries_skipped_by_entry_flags: 1,
-            ..Outcome::default()
-        },
-        Outcome {
-            entries_skipped_by_pathspec: 1,
-            ..Outcome::default()
-        },
-        Outcome {
-            entries_skipped_by_common_prefix: 1,
-            ..Outcome::default()
-        },
-        Outcome {
-            entries_processed: 1,
-            ..Outcome::default()
-        },
-        Outcome {
-            entries_to_process: 1,
-            ..Outcome::default()
-        },
-    ];
+fn outcomes_are_ordered_by_their_fields_in_turn(rt: HostRuntime) -> Result<(), Fail> {
+    assert!(rt; outcome_at(0) == Outcome::default());
+    let mut outcomes = Vec::new(rt.alloc());
+    for place in 0..14 {
+        outcomes.push(outcome_at(place))?;
+    }
     assert_ascending(&rt, &outcomes);
+    Ok(())
 }
 
 #[test]
@@ -207,25 +178,34 @@ fn modified(executable: bool, content_change: Option<u32>, to_zero: bool) -> Cha
     }
 }
 
-#[test]
-fn changes_are_ordered_by_variants_and_their_fields(rt: HostRuntime) {
-    let changes = [
-        Change::Removed,
-        Change::TypeChange {
+// Ten changes in their order.
+fn change_at(place: usize) -> Change<u32, u32> {
+    match place {
+        0 => Change::Removed,
+        1 => Change::TypeChange {
             worktree_mode: Mode::File,
         },
-        Change::TypeChange {
+        2 => Change::TypeChange {
             worktree_mode: Mode::Symlink,
         },
-        modified(false, None, false),
-        modified(false, None, true),
-        modified(false, Some(0), false),
-        modified(false, Some(1), false),
-        modified(true, None, false),
-        Change::SubmoduleModification(0),
-        Change::SubmoduleModification(1),
-    ];
+        3 => modified(false, None, false),
+        4 => modified(false, None, true),
+        5 => modified(false, Some(0), false),
+        6 => modified(false, Some(1), false),
+        7 => modified(true, None, false),
+        8 => Change::SubmoduleModification(0),
+        _ => Change::SubmoduleModification(1),
+    }
+}
+
+#[test]
+fn changes_are_ordered_by_variants_and_their_fields(rt: HostRuntime) -> Result<(), Fail> {
+    let mut changes = Vec::new(rt.alloc());
+    for place in 0..10 {
+        changes.push(change_at(place))?;
+    }
     assert_ascending(&rt, &changes);
+    Ok(())
 }
 
 // A conflict with one entry, of stage 3 or of stage 1.
@@ -239,21 +219,30 @@ fn conflict(summary: Conflict, is_base: bool) -> EntryStatus<u32, u32> {
     EntryStatus::Conflict { summary, entries }
 }
 
-#[test]
-fn statuses_are_ordered_by_variants_and_their_fields(rt: HostRuntime) {
+// Eight statuses in their order.
+fn status_at(place: usize) -> EntryStatus<u32, u32> {
     let later = Stat {
         size: 1,
         ..Stat::default()
     };
-    let statuses = [
-        conflict(Conflict::BothDeleted, false),
-        conflict(Conflict::BothDeleted, true),
-        conflict(Conflict::AddedByUs, false),
-        EntryStatus::Change(Change::Removed),
-        EntryStatus::Change(Change::SubmoduleModification(0)),
-        EntryStatus::NeedsUpdate(Stat::default()),
-        EntryStatus::NeedsUpdate(later),
-        EntryStatus::IntentToAdd,
-    ];
+    match place {
+        0 => conflict(Conflict::BothDeleted, false),
+        1 => conflict(Conflict::BothDeleted, true),
+        2 => conflict(Conflict::AddedByUs, false),
+        3 => EntryStatus::Change(Change::Removed),
+        4 => EntryStatus::Change(Change::SubmoduleModification(0)),
+        5 => EntryStatus::NeedsUpdate(Stat::default()),
+        6 => EntryStatus::NeedsUpdate(later),
+        _ => EntryStatus::IntentToAdd,
+    }
+}
+
+#[test]
+fn statuses_are_ordered_by_variants_and_their_fields(rt: HostRuntime) -> Result<(), Fail> {
+    let mut statuses = Vec::new(rt.alloc());
+    for place in 0..8 {
+        statuses.push(status_at(place))?;
+    }
     assert_ascending(&rt, &statuses);
+    Ok(())
 }

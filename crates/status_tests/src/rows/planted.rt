@@ -10,7 +10,7 @@ use gix_status::index::{Mode, ObjectId, State};
 use gix_status::index_as_worktree::traits::{CompareBlobs, FastEq, HashEq};
 use gix_status::index_as_worktree::{EntryStatus, Options};
 use gix_status::worktree::{Fault, MemoryWorktree, Point};
-use std::alloc::Global;
+use std::alloc::{AllocError, Global};
 use std::sync::Wait;
 use std::test::Fail;
 use std::thread::Threads;
@@ -66,6 +66,10 @@ impl Site {
             by_ids,
             by_sizes,
         }
+    }
+
+    fn path_and_len(self) -> (&'static str, u64) {
+        (self.path, self.len)
     }
 }
 
@@ -246,28 +250,52 @@ where
     Ok(right)
 }
 
+/// The points of a path of so many bytes: its calls, and its reads up to a byte past the end.
+fn points(alloc: Global, len: u64) -> Result<Vec<Point>, AllocError> {
+    let mut points = Vec::from_array(alloc, [Point::Lstat, Point::Open, Point::ReadLink])?;
+    for count in 0..len.saturating_add(2) {
+        points.push(Point::Read(count))?;
+    }
+    Ok(points)
+}
+
+/// Each fault at each point of one path. Answers how many faults were planted, where every report was right.
+fn sweep_path<C: Swept + Send, R: AllocGlobal + Threads + Wait>(
+    rt: &R,
+    index: &State,
+    worktree: &mut MemoryWorktree,
+    path: &str,
+    len: u64,
+) -> Result<Option<usize>, Fail>
+where
+    C::Output: PartialEq + Send,
+{
+    let points = points(rt.alloc(), len)?;
+    let mut planted = 0usize;
+    for point in &points {
+        for fault in FAULTS {
+            if !is_right_each_way::<C, R>(rt, index, worktree, path, *point, fault)? {
+                return Ok(None);
+            }
+            planted = planted.saturating_add(1);
+        }
+    }
+    Ok(Some(planted))
+}
+
 /// Each fault at each point of each path. Answers how many faults were planted, where every report was right.
 fn sweep<C: Swept + Send, R: AllocGlobal + Threads + Wait>(rt: &R) -> Result<Option<usize>, Fail>
 where
     C::Output: PartialEq + Send,
 {
-    let alloc = rt.alloc();
-    let index = entries(alloc)?;
-    let mut worktree = worktree(alloc, &nodes())?;
+    let index = entries(rt.alloc())?;
+    let mut worktree = worktree(rt.alloc(), &nodes())?;
     let mut planted = 0usize;
     for (path, len) in paths() {
-        let mut points = Vec::from_array(alloc, [Point::Lstat, Point::Open, Point::ReadLink])?;
-        for count in 0..len.saturating_add(2) {
-            points.push(Point::Read(count))?;
-        }
-        for point in &points {
-            for fault in FAULTS {
-                if !is_right_each_way::<C, R>(rt, &index, &mut worktree, path, *point, fault)? {
-                    return Ok(None);
-                }
-                planted = planted.saturating_add(1);
-            }
-        }
+        let Some(more) = sweep_path::<C, R>(rt, &index, &mut worktree, path, len)? else {
+            return Ok(None);
+        };
+        planted = planted.saturating_add(more);
     }
     Ok(Some(planted))
 }
@@ -275,17 +303,16 @@ where
 /// The paths at which faults are planted, with the numbers of their bytes: the entries', and the folder above one.
 fn paths() -> [(&'static str, u64); 9] {
     let [a, b, c, e, l, m, s, z] = sites();
-    let of = |site: Site| (site.path, site.len);
     [
-        of(a),
-        of(b),
-        of(c),
+        a.path_and_len(),
+        b.path_and_len(),
+        c.path_and_len(),
         (FOLDER, 0),
-        of(e),
-        of(l),
-        of(m),
-        of(s),
-        of(z),
+        e.path_and_len(),
+        l.path_and_len(),
+        m.path_and_len(),
+        s.path_and_len(),
+        z.path_and_len(),
     ]
 }
 

@@ -3,21 +3,21 @@
 use crate::comparers::BlobLength;
 use crate::filters::Refuses;
 use crate::given::{
-    BAR, FOO, GivenEntry, GivenNode, WRITTEN, bar_worktree, directory, foo_entry, foo_index, index,
+    BAR, FOO, GivenEntry, WRITTEN, bar_worktree, directory, foo_blob, foo_entry, foo_index, index,
     later_file, mode_entry, worktree,
 };
 use crate::rows::planted::{FAULTS, WAYS};
 use crate::statuses::{
-    Report, Request, changed, options, removed, status_of, status_of_submodules, status_with,
+    Request, changed, options, removed, status_of, status_of_submodules, status_with,
 };
 use crate::submodules::Alike;
-use gix_status::index::{Mode, ObjectId, State};
+use gix_status::index::{IndexError, Mode, ObjectId, State};
+use gix_status::index_as_worktree::Options;
 use gix_status::index_as_worktree::traits::HashEq;
-use gix_status::index_as_worktree::{Error, Options};
 use gix_status::worktree::{
-    AllPaths, Fault, FindError, MemoryObjects, MemoryWorktree, NoFilter, NoSubmodules,
+    AllPaths, Fault, MemoryObjects, MemoryWorktree, NoFilter, NoSubmodules,
 };
-use std::alloc::Global;
+use std::alloc::{AllocError, Global};
 use std::sync::Wait;
 use std::test::Fail;
 use std::thread::Threads;
@@ -33,83 +33,103 @@ fn by_way((chunk_size, thread_limit): (usize, usize)) -> Options {
     }
 }
 
+// Whether a status whose filter refuses every file reports that these are gone, and ends by the filter's fault.
+fn is_refused<R: AllocGlobal + Threads + Wait>(
+    rt: &R,
+    index: &State,
+    worktree: &MemoryWorktree,
+    gone: &[&str],
+    fault: Fault,
+    way: (usize, usize),
+) -> bool {
+    let objects = MemoryObjects::new(rt.alloc());
+    let filter = Refuses(fault);
+    let request = Request::new(NoSubmodules, objects, AllPaths, filter, by_way(way));
+    let report = status_of(rt, index, worktree, HashEq, request);
+    report.is_each(gone, &removed()) && report.ended_by(fault)
+}
+
 #[test]
 fn a_filter_that_fails_at_each_entry(rt: HostRuntime) -> Result<(), Fail> {
-    let alloc = rt.alloc();
-    let index = foo_index(alloc, &PATHS)?;
+    let index = foo_index(rt.alloc(), &PATHS)?;
     for place in 0..PATHS.len() {
         // The files from a place on were changed, and those before it are gone.
-        let worktree = bar_worktree(alloc, &PATHS[place..])?;
+        let worktree = bar_worktree(rt.alloc(), &PATHS[place..])?;
         for fault in FAULTS {
             for way in WAYS {
-                let objects = MemoryObjects::new(alloc);
-                let filter = Refuses(fault);
-                let request = Request::new(NoSubmodules, objects, AllPaths, filter, by_way(way));
-                let report = status_of(&rt, &index, &worktree, HashEq, request);
                 assert!(rt;
-                    report.is_each(&PATHS[..place], &removed()),
+                    is_refused(&rt, &index, &worktree, &PATHS[..place], fault, way),
                     "{place}, {fault}"
                 );
-                assert!(rt; report.ended_by(fault), "{place}, {fault}");
             }
         }
     }
     Ok(())
 }
 
-// Every file was changed, and a submodule stands at a place.
-fn with_submodule(alloc: Global, place: usize) -> Result<(State, MemoryWorktree), Fail> {
-    let mut entries: Vec<GivenEntry<'_>> = Vec::new(alloc);
-    let mut nodes: Vec<GivenNode<'_>> = Vec::new(alloc);
+// An index with a submodule at a place.
+fn index_with_submodule(alloc: Global, place: usize) -> Result<State, IndexError> {
+    let mut entries = Vec::new(alloc);
     for (at, path) in PATHS.iter().enumerate() {
-        if at == place {
-            entries.push(mode_entry(*path, Mode::Commit))?;
-            nodes.push(directory(*path))?;
+        let mode = if at == place {
+            Mode::Commit
         } else {
-            entries.push(foo_entry(*path))?;
-            nodes.push(later_file(*path, b"bar"))?;
-        }
+            Mode::File
+        };
+        entries.push(mode_entry(*path, mode))?;
     }
-    Ok((index(alloc, WRITTEN, &entries)?, worktree(alloc, &nodes)?))
+    index(alloc, WRITTEN, &entries)
 }
 
-// Whether a status failed by the submodule at a path, with the text `x`.
-fn failed_at<T, U>(report: &Report<'_, T, U>, path: &str) -> bool {
-    matches!(
-        &report.answer,
-        Err(Error::SubmoduleStatus { rela_path, text })
-            if rela_path.as_bytes() == path.as_bytes() && text.as_bytes() == b"x".as_slice()
-    )
+// Its worktree, where every file was changed.
+fn worktree_with_submodule(alloc: Global, place: usize) -> Result<MemoryWorktree, Fail> {
+    let mut nodes = Vec::new(alloc);
+    for (at, path) in PATHS.iter().enumerate() {
+        let node = if at == place {
+            directory(*path)
+        } else {
+            later_file(*path, b"bar")
+        };
+        nodes.push(node)?;
+    }
+    Ok(worktree(alloc, &nodes)?)
+}
+
+// Whether a status reports that these were changed, and fails by the submodule at a path, whose text is `x`.
+fn is_failed<R: AllocGlobal + Threads + Wait>(
+    rt: &R,
+    index: &State,
+    worktree: &MemoryWorktree,
+    before: &[&str],
+    path: &str,
+    way: (usize, usize),
+) -> bool {
+    let submodule = Alike {
+        alloc: rt.alloc(),
+        answer: Err(b"x"),
+    };
+    let report = status_of_submodules(rt, index, worktree, submodule, by_way(way));
+    report.is_each(before, &changed(BAR)) && report.failed_at(path, "x")
 }
 
 #[test]
 fn a_submodule_that_fails_at_each_entry(rt: HostRuntime) -> Result<(), Fail> {
-    let alloc = rt.alloc();
     for (place, path) in PATHS.iter().enumerate() {
-        let (index, worktree) = with_submodule(alloc, place)?;
+        let index = index_with_submodule(rt.alloc(), place)?;
+        let worktree = worktree_with_submodule(rt.alloc(), place)?;
         for way in WAYS {
-            let submodule = Alike {
-                alloc,
-                answer: Err(b"x"),
-            };
-            let report = status_of_submodules(&rt, &index, &worktree, submodule, by_way(way));
-            assert!(rt; report.is_each(&PATHS[..place], &changed(BAR)), "{path}");
-            assert!(rt; failed_at(&report, *path), "{path}");
+            assert!(rt;
+                is_failed(&rt, &index, &worktree, &PATHS[..place], *path, way),
+                "{path}"
+            );
         }
     }
     Ok(())
 }
 
-// The status by the lengths of blobs, where those of the entries from a place on are missing. Before it each has three
-// bytes, and its file four.
-fn without_blobs<R: AllocGlobal + Threads + Wait>(
-    rt: &R,
-    place: usize,
-    way: (usize, usize),
-) -> Result<bool, Fail> {
-    let alloc = rt.alloc();
+// An index whose entries before a place have the blob `foo`, and the others one that is missing.
+fn index_lacking(alloc: Global, place: usize) -> Result<State, IndexError> {
     let mut entries = Vec::new(alloc);
-    let mut nodes = Vec::new(alloc);
     for (at, path) in PATHS.iter().enumerate() {
         let id = if at < place {
             FOO
@@ -120,26 +140,43 @@ fn without_blobs<R: AllocGlobal + Threads + Wait>(
             id,
             ..foo_entry(*path)
         })?;
-        nodes.push(later_file(*path, b"bars"))?;
     }
-    let index = index(alloc, WRITTEN, &entries)?;
-    let worktree = worktree(alloc, &nodes)?;
-    let mut objects = MemoryObjects::new(alloc);
-    objects.put(FOO, b"foo")?;
+    index(alloc, WRITTEN, &entries)
+}
+
+// Its worktree: each file has four bytes.
+fn worktree_of_bars(alloc: Global) -> Result<MemoryWorktree, Fail> {
+    let mut nodes = Vec::new(alloc);
+    for path in PATHS {
+        nodes.push(later_file(path, b"bars"))?;
+    }
+    Ok(worktree(alloc, &nodes)?)
+}
+
+// Whether the status by the lengths of blobs reports that these files were changed, and lacks a blob.
+fn is_lacking<R: AllocGlobal + Threads + Wait>(
+    rt: &R,
+    index: &State,
+    worktree: &MemoryWorktree,
+    before: &[&str],
+    way: (usize, usize),
+) -> Result<bool, AllocError> {
+    let objects = foo_blob(rt.alloc())?;
     let request = Request::new(NoSubmodules, objects, AllPaths, NoFilter, by_way(way));
-    let report = status_with(rt, &index, &worktree, BlobLength, request, None);
-    let is_missing = matches!(&report.answer, Err(Error::Find(FindError::Missing)));
-    let Some(before) = PATHS.get(..place) else {
-        return Ok(false);
-    };
-    Ok(is_missing && report.is_each(before, &changed(4)))
+    let report = status_with(rt, index, worktree, BlobLength, request, None);
+    Ok(report.lacks_blob() && report.is_each(before, &changed(4)))
 }
 
 #[test]
 fn a_blob_that_is_missing_at_each_entry(rt: HostRuntime) -> Result<(), Fail> {
+    let worktree = worktree_of_bars(rt.alloc())?;
     for place in 0..PATHS.len() {
+        let index = index_lacking(rt.alloc(), place)?;
         for way in WAYS {
-            assert!(rt; without_blobs(&rt, place, way)?, "{place}");
+            assert!(rt;
+                is_lacking(&rt, &index, &worktree, &PATHS[..place], way)?,
+                "{place}"
+            );
         }
     }
     Ok(())

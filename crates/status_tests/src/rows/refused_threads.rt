@@ -2,10 +2,11 @@
 
 ghost use Rattle.std.specs.Prelude.{◌≤◌};
 
-use crate::given::staged_index;
+use crate::given::foo_index;
+use crate::statuses::are_removed;
 use gix_status::index::{ObjectId, State, stat};
 use gix_status::index_as_worktree::traits::HashEq;
-use gix_status::index_as_worktree::{Capabilities, Change, EntryStatus, Error, Recorder};
+use gix_status::index_as_worktree::{Capabilities, Error, Recorder};
 use gix_status::worktree::{
     AllPaths, MemoryObjects, MemoryWorktree, NoFilter, NoLister, NoSubmodules,
 };
@@ -65,31 +66,50 @@ fn status_by<'index, R: Threads + Wait>(
     run_rounds(rt, alloc, &considered, 1, &workers, &decider, recorder)
 }
 
+// Whether the status is refused a thread, and nothing is reported.
+fn is_refused<R: AllocGlobal + Threads + Wait>(
+    rt: &R,
+    index: &State,
+    most: usize,
+    stack_size: Option<usize>,
+) -> bool
+    requires some { 1 ≤ most }
+    requires few { most ≤ 64 }
+{
+    let mut recorder = Recorder::new(rt.alloc());
+    let answer = status_by(rt, rt.alloc(), index, most, stack_size, &mut recorder);
+    matches!(answer, Err(Error::SpawnThread)) && recorder.records.is_empty()
+}
+
+// How many entries are reported, where the status comes through and each is reported as removed, in turn.
+fn removed_by<R: AllocGlobal + Threads + Wait>(
+    rt: &R,
+    index: &State,
+    most: usize,
+    stack_size: Option<usize>,
+) -> Option<usize>
+    requires some { 1 ≤ most }
+    requires few { most ≤ 64 }
+{
+    let mut recorder = Recorder::new(rt.alloc());
+    let answer = status_by(rt, rt.alloc(), index, most, stack_size, &mut recorder);
+    if answer.is_ok() && are_removed(&recorder.records) {
+        Some(recorder.records.len())
+    } else {
+        None
+    }
+}
+
 #[test]
 fn a_refused_thread_ends_the_status_and_nothing_is_reported(rt: HostRuntime) -> Result<(), Fail> {
-    let index = staged_index(rt.alloc(), &[("a", 0), ("b", 0), ("c", 0)])?;
+    let index = foo_index(rt.alloc(), &["a", "b", "c"])?;
+    let one = foo_index(rt.alloc(), &["a"])?;
     let too_large = Some(usize::MAX);
-    let mut recorder = Recorder::new(rt.alloc());
-    let refused = status_by(&rt, rt.alloc(), &index, 2, too_large, &mut recorder);
-    assert!(rt; matches!(refused, Err(Error::SpawnThread)));
-    assert!(rt; recorder.records.is_empty());
+    assert!(rt; is_refused(&rt, &index, 2, too_large));
     // The caller alone starts no thread.
-    let alone = status_by(&rt, rt.alloc(), &index, 1, too_large, &mut recorder);
-    assert!(rt; alone.is_ok());
-    assert_eq!(rt; recorder.records.len(), 3);
+    assert_eq!(rt; removed_by(&rt, &index, 1, too_large), Some(3));
     // One entry has one piece, so one worker, which is the caller.
-    let one = staged_index(rt.alloc(), &[("a", 0)])?;
-    let mut recorder = Recorder::new(rt.alloc());
-    let lone = status_by(&rt, rt.alloc(), &one, 2, too_large, &mut recorder);
-    assert!(rt; lone.is_ok());
-    assert_eq!(rt; recorder.records.len(), 1);
-    let mut recorder = Recorder::new(rt.alloc());
-    let shared = status_by(&rt, rt.alloc(), &index, 2, None, &mut recorder);
-    assert!(rt; shared.is_ok());
-    assert_eq!(rt; recorder.records.len(), 3);
-    for (i, record) in recorder.records.iter().enumerate() {
-        assert_eq!(rt; record.entry_index, i);
-        assert!(rt; matches!(record.status, EntryStatus::Change(Change::Removed)));
-    }
+    assert_eq!(rt; removed_by(&rt, &one, 2, too_large), Some(1));
+    assert_eq!(rt; removed_by(&rt, &index, 2, None), Some(3));
     Ok(())
 }

@@ -1,13 +1,18 @@
 //! How many entries a round takes, and that a flag that stays unset interrupts none.
 
 use crate::given::{foo_index, worktree};
-use crate::statuses::{files_found, options, removed, request_with, status_noting, status_until};
+use crate::statuses::{
+    are_removed, files_found, options, request_with, status_noting, status_until,
+};
 use gix_status::index::{IndexError, State};
 use gix_status::index_as_worktree::traits::HashEq;
 use gix_status::index_as_worktree::{Options, Outcome};
+use gix_status::worktree::MemoryWorktree;
 use std::alloc::{AllocError, Global};
+use std::sync::Wait;
 use std::sync::atomic::AtomicBool;
 use std::test::Fail;
+use std::thread::Threads;
 
 // The paths `0000`, `0001` and so on.
 fn numbered_paths(alloc: Global, count: usize) -> Result<Vec<String>, AllocError> {
@@ -28,10 +33,31 @@ fn numbered_index(alloc: Global, count: usize) -> Result<State, IndexError> {
     foo_index(alloc, &paths)
 }
 
+// Whether a status whose collector sets the flag at the first record goes through so many of all entries, each of which is
+// recorded.
+fn goes_through<R: AllocGlobal + Threads + Wait>(
+    rt: &R,
+    index: &State,
+    worktree: &MemoryWorktree,
+    options: Options,
+    processed: usize,
+) -> bool {
+    let flag = AtomicBool::new(false);
+    let interrupt = Some(&flag);
+    let request = request_with(rt.alloc(), options);
+    let (report, _) = status_noting(rt, index, worktree, HashEq, request, &flag, interrupt);
+    let wanted = Outcome {
+        entries_to_process: index.entries().len(),
+        interrupted: true,
+        ..files_found(processed)
+    };
+    report.took(&wanted) && report.records.len() == processed
+}
+
 #[test]
 fn a_round_takes_eight_pieces_a_worker(rt: HostRuntime) -> Result<(), Fail> {
-    let alloc = rt.alloc();
-    let cases = [
+    let worktree = worktree(rt.alloc(), &[])?;
+    for (count, chunk_size, thread_limit, processed) in [
         // Eight pieces of two entries.
         (20, 2, Some(1), 16),
         // A chunk size of 0 is one of 500.
@@ -39,54 +65,49 @@ fn a_round_takes_eight_pieces_a_worker(rt: HostRuntime) -> Result<(), Fail> {
         // Without a limit there are four workers, and 0 is no limit.
         (40, 1, None, 32),
         (40, 1, Some(0), 32),
-    ];
-    let worktree = worktree(alloc, &[])?;
-    for (count, chunk_size, thread_limit, processed) in cases {
-        let index = numbered_index(alloc, count)?;
+    ] {
+        let index = numbered_index(rt.alloc(), count)?;
+        assert_eq!(rt; index.entries().len(), count);
         let options = Options {
             chunk_size,
             thread_limit,
             ..options()
         };
-        let flag = AtomicBool::new(false);
-        let interrupt = Some(&flag);
-        let request = request_with(alloc, options);
-        let (report, _) = status_noting(&rt, &index, &worktree, HashEq, request, &flag, interrupt);
-        let wanted = Outcome {
-            entries_to_process: count,
-            interrupted: true,
-            ..files_found(processed)
-        };
-        assert!(rt; report.took(&wanted), "{chunk_size}, {thread_limit:?}");
-        assert_eq!(rt;
-            report.records.len(),
-            processed,
+        assert!(rt;
+            goes_through(&rt, &index, &worktree, options, processed),
             "{chunk_size}, {thread_limit:?}"
         );
     }
     Ok(())
 }
 
+// Whether so many workers go through twenty entries, and record each as removed, where the flag stays unset.
+fn is_uninterrupted<R: AllocGlobal + Threads + Wait>(
+    rt: &R,
+    index: &State,
+    worktree: &MemoryWorktree,
+    workers: usize,
+) -> bool {
+    let options = Options {
+        chunk_size: 1,
+        thread_limit: Some(workers),
+        ..options()
+    };
+    let flag = AtomicBool::new(false);
+    let request = request_with(rt.alloc(), options);
+    let report = status_until(rt, index, worktree, HashEq, request, Some(&flag));
+    report.took(&files_found(20)) && report.records.len() == 20 && are_removed(&report.records)
+}
+
 #[test]
 fn a_flag_that_stays_unset_interrupts_nothing(rt: HostRuntime) -> Result<(), Fail> {
-    let alloc = rt.alloc();
-    let index = numbered_index(alloc, 20)?;
-    let worktree = worktree(alloc, &[])?;
-    let flag = AtomicBool::new(false);
-    for thread_limit in [1, 3] {
-        let options = Options {
-            chunk_size: 1,
-            thread_limit: Some(thread_limit),
-            ..options()
-        };
-        let request = request_with(alloc, options);
-        let report = status_until(&rt, &index, &worktree, HashEq, request, Some(&flag));
-        assert!(rt; report.took(&files_found(20)), "{thread_limit}");
-        assert_eq!(rt; report.records.len(), 20, "{thread_limit}");
-        for (at, record) in report.records.iter().enumerate() {
-            assert_eq!(rt; record.entry_index, at);
-            assert!(rt; record.status == removed(), "at {at}");
-        }
+    let index = numbered_index(rt.alloc(), 20)?;
+    let worktree = worktree(rt.alloc(), &[])?;
+    for workers in [1, 3] {
+        assert!(rt;
+            is_uninterrupted(&rt, &index, &worktree, workers),
+            "{workers}"
+        );
     }
     Ok(())
 }

@@ -1,14 +1,14 @@
 //! Workers, and a status that ends early.
 
-use crate::given::{BAR, bar_worktree, foo_index};
+use crate::given::{BAR, foo_index, planted_worktree};
 use crate::statuses::{
-    changed, files_read, options, request_with, status_noting, status_of, status_until,
+    Report, changed, files_read, options, request_with, status_noting, status_of, status_until,
 };
 use crate::worktrees::{Counted, Files, Looked, Meeting, Piece, SetsFlag};
-use bstr::BStr;
+use gix_status::index::{ObjectId, State};
 use gix_status::index_as_worktree::traits::HashEq;
 use gix_status::index_as_worktree::{Options, Outcome};
-use gix_status::worktree::{Fault, Point};
+use gix_status::worktree::{Fault, MemoryWorktree, Point};
 use std::alloc::{AllocError, Global};
 use std::process::Abort;
 use std::sync::Wait;
@@ -73,19 +73,29 @@ impl Cut<'_> {
         }
     }
 
-    fn took(&self) -> Outcome {
+    // Whether a report has the entries before the cut, and took no more than those.
+    fn is_told(&self, report: &Report<'_, ObjectId, ()>) -> bool {
         let files = self.reported.len();
-        Outcome {
+        let took = Outcome {
             entries_to_process: self.paths.len(),
             interrupted: true,
             ..files_read(files, (files as u64).saturating_mul(3))
-        }
+        };
+        report.is_each(self.reported, &changed(BAR)) && report.took(&took)
+    }
+
+    // Whether files are read only where one is reported, and how often `c` is looked at and opened.
+    fn is_called(&self, reads: usize, looks: usize, opens: usize) -> bool {
+        (reads == 0) == self.reported.is_empty()
+            && looks == self.calls_of_c
+            && opens == self.calls_of_c
     }
 }
 
 // Asserts what is reported of the entries before the cut, and that nothing behind it is read.
 fn assert_cut<R: AllocGlobal + Threads + Wait + Abort>(rt: &R, row: &Cut<'_>) -> Result<(), Fail> {
     let alloc = rt.alloc();
+    let index = foo_index(alloc, row.paths)?;
     let reads = AtomicUsize::new(0);
     let files = files_at(alloc, row.paths, row.refused, &reads)?;
     let flag = AtomicBool::new(row.is_set);
@@ -102,25 +112,15 @@ fn assert_cut<R: AllocGlobal + Threads + Wait + Abort>(rt: &R, row: &Cut<'_>) ->
         looks: &looks,
         opens: &opens,
     };
-    let index = foo_index(alloc, row.paths)?;
     let request = request_with(alloc, row.options());
     let report = status_until(rt, &index, &worktree, HashEq, request, Some(&flag));
-    assert!(rt; report.is_each(row.reported, &changed(BAR)), "{}", row.name);
-    assert!(rt; report.took(&row.took()), "{}", row.name);
-    let is_unread = reads.load(Ordering::SeqCst) == 0;
-    assert_eq!(rt; is_unread, row.reported.is_empty(), "{}", row.name);
-    assert_eq!(rt;
+    let is_called = row.is_called(
+        reads.load(Ordering::SeqCst),
         looks.load(Ordering::SeqCst),
-        row.calls_of_c,
-        "{}",
-        row.name
-    );
-    assert_eq!(rt;
         opens.load(Ordering::SeqCst),
-        row.calls_of_c,
-        "{}",
-        row.name
     );
+    assert!(rt; row.is_told(&report), "{}", row.name);
+    assert!(rt; is_called, "{}", row.name);
     Ok(())
 }
 
@@ -168,28 +168,35 @@ fn a_flag_that_is_set_ends_the_status(rt: HostRuntime) -> Result<(), Fail> {
     Ok(())
 }
 
+// Whether these paths are reported of ten, where the collector sets the flag at the first record.
+fn is_reported<R: AllocGlobal + Threads + Wait>(
+    rt: &R,
+    index: &State,
+    worktree: &Files<'_>,
+    reported: &[&str],
+) -> bool {
+    let flag = AtomicBool::new(false);
+    let interrupt = Some(&flag);
+    let request = request_with(rt.alloc(), shared(1, 1));
+    let (report, _) = status_noting(rt, index, worktree, HashEq, request, &flag, interrupt);
+    let took = Outcome {
+        entries_to_process: 10,
+        interrupted: true,
+        ..files_read(8, 24)
+    };
+    report.is_each(reported, &changed(BAR)) && report.took(&took)
+}
+
 #[test]
 fn a_flag_that_the_collector_sets_ends_the_status_after_the_round(
     rt: HostRuntime,
 ) -> Result<(), Fail> {
-    let reads = AtomicUsize::new(0);
     let paths = ["a", "b", "c", "d", "e", "f", "g", "h", "i", "j"];
     let index = foo_index(rt.alloc(), &paths)?;
+    let reads = AtomicUsize::new(0);
     let files = files_at(rt.alloc(), &paths, "", &reads)?;
-    let worktree = Files::new(&files);
-    let flag = AtomicBool::new(false);
-    let interrupt = Some(&flag);
-    let request = request_with(rt.alloc(), shared(1, 1));
-    let (report, _) = status_noting(&rt, &index, &worktree, HashEq, request, &flag, interrupt);
     // A round has eight pieces of one worker, and is reported whole.
-    assert!(rt; report.is_each(&paths[..8], &changed(BAR)));
-    assert!(rt;
-        report.took(&Outcome {
-            entries_to_process: 10,
-            interrupted: true,
-            ..files_read(8, 24)
-        })
-    );
+    assert!(rt; is_reported(&rt, &index, &Files::new(&files), &paths[..8]));
     Ok(())
 }
 
@@ -213,19 +220,30 @@ fn two_workers_run_at_the_same_time(rt: HostRuntime) -> Result<(), Fail> {
     Ok(())
 }
 
+// Whether the status reports the first three paths, and fails at the fourth, which may not be opened.
+fn is_denied<R: AllocGlobal + Threads + Wait>(
+    rt: &R,
+    index: &State,
+    worktree: &MemoryWorktree,
+    options: Options,
+) -> bool {
+    let request = request_with(rt.alloc(), options);
+    let report = status_of(rt, index, worktree, HashEq, request);
+    report.is_each(&["a", "b", "c"], &changed(BAR)) && report.failed_by(Fault::PermissionDenied)
+}
+
 #[test]
 fn the_first_fault_is_reported_by_any_number_of_workers(rt: HostRuntime) -> Result<(), Fail> {
-    let alloc = rt.alloc();
-    let mut worktree = bar_worktree(alloc, &FIVE)?;
-    worktree.plant(BStr::from("d"), Point::Open, Fault::PermissionDenied)?;
-    worktree.plant(BStr::from("e"), Point::Open, Fault::Interrupted)?;
-    let index = foo_index(alloc, &FIVE)?;
+    let planted = [
+        ("d", Point::Open, Fault::PermissionDenied),
+        ("e", Point::Open, Fault::Interrupted),
+    ];
+    let worktree = planted_worktree(rt.alloc(), &FIVE, &planted)?;
+    let index = foo_index(rt.alloc(), &FIVE)?;
     for workers in [1, 2, 3, 8] {
         for chunk_size in [1, 2, 500] {
-            let request = request_with(alloc, shared(chunk_size, workers));
-            let report = status_of(&rt, &index, &worktree, HashEq, request);
-            assert!(rt; report.is_each(&["a", "b", "c"], &changed(BAR)));
-            assert!(rt; report.failed_by(Fault::PermissionDenied));
+            let options = shared(chunk_size, workers);
+            assert!(rt; is_denied(&rt, &index, &worktree, options));
         }
     }
     Ok(())
