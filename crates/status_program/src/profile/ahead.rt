@@ -65,5 +65,8 @@ impl<'de, F: Format> FieldValue for Deserializer<'de, '_, F> {
 
 /// What was read. Any error is one of the form.
 pub fn or_form<T, E: Drop>(read: Result<T, E>) -> Result<T, FieldError> {
-    read.map_err(|_| FieldError::Form)
+    match read {
+        Ok(value) => Ok(value),
+        Err(_) => Err(FieldError::Form),
+    }
 }
