@@ -5,8 +5,8 @@ ghost use Rattle.status_index.specs.declared.fault.Fault.TheVariants.{NotFound};
 
 use crate::exits::{Exit, exit_of};
 use crate::given::{
-    GivenNode, LATER, Request, file, foo_entry, index, joined, later_file, link, mode_entry,
-    options, worktree,
+    GivenNode, LATER, Report, Request, file, foo_entry, index, joined, later_file, link,
+    mode_entry, options, worktree,
 };
 use crate::trackers::Refuses;
 use crate::walks::{Fails, Found, HandsOut, UNTRACKED};
@@ -14,8 +14,8 @@ use bstr::BStr;
 use status_base::index::{Mode, State};
 use status_base::worktree::{Fault, MemoryFile, MemoryWorktree, Metadata, ReadBytes, Worktree};
 use status_joined::index_as_worktree_with_renames::Options;
-use status_tracker::{IdentityTracker, Rewrites, Tracker, TrackerError};
-use status_walk::{Kind, Walk};
+use status_tracker::{IdentityTracker, Rewrites, TrackerError};
+use status_walk::Kind;
 use std::alloc::Global;
 use std::process::Abort;
 use std::sync::Wait;
@@ -199,35 +199,30 @@ struct Case<'a> {
     lines: &'a str,
 }
 
-// Asserts how a case's status ends over an index and a worktree.
-fn assert_over<
-    'a,
-    R: AllocGlobal + Abort + Threads + Wait,
-    K: Walk<Broken<'a>> + Send + Drop,
-    X: Tracker + Drop,
->(
-    rt: &R,
-    index: &State,
-    worktree: &Broken<'a>,
-    walk: K,
-    tracker: X,
-    case: &Case<'_>,
-) -> Result<(), Fail> {
+// Asks for renames, sorted or not.
+fn request<'a, K, X>(walk: K, tracker: X, sorted: bool) -> Request<'a, K, X> {
     let options = options(Some(Rewrites { track_empty: false }));
-    let request = Request {
+    Request {
         walk,
         tracker,
         options: Options {
-            sorting: if case.sorted { options.sorting } else { None },
+            sorting: if sorted { options.sorting } else { None },
             ..options
         },
         interrupt: None,
-    };
-    let report = joined(rt, index, worktree, request);
+    }
+}
+
+// Asserts how a case's status ended.
+fn assert_exit<R: AllocGlobal + Abort>(
+    rt: &R,
+    report: &Report<'_>,
+    case: &Case<'_>,
+) -> Result<(), Fail> {
     let text = report.reported(rt.alloc())?;
     let (name, fault, sorted) = (case.name, case.fault, case.sorted);
     assert!(rt;
-        exit_of(&report) == case.exit,
+        exit_of(report) == case.exit,
         "{name}: {fault:?}, sorted: {sorted}"
     );
     assert!(rt;
@@ -237,17 +232,59 @@ fn assert_over<
     Ok(())
 }
 
-// Asserts how a case's status ends.
-fn assert_case<
-    'a,
-    R: AllocGlobal + Abort + Threads + Wait,
-    K: Walk<Broken<'a>> + Send + Drop,
-    X: Tracker + Drop,
->(rt: &R, walk: K, tracker: X, case: &Case<'a>) -> Result<(), Fail> {
+// Asserts how the status of a case ends whose walk and tracker have no fault.
+fn assert_in_worktree<R: AllocGlobal + Abort + Threads + Wait>(
+    rt: &R,
+    case: &Case<'_>,
+) -> Result<(), Fail> {
     let alloc = rt.alloc();
     let index = entries(alloc)?;
     let worktree = broken_worktree(alloc, case.faults)?;
-    assert_over(rt, &index, &worktree, walk, tracker, case)
+    let walk = HandsOut {
+        alloc,
+        nodes: &NODES,
+    };
+    let tracker = IdentityTracker::new(alloc);
+    let report = joined(rt, &index, &worktree, request(walk, tracker, case.sorted));
+    assert_exit(rt, &report, case)
+}
+
+// Asserts how the status of a case ends whose tracker refuses.
+fn assert_in_tracker<R: AllocGlobal + Abort + Threads + Wait>(
+    rt: &R,
+    case: &Case<'_>,
+    error: TrackerError,
+) -> Result<(), Fail> {
+    let alloc = rt.alloc();
+    let index = entries(alloc)?;
+    let worktree = broken_worktree(alloc, case.faults)?;
+    let walk = HandsOut {
+        alloc,
+        nodes: &NODES,
+    };
+    let tracker = Refuses(error);
+    let report = joined(rt, &index, &worktree, request(walk, tracker, case.sorted));
+    assert_exit(rt, &report, case)
+}
+
+// Asserts how the status of a case ends whose walk has a fault, and whose tracker refuses.
+fn assert_in_walk<R: AllocGlobal + Abort + Threads + Wait>(
+    rt: &R,
+    case: &Case<'_>,
+    fault: Fault,
+) -> Result<(), Fail> {
+    let alloc = rt.alloc();
+    let index = entries(alloc)?;
+    let worktree = broken_worktree(alloc, case.faults)?;
+    let walk = Fails {
+        alloc,
+        nodes: &NODES,
+        path: "d",
+        fault,
+    };
+    let tracker = Refuses(TrackerError::Refused(3));
+    let report = joined(rt, &index, &worktree, request(walk, tracker, case.sorted));
+    assert_exit(rt, &report, case)
 }
 
 /// What is reported where a fault isn't answered: at an entry it is a removal, and of a file that isn't opened no id
@@ -291,7 +328,6 @@ fn assert_fault<R: AllocGlobal + Abort + Threads + Wait>(
     fault: Fault,
 ) -> Result<(), Fail> {
     let (name, point, path, is_node) = *asked;
-    let alloc = rt.alloc();
     let exit = if is_node {
         node_exit(point, fault)
     } else {
@@ -311,11 +347,7 @@ fn assert_fault<R: AllocGlobal + Abort + Threads + Wait>(
             exit,
             lines,
         };
-        let walk = HandsOut {
-            alloc,
-            nodes: &NODES,
-        };
-        assert_case(rt, walk, IdentityTracker::new(alloc), &case)?;
+        assert_in_worktree(rt, &case)?;
     }
     Ok(())
 }
@@ -348,13 +380,7 @@ fn each_fault_of_the_walk_is_its_answer(rt: HostRuntime) -> Result<(), Fail> {
             },
             lines: "",
         };
-        let walk = Fails {
-            alloc: rt.alloc(),
-            nodes: &NODES,
-            path: "d",
-            fault,
-        };
-        assert_case(&rt, walk, Refuses(TrackerError::Refused(3)), &case)?;
+        assert_in_walk(&rt, &case, fault)?;
     }
     Ok(())
 }
@@ -437,11 +463,7 @@ static ORDERS: [Case; 10] = [
 #[test]
 fn of_several_faults_the_first_in_order_is_answered(rt: HostRuntime) -> Result<(), Fail> {
     for case in &ORDERS {
-        let walk = HandsOut {
-            alloc: rt.alloc(),
-            nodes: &NODES,
-        };
-        assert_case(&rt, walk, Refuses(TrackerError::Refused(5)), case)?;
+        assert_in_tracker(&rt, case, TrackerError::Refused(5))?;
     }
     Ok(())
 }

@@ -82,8 +82,8 @@ where
     Ok(())
 }
 
-// What lstat reports of a node, its stamps aside. A folder may be shared by threads.
-fn kind_and_len<W: Worktree + Sync>(worktree: &W, path: &[u8]) -> Result<(NodeKind, u64), Fault> {
+// What lstat reports of a node, its stamps aside.
+fn kind_and_len<W: Worktree>(worktree: &W, path: &[u8]) -> Result<(NodeKind, u64), Fault> {
     let found = worktree.lstat(BStr::new(path))?;
     Ok((found.kind, found.len))
 }
@@ -146,12 +146,7 @@ fn leads_nowhere<W: Worktree>(
 }
 
 // Whether each call fails by this.
-fn is_nothing<W: Worktree + Sync>(
-    worktree: &W,
-    path: &[u8],
-    buffer: &mut Vec<u8>,
-    fault: Fault,
-) -> bool {
+fn is_nothing<W: Worktree>(worktree: &W, path: &[u8], buffer: &mut Vec<u8>, fault: Fault) -> bool {
     kind_and_len(worktree, path) == Err(fault)
         && open_fault(worktree, path) == Some(fault)
         && leads_nowhere(worktree, path, buffer, fault)
@@ -179,12 +174,7 @@ enum Look<'a> {
     Nothing(Fault),
 }
 
-fn is_met<W: Worktree + Sync>(
-    worktree: &W,
-    path: &[u8],
-    buffer: &mut Vec<u8>,
-    look: Look<'_>,
-) -> bool {
+fn is_met<W: Worktree>(worktree: &W, path: &[u8], buffer: &mut Vec<u8>, look: Look<'_>) -> bool {
     match look {
         Look::Lstat(want) => kind_and_len(worktree, path) == want,
         Look::Kind(kind) => is_of_kind(worktree, path, kind),
@@ -199,7 +189,7 @@ fn is_met<W: Worktree + Sync>(
 }
 
 // Asserts what is found at these paths of a folder.
-fn assert_looks<R: Files + AllocGlobal + Abort + Sync>(
+fn assert_looks<R: Files + AllocGlobal + Abort>(
     rt: &R,
     folder: &str,
     looks: &[(&[u8], Look<'_>)],
@@ -217,7 +207,7 @@ fn assert_looks<R: Files + AllocGlobal + Abort + Sync>(
 }
 
 // Asserts what is found in a folder of a test's own that is filled so.
-fn assert_found<R: Env + Files + AllocGlobal + Abort + Sync>(
+fn assert_found<R: Env + Files + AllocGlobal + Abort>(
     rt: &R,
     test: &str,
     id: u32,
@@ -231,6 +221,18 @@ where
     fill(rt, folder.as_str(), nodes)?;
     assert_looks(rt, folder.as_str(), looks)?;
     fs::remove_dir_all(rt, folder.as_str())?;
+    Ok(())
+}
+
+// The kind of a node in a worktree that threads may share.
+fn shared_kind<W: Worktree + Sync>(worktree: &W, path: &[u8]) -> Result<NodeKind, Fault> {
+    Ok(worktree.lstat(BStr::new(path))?.kind)
+}
+
+#[test]
+fn threads_may_share_a_folder(rt: HostRuntime) -> Result<(), Fail> {
+    let worktree = DiskWorktree::new(&rt, Path::new("/"))?;
+    assert!(rt; shared_kind(&worktree, b"dev") == Ok(NodeKind::Directory));
     Ok(())
 }
 
@@ -364,7 +366,7 @@ fn found_when_locked<R: Files>(rt: &R, folder: &str) -> io::Result<Result<(NodeK
 }
 
 // Asserts what is found of a file and a folder that may not be read.
-fn assert_locked<R: Files + AllocGlobal + Abort + Sync>(rt: &R, folder: &str) -> Result<(), Fail>
+fn assert_locked<R: Files + AllocGlobal + Abort>(rt: &R, folder: &str) -> Result<(), Fail>
 where
     R::File: Drop,
 {

@@ -52,11 +52,15 @@ impl<T: Copy> Told<T> {
                 EntryStatus::Change(Change::TypeChange { worktree_mode })
             }
             Told::IntentToAdd => EntryStatus::IntentToAdd,
-            Told::Conflict(summary, [base, ours, theirs]) => EntryStatus::Conflict {
-                summary,
-                entries: [kept(base), kept(ours), kept(theirs)],
-            },
+            Told::Conflict(summary, stages) => conflict_of(summary, stages),
         }
+    }
+}
+
+fn conflict_of<T>(summary: Conflict, stages: [u32; 3]) -> EntryStatus<T, ()> {
+    EntryStatus::Conflict {
+        summary,
+        entries: [kept(stages[0]), kept(stages[1]), kept(stages[2])],
     }
 }
 

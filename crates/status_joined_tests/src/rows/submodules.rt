@@ -68,16 +68,22 @@ where
     )
 }
 
+// Whether a record is that the submodule changed in so many places.
+fn has_changed(record: &joined::Entry<'_, ObjectId, Option<u64>>, places: Option<u64>) -> bool {
+    match record {
+        joined::Entry::Modification {
+            entry_index: 0,
+            status: EntryStatus::Change(Change::SubmoduleModification(found)),
+            ..
+        } => *found == places,
+        _ => false,
+    }
+}
+
 // Whether the one record is that the submodule changed in so many places.
 fn is_changed(records: &[joined::Entry<'_, ObjectId, Option<u64>>], places: Option<u64>) -> bool {
     match records {
-        [
-            joined::Entry::Modification {
-                entry_index: 0,
-                status: EntryStatus::Change(Change::SubmoduleModification(found)),
-                ..
-            },
-        ] => *found == places,
+        [record] => has_changed(record, places),
         _ => false,
     }
 }

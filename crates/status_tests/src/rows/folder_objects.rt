@@ -71,31 +71,12 @@ fn blobs_may_lie_in_a_folder(rt: HostRuntime) -> Result<(), Fail> {
     Ok(())
 }
 
-// Asserts that the blob of the first or of the second of two entries is missing. What is reported before it is `told`.
-fn assert_lacking<'a, R: AllocGlobal + Files + Sync + Threads + Wait + Abort>(
-    rt: &R,
-    folder: &str,
-    name: &'a str,
-    told: &'a [(usize, &'a str, Told<u64>)],
-) -> Result<(), Fail>
-where
-    R::File: Send,
-    R::Dir: Send,
-{
-    let row = Row {
-        name,
-        entries: &[
-            foo_entry("a"),
-            GivenEntry {
-                id: BAR,
-                ..foo_entry("b")
-            },
-        ],
-        nodes: &[later_file("a", b"bars"), later_file("b", b"bars")],
-        told,
-        answer: Answer::LacksBlob,
-    };
-    assert_row(rt, folder, &row)
+// An entry of the content `bar`.
+fn bar_entry(path: &str) -> GivenEntry<'_> {
+    GivenEntry {
+        id: BAR,
+        ..foo_entry(path)
+    }
 }
 
 // Asserts that the second blob is missing where the folder doesn't have it, and where a directory has its name: that can't
@@ -108,10 +89,24 @@ where
     R::File: Send,
     R::Dir: Send,
 {
+    let no_file = Row {
+        name: "no file",
+        entries: &[foo_entry("a"), bar_entry("b")],
+        nodes: &[later_file("a", b"bars"), later_file("b", b"bars")],
+        told: &[(0, "a", Told::Changed(4))],
+        answer: Answer::LacksBlob,
+    };
+    let directory = Row {
+        name: "a directory",
+        entries: &[foo_entry("a"), bar_entry("b")],
+        nodes: &[later_file("a", b"bars"), later_file("b", b"bars")],
+        told: &[(0, "a", Told::Changed(4))],
+        answer: Answer::LacksBlob,
+    };
     write_file(rt, folder, FOO_DIGITS, "foo")?;
-    assert_lacking(rt, folder, "no file", &[(0, "a", Told::Changed(4))])?;
+    assert_row(rt, folder, &no_file)?;
     make_directory(rt, folder, BAR_DIGITS)?;
-    assert_lacking(rt, folder, "a directory", &[(0, "a", Told::Changed(4))])
+    assert_row(rt, folder, &directory)
 }
 
 #[test]
@@ -119,5 +114,12 @@ fn a_blob_that_the_folder_does_not_give_is_missing(rt: HostRuntime) -> Result<()
     let folder = own_folder(&rt, "a_blob_is_missing")?;
     assert_second_lacking(&rt, folder.as_str())?;
     fs::remove_dir_all(&rt, folder.as_str())?;
-    assert_lacking(&rt, folder.as_str(), "no folder", &[])
+    let no_folder = Row {
+        name: "no folder",
+        entries: &[foo_entry("a"), bar_entry("b")],
+        nodes: &[later_file("a", b"bars"), later_file("b", b"bars")],
+        told: &[],
+        answer: Answer::LacksBlob,
+    };
+    assert_row(&rt, folder.as_str(), &no_folder)
 }

@@ -75,26 +75,29 @@ fn assert_one<R: AllocGlobal + Files + Sync + Threads + Wait + Abort>(
     system: &HostRuntime,
     root: &str,
 ) -> Result<(), Fail> {
+    let told = OfSubmodules::Changed(1, &[]);
     let clean = Row {
         name: "as it was staged",
         submodules: &["sub"],
         entries: &["a"],
         workers: 1,
-        told: OfSubmodules::Changed(1, &[]),
+        told,
     };
+    let told = OfSubmodules::Changed(1, &[(0, "sub", 1)]);
     let changed = Row {
         name: "its file was changed",
         submodules: &["sub"],
         entries: &["a"],
         workers: 1,
-        told: OfSubmodules::Changed(1, &[(0, "sub", 1)]),
+        told,
     };
+    let told = OfSubmodules::Fails("sub", FAULT_OF_A_FILE);
     let failed = Row {
         name: "a path that isn't normal is a fault",
         submodules: &["sub"],
         entries: &["a//b"],
         workers: 1,
-        told: OfSubmodules::Fails("sub", FAULT_OF_A_FILE),
+        told,
     };
     fill_directory(rt, root, "sub", &[("a", "foo")])?;
     assert_row(rt, system, root, &clean)?;
