@@ -72,7 +72,8 @@ module _ {T U : Type 0} (q : Query T U) (e : IndexEntry) (n : Metadata) where
   -- the decision of an entry at whose path a node was found; it calls no more `lstat`
   abbrev pub IsNodeDecided : Result (Decided T U) Error → Type 0
   IsNodeDecided result =
-      IsTrue q.modelled → IsCaseDecided e.path (case_of_found q e (present n)) false counted_of result
+      IsTrue q.modelled
+      → IsCaseDecided e.path (case_of_found q e (present n)) false counted_of result
 
   -- the same of one whose node has the entry's type, and this stat
   abbrev pub IsContentDecided : Stat → Bool → Result (Decided T U) Error → Type 0

@@ -179,10 +179,9 @@ module _ {T U : Type 0} (q : Query T U) (e : IndexEntry) where
   IsInRow unstamped = IsUnstamped
   IsInRow retyped = (mode : Mode) × IsRetyped mode
   IsInRow unchanged = IsUnchanged
-  IsInRow failed = (n : Metadata)
-      × ((s : Stat) × ((x : Bool) × ((err : Error) × (IsCompared n s x × (comparison n ≡ Err err)))))
-  IsInRow modified = (n : Metadata)
-      × ((s : Stat)
-      × ((x : Bool) × ((c : Option T) × (IsCompared n s x × (comparison n ≡ Ok c) × HasChange x c))))
+  IsInRow failed = (n : Metadata) × ((s : Stat) × ((x : Bool) × ((err : Error)
+      × (IsCompared n s x × (comparison n ≡ Err err)))))
+  IsInRow modified = (n : Metadata) × ((s : Stat) × ((x : Bool) × ((c : Option T)
+      × (IsCompared n s x × (comparison n ≡ Ok c) × HasChange x c))))
   IsInRow to_update = (n : Metadata)
       × ((s : Stat) × (IsCompared n s false × (comparison n ≡ Ok None)))

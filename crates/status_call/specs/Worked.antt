@@ -62,8 +62,8 @@ module _ {T U : Type 0} (q : Query T U) (start : ℕ) (es : List IndexEntry) (fr
 
 -- the same of all considered entries, by a thread limit
 pub record IsLimitedWork {T U : Type 0} (q : Query T U) (start : ℕ) (es : List IndexEntry)
-    (faithful : Visit T U → Type 0) (interruptible : Bool) (limit : Option ℕ) (old : List (Visit T U))
-    (result : Result Progress Error) (new : List (Visit T U)) : Type 0 where
+    (faithful : Visit T U → Type 0) (interruptible : Bool) (limit : Option ℕ)
+    (old : List (Visit T U)) (result : Result Progress Error) (new : List (Visit T U)) : Type 0 where
   pub workers : ℕ
   pub alone : limit ≡ Some 1 → workers ≡ 1
   pub work : IsReportedWork q start es 0 faithful interruptible workers (length es) old result new

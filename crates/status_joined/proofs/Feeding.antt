@@ -18,17 +18,17 @@ module _ {T U : Type 0} where
   reported_append (x ∷ xs) ys (t ∷ ts) us h k = (h.0, reported_append xs ys ts us h.1 k)
 
   -- each entry whose destination is a node may be reported
-  may_tell : (entry : Rewritten (Item T U)) → IsLed is_walked entry → (t : Reported T U) × IsReported entry t
-  may_tell (Alone (tracked v)) h = (modification v, refl)
-  may_tell (Alone (walked w id)) h = (contents w, refl)
-  may_tell (Rewrite source (walked w id) copy) h = (rewrite source w id copy, refl)
-  may_tell (Rewrite source (tracked v) copy) h = absurd (false≢true h)
+  may_report : (entry : Rewritten (Item T U)) → IsLed is_walked entry → (t : Reported T U) × IsReported entry t
+  may_report (Alone (tracked v)) h = (modification v, refl)
+  may_report (Alone (walked w id)) h = (contents w, refl)
+  may_report (Rewrite source (walked w id) copy) h = (rewrite source w id copy, refl)
+  may_report (Rewrite source (tracked v) copy) h = absurd (false≢true h)
 
-  may_tell_all : (entries : List (Rewritten (Item T U))) → All (IsLed is_walked) entries → (ts : List (Reported T U)) × AreReported entries ts
-  may_tell_all [] h = ([], tt)
-  may_tell_all (x ∷ xs) h =
-      let first = may_tell x (All-head (IsLed is_walked) x xs h) in
-      let rest = may_tell_all xs (All-tail (IsLed is_walked) x xs h) in
+  may_report_all : (entries : List (Rewritten (Item T U))) → All (IsLed is_walked) entries → (ts : List (Reported T U)) × AreReported entries ts
+  may_report_all [] h = ([], tt)
+  may_report_all (x ∷ xs) h =
+      let first = may_report x (All-head (IsLed is_walked) x xs h) in
+      let rest = may_report_all xs (All-tail (IsLed is_walked) x xs h) in
       (first.0 ∷ rest.0, (first.1, rest.1))
 
   -- of all entries a front was reported, and these are left
@@ -77,7 +77,7 @@ module _ {T U : Type 0} where
   -- a front was reported, and nothing after it, though an entry was left
   pub reported_until : (entries : List (Rewritten (Item T U))) (old now after : List (Reported T U)) (entry : Rewritten (Item T U)) (left rest : List (Rewritten (Item T U))) → left ≡ entry ∷ rest → All (IsLed is_walked) entries → IsUnderWay entries old now left → after ≡ now → (ts : List (Reported T U)) × AreReported entries ts × ((n : ℕ) × (n < length ts) × (after ≡ old ++ take n ts))
   reported_until entries old now after entry left behind step led h same =
-      let rest = may_tell_all left (all_left (IsLed is_walked) entries old now left h led) in
+      let rest = may_report_all left (all_left (IsLed is_walked) entries old now left h led) in
       let some : length rest.0 ≡ suc (length behind) = as_many left rest.0 rest.1 ∙ ap length step in
       let fits : length h.given < length (h.given ++ rest.0) = omega (arith, length-append h.given rest.0, some) in (
         h.given ++ rest.0,

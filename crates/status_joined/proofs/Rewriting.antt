@@ -15,7 +15,7 @@ use Rattle.status_rewrites.specs.declared.rewritten.Rewritten.{Rewritten}
 use Rattle.status_rewrites.proofs.Led.{destinations_walked}
 use Rattle.status_rewrites.proofs.Mapped.{bad_pair_mapped, rewritten_mapped}
 use Rattle.status_tracker.specs.Changed.{Changed}
-use Rattle.status_tracker.specs.Trackers.{TrackerFault, IsTold}
+use Rattle.status_tracker.specs.Trackers.{TrackerFault, IsMeantAnswer}
 use Rattle.status_tracker.specs.declared.tracker.Pair.{Pair}
 use Rattle.status_tracker.specs.declared.tracker.TrackerError.{TrackerError}
 use Rattle.status_tracker.specs.declared.tracker.TrackerError.TheVariants as trackers
@@ -49,13 +49,13 @@ module _ {T U : Type 0} (ids : Identifying) (kind : HashKind) (means : List Chan
     seen = ap (map (λ (x : ModificationOrDirwalkEntry T U). changed_of (item_of x))) same ∙ sym (map-map changed_of item_of xs)
 
     -- a tracker has no pairs
-    tracker_fault_of : (e : TrackerError) → IsTold (means (map changed_of (map item_of xs)) track_empty) (Err e) → IsRewritingFault ids kind means track_empty list (error_of_tracker e)
+    tracker_fault_of : (e : TrackerError) → IsMeantAnswer (means (map changed_of (map item_of xs)) track_empty) (Err e) → IsRewritingFault ids kind means track_empty list (error_of_tracker e)
     tracker_fault_of (trackers.BadPair at) reported = (map item_of xs, (identified, inl reported))
     tracker_fault_of (trackers.Refused code) reported = (map item_of xs, (identified, reported))
     tracker_fault_of trackers.Memory reported = tt
 
-    pub tracker_fault : (e : TrackerError) → IsTold (means (map (λ (x : ModificationOrDirwalkEntry T U). changed_of (item_of x)) slice) track_empty) (Err e) → IsRewritingFault ids kind means track_empty list (error_of_tracker e)
-    tracker_fault e reported = tracker_fault_of e (subst (λ cs. IsTold (means cs track_empty) (Err e)) seen reported)
+    pub tracker_fault : (e : TrackerError) → IsMeantAnswer (means (map (λ (x : ModificationOrDirwalkEntry T U). changed_of (item_of x)) slice) track_empty) (Err e) → IsRewritingFault ids kind means track_empty list (error_of_tracker e)
+    tracker_fault e reported = tracker_fault_of e (subst (λ cs. IsMeantAnswer (means cs track_empty) (Err e)) seen reported)
 
     module _ (ps : List Pair) (reported : means (map (λ (x : ModificationOrDirwalkEntry T U). changed_of (item_of x)) slice) track_empty (Ok ps)) (is_made_of : ModificationOrDirwalkEntry T U → ModificationOrDirwalkEntry T U → Type 0) where
       meant : means (map changed_of (map item_of xs)) track_empty (Ok ps)

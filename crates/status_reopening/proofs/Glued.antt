@@ -36,8 +36,8 @@ whole : (es : List Event) → take (length es) es ≡ es
 whole es = take_all (length es) es (omega arith)
 
 -- a replay to the end
-pub all_replayed : (es : List Event) (w now : StampedWorld) (told : List RunReport) → IsReplay w es now told None → AreReplayed es w now told
-all_replayed es w now told replay = record {
+pub all_replayed : (es : List Event) (w now : StampedWorld) (earlier : List RunReport) → IsReplay w es now earlier None → AreReplayed es w now earlier
+all_replayed es w now earlier replay = record {
   accepted = subst (λ l. AreAccepted l w) (whole es) replay.accepted;
   world = replay.world ∙ ap (λ l. after_events l w) (whole es);
   reported = replay.reported ∙ ap (λ l. reports_of l w) (whole es);

@@ -22,30 +22,30 @@ events_more ss k s inside here =
     ∙ (events_all (take k ss) (s ∷ []) ∙ ap (λ l. events_in (take k ss) ++ l) (append-nil s.items))
 
 module _ (w : StampedWorld) (ss : List (Vec Event Global)) (k : ℕ) (s : Vec Event Global) (inside : k < length ss) (here : s ≡ slice_index_or ss k s)
-    (old before new : StampedWorld) (told more : List RunReport) (stop : Option (ℕ × Refusal)) (events : List Event) where
-  pub next_stretch : AreReplayed (events_in (take k ss)) w old told → before ≡ old → events ≡ s.items → IsReplay before events new more stop
-      → IsReplay w (events_in (take (k + 1) ss)) new (told ++ more) (shifted (length (events_in (take k ss))) stop)
+    (old before new : StampedWorld) (earlier more : List RunReport) (stop : Option (ℕ × Refusal)) (events : List Event) where
+  pub next_stretch : AreReplayed (events_in (take k ss)) w old earlier → before ≡ old → events ≡ s.items → IsReplay before events new more stop
+      → IsReplay w (events_in (take (k + 1) ss)) new (earlier ++ more) (shifted (length (events_in (take k ss))) stop)
   next_stretch so_far same these replay =
-      subst (λ l. IsReplay w l new (told ++ more) (shifted (length (events_in (take k ss))) stop)) (sym (events_more ss k s inside here))
-      (glued (events_in (take k ss)) s.items w old new told more stop so_far
+      subst (λ l. IsReplay w l new (earlier ++ more) (shifted (length (events_in (take k ss))) stop)) (sym (events_more ss k s inside here))
+      (glued (events_in (take k ss)) s.items w old new earlier more stop so_far
       (subst (λ u. IsReplay u s.items new more stop) same (subst (λ l. IsReplay before l new more stop) these replay)))
 
-  pub goes_on : AreReplayed (events_in (take k ss)) w old told → before ≡ old → events ≡ s.items → IsReplay before events new more stop → stop ≡ None
-      → AreReplayed (events_in (take (k + 1) ss)) w new (told ++ more)
+  pub goes_on : AreReplayed (events_in (take k ss)) w old earlier → before ≡ old → events ≡ s.items → IsReplay before events new more stop → stop ≡ None
+      → AreReplayed (events_in (take (k + 1) ss)) w new (earlier ++ more)
   goes_on so_far same these replay none =
-      all_replayed (events_in (take (k + 1) ss)) w new (told ++ more)
-      (subst (λ o. IsReplay w (events_in (take (k + 1) ss)) new (told ++ more) (shifted (length (events_in (take k ss))) o)) none
+      all_replayed (events_in (take (k + 1) ss)) w new (earlier ++ more)
+      (subst (λ o. IsReplay w (events_in (take (k + 1) ss)) new (earlier ++ more) (shifted (length (events_in (take k ss))) o)) none
       (next_stretch so_far same these replay))
 
-  pub stops : (at : ℕ) (r : Refusal) → AreReplayed (events_in (take k ss)) w old told → before ≡ old → events ≡ s.items → IsReplay before events new more stop
-      → stop ≡ Some (at, r) → IsReplay w (events_in ss) new (told ++ more) (Some (length (events_in (take k ss)) + at, r))
+  pub stops : (at : ℕ) (r : Refusal) → AreReplayed (events_in (take k ss)) w old earlier → before ≡ old → events ≡ s.items → IsReplay before events new more stop
+      → stop ≡ Some (at, r) → IsReplay w (events_in ss) new (earlier ++ more) (Some (length (events_in (take k ss)) + at, r))
   stops at r so_far same these replay some =
       let place : ℕ × Refusal = (length (events_in (take k ss)) + at, r) in
       let whole : events_in ss ≡ events_in (take (k + 1) ss) ++ events_in (drop (k + 1) ss) =
       ap events_in (sym (take-append-drop (k + 1) ss)) ∙ events_all (take (k + 1) ss) (drop (k + 1) ss) in
-      subst (λ l. IsReplay w l new (told ++ more) (Some place)) (sym whole)
-      (with_later (events_in (take (k + 1) ss)) (events_in (drop (k + 1) ss)) w new (told ++ more) place
-      (subst (λ o. IsReplay w (events_in (take (k + 1) ss)) new (told ++ more) (shifted (length (events_in (take k ss))) o)) some
+      subst (λ l. IsReplay w l new (earlier ++ more) (Some place)) (sym whole)
+      (with_later (events_in (take (k + 1) ss)) (events_in (drop (k + 1) ss)) w new (earlier ++ more) place
+      (subst (λ o. IsReplay w (events_in (take (k + 1) ss)) new (earlier ++ more) (shifted (length (events_in (take k ss))) o)) some
       (next_stretch so_far same these replay)))
 
 -- where a stretch stops

@@ -39,11 +39,11 @@ pub fn replay_reopening<R: Threads + Wait>(
         }
         let Replay {
             world: next,
-            reports: mut told,
+            reports: mut more,
             stopped,
         } = replay(rt, alloc, world, events);
         world = next;
-        if reports.append(&mut told).is_err() {
+        if reports.append(&mut more).is_err() {
             return ReopenedReplay {
                 world,
                 reports,

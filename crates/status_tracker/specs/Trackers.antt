@@ -11,8 +11,8 @@ pub data TrackerFault : Type 0 where
   refused : ℕ → TrackerFault
 
 -- an answer that is meant, or want of memory
-abbrev pub IsTold : (Result (List Pair) TrackerFault → Type 0) → Result (Vec Pair) TrackerError → Type 0
-IsTold meant (Ok pairs) = meant (Ok pairs.items)
-IsTold meant (Err (BadPair at)) = meant (Err (bad_pair at))
-IsTold meant (Err (Refused code)) = meant (Err (refused code))
-IsTold meant (Err Memory) = ⊤
+abbrev pub IsMeantAnswer : (Result (List Pair) TrackerFault → Type 0) → Result (Vec Pair) TrackerError → Type 0
+IsMeantAnswer meant (Ok pairs) = meant (Ok pairs.items)
+IsMeantAnswer meant (Err (BadPair at)) = meant (Err (bad_pair at))
+IsMeantAnswer meant (Err (Refused code)) = meant (Err (refused code))
+IsMeantAnswer meant (Err Memory) = ⊤

@@ -2,7 +2,7 @@
 
 ghost use Rattle.std.specs.Prelude.{◌≡◌, Bool, List, Result, map};
 ghost use Rattle.status_tracker.specs.Changed.{Changed};
-ghost use Rattle.status_tracker.specs.Trackers.{TrackerFault, IsTold};
+ghost use Rattle.status_tracker.specs.Trackers.{TrackerFault, IsMeantAnswer};
 ghost use Rattle.status_tracker.specs.declared.tracker.Pair.{Pair as PairValue};
 
 use crate::change::Change;
@@ -80,5 +80,5 @@ pub trait Tracker {
         items: &[C],
         rewrites: Rewrites,
     ) -> Result<Vec<Pair>, TrackerError>
-        ensures { IsTold (means self.old (map C.changed items.now) rewrites.track_empty) result };
+        ensures { IsMeantAnswer (means self.old (map C.changed items.now) rewrites.track_empty) result };
 }

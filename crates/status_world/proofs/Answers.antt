@@ -115,9 +115,9 @@ none_reported (Some id) e = cc
 none_reported None e = refl
 
 -- the answer is none exactly where the bytes are those that were staged
-pub answer_tells : (c : Comparer) (e : IndexEntry) (kind : HashKind) (s : Plain) (bytes : List ℕ) (m : Meaning) → HasStaged kind e s bytes → IsWholly bytes m.file
+pub answer_says : (c : Comparer) (e : IndexEntry) (kind : HashKind) (s : Plain) (bytes : List ℕ) (m : Meaning) → HasStaged kind e s bytes → IsWholly bytes m.file
     → (found : Option (Option ObjectId)) → compared_by c e (length bytes) m ≡ Ok found → (found ≡ None) ↔ (bytes ≡ s.bytes)
-answer_tells c e kind s bytes m h whole found is =
+answer_says c e kind s bytes m h whole found is =
     let reported : reports_change {A = Option ObjectId} (Ok found) ≡ not (same_id e.id (blob_id kind bytes)) = sym (ap reports_change is) ∙ reports_ids c e kind s bytes m h whole in (
       λ none. sym (h.own (sym h.id ∙ same_id_is e.id (blob_id kind bytes) (not-false (same_id e.id (blob_id kind bytes)) (sym reported ∙ ap (λ o. reports_change {A = Option ObjectId} (Ok o)) none)))),
       λ same. none_reported found (reported ∙ ap not (ap (same_id e.id) (ap (blob_id kind) same ∙ sym h.id) ∙ same_id_self e.id)),

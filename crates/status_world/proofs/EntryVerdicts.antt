@@ -122,9 +122,9 @@ module _ (w : StampedWorld) (c : Comparer) where
   status_present : IsFormed w → (e : IndexEntry) (n : Placed) → IsStagedEntry w e → node_at w e.path ≡ Some n → status_of q e ≡ verdict_by e (Some n)
   status_present formed e n staged there =
       let check : link_check (lstat_in w.tree) e.path ≡ accepted = present_check w.tree e.path formed.unplanted formed.leaves staged.good (ap is_some there) in
-      let told = lstat_node w.tree e.path n formed.unplanted there in
+      let looked = lstat_node w.tree e.path n formed.unplanted there in
       let here : found q e ≡ present n.metadata =
-      ap (λ k. found_by k (lstat_in w.tree e.path)) check ∙ ap (found_by accepted) told ∙ found_present n.metadata n.metadata.kind (formed_node w formed e.path n there).kind in
+      ap (λ k. found_by k (lstat_in w.tree e.path)) check ∙ ap (found_by accepted) looked ∙ found_present n.metadata n.metadata.kind (formed_node w formed e.path n there).kind in
       ap (λ f. answer e.path (case_of_found q e f)) here
       ∙ ap (λ b. answer e.path (if b then status.added else case_of_stat q e n.metadata (stat_of n.metadata))) (not_intended e staged.formed.flags)
 
@@ -158,10 +158,10 @@ module _ (w : StampedWorld) (c : Comparer) where
 
   status_removed : IsFormed w → (e : IndexEntry) → IsStagedEntry w e → node_at w e.path ≡ None → status_of q e ≡ verdict_by e None
   status_removed formed e staged there =
-      let told = lstat_none w.tree e.path formed.unplanted there in
+      let looked = lstat_none w.tree e.path formed.unplanted there in
       let plain : is_submodule e.mode ≡ false = ap is_submodule staged.formed.mode ∙ no_submodule w.executable_bit staged.was.kind staged.was.executable staged.formed.kind in
       let seen = found_absent (link_check (lstat_in w.tree) e.path) (has_below w.tree e.path) (absence w.tree e.path) (mild_check w.tree e.path formed.unplanted staged.good) (absence_by (has_file_above w.tree e.path)) in
-      let same : found q e ≡ found_by (link_check (lstat_in w.tree) e.path) (if has_below w.tree e.path then Ok bare_directory else Err (absence w.tree e.path)) = ap (found_by (link_check (lstat_in w.tree) e.path)) told in
+      let same : found q e ≡ found_by (link_check (lstat_in w.tree) e.path) (if has_below w.tree e.path then Ok bare_directory else Err (absence w.tree e.path)) = ap (found_by (link_check (lstat_in w.tree) e.path)) looked in
       elim seen [
         | inl h ↦ ap (λ f. answer e.path (case_of_found q e f)) (same ∙ h)
         | inr h ↦ ap (λ f. answer e.path (case_of_found q e f)) (same ∙ h)

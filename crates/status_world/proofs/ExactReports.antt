@@ -34,8 +34,8 @@ module _ (w : StampedWorld) (c : Comparer) (f : IsFormed w) where
   faultless_by : (e : IndexEntry) (staged : IsStagedEntry w e) (n : Option Placed) → node_at w e.path ≡ n → fault_by (verdict_by w c e n) ≡ None
   faultless_by e staged None there = refl
   faultless_by e staged (Some n) there =
-      let told = pair_answered w c e n staged.was (met_at w f e n staged there) in
-      ap fault_by told.1
+      let verdict = pair_answered w c e n staged.was (met_at w f e n staged there) in
+      ap fault_by verdict.1
 
   faultless : (e : IndexEntry) → IsStagedEntry w e → fault_by (verdict_in w c e) ≡ None
   faultless e staged = ap fault_by (verdict_is w c f e staged) ∙ faultless_by e staged (node_at w e.path) refl
@@ -59,30 +59,30 @@ none_staged w n None h = refl
 none_staged w n (Some s) h = absurd h
 
 module _ (w : StampedWorld) (c : Comparer) (f : IsFormed w) (sound : IsSound w) (own : AllHaveOwnIds w) where
-  -- what an entry tells of its path
-  abbrev Tells : IndexEntry → Type 0
-  Tells e = IsChangeVerdict (verdict_in w c e) ↔ DiffersFrom w.executable_bit (option_map plain_of (node_at w e.path)) (paths.get w.staged e.path)
+  -- what an entry's verdict says of its path
+  abbrev IsExactFor : IndexEntry → Type 0
+  IsExactFor e = IsChangeVerdict (verdict_in w c e) ↔ DiffersFrom w.executable_bit (option_map plain_of (node_at w e.path)) (paths.get w.staged e.path)
 
-  tells_by : (e : IndexEntry) (staged : IsStagedEntry w e) (n : Option Placed) → node_at w e.path ≡ n
+  exact_by : (e : IndexEntry) (staged : IsStagedEntry w e) (n : Option Placed) → node_at w e.path ≡ n
       → IsChangeVerdict (verdict_by w c e n) ↔ Differs w.executable_bit (option_map plain_of n) staged.was
-  tells_by e staged None there = (λ _. tt, λ _. refl)
-  tells_by e staged (Some n) there =
+  exact_by e staged None there = (λ _. tt, λ _. refl)
+  exact_by e staged (Some n) there =
       let at : IsSoundAt w (Some n) (Some e) (Some staged.was) =
       subst (λ o. IsSoundAt w o (Some e) (Some staged.was)) there
       (subst (λ o. IsSoundAt w (node_at w e.path) o (Some staged.was)) staged.here
       (subst (λ o. IsSoundAt w (node_at w e.path) (entry_at e.path w.entries) o) staged.staged (sound e.path))) in
       pair_change w c e n staged.was (met_at w f e n staged there) (own e.path n staged.was there staged.staged) at.0 at.1
 
-  entry_tells : (e : IndexEntry) → IsStagedEntry w e → Tells e
-  entry_tells e staged =
+  entry_exact : (e : IndexEntry) → IsStagedEntry w e → IsExactFor e
+  entry_exact e staged =
       subst (λ v. IsChangeVerdict v ↔ DiffersFrom w.executable_bit (option_map plain_of (node_at w e.path)) (paths.get w.staged e.path)) (sym (verdict_is w c f e staged))
       (subst (λ o. IsChangeVerdict (verdict_by w c e (node_at w e.path)) ↔ DiffersFrom w.executable_bit (option_map plain_of (node_at w e.path)) o) (sym staged.staged)
-      (tells_by e staged (node_at w e.path) refl))
+      (exact_by e staged (node_at w e.path) refl))
 
-  abbrev TellsAt : List ℕ → Option IndexEntry → Type 0
-  TellsAt q o = IsSomeAnd o (λ e. IsChangeVerdict (verdict_in w c e)) ↔ DiffersFrom w.executable_bit (option_map plain_of (node_at w q)) (paths.get w.staged q)
+  abbrev IsExactAt : List ℕ → Option IndexEntry → Type 0
+  IsExactAt q o = IsSomeAnd o (λ e. IsChangeVerdict (verdict_in w c e)) ↔ DiffersFrom w.executable_bit (option_map plain_of (node_at w q)) (paths.get w.staged q)
 
-  by_entry : (q : List ℕ) (o : Option IndexEntry) → entry_at q w.entries ≡ o → TellsAt q o
+  by_entry : (q : List ℕ) (o : Option IndexEntry) → entry_at q w.entries ≡ o → IsExactAt q o
   by_entry q None there =
       let none : paths.get w.staged q ≡ None = none_staged w (node_at w q) (paths.get w.staged q) (subst (λ o. IsFormedAt w (node_at w q) o (paths.get w.staged q)) there (f.at q)) in
       subst (λ s. ⊥ ↔ DiffersFrom w.executable_bit (option_map plain_of (node_at w q)) s) (sym none) (λ h. h, λ h. h)
@@ -90,9 +90,9 @@ module _ (w : StampedWorld) (c : Comparer) (f : IsFormed w) (sound : IsSound w) 
       let same : e.path ≡ q = subst (λ o. IfSome o (λ (x : IndexEntry). x.path ≡ q)) there (found_path q w.entries) in
       let good : is_bad_path e.path ≡ false = subst (λ o. IfSome o (λ (x : IndexEntry). is_bad_path x.path ≡ false)) there (found_holds (λ x. is_bad_path x.path ≡ false) q w.entries f.normal) in
       let staged : IsStagedEntry w e = staged_entry w f e (ap (λ r. entry_at r w.entries) same ∙ there) good in
-      subst (λ r. TellsAt r (Some e)) same (entry_tells e staged)
+      subst (λ r. IsExactAt r (Some e)) same (entry_exact e staged)
 
-  -- the report tells just the staged paths that differ, in the plain world that the world shows
+  -- the report has just the staged paths that differ, in the plain world that the world shows
   pub report_shown : (p : PlainWorld) → Shows w p → IsExact w.executable_bit (report_of w c) p
   report_shown p shows q =
       let found = iff_at (changed_at w c f.ascending q) (by_entry q (entry_at q w.entries) refl) in

@@ -23,10 +23,10 @@ use Rattle.status_world.specs.PlainWorld.{Plain, Differs, IsExecutableChange}
 use Rattle.status_world.specs.Reports.{RunStatus, is_change}
 use Rattle.status_world.specs.Sound.{IsStagedSize, IsTrustworthy}
 use Rattle.status_world.specs.StampedWorld.{StampedWorld, query_of, plain_of, stored_verdict, compared_by}
-use Rattle.status_world.proofs.Answers.{answer_tells, staged_empty}
+use Rattle.status_world.proofs.Answers.{answer_says, staged_empty}
 use Rattle.status_world.proofs.NodeStats.{KnownStat, stat_known}
 use Rattle.status_world.proofs.StatLaws.{agreed_size}
-use Rattle.status_world.proofs.Verdicts.{IsMet, Told, retyped, unchanged, rewritten, remoded, restamped, verdict_at, comparison_at, trusted_at, racy_at, verdict_told, met_whole}
+use Rattle.status_world.proofs.Verdicts.{IsMet, VerdictCase, retyped, unchanged, rewritten, remoded, restamped, verdict_at, comparison_at, trusted_at, racy_at, verdict_case, met_whole}
 
 -- whether an answer is a change
 abbrev pub IsChangeVerdict : Result (Option RunStatus) Error → Type 0
@@ -59,61 +59,61 @@ module _ (w : StampedWorld) (c : Comparer) (e : IndexEntry) (n : Placed) (s : Pl
   abbrev known : KnownStat w.clock n
   known = stat_known w.clock n met.node
 
-  told : Told w c e n s known.now (verdict_at w c e n)
-  told = verdict_told w c e n s met known.now known.is
+  verdict : VerdictCase w c e n s known.now (verdict_at w c e n)
+  verdict = verdict_case w c e n s met known.now known.is
 
-  told_ok : (v : Result (Option RunStatus) Error) → Told w c e n s known.now v → (o : Option RunStatus) × (v ≡ Ok o)
-  told_ok v (retyped mode k is) = (_, is)
-  told_ok v (unchanged k b t r is) = (_, is)
-  told_ok v (rewritten x t r id k ht hr a is) = (_, is)
-  told_ok v (remoded k b a is) = (_, is)
-  told_ok v (restamped k b a is) = (_, is)
+  case_ok : (v : Result (Option RunStatus) Error) → VerdictCase w c e n s known.now v → (o : Option RunStatus) × (v ≡ Ok o)
+  case_ok v (retyped mode k is) = (_, is)
+  case_ok v (unchanged k b t r is) = (_, is)
+  case_ok v (rewritten x t r id k ht hr a is) = (_, is)
+  case_ok v (remoded k b a is) = (_, is)
+  case_ok v (restamped k b a is) = (_, is)
 
   -- a run has an answer for each entry
   pub pair_answered : (o : Option RunStatus) × (verdict_at w c e n ≡ Ok o)
-  pair_answered = told_ok (verdict_at w c e n) told
+  pair_answered = case_ok (verdict_at w c e n) verdict
 
   pub pair_faultless : (fault : Error) → verdict_at w c e n ≡ Err fault → ⊥
   pair_faultless fault h = let is : verdict_at w c e n ≡ Ok pair_answered.0 = pair_answered.1 in cc
 
-  told_stat : (v : Result (Option RunStatus) Error) → Told w c e n s known.now v → (t : Stat) → v ≡ Ok (Some (statuses.NeedsUpdate t)) → stat_of n.metadata ≡ Some t
-  told_stat v (retyped mode k is) t h = cc
-  told_stat v (unchanged k b ht hr is) t h = cc
-  told_stat v (rewritten x ht hr id k et er a is) t h = cc
-  told_stat v (remoded k b a is) t h = cc
-  told_stat v (restamped k b a is) t h = let one : known.now ≡ t = cc in known.is ∙ ap Some one
+  case_stat : (v : Result (Option RunStatus) Error) → VerdictCase w c e n s known.now v → (t : Stat) → v ≡ Ok (Some (statuses.NeedsUpdate t)) → stat_of n.metadata ≡ Some t
+  case_stat v (retyped mode k is) t h = cc
+  case_stat v (unchanged k b ht hr is) t h = cc
+  case_stat v (rewritten x ht hr id k et er a is) t h = cc
+  case_stat v (remoded k b a is) t h = cc
+  case_stat v (restamped k b a is) t h = let one : known.now ≡ t = cc in known.is ∙ ap Some one
 
   -- where only the stat needs an update, it is the node's
   pub pair_stat : (t : Stat) → verdict_at w c e n ≡ Ok (Some (statuses.NeedsUpdate t)) → stat_of n.metadata ≡ Some t
-  pair_stat t h = told_stat (verdict_at w c e n) told t h
+  pair_stat t h = case_stat (verdict_at w c e n) verdict t h
 
   module _ (own : HasOwnIds w n s) (size : IsStagedSize e s) (trust : IsTrustworthy w n e s) where
     -- the comparer answers none exactly where the bytes are the same
     same_bytes : n.metadata.kind ≡ s.kind → (found : Option (Option ObjectId)) → comparison_at w c e n ≡ Ok found → (found ≡ None) ↔ (n.bytes ≡ s.bytes)
     same_bytes k found is =
-        answer_tells c e w.kind s n.bytes (meaning (query_of w c) e n.metadata)
+        answer_says c e w.kind s n.bytes (meaning (query_of w c) e n.metadata)
         (record { id = met.entry.id; small = met.entry.small; size = size; own = own.bytes; own_empty = own.empty })
         (met_whole w c e n s met k) found
         (ap (λ len. compared_by c e len (meaning (query_of w c) e n.metadata)) (sym met.node.len) ∙ is)
 
-    abbrev Tells : Result (Option RunStatus) Error → Type 0
-    Tells v = IsChangeVerdict v ↔ Differs w.executable_bit (Some (plain_of n)) s
+    abbrev IsExactFor : Result (Option RunStatus) Error → Type 0
+    IsExactFor v = IsChangeVerdict v ↔ Differs w.executable_bit (Some (plain_of n)) s
 
     trusted_bytes : n.metadata.kind ≡ s.kind → trusted_at w e known.now ≡ true → racy_at w known.now ≡ false → n.bytes ≡ s.bytes
     trusted_bytes k t r = trust.bytes known.now known.is k t r
 
-    told_change : (v : Result (Option RunStatus) Error) → Told w c e n s known.now v → Tells v
-    told_change v (retyped mode k is) = subst Tells (sym is) (λ _. inl k, λ _. refl)
-    told_change v (unchanged k b t r is) = subst Tells (sym is) (λ h. absurd h, λ d. no_difference w.executable_bit (plain_of n) s k (trusted_bytes k t r) b d)
-    told_change v (rewritten x t r id k ht hr a is) =
-        subst Tells (sym is) (λ _. inr (inl (λ same. let none = (same_bytes k (Some id) a).1 same in cc)), λ _. refl)
-    told_change v (remoded k b a is) = subst Tells (sym is) (λ _. inr (inr b), λ _. refl)
-    told_change v (restamped k b a is) =
-        subst Tells (sym is) (λ h. absurd (cc), λ d. absurd (no_difference w.executable_bit (plain_of n) s k ((same_bytes k None a).0 refl) b d))
+    case_change : (v : Result (Option RunStatus) Error) → VerdictCase w c e n s known.now v → IsExactFor v
+    case_change v (retyped mode k is) = subst IsExactFor (sym is) (λ _. inl k, λ _. refl)
+    case_change v (unchanged k b t r is) = subst IsExactFor (sym is) (λ h. absurd h, λ d. no_difference w.executable_bit (plain_of n) s k (trusted_bytes k t r) b d)
+    case_change v (rewritten x t r id k ht hr a is) =
+        subst IsExactFor (sym is) (λ _. inr (inl (λ same. let none = (same_bytes k (Some id) a).1 same in cc)), λ _. refl)
+    case_change v (remoded k b a is) = subst IsExactFor (sym is) (λ _. inr (inr b), λ _. refl)
+    case_change v (restamped k b a is) =
+        subst IsExactFor (sym is) (λ h. absurd (cc), λ d. absurd (no_difference w.executable_bit (plain_of n) s k ((same_bytes k None a).0 refl) b d))
 
     -- a run reports a change exactly where the node differs from what was staged
     pub pair_change : IsChangeVerdict (verdict_at w c e n) ↔ Differs w.executable_bit (Some (plain_of n)) s
-    pair_change = told_change (verdict_at w c e n) told
+    pair_change = case_change (verdict_at w c e n) verdict
 
     module _ (u : Moment) (es : List IndexEntry) where
       abbrev Keeps : IndexEntry → Type 0
@@ -152,15 +152,15 @@ module _ (w : StampedWorld) (c : Comparer) (e : IndexEntry) (n : Placed) (s : Pl
       rewritten_kept x true false id k ht hr = same_kept e size (trusted_bytes k ht hr)
       rewritten_kept x true true id k ht hr = (inr refl, record { bytes = λ now is _ later _. smudged_bytes now is later })
 
-      told_kept : (v : Result (Option RunStatus) Error) → Told w c e n s known.now v → KeepsOf v
-      told_kept v (retyped mode k is) = subst KeepsOf (sym is) (size, record { bytes = λ _ _ same _ _. absurd (k same) })
-      told_kept v (unchanged k b t r is) = subst KeepsOf (sym is) (same_kept e size (trusted_bytes k t r))
-      told_kept v (rewritten x t r id k ht hr a is) = subst KeepsOf (sym is) (rewritten_kept x t r id k ht hr)
-      told_kept v (remoded k b a is) = subst KeepsOf (sym is) (same_kept e size ((same_bytes k None a).0 refl))
-      told_kept v (restamped k b a is) =
+      case_kept : (v : Result (Option RunStatus) Error) → VerdictCase w c e n s known.now v → KeepsOf v
+      case_kept v (retyped mode k is) = subst KeepsOf (sym is) (size, record { bytes = λ _ _ same _ _. absurd (k same) })
+      case_kept v (unchanged k b t r is) = subst KeepsOf (sym is) (same_kept e size (trusted_bytes k t r))
+      case_kept v (rewritten x t r id k ht hr a is) = subst KeepsOf (sym is) (rewritten_kept x t r id k ht hr)
+      case_kept v (remoded k b a is) = subst KeepsOf (sym is) (same_kept e size ((same_bytes k None a).0 refl))
+      case_kept v (restamped k b a is) =
           let same = (same_bytes k None a).0 refl in
           subst KeepsOf (sym is) (same_kept (with_stat known.now e) (inl (known.size ∙ ap length same)) same)
 
       -- what a run stores of an entry can be trusted, whatever the new timestamp
       pub pair_kept : IsStagedSize (stored_verdict e (verdict_at w c e n)) s × IsTrustworthy (restored w u es) n (stored_verdict e (verdict_at w c e n)) s
-      pair_kept = told_kept (verdict_at w c e n) told
+      pair_kept = case_kept (verdict_at w c e n) verdict

@@ -44,44 +44,44 @@ reports_more (x ∷ es) e w =
     ∙ sym (append_assoc (reports_at x w) (reports_of es (after_event x w)) (reports_at e (after_events es (after_event x w))))
 
 -- the world and the reports after accepted events
-pub record AreReplayed (es : List Event) (w now : StampedWorld) (told : List RunReport) : Type 0 where
+pub record AreReplayed (es : List Event) (w now : StampedWorld) (earlier : List RunReport) : Type 0 where
   pub accepted : AreAccepted es w
   pub world : now ≡ after_events es w
-  pub reported : told ≡ reports_of es w
+  pub reported : earlier ≡ reports_of es w
 
 -- before the first event
-pub begun : (w : StampedWorld) (told : List RunReport) → told ≡ [] → AreReplayed [] w w told
-begun w told none = record { accepted = tt; world = refl; reported = none }
+pub begun : (w : StampedWorld) (earlier : List RunReport) → earlier ≡ [] → AreReplayed [] w w earlier
+begun w earlier none = record { accepted = tt; world = refl; reported = none }
 
-replayed_more : (es : List Event) (e : Event) (w now after : StampedWorld) (told all : List RunReport) → AreReplayed es w now told → IsStep e now told (Ok tt) after all
+replayed_more : (es : List Event) (e : Event) (w now after : StampedWorld) (earlier all : List RunReport) → AreReplayed es w now earlier → IsStep e now earlier (Ok tt) after all
     → AreReplayed (es ++ e ∷ []) w after all
-replayed_more es e w now after told all so_far step = record {
+replayed_more es e w now after earlier all so_far step = record {
   accepted = accepted_more es e w so_far.accepted (subst (λ u. refusal_of e u ≡ None) so_far.world step.0);
   world = step.2 ∙ (ap (after_event e) so_far.world ∙ sym (after_more es e w));
   reported = step.1 ∙ (ap (λ l. l ++ reports_at e now) so_far.reported ∙ (ap (λ u. reports_of es w ++ reports_at e u) so_far.world ∙ sym (reports_more es e w)));
 }
 
 -- by the place in a list
-pub one_more : (es : List Event) (n : ℕ) (e : Event) (w now after : StampedWorld) (told all : List RunReport) → n < length es → e ≡ slice_index_or es n e
-    → AreReplayed (take n es) w now told → IsStep e now told (Ok tt) after all → AreReplayed (take (n + 1) es) w after all
-one_more es n e w now after told all before here so_far step =
+pub one_more : (es : List Event) (n : ℕ) (e : Event) (w now after : StampedWorld) (earlier all : List RunReport) → n < length es → e ≡ slice_index_or es n e
+    → AreReplayed (take n es) w now earlier → IsStep e now earlier (Ok tt) after all → AreReplayed (take (n + 1) es) w after all
+one_more es n e w now after earlier all before here so_far step =
     subst (λ l. AreReplayed l w after all) (sym (take_more es n e before ∙ ap (λ x. take n es ++ x ∷ []) (sym here)))
-    (replayed_more (take n es) e w now after told all so_far step)
+    (replayed_more (take n es) e w now after earlier all so_far step)
 
 -- ---- the end
 
-pub stopped_at : (es : List Event) (n : ℕ) (e : Event) (r : Refusal) (w now after : StampedWorld) (told all : List RunReport) → n < length es → e ≡ slice_index_or es n e
-    → AreReplayed (take n es) w now told → IsStep e now told (Err r) after all → IsReplay w es after all (Some (n, r))
-stopped_at es n e r w now after told all before here so_far step = record {
+pub stopped_at : (es : List Event) (n : ℕ) (e : Event) (r : Refusal) (w now after : StampedWorld) (earlier all : List RunReport) → n < length es → e ≡ slice_index_or es n e
+    → AreReplayed (take n es) w now earlier → IsStep e now earlier (Err r) after all → IsReplay w es after all (Some (n, r))
+stopped_at es n e r w now after earlier all before here so_far step = record {
   accepted = so_far.accepted;
   world = step.2 ∙ so_far.world;
   reported = step.1 ∙ so_far.reported;
   stop = subst (λ l. IsStop l after (Some (n, r))) (sym (drop_more es n e before ∙ ap (λ x. x ∷ drop (n + 1) es) (sym here))) (subst (λ u. IsRefused r e u) (sym step.2) step.0);
 }
 
-pub ended : (es : List Event) (n : ℕ) (w now : StampedWorld) (told : List RunReport) → n ≡ length es → AreReplayed (take n es) w now told → IsReplay w es now told None
-ended es n w now told end so_far =
-    let all : AreReplayed (take (length es) es) w now told = subst (λ k. AreReplayed (take k es) w now told) end so_far in
+pub ended : (es : List Event) (n : ℕ) (w now : StampedWorld) (earlier : List RunReport) → n ≡ length es → AreReplayed (take n es) w now earlier → IsReplay w es now earlier None
+ended es n w now earlier end so_far =
+    let all : AreReplayed (take (length es) es) w now earlier = subst (λ k. AreReplayed (take k es) w now earlier) end so_far in
     record { accepted = all.accepted; world = all.world; reported = all.reported; stop = drop-length es }
 
 -- a replay leaves a formed world formed

@@ -1,4 +1,4 @@
--- What a run's answer for an entry tells of the node at its path.
+-- What a run's answer for an entry says of the node at its path.
 use Rattle.std.proofs.Common.{◌≡◌, ◌≢◌, ◌∙◌, refl, sym, ap, subst, ◌&&◌, Bool, true, false, Option, Some, None, Result, Ok, IsTrue}
 use Rattle.std.specs.FinMap as paths
 use Rattle.status_index.specs.BlobId.{id_kind}
@@ -24,7 +24,7 @@ use Rattle.status_world.specs.Reports.{RunStatus}
 use Rattle.status_world.specs.Sound.{IsFormedNode, IsFormedEntry}
 use Rattle.status_world.specs.StampedWorld.{StampedWorld, node_at, query_of, plain_of, compared_by}
 use Rattle.status_world.proofs.Answers.{Answered, answered, kind_of_blob}
-use Rattle.status_world.proofs.Modes.{ModeTold, other_kind, other_bit, same_mode, mode_told}
+use Rattle.status_world.proofs.Modes.{ModeCase, other_kind, other_bit, same_mode, mode_case}
 use Rattle.status_world.proofs.Readings.{whole_reading}
 
 -- what a run answers for an entry at whose path this node is
@@ -52,16 +52,16 @@ pub record IsMet (w : StampedWorld) (e : IndexEntry) (n : Placed) (s : Plain) : 
   pub there : node_at w e.path ≡ Some n
   pub unplanted : w.tree.planted ≡ paths.empty
 
--- the answers, each with what it tells
-pub data Told (w : StampedWorld) (c : Comparer) (e : IndexEntry) (n : Placed) (s : Plain) (now : Stat) (v : Result (Option RunStatus) Error) : Type 0 where
-  retyped : (mode : Mode) → n.metadata.kind ≢ s.kind → v ≡ Ok (Some (statuses.Change (changes.TypeChange mode))) → Told w c e n s now v
-  unchanged : n.metadata.kind ≡ s.kind → (IsExecutableAsked w n s → ⊥) → trusted_at w e now ≡ true → racy_at w now ≡ false → v ≡ Ok None → Told w c e n s now v
+-- the answers, each with what it says
+pub data VerdictCase (w : StampedWorld) (c : Comparer) (e : IndexEntry) (n : Placed) (s : Plain) (now : Stat) (v : Result (Option RunStatus) Error) : Type 0 where
+  retyped : (mode : Mode) → n.metadata.kind ≢ s.kind → v ≡ Ok (Some (statuses.Change (changes.TypeChange mode))) → VerdictCase w c e n s now v
+  unchanged : n.metadata.kind ≡ s.kind → (IsExecutableAsked w n s → ⊥) → trusted_at w e now ≡ true → racy_at w now ≡ false → v ≡ Ok None → VerdictCase w c e n s now v
   rewritten : (x t r : Bool) (id : Option ObjectId) → n.metadata.kind ≡ s.kind → trusted_at w e now ≡ t → racy_at w now ≡ r → comparison_at w c e n ≡ Ok (Some id)
-      → v ≡ Ok (Some (statuses.Change (changes.Modification x (Some id) (t && r)))) → Told w c e n s now v
+      → v ≡ Ok (Some (statuses.Change (changes.Modification x (Some id) (t && r)))) → VerdictCase w c e n s now v
   remoded : n.metadata.kind ≡ s.kind → IsExecutableAsked w n s → comparison_at w c e n ≡ Ok None
-      → v ≡ Ok (Some (statuses.Change (changes.Modification true None false))) → Told w c e n s now v
+      → v ≡ Ok (Some (statuses.Change (changes.Modification true None false))) → VerdictCase w c e n s now v
   restamped : n.metadata.kind ≡ s.kind → (IsExecutableAsked w n s → ⊥) → comparison_at w c e n ≡ Ok None
-      → v ≡ Ok (Some (statuses.NeedsUpdate now)) → Told w c e n s now v
+      → v ≡ Ok (Some (statuses.NeedsUpdate now)) → VerdictCase w c e n s now v
 
 -- whether the executable bit changed, where that is asked for
 abbrev IsBit : StampedWorld → Placed → Plain → Bool → Type 0
@@ -73,33 +73,33 @@ module _ (w : StampedWorld) (c : Comparer) (e : IndexEntry) (n : Placed) (s : Pl
   abbrev shown : Bool → Bool → Bool → Result (Option (Option ObjectId)) Error → Result (Option RunStatus) Error
   shown x t r a = answer e.path (status.compared x t r now a)
 
-  abbrev ToldOf : Result (Option RunStatus) Error → Type 0
-  ToldOf v = Told w c e n s now v
+  abbrev CaseOf : Result (Option RunStatus) Error → Type 0
+  CaseOf v = VerdictCase w c e n s now v
 
-  told_compared : (x t r : Bool) (found : Option (Option ObjectId)) → n.metadata.kind ≡ s.kind → IsBit w n s x → trusted_at w e now ≡ t → racy_at w now ≡ r
-      → comparison_at w c e n ≡ Ok found → ToldOf (shown x t r (comparison_at w c e n))
-  told_compared x t r (Some id) k b ht hr is = rewritten x t r id k ht hr is (ap (shown x t r) is)
-  told_compared true t r None k b ht hr is = remoded k b is (ap (shown true t r) is)
-  told_compared false t r None k b ht hr is = restamped k b is (ap (shown false t r) is)
+  compared_case : (x t r : Bool) (found : Option (Option ObjectId)) → n.metadata.kind ≡ s.kind → IsBit w n s x → trusted_at w e now ≡ t → racy_at w now ≡ r
+      → comparison_at w c e n ≡ Ok found → CaseOf (shown x t r (comparison_at w c e n))
+  compared_case x t r (Some id) k b ht hr is = rewritten x t r id k ht hr is (ap (shown x t r) is)
+  compared_case true t r None k b ht hr is = remoded k b is (ap (shown true t r) is)
+  compared_case false t r None k b ht hr is = restamped k b is (ap (shown false t r) is)
 
-  told_content : (x t r : Bool) (found : Option (Option ObjectId)) → n.metadata.kind ≡ s.kind → IsBit w n s x → trusted_at w e now ≡ t → racy_at w now ≡ r
-      → comparison_at w c e n ≡ Ok found → ToldOf (answer e.path (case_of_content (query_of w c) e n.metadata now x t r))
-  told_content false true false found k b ht hr is = unchanged k b ht hr refl
-  told_content true t r found k b ht hr is = told_compared true t r found k b ht hr is
-  told_content false false r found k b ht hr is = told_compared false false r found k b ht hr is
-  told_content false true true found k b ht hr is = told_compared false true true found k b ht hr is
+  content_case : (x t r : Bool) (found : Option (Option ObjectId)) → n.metadata.kind ≡ s.kind → IsBit w n s x → trusted_at w e now ≡ t → racy_at w now ≡ r
+      → comparison_at w c e n ≡ Ok found → CaseOf (answer e.path (case_of_content (query_of w c) e n.metadata now x t r))
+  content_case false true false found k b ht hr is = unchanged k b ht hr refl
+  content_case true t r found k b ht hr is = compared_case true t r found k b ht hr is
+  content_case false false r found k b ht hr is = compared_case false false r found k b ht hr is
+  content_case false true true found k b ht hr is = compared_case false true true found k b ht hr is
 
   abbrev by_change : Option ModeChange → Result (Option RunStatus) Error
   by_change m = answer e.path (case_of_change (query_of w c) e n.metadata now m)
 
-  told_mode : (m : Option ModeChange) → ModeTold w.executable_bit (plain_of n) s m → (n.metadata.kind ≡ s.kind → Answered (comparison_at w c e n)) → ToldOf (by_change m)
-  told_mode m (other_kind mode k is) a = retyped mode k (ap by_change is)
-  told_mode m (other_bit k x b is) a =
-      subst (λ o. ToldOf (by_change o)) (sym is)
-      (told_content true (trusted_at w e now) (racy_at w now) (a k).0 k (x, b) refl refl (a k).1)
-  told_mode m (same_mode k b is) a =
-      subst (λ o. ToldOf (by_change o)) (sym is)
-      (told_content false (trusted_at w e now) (racy_at w now) (a k).0 k (λ h. b h.0 h.1) refl refl (a k).1)
+  by_mode_case : (m : Option ModeChange) → ModeCase w.executable_bit (plain_of n) s m → (n.metadata.kind ≡ s.kind → Answered (comparison_at w c e n)) → CaseOf (by_change m)
+  by_mode_case m (other_kind mode k is) a = retyped mode k (ap by_change is)
+  by_mode_case m (other_bit k x b is) a =
+      subst (λ o. CaseOf (by_change o)) (sym is)
+      (content_case true (trusted_at w e now) (racy_at w now) (a k).0 k (x, b) refl refl (a k).1)
+  by_mode_case m (same_mode k b is) a =
+      subst (λ o. CaseOf (by_change o)) (sym is)
+      (content_case false (trusted_at w e now) (racy_at w now) (a k).0 k (λ h. b h.0 h.1) refl refl (a k).1)
 
 module _ (w : StampedWorld) (c : Comparer) (e : IndexEntry) (n : Placed) (s : Plain) where
   -- a run reads the whole of a node of the entry's kind
@@ -113,10 +113,10 @@ module _ (w : StampedWorld) (c : Comparer) (e : IndexEntry) (n : Placed) (s : Pl
       answered c e w.kind n.bytes n.metadata.len (meaning (query_of w c) e n.metadata)
       (ap id_kind h.entry.id ∙ kind_of_blob w.kind s.bytes) (met_whole h k)
 
-  -- what a run answers, told by cases
-  pub verdict_told : IsMet w e n s → (now : Stat) → stat_of n.metadata ≡ Some now → Told w c e n s now (verdict_at w c e n)
-  verdict_told h now is =
-      subst (λ o. Told w c e n s now (answer e.path (case_of_stat (query_of w c) e n.metadata o))) (sym is)
-      (subst (λ mode. Told w c e n s now (answer e.path (case_of_change (query_of w c) e n.metadata now (mode_change true w.executable_bit mode n.metadata)))) (sym h.entry.mode)
-      (told_mode w c e n s now (mode_change true w.executable_bit (new_mode w.executable_bit s.kind s.executable) n.metadata)
-      (mode_told w.executable_bit n s h.node.kind h.entry.kind) (met_answered h)))
+  -- what a run answers, by cases
+  pub verdict_case : IsMet w e n s → (now : Stat) → stat_of n.metadata ≡ Some now → VerdictCase w c e n s now (verdict_at w c e n)
+  verdict_case h now is =
+      subst (λ o. VerdictCase w c e n s now (answer e.path (case_of_stat (query_of w c) e n.metadata o))) (sym is)
+      (subst (λ mode. VerdictCase w c e n s now (answer e.path (case_of_change (query_of w c) e n.metadata now (mode_change true w.executable_bit mode n.metadata)))) (sym h.entry.mode)
+      (by_mode_case w c e n s now (mode_change true w.executable_bit (new_mode w.executable_bit s.kind s.executable) n.metadata)
+      (mode_case w.executable_bit n s h.node.kind h.entry.kind) (met_answered h)))

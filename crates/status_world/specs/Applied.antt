@@ -68,6 +68,6 @@ IsRunApplied run old (Err r) new = IsRefused r (events.Run run) old × (new ≡ 
 
 -- the same in a list of events: the reports grow by that of a run
 abbrev pub IsStep : Event → StampedWorld → List RunReport → Result (Unit {0}) Refusal → StampedWorld → List RunReport → Type 0
-IsStep event old told (Ok _) new all =
-    (refusal_of event old ≡ None) × (all ≡ told ++ reports_at event old) × (new ≡ after_event event old)
-IsStep event old told (Err r) new all = IsRefused r event old × (all ≡ told) × (new ≡ old)
+IsStep event old earlier (Ok _) new all =
+    (refusal_of event old ≡ None) × (all ≡ earlier ++ reports_at event old) × (new ≡ after_event event old)
+IsStep event old earlier (Err r) new all = IsRefused r event old × (all ≡ earlier) × (new ≡ old)

@@ -39,7 +39,8 @@ pub struct Decider<'w, W: Worktree, C, S, O, P, T, L: Lister> {
     buffer: Vec<u8>,
     ghost clear: { IsTrue (W.modelled inputs.worktree.now)
         → IsClear (W.lstat_of inputs.worktree.now) check.path },
-    ghost kept: { Keeps (L.modelled inputs.lister) (L.listing inputs.lister) listings } by { Prim.hlevel props },
+    ghost kept: { Keeps (L.modelled inputs.lister)
+        (L.listing inputs.lister) listings } by { Prim.hlevel props },
 }
 
 impl<

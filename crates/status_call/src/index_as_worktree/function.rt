@@ -117,7 +117,8 @@ where
     ensures all { IsStatus ⟦<Inputs<'w, W, C, S, O, P, T, L> as Means>⟧.query
         (given worktree.entry compare submodule objects context.entry)
         options index.now V.visits collector.old result collector.new }
-    ensures uninterrupted { context.entry.should_interrupt ≡ None → IfOk result (λ o. o.interrupted ≡ false) }
+    ensures uninterrupted { context.entry.should_interrupt ≡ None
+        → IfOk result (λ o. o.interrupted ≡ false) }
     ensures alone { IsAlone ⟦<Inputs<'w, W, C, S, O, P, T, L> as Means>⟧.query
         (given worktree.entry compare submodule objects context.entry) options index.now result }
 {

@@ -39,8 +39,8 @@ fn wanted_walk<K: Drop>(wanted: bool, walk: K) -> Option<K>
     if wanted { Some(walk) } else { None }
 }
 
-/// Tells `collector` how the worktree differs from `index`, what lies in it beside the index, and what of both are renames
-/// and copies, and answers what that took.
+/// Reports to `collector` how the worktree differs from `index`, what lies in it beside the index, and what of both are
+/// renames and copies, and answers what that took.
 ///
 /// The status of the index and the walk run side by side, the walk in a thread of its own where there can be one. What they
 /// find is reported when both have ended. Where the options have `sorting` that is by path, and at equal paths an entry of the

@@ -30,11 +30,11 @@ returns-then-is_err-clause-formed g c =
 pub returns-in-Some-clause-replay : goal.returns-in-Some-clause-replay
 returns-in-Some-clause-replay g c =
     let items : c.append.new.self.items ≡ c.loop-stretch.reports.items ++ c.replay-next.result.reports.items = search rules in
-    let told : map report_value c.append.new.self.items ≡ map report_value c.loop-stretch.reports.items ++ map report_value c.replay-next.result.reports.items =
+    let appended : map report_value c.append.new.self.items ≡ map report_value c.loop-stretch.reports.items ++ map report_value c.replay-next.result.reports.items =
     ap (map report_value) items ∙ map-append report_value _ _ in
     let stopped = stops _ _ _ _ c.loop-stretch-test.true c.index-stretches-stretch.is _ _ _ _ _ _ _ _ _ c.loop-stretch.invariant.replayed c.open_before.ensures.kept c.deref.ensures.value c.replay-next.ensures.replay c.in-Some.is in
     let place = stop_place _ _ _ _ _ _ _ _ _ _ c.loop-stretch-test.true c.index-stretches-stretch.is c.deref.ensures.value c.replay-next.ensures.replay c.in-Some.is in
-    (place, rw told stopped)
+    (place, rw appended stopped)
 
 pub returns-in-Some-clause-sums : goal.returns-in-Some-clause-sums
 returns-in-Some-clause-sums g c =
@@ -44,11 +44,11 @@ returns-in-Some-clause-sums g c =
 pub loop-stretch-preserved : goal.loop-stretch-preserved
 loop-stretch-preserved g c =
     let items : c.append.new.self.items ≡ c.loop-stretch.reports.items ++ c.replay-next.result.reports.items = search rules in
-    let told : map report_value c.append.new.self.items ≡ map report_value c.loop-stretch.reports.items ++ map report_value c.replay-next.result.reports.items =
+    let appended : map report_value c.append.new.self.items ≡ map report_value c.loop-stretch.reports.items ++ map report_value c.replay-next.result.reports.items =
     ap (map report_value) items ∙ map-append report_value _ _ in
     let next = goes_on _ _ _ _ c.loop-stretch-test.true c.index-stretches-stretch.is _ _ _ _ _ _ _ c.loop-stretch.invariant.replayed c.open_before.ensures.kept c.deref.ensures.value c.replay-next.ensures.replay (search rules) in
     record {
-      replayed = rw told next;
+      replayed = rw appended next;
       formed = λ f. c.replay-next.ensures.formed (subst IsFormed (sym c.open_before.ensures.kept) (c.loop-stretch.invariant.formed f));
       sums = subst (All HasSum) (sym items) (All-append HasSum _ _ c.loop-stretch.invariant.sums c.replay-next.ensures.sums);
     }
