@@ -3,20 +3,12 @@
 ghost use Rattle.std.specs.Prelude.{◌<◌, ◌^◌, IfOk};
 ghost use Rattle.status_call.specs.Outcomes.{skipped_of};
 
-#[cfg(test)]
-mod folder_tests;
 mod joined;
-#[cfg(test)]
-mod joined_tests;
 mod no_walk;
 mod request;
-#[cfg(test)]
-mod tests;
 
-use crate::failure::Failure;
 use crate::input::read_all;
 use crate::output::{flush, print_record, print_totals};
-use crate::profile::{Place, Profile};
 use crate::status::joined::print_joined;
 use crate::status::no_walk::NoWalk;
 use crate::status::request::Request;
@@ -31,6 +23,8 @@ use gix_status::worktree::{
     AllPaths, DiskWorktree, MemoryObjects, MemoryWorktree, NoFilter, NoLister, NoSubmodules, Node,
     Pathspec, Prefix, Worktree,
 };
+use status_text::failure::Failure;
+use status_text::profile::{Place, Profile};
 use std::alloc::{AllocError, Global};
 use std::io;
 use std::path::Path;

@@ -1,12 +1,12 @@
-// Entries and nodes, which the quick way and the careful way could read otherwise than each other.
+//! Entries and nodes, which the quick way and the careful way could read otherwise than each other.
 
-use crate::profile::list::Way;
-use crate::profile::tests::{
+use crate::profile::{
     ENTRY, FIELD, FOO, Frame, NO_STAT, NODE, PLAIN, PLAIN_ENTRY, PLAIN_NODE, Wanted, WantedEntry,
     WantedNode, assert_read, framed,
 };
 use gix_status::index::{Flags, Mode, ObjectId, Stat, Time};
 use gix_status::worktree::NodeKind;
+use status_text::profile::Way;
 use std::alloc::AllocError;
 use std::process::Abort;
 use std::slice;

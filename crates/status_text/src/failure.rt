@@ -1,8 +1,5 @@
 //! Why a run of the program fails, and the line that says so.
 
-#[cfg(test)]
-mod tests;
-
 use crate::lines::path_value;
 use crate::profile::ProfileError;
 use bstr::BStr;

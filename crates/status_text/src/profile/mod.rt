@@ -8,27 +8,24 @@ mod field;
 mod hash;
 mod held;
 mod history;
-#[cfg(test)]
-mod item_tests;
 mod key;
 mod list;
 mod members;
 mod node;
 mod options;
 mod stat;
-#[cfg(test)]
-mod tests;
 mod texts;
 mod value;
 
 use crate::profile::field::{Fields, stamped_moment_of};
 use crate::profile::hash::read_hash;
-use crate::profile::members::Members;
 use crate::profile::node::read_place;
 use crate::profile::options::read_options;
 pub use error::{FieldError, Key, ProfileError};
 use gix_status::index::{HashKind, Moment, State};
 pub use history::History;
+pub use list::Way;
+pub use members::Members;
 pub use node::Place;
 pub use options::{HistoryOptions, ProfileOptions};
 use std::alloc::Global;
@@ -63,6 +60,14 @@ impl Profile {
     /// The same. Options that ask for one of these have a wrong form.
     pub fn plain_from_json(alloc: Global, text: &[u8]) -> Result<Profile, ProfileError> {
         Profile::read(alloc, text, Kind::Plain)
+    }
+
+    /// The profile that these members are.
+    ///
+    /// # Errors
+    /// As those of `from_json`, but that its text is JSON.
+    pub fn from_members(alloc: Global, members: Members) -> Result<Profile, ProfileError> {
+        profile_of(alloc, members, Kind::Any)
     }
 
     fn read(alloc: Global, text: &[u8], kind: Kind) -> Result<Profile, ProfileError> {

@@ -1,5 +1,5 @@
-use crate::failure::Failure;
-use crate::profile::{Key, ProfileError};
+//! Failures, and their lines.
+
 use bstr::BString;
 use gix_status::index::IndexError;
 use gix_status::index_as_worktree::Error;
@@ -8,6 +8,8 @@ use gix_status::tracker::TrackerError;
 use gix_status::walk::WalkError;
 use gix_status::worktree::{ByteText, Fault, FindError, TreeError};
 use gix_status::world::Refusal;
+use status_text::failure::Failure;
+use status_text::profile::{Key, ProfileError};
 use std::alloc::{AllocError, Global};
 use std::io;
 use std::process::Abort;

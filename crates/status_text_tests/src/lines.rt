@@ -1,7 +1,9 @@
-use crate::lines::{path_value, status_line, total_line};
+//! The lines of records and of totals.
+
 use bstr::BStr;
 use gix_status::index::{Flags, HashKind, Mode, ObjectId, Stat};
 use gix_status::index_as_worktree::{Change, Conflict, ConflictIndexEntry, EntryStatus, Outcome};
+use status_text::lines::{path_value, status_line, total_line};
 use std::alloc::AllocError;
 use std::process::Abort;
 use std::test::Fail;

@@ -1,8 +1,5 @@
-use crate::profile::ProfileError::{self, Bad, Index, NotJson};
-use crate::profile::list::Way;
-use crate::profile::members::Members;
-use crate::profile::options::ProfileOptions;
-use crate::profile::{Key, Kind, Place, Profile, profile_of};
+//! Profiles: what is read of each, and why others are refused.
+
 use bstr::BString;
 use gix_status::index::{
     Entry, Flags, HashKind, IndexError, Mode, Moment, ObjectId, Stat, State, Time, stat,
@@ -10,6 +7,8 @@ use gix_status::index::{
 use gix_status::index_as_worktree::{Capabilities, Options};
 use gix_status::worktree::{Metadata, Node, NodeKind};
 use gix_status::world::Comparer;
+use status_text::profile::ProfileError::{self, Bad, Index, NotJson};
+use status_text::profile::{Key, Members, Place, Profile, ProfileOptions, Way};
 use std::alloc::{AllocError, Global};
 use std::process::Abort;
 use std::test::Fail;
@@ -761,7 +760,7 @@ fn read_in(alloc: Global, way: Way, text: &[u8]) -> Result<Profile, ProfileError
         Way::Careful => Members::carefully(alloc, text)?,
     };
     match members {
-        Some(members) => profile_of(alloc, members, Kind::Any),
+        Some(members) => Profile::from_members(alloc, members),
         None => Err(Bad(Key::Hash)),
     }
 }

@@ -3,9 +3,6 @@
 ghost use Rattle.std.specs.Prelude.{◌<◌, ◌^◌};
 ghost use Rattle.status_call.specs.Outcomes.{skipped_of};
 
-#[cfg(test)]
-mod tests;
-
 use bstr::BStr;
 use gix_status::index_as_worktree::{Change, Conflict, ConflictIndexEntry, EntryStatus, Outcome};
 use gix_status::index_as_worktree_with_renames::Entry;
