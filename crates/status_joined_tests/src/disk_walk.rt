@@ -2,12 +2,13 @@
 
 ghost use Rattle.std.specs.Prelude.{◌≡◌, [], false};
 
-use crate::given::{Request, foo_index, joined};
+use crate::given::{Request, joined};
 use bstr::{BStr, BString};
 use status_base::worktree::{
     AllPaths, DiskWorktree, Fault, MemoryFile, Metadata, NodeKind, Pathspec, Prefix, Worktree,
 };
 use status_disk_walk::DiskWalk;
+use status_given::foo_index;
 use status_index::{Flags, HashKind, IndexError, Mode, Moment, NewEntry, ObjectId, Stat, State};
 use status_tracker::IdentityTracker;
 use status_walk::{Action, Delegate, DirEntry, Kind, Outcome, Status, Walk, WalkError};

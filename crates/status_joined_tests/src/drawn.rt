@@ -1,15 +1,14 @@
 //! Drawn indexes and worktrees. What is reported of them is compared with a plain model, which looks at paths and contents
 //! alone.
 
-use crate::draws::Draws;
-use crate::given::{
-    BAR, EMPTY, FOO, GivenEntry, GivenNode, LATER, Report, Request, STAGED, file, foo_entry, index,
-    joined, options, worktree,
-};
+use crate::given::{Report, Request, joined, options};
 use Stand::{Came, Changed, Gone, Retyped};
 use status_base::index::{Mode, ObjectId, State};
 use status_base::worktree::{MemoryWorktree, NodeKind};
 use status_call::index_as_worktree::{self, Change, EntryStatus};
+use status_given::{
+    BAR, Draws, EMPTY, FOO, GivenEntry, GivenNode, LATER, STAGED, file, foo_entry, index, worktree,
+};
 use status_joined::index_as_worktree_with_renames::{
     Entry, Options, Outcome, RewriteSource, Sorting, rewrites,
 };

@@ -4,15 +4,15 @@ ghost use Rattle.std.specs.Prelude.{false, Err};
 ghost use Rattle.status_index.specs.declared.fault.Fault.TheVariants.{NotFound};
 
 use crate::exits::{Exit, exit_of};
-use crate::given::{
-    GivenNode, LATER, Report, Request, file, foo_entry, index, joined, later_file, link,
-    mode_entry, options, worktree,
-};
+use crate::given::{Report, Request, joined, options};
 use crate::trackers::Refuses;
 use crate::walks::{Fails, Found, HandsOut, UNTRACKED};
 use bstr::BStr;
 use status_base::index::{Mode, State};
 use status_base::worktree::{Fault, MemoryFile, MemoryWorktree, Metadata, ReadBytes, Worktree};
+use status_given::{
+    GivenNode, LATER, file, foo_entry, index, later_file, link, mode_entry, worktree,
+};
 use status_joined::index_as_worktree_with_renames::Options;
 use status_tracker::{IdentityTracker, Rewrites, TrackerError};
 use status_walk::Kind;

@@ -1,52 +1,17 @@
 //! Faults of a filter, on the way to a node's id.
 
-ghost use Rattle.std.specs.Prelude.{◌≡◌};
-ghost use Rattle.status_base.specs.Converted.{refused};
-
 use crate::faults::FAULTS;
-use crate::given::{Report, Request, file, foo_index, link, tell_handed, worktree};
-use bstr::BStr;
+use crate::given::{Report, Request, tell_handed};
 use status_base::index::State;
-use status_base::worktree::{
-    Fault, MemoryWorktree, NoLister, NoSubmodules, ReadBytes, ToGit, ToGitOutcome, Worktree,
-};
+use status_base::worktree::{Fault, MemoryWorktree, NoLister, NoSubmodules, Worktree};
+use status_given::{Refuses, file, foo_index, link, worktree};
 use status_joined::index_as_worktree_with_renames::{Error, Recorder};
 use status_tracker::{IdentityTracker, Tracker};
 use status_walk::{UntrackedWalk, Walk};
-use std::alloc::AllocError;
 use std::process::Abort;
 use std::sync::Wait;
 use std::test::Fail;
 use std::thread::Threads;
-
-/// Refuses each file by the same fault.
-#[derive(Debug, Drop)]
-struct RefusesFiles(Fault);
-
-impl Clone for RefusesFiles {
-    ghost is_clone = { λ x y. y ≡ x };
-
-    fn clone(&self) -> Result<RefusesFiles, AllocError> {
-        Ok(RefusesFiles(self.0))
-    }
-}
-
-impl ToGit for RefusesFiles {
-    ghost use Rattle.std.proofs.Common.{ap};
-
-    ghost conversion = { λ filter _ _. refused filter.0 };
-
-    ghost clone_keeps_conversion = { λ _ _ same. ap (λ filter _ _. refused filter.0) same };
-
-    fn convert<'a, F: ReadBytes>(
-        &self,
-        _file: F,
-        _path: BStr<'_>,
-        _buffer: &'a mut Vec<u8>,
-    ) -> Result<ToGitOutcome<'a, F>, Fault> {
-        Err(self.0)
-    }
-}
 
 // What is reported where the filter refuses each file.
 fn refused_by<
@@ -59,7 +24,7 @@ fn refused_by<
     rt: &R,
     index: &'index State,
     worktree: &W,
-    filter: RefusesFiles,
+    filter: Refuses,
     request: Request<'_, K, X>,
 ) -> Report<'index>
 where
@@ -93,7 +58,7 @@ fn assert_refused<R: AllocGlobal + Abort + Threads + Wait>(
 ) {
     let alloc = rt.alloc();
     let request = Request::rewritten(UntrackedWalk::new(alloc), IdentityTracker::new(alloc));
-    let report = refused_by(rt, index, worktree, RefusesFiles(fault), request);
+    let report = refused_by(rt, index, worktree, Refuses(fault), request);
     let is_wanted = match &report.answer {
         Err(Error::Memory) => fault == Fault::Memory,
         Err(Error::ConvertToGit(found)) => *found == fault && fault != Fault::Memory,

@@ -1,6 +1,6 @@
-//! Cases in few words: an index, a worktree, what is asked for, and what is reported, as lines of text.
+//! Statuses in few words: what is asked for, and what is reported, as lines of text.
 //!
-//! A test makes an index of entries and a worktree of nodes, asks by `joined`, and compares lines:
+//! A test takes an index of entries and a worktree of nodes from `status_given`, asks by `joined`, and compares lines:
 //!
 //! ```text
 //! let index = index(alloc, &[foo_entry("a")])?;
@@ -13,11 +13,11 @@
 //! Other options or an interrupt flag are set as fields: `Request { options: .., ..request }`. `report.answer` is what
 //! the status answered, and `report.records` are the entries themselves.
 
-use bstr::{BStr, BString};
-use status_base::index::{Flags, IndexError, Mode, Moment, NewEntry, ObjectId, Stat, State, Time};
+use bstr::BStr;
+use status_base::index::{ObjectId, State};
 use status_base::worktree::{
-    AllPaths, Fault, Lister, MemoryObjects, MemoryWorktree, NoFilter, NoLister, NoSubmodules, Node,
-    NodeKind, Point, SubmoduleStatus, ToGit, TreeError, Worktree,
+    AllPaths, Fault, Lister, MemoryObjects, MemoryWorktree, NoFilter, NoLister, NoSubmodules,
+    Point, SubmoduleStatus, ToGit, TreeError, Worktree,
 };
 use status_call::index_as_worktree::{self, Capabilities};
 use status_compare::HashEq;
@@ -31,182 +31,6 @@ use std::alloc::{AllocError, Global};
 use std::sync::Wait;
 use std::sync::atomic::AtomicBool;
 use std::thread::Threads;
-
-/// The id of `foo`, by git.
-pub const FOO: ObjectId = ObjectId::Sha1([
-    0x19, 0x10, 0x28, 0x15, 0x66, 0x3d, 0x23, 0xf8, 0xb7, 0x5a, 0x47, 0xe7, 0xa0, 0x19, 0x65, 0xdc,
-    0xdc, 0x96, 0x46, 0x8c,
-]);
-
-/// The id of `bar`, by git.
-pub const BAR: ObjectId = ObjectId::Sha1([
-    0xba, 0x0e, 0x16, 0x2e, 0x1c, 0x47, 0x46, 0x9e, 0x3f, 0xe4, 0xb3, 0x93, 0xa8, 0xbf, 0x8c, 0x56,
-    0x9f, 0x30, 0x21, 0x16,
-]);
-
-/// The id of no bytes, by git.
-pub const EMPTY: ObjectId = ObjectId::Sha1([
-    0xe6, 0x9d, 0xe2, 0x9b, 0xb2, 0xd1, 0xd6, 0x43, 0x4b, 0x8b, 0x29, 0xae, 0x77, 0x5a, 0xd8, 0xc2,
-    0xe4, 0x8c, 0x53, 0x91,
-]);
-
-/// The second in which every entry was staged.
-pub const STAGED: u32 = 5;
-
-/// A second after that of staging.
-pub const LATER: u32 = 7;
-
-/// The second at which the index was written, after all stamps: no entry is racy.
-pub const WRITTEN: u32 = 9;
-
-/// An entry of an index.
-#[derive(Clone, Copy)]
-pub struct GivenEntry<'a> {
-    pub path: &'a str,
-    pub id: ObjectId,
-    pub size: u32,
-    pub flags: Flags,
-    pub mode: Mode,
-}
-
-/// A plain entry, staged with the content `foo`.
-pub fn foo_entry(path: &str) -> GivenEntry<'_> {
-    mode_entry(path, Mode::File)
-}
-
-/// An entry of a mode, staged with the content `foo`.
-pub fn mode_entry(path: &str, mode: Mode) -> GivenEntry<'_> {
-    GivenEntry {
-        path,
-        id: FOO,
-        size: 3,
-        flags: Flags::from_stage(0),
-        mode,
-    }
-}
-
-/// A plain entry, staged with no bytes.
-pub fn empty_entry(path: &str) -> GivenEntry<'_> {
-    GivenEntry {
-        id: EMPTY,
-        size: 0,
-        ..foo_entry(path)
-    }
-}
-
-fn stamp(secs: u32) -> Time {
-    Time { secs, nsecs: 0 }
-}
-
-/// The index of these entries, with no racy one.
-pub fn index(alloc: Global, entries: &[GivenEntry<'_>]) -> Result<State, IndexError> {
-    let mut list = Vec::new(alloc);
-    for entry in entries {
-        list.push(NewEntry {
-            path: BString::from_slice(alloc, entry.path)?,
-            stat: Stat {
-                mtime: stamp(STAGED),
-                ctime: stamp(STAGED),
-                size: entry.size,
-                ..Stat::default()
-            },
-            id: entry.id,
-            flags: entry.flags,
-            mode: entry.mode,
-        })?;
-    }
-    let written = Moment {
-        secs: WRITTEN,
-        nsecs: 0,
-    };
-    State::from_entries(alloc, list, written)
-}
-
-/// The index of plain entries at these paths, with no racy one.
-pub fn foo_index(alloc: Global, paths: &[&str]) -> Result<State, IndexError> {
-    let mut entries = Vec::new(alloc);
-    for path in paths {
-        entries.push(foo_entry(*path))?;
-    }
-    index(alloc, &entries)
-}
-
-/// A node of a worktree.
-#[derive(Clone, Copy)]
-pub struct GivenNode<'a> {
-    pub path: &'a str,
-    pub kind: NodeKind,
-    pub bytes: &'a [u8],
-    pub len: u64,
-    pub mtime: u32,
-}
-
-/// A file of these bytes that is as old as the entries.
-pub fn file<'a>(path: &'a str, bytes: &'a [u8]) -> GivenNode<'a> {
-    GivenNode {
-        path,
-        kind: NodeKind::File,
-        bytes,
-        len: bytes.len() as u64,
-        mtime: STAGED,
-    }
-}
-
-/// A file of these bytes that was written after the entries were staged.
-pub fn later_file<'a>(path: &'a str, bytes: &'a [u8]) -> GivenNode<'a> {
-    GivenNode {
-        mtime: LATER,
-        ..file(path, bytes)
-    }
-}
-
-/// A file that ends before its length, which is four bytes.
-pub fn short_file(path: &str) -> GivenNode<'_> {
-    GivenNode {
-        len: 4,
-        ..file(path, b"foo")
-    }
-}
-
-/// A link to this target.
-pub fn link<'a>(path: &'a str, target: &'a [u8]) -> GivenNode<'a> {
-    GivenNode {
-        kind: NodeKind::Link,
-        ..file(path, target)
-    }
-}
-
-/// A node that is no file, link or directory.
-pub fn other(path: &str) -> GivenNode<'_> {
-    GivenNode {
-        kind: NodeKind::Other,
-        ..file(path, b"")
-    }
-}
-
-fn node(alloc: Global, given: &GivenNode<'_>) -> Result<Node, AllocError> {
-    Ok(Node {
-        kind: given.kind,
-        bytes: Vec::from_slice(alloc, given.bytes)?,
-        len: given.len,
-        executable: false,
-        mtime: Some(stamp(given.mtime)),
-        ctime: Some(stamp(STAGED)),
-        dev: 0,
-        ino: 0,
-        uid: 0,
-        gid: 0,
-    })
-}
-
-/// The worktree of these nodes.
-pub fn worktree(alloc: Global, nodes: &[GivenNode<'_>]) -> Result<MemoryWorktree, TreeError> {
-    let mut worktree = MemoryWorktree::new(alloc);
-    for given in nodes {
-        worktree.put(BStr::from(given.path), node(alloc, given)?)?;
-    }
-    Ok(worktree)
-}
 
 /// The worktree with faults planted at calls on some paths.
 pub fn failing(

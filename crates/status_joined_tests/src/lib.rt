@@ -9,8 +9,6 @@ mod disk_walk;
 #[cfg(test)]
 mod drawn;
 #[cfg(test)]
-mod draws;
-#[cfg(test)]
 mod exits;
 #[cfg(test)]
 mod faults;

@@ -1,9 +1,9 @@
 //! What a record has, beside what its line says.
 
-use crate::given::{BAR, FOO};
 use crate::walks::Found;
 use status_base::index::ObjectId;
 use status_call::index_as_worktree::{Change, EntryStatus};
+use status_given::{BAR, FOO};
 use status_joined::index_as_worktree_with_renames::{Entry, RewriteSource, Summary};
 use status_walk::Status;
 

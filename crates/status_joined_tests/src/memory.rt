@@ -1,6 +1,7 @@
 //! One status that may be run with any of its allocations refused.
 
-use crate::given::{Request, file, foo_index, joined, worktree};
+use crate::given::{Request, joined};
+use status_given::{file, foo_index, worktree};
 use status_joined::index_as_worktree_with_renames::{Error, Outcome};
 use status_tracker::IdentityTracker;
 use status_walk::UntrackedWalk;

@@ -1,15 +1,16 @@
 //! Rows of tables: a small index, worktree and walk, and what is reported of them.
 
 use crate::exits::{Exit, exit_of};
-use crate::given::{
-    GivenEntry, GivenNode, Report, Request, empty_entry, failing, file, foo_entry, index, joined,
-    later_file, link, mode_entry, options, other, short_file, worktree,
-};
+use crate::given::{Report, Request, failing, joined, options};
 use crate::looks::{Look, has};
 use crate::trackers::{Answers, Refuses, Told};
 use crate::walks::{Fails, Found, HandsOut};
 use status_base::index::{HashKind, Mode, ObjectId, State};
 use status_base::worktree::{Fault, MemoryWorktree, Point};
+use status_given::{
+    GivenEntry, GivenNode, empty_entry, file, foo_entry, index, later_file, link, mode_entry,
+    other, short_file, worktree,
+};
 use status_joined::index_as_worktree_with_renames::{Options, Outcome, rewrites};
 use status_tracker::{IdentityTracker, Rewrites, Tracker, TrackerError};
 use status_walk::{UntrackedWalk, Walk};

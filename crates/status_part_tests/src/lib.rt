@@ -9,8 +9,6 @@ mod compare;
 #[cfg(test)]
 mod disk;
 #[cfg(test)]
-mod draws;
-#[cfg(test)]
 mod hash;
 #[cfg(test)]
 mod lister;

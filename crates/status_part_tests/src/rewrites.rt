@@ -4,9 +4,9 @@ ghost use Rattle.std.specs.Prelude.{◌≡◌, true, false, refl};
 ghost use Rattle.std.proofs.Common.{sym};
 ghost use Rattle.status_part_tests.specs.declared.rewrites.Node.TheVariants as nodes;
 
-use crate::draws::Draws;
 use Named::{Alone, Copied, Renamed};
 use Node::{Changed, Removed, Walked};
+use status_given::Draws;
 use status_rewrites::{Item, Refused, Rewritten, rewrite};
 use status_tracker::Pair;
 use std::alloc::{AllocError, Global};

@@ -2,10 +2,10 @@
 
 ghost use Rattle.status_tracker.specs.Changed.{Changed};
 
-use crate::draws::Draws;
 use ChangeKind::{Addition, Deletion, Modification};
 use EntryKind::{Blob, BlobExecutable, Commit, Link};
 use bstr::BStr;
+use status_given::Draws;
 use status_index::{EntryKind, HashKind, ObjectId};
 use status_tracker::{Change, ChangeKind, IdentityTracker, Rewrites, Tracker, TrackerError};
 use std::alloc::{AllocError, Global};

@@ -2,12 +2,10 @@
 
 ghost use Rattle.std.specs.Prelude.{◌≡◌, refl};
 ghost use Rattle.std.specs.List.{filter};
-ghost use Rattle.status_base.specs.Converted.{refused};
 ghost use Rattle.status_tests.specs.Returns.{is_no_return, without_returns};
 
 use bstr::BStr;
 use gix_status::worktree::{Fault, ReadBytes, ToGit, ToGitOutcome, read_all};
-use std::alloc::AllocError;
 
 /// Takes out carriage returns, as where text is stored with line feeds alone.
 #[derive(Clone, Copy, Debug)]
@@ -36,34 +34,5 @@ impl ToGit for WithoutReturns {
         read_all(&mut file, buffer)?;
         take_returns_out(buffer);
         Ok(ToGitOutcome::Buffer(buffer.as_slice()))
-    }
-}
-
-/// Refuses each file by the same fault.
-#[derive(Debug, Drop)]
-pub struct Refuses(pub Fault);
-
-impl Clone for Refuses {
-    ghost is_clone = { λ x y. y ≡ x };
-
-    fn clone(&self) -> Result<Refuses, AllocError> {
-        Ok(Refuses(self.0))
-    }
-}
-
-impl ToGit for Refuses {
-    ghost use Rattle.std.proofs.Common.{ap};
-
-    ghost conversion = { λ filter _ _. refused filter.0 };
-
-    ghost clone_keeps_conversion = { λ _ _ same. ap (λ filter _ _. refused filter.0) same };
-
-    fn convert<'a, F: ReadBytes>(
-        &self,
-        _file: F,
-        _path: BStr<'_>,
-        _buffer: &'a mut Vec<u8>,
-    ) -> Result<ToGitOutcome<'a, F>, Fault> {
-        Err(self.0)
     }
 }

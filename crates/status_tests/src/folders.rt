@@ -1,6 +1,6 @@
 //! Folders of the disk that a test makes for itself.
 
-use crate::given::STAGED;
+use status_given::STAGED;
 use std::fs::{File, FileTimes, OpenFile};
 use std::rt::{Env, Files};
 use std::time::{Duration, UNIX_EPOCH};

@@ -13,8 +13,6 @@ mod filters;
 #[cfg(test)]
 mod folders;
 #[cfg(test)]
-mod given;
-#[cfg(test)]
 mod listers;
 #[cfg(test)]
 mod objects;

@@ -1,6 +1,5 @@
 //! Rows of tables: a small index and worktree, and what a status has to report of them and take.
 
-use crate::given::{FOO, GivenEntry, GivenNode, WRITTEN, index, worktree};
 use crate::statuses::{
     FileRequest, Report, changed, files_found, is_record, plain_request, removed,
     status_by_lengths, status_of,
@@ -9,6 +8,7 @@ use gix_status::index::{Flags, Mode, ObjectId, Stat};
 use gix_status::index_as_worktree::traits::CompareBlobs;
 use gix_status::index_as_worktree::{Change, Conflict, ConflictIndexEntry, EntryStatus, Outcome};
 use gix_status::worktree::{Fault, Find, Pathspec, ToGit};
+use status_given::{FOO, GivenEntry, GivenNode, index, worktree};
 use std::process::Abort;
 use std::sync::Wait;
 use std::test::Fail;
@@ -204,7 +204,7 @@ pub fn assert_row_by<
 where
     C::Output: Copy + PartialEq + Send,
 {
-    let index = index(rt.alloc(), WRITTEN, row.entries)?;
+    let index = index(rt.alloc(), row.entries)?;
     let worktree = worktree(rt.alloc(), row.nodes)?;
     let report = status_of(rt, &index, &worktree, compare, request);
     assert!(rt; are_told(&report, row.told), "{}", row.name);
@@ -218,7 +218,7 @@ pub fn assert_row_by_lengths<R: AllocGlobal + Threads + Wait + Abort, O: Find + 
     objects: O,
     row: &Row<'_, u64>,
 ) -> Result<(), Fail> {
-    let index = index(rt.alloc(), WRITTEN, row.entries)?;
+    let index = index(rt.alloc(), row.entries)?;
     let worktree = worktree(rt.alloc(), row.nodes)?;
     let report = status_by_lengths(rt, &index, &worktree, objects);
     assert!(rt; are_told(&report, row.told), "{}", row.name);

@@ -3,10 +3,10 @@
 ghost use Rattle.std.specs.Prelude.{false, Err};
 ghost use Rattle.status_index.specs.declared.fault.Fault.TheVariants.{NotFound};
 
-use crate::given::{LATER, STAGED};
 use bstr::BStr;
 use gix_status::index::Time;
 use gix_status::worktree::{Fault, Metadata, NodeKind, ReadBytes, Worktree};
+use status_given::{LATER, STAGED};
 use std::sync::atomic::{AtomicBool, AtomicUsize, Ordering};
 use std::thread;
 

@@ -1,9 +1,10 @@
 //! Collectors whose memory runs out.
 
 use crate::collectors::Full;
-use crate::given::{Report, Request, file, foo_index, options, tell, worktree};
+use crate::given::{Report, Request, options, tell};
 use status_base::index::State;
 use status_base::worktree::MemoryWorktree;
+use status_given::{file, foo_index, worktree};
 use status_joined::index_as_worktree_with_renames::{Error, Recorder};
 use status_tracker::{IdentityTracker, Rewrites};
 use status_walk::UntrackedWalk;

@@ -1,12 +1,12 @@
 //! Ids of nodes, as a tracker sees them, and faults on the way to them.
 
 use crate::exits::Exit;
-use crate::given::{BAR, FOO};
 use crate::tables::{Answer, By, Finds, Lies, REWRITTEN, Row, Staged, assert_by, assert_rows};
 use crate::trackers::{Notes, Seen};
 use crate::walks::{B, Found, HandsOut, UNTRACKED};
 use status_base::index::{EntryKind, Mode, ObjectId};
 use status_base::worktree::{Fault, Point};
+use status_given::{BAR, FOO};
 use status_tracker::ChangeKind;
 use status_walk::Kind;
 use std::process::Abort;

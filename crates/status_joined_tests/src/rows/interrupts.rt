@@ -1,11 +1,12 @@
 //! Both halves, ended early.
 
-use crate::given::{Request, file, foo_index, joined, options, worktree};
+use crate::given::{Request, joined, options};
 use crate::halves::{Wanted, assert_report};
 use crate::trackers::Answers;
 use crate::walks::{B, C, Found, Interrupts, UNTRACKED};
 use crate::worktrees::Waiting;
 use status_base::index::State;
+use status_given::{file, foo_index, worktree};
 use status_tracker::{IdentityTracker, Rewrites, Tracker};
 use status_walk::UntrackedWalk;
 use std::process::Abort;

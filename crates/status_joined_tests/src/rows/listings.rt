@@ -1,10 +1,11 @@
 //! Listings of directories in place of `lstat` of the index's entries.
 
-use crate::given::{Report, Request, STAGED, file, foo_index, tell_handed, worktree};
+use crate::given::{Report, Request, tell_handed};
 use bstr::{BStr, BString};
 use status_base::fscache::Stat;
 use status_base::index::State;
 use status_base::worktree::{Lister, Listing, MemoryWorktree, NoFilter, NoSubmodules, Worktree};
+use status_given::{STAGED, file, foo_index, worktree};
 use status_joined::index_as_worktree_with_renames::{Options, Recorder};
 use status_tracker::{IdentityTracker, Tracker};
 use status_walk::{UntrackedWalk, Walk};

@@ -1,10 +1,11 @@
 //! Both halves at the same time.
 
-use crate::given::{Request, foo_index, joined, worktree};
+use crate::given::{Request, joined};
 use crate::halves::{Wanted, assert_report};
 use crate::trackers::Answers;
 use crate::walks::Meets;
 use crate::worktrees::Waiting;
+use status_given::{foo_index, worktree};
 use std::sync::atomic::AtomicBool;
 use std::test::Fail;
 

@@ -1,12 +1,13 @@
 //! A submodule of a type of the test's own, which reports an option of a number.
 
-use crate::given::{GivenNode, Request, file, index, mode_entry, tell_handed, worktree};
+use crate::given::{Request, tell_handed};
 use bstr::BStr;
 use status_base::index::{Entry, Mode, ObjectId, State};
 use status_base::worktree::{
     MemoryWorktree, NoFilter, NoLister, NodeKind, SubmoduleFault, SubmoduleStatus, Worktree,
 };
 use status_call::index_as_worktree::{Change, EntryStatus};
+use status_given::{GivenNode, file, index, mode_entry, worktree};
 use status_joined::index_as_worktree_with_renames::{self as joined, Outcome, Recorder};
 use status_tracker::{IdentityTracker, Tracker};
 use status_walk::{UntrackedWalk, Walk};

@@ -1,8 +1,8 @@
 //! Comparers of a caller's own.
 
-use crate::given::{LATER, foo_blob, foo_entry, later_file, stat};
 use crate::tables::{Answer, Counts, Row, Told, assert_row_by_lengths};
 use gix_status::worktree::MemoryObjects;
+use status_given::{LATER, foo_blob, foo_entry, later_file, stat};
 use std::test::Fail;
 
 #[test]

@@ -1,9 +1,9 @@
 //! Which entries make a conflict, also where they aren't an index.
 
-use crate::given::staged_index;
 use bstr::BStr;
 use gix_status::index::{Entry, Mode, PathStorage, State};
 use gix_status::index_as_worktree::Conflict;
+use status_given::staged_index;
 use std::alloc::{AllocError, Global};
 use std::test::Fail;
 

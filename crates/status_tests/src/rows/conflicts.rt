@@ -1,10 +1,10 @@
 //! Conflicts of entries that differ in id and mode.
 
-use crate::given::{BAR, BARS, FOO, GivenEntry, WRITTEN, index, stage_entry, worktree};
 use crate::statuses::{plain_request, status_of};
 use gix_status::index::{IndexError, Mode, State};
 use gix_status::index_as_worktree::traits::HashEq;
 use gix_status::index_as_worktree::{Conflict, ConflictIndexEntry, EntryStatus};
+use status_given::{BAR, BARS, FOO, GivenEntry, index, stage_entry, worktree};
 use std::alloc::Global;
 use std::process::Abort;
 use std::sync::Wait;
@@ -44,7 +44,7 @@ fn index_of(alloc: Global, stages: &[u32]) -> Result<State, IndexError> {
     for stage in stages {
         sides.push(side(*stage))?;
     }
-    index(alloc, WRITTEN, &sides)
+    index(alloc, &sides)
 }
 
 // Asserts that the entries of these stages are recorded as this conflict, each in the place of its

@@ -1,11 +1,11 @@
 //! Copies of what a status is computed by, and of what it reports.
 
-use crate::given::{staged_index, worktree};
 use crate::statuses::{Report, options, plain_request, status_of};
 use gix_status::index::ObjectId;
 use gix_status::index_as_worktree::traits::HashEq;
 use gix_status::index_as_worktree::{Context, Error, Outcome, Record};
 use gix_status::worktree::{AllPaths, NoFilter, NoLister};
+use status_given::{staged_index, worktree};
 use std::alloc::AllocError;
 use std::test::Fail;
 

@@ -1,8 +1,8 @@
 //! A path of very many components.
 
-use crate::given::{BAR, bar_worktree, foo_index};
 use crate::statuses::{changed, one_file_read, plain_request, status_of};
 use gix_status::index_as_worktree::traits::HashEq;
+use status_given::{BAR, bar_worktree, foo_index};
 use std::alloc::{AllocError, Global};
 use std::sync::Wait;
 use std::test::Fail;

@@ -1,7 +1,6 @@
 //! Faults of a worktree.
 
 use crate::collectors::Full;
-use crate::given::{BAR, bar_worktree, foo_index, planted_worktree};
 use crate::statuses::{
     Report, changed, one_file_read, options, plain_request, report_to, request_with, status_of,
 };
@@ -11,6 +10,7 @@ use gix_status::index::{ObjectId, State};
 use gix_status::index_as_worktree::traits::HashEq;
 use gix_status::index_as_worktree::{Error, Options, Recorder};
 use gix_status::worktree::{Fault, MemoryWorktree, Node, Point, Worktree};
+use status_given::{BAR, bar_worktree, foo_index, planted_worktree};
 use std::sync::Wait;
 use std::sync::atomic::{AtomicUsize, Ordering};
 use std::test::Fail;

@@ -1,13 +1,13 @@
 //! Files and links, compared by ids.
 
 use crate::comparers::SmallPieces;
-use crate::given::{
-    BARS, GivenNode, LATER, foo_entry, later_file, later_link, mode_entry, short_file, stat,
-};
 use crate::tables::{Answer, Counts, Row, Told, assert_row};
 use gix_status::index::{Mode, ObjectId};
 use gix_status::index_as_worktree::traits::HashEq;
 use gix_status::worktree::Fault;
+use status_given::{
+    BARS, GivenNode, LATER, foo_entry, later_file, later_link, mode_entry, short_file, stat,
+};
 use std::test::Fail;
 
 /// The id of `0123456789`, by git.

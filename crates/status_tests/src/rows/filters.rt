@@ -1,11 +1,11 @@
 //! Files that are stored in another form.
 
-use crate::filters::{Refuses, WithoutReturns};
-use crate::given::{A_LINE, GivenEntry, LATER, foo_entry, later_file, stat};
+use crate::filters::WithoutReturns;
 use crate::statuses::{FileRequest, Request, options};
 use crate::tables::{Answer, Counts, Row, Told, assert_row_by};
 use gix_status::index_as_worktree::traits::HashEq;
 use gix_status::worktree::{AllPaths, Fault, MemoryObjects, NoSubmodules};
+use status_given::{A_LINE, GivenEntry, LATER, Refuses, foo_entry, later_file, stat};
 use std::alloc::Global;
 use std::test::Fail;
 

@@ -1,7 +1,6 @@
 //! Listings of a folder of the disk.
 
 use crate::folders::{fill_directory, own_folder, write_staged};
-use crate::given::{BARS, foo_index};
 use crate::listers::FolderLister;
 use crate::statuses::{options, status_listed};
 use crate::tables::{Answer, Counts, Told, are_told};
@@ -9,6 +8,7 @@ use bstr::BStr;
 use gix_status::fscache::{FsCache, Stat};
 use gix_status::index_as_worktree::Options;
 use gix_status::worktree::DiskWorktree;
+use status_given::{BARS, foo_index};
 use std::path::Path;
 use std::process::Abort;
 use std::rt::Files;

@@ -1,9 +1,9 @@
 //! Blobs in a folder of the disk.
 
 use crate::folders::{make_directory, own_folder, write_file};
-use crate::given::{BAR, GivenEntry, LATER, foo_entry, later_file, stat};
 use crate::objects::FolderObjects;
 use crate::tables::{Answer, Counts, Row, Told, assert_row_by_lengths};
+use status_given::{BAR, GivenEntry, LATER, foo_entry, later_file, stat};
 use std::fs;
 use std::process::Abort;
 use std::rt::Files;

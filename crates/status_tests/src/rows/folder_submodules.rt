@@ -1,13 +1,13 @@
 //! Submodules in folders of the disk, whose statuses are statuses of their own.
 
 use crate::folders::{fill_directory, own_folder, write_staged};
-use crate::given::{foo_index, mode_index};
 use crate::statuses::{Report, options, status_of_submodules};
 use crate::submodules::FolderSubmodules;
 use crate::tables::OfSubmodules;
 use gix_status::index::{Mode, ObjectId, State};
 use gix_status::index_as_worktree::Options;
 use gix_status::worktree::DiskWorktree;
+use status_given::{foo_index, mode_index};
 use std::alloc::AllocError;
 use std::fs;
 use std::path::Path;

@@ -1,6 +1,5 @@
 //! Listings of directories in place of `lstat`.
 
-use crate::given::{GivenNode, STAGED, file, later_link, mode_index, worktree};
 use crate::listers::{Directories, Directory};
 use crate::statuses::{Report, options, status_listed};
 use crate::tables::{Answer, Counts, Told};
@@ -8,6 +7,7 @@ use crate::worktrees::Counted;
 use gix_status::fscache::Stat;
 use gix_status::index::{Mode, ObjectId};
 use gix_status::index_as_worktree::{Capabilities, Options};
+use status_given::{GivenNode, STAGED, file, later_link, mode_index, worktree};
 use std::process::Abort;
 use std::sync::Wait;
 use std::sync::atomic::{AtomicUsize, Ordering};

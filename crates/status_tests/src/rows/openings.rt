@@ -1,9 +1,9 @@
 //! How often a file is opened.
 
-use crate::given::{GivenNode, file, foo_index, later_file, worktree};
 use crate::statuses::{plain_request, status_of};
 use crate::worktrees::Counted;
 use gix_status::index_as_worktree::traits::HashEq;
+use status_given::{GivenNode, file, foo_index, later_file, worktree};
 use std::sync::Wait;
 use std::sync::atomic::{AtomicUsize, Ordering};
 use std::test::Fail;

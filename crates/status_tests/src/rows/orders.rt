@@ -1,9 +1,9 @@
 //! The orders of the public types: by fields or variants in turn, and of flags by their bits. In most lists only one field
 //! isn't 0, so that each step shows which of two fields comes first.
 
-use crate::given::{BAR, FOO};
 use gix_status::index::{Flags, Mode, Moment, ObjectId, Stat, Time};
 use gix_status::index_as_worktree::{Change, Conflict, ConflictIndexEntry, EntryStatus, Outcome};
+use status_given::{BAR, FOO};
 use std::cmp::Ordering;
 use std::process::Abort;
 use std::test::Fail;

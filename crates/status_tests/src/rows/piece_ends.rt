@@ -1,8 +1,8 @@
 //! Where pieces end.
 
-use crate::given::staged_index;
 use gix_status::index::State;
 use status_call::index_as_worktree::piece::piece_end;
+use status_given::staged_index;
 use std::test::Fail;
 
 // Where the piece that begins at a place ends. None where no entry is there.

@@ -1,15 +1,15 @@
 //! Each fault at each call on each path, over chunk sizes, thread limits and comparers.
 
-use crate::given::{
-    BAR, BARS, GivenNode, LATER, WRITTEN, directory, file, foo_entry, index, later_file,
-    later_link, mode_entry, stat, worktree,
-};
 use crate::statuses::{Report, changed, options, removed, request_with, status_of};
 use bstr::BStr;
 use gix_status::index::{Mode, ObjectId, State};
 use gix_status::index_as_worktree::traits::{CompareBlobs, FastEq, HashEq};
 use gix_status::index_as_worktree::{EntryStatus, Options};
 use gix_status::worktree::{Fault, MemoryWorktree, Point};
+use status_given::{
+    BAR, BARS, GivenNode, LATER, directory, file, foo_entry, index, later_file, later_link,
+    mode_entry, stat, worktree,
+};
 use std::alloc::{AllocError, Global};
 use std::sync::Wait;
 use std::test::Fail;
@@ -110,7 +110,7 @@ fn entries(alloc: Global) -> Result<State, Fail> {
         mode_entry("s", Mode::Commit),
         foo_entry("z"),
     ];
-    Ok(index(alloc, WRITTEN, &entries)?)
+    Ok(index(alloc, &entries)?)
 }
 
 fn nodes() -> [GivenNode<'static>; 8] {

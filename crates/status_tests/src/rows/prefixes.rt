@@ -1,12 +1,12 @@
 //! Paths that begin with a prefix.
 
-use crate::given::{BAR, file, foo_entry, foo_index, later_file, worktree};
 use crate::statuses::{FileRequest, Request, options, skipped, status_noting};
 use crate::tables::{Answer, Counts, Row, Told, assert_row_by};
 use bstr::BStr;
 use gix_status::index::State;
 use gix_status::index_as_worktree::traits::HashEq;
 use gix_status::worktree::{MemoryObjects, MemoryWorktree, NoFilter, NoSubmodules, Prefix};
+use status_given::{BAR, file, foo_entry, foo_index, later_file, worktree};
 use std::alloc::{AllocError, Global};
 use std::sync::Wait;
 use std::sync::atomic::AtomicBool;

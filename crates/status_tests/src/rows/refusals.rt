@@ -1,11 +1,6 @@
 //! Each part beside the worktree fails at each entry, over chunk sizes and thread limits.
 
 use crate::comparers::BlobLength;
-use crate::filters::Refuses;
-use crate::given::{
-    BAR, FOO, GivenEntry, WRITTEN, bar_worktree, directory, foo_blob, foo_entry, foo_index, index,
-    later_file, mode_entry, worktree,
-};
 use crate::rows::planted::{FAULTS, WAYS};
 use crate::statuses::{
     Request, changed, options, removed, status_of, status_of_submodules, status_with,
@@ -16,6 +11,10 @@ use gix_status::index_as_worktree::Options;
 use gix_status::index_as_worktree::traits::HashEq;
 use gix_status::worktree::{
     AllPaths, Fault, MemoryObjects, MemoryWorktree, NoFilter, NoSubmodules,
+};
+use status_given::{
+    BAR, FOO, GivenEntry, Refuses, bar_worktree, directory, foo_blob, foo_entry, foo_index, index,
+    later_file, mode_entry, worktree,
 };
 use std::alloc::{AllocError, Global};
 use std::sync::Wait;
@@ -78,7 +77,7 @@ fn index_with_submodule(alloc: Global, place: usize) -> Result<State, IndexError
         };
         entries.push(mode_entry(*path, mode))?;
     }
-    index(alloc, WRITTEN, &entries)
+    index(alloc, &entries)
 }
 
 // Its worktree, where every file was changed.
@@ -141,7 +140,7 @@ fn index_lacking(alloc: Global, place: usize) -> Result<State, IndexError> {
             ..foo_entry(*path)
         })?;
     }
-    index(alloc, WRITTEN, &entries)
+    index(alloc, &entries)
 }
 
 // Its worktree: each file has four bytes.

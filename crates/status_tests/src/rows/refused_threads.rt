@@ -2,7 +2,6 @@
 
 ghost use Rattle.std.specs.Prelude.{◌≤◌};
 
-use crate::given::foo_index;
 use crate::statuses::are_removed;
 use gix_status::index::{ObjectId, State, stat};
 use gix_status::index_as_worktree::traits::HashEq;
@@ -16,6 +15,7 @@ use status_call::index_as_worktree::decider::Decider;
 use status_call::index_as_worktree::inputs::{Inputs, Settings};
 use status_call::index_as_worktree::work::run_rounds;
 use status_call::index_as_worktree::workers::Workers;
+use status_given::foo_index;
 use std::alloc::Global;
 use std::sync::Wait;
 use std::test::Fail;

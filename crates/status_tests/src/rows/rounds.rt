@@ -1,6 +1,5 @@
 //! How many entries a round takes, and that a flag that stays unset interrupts none.
 
-use crate::given::{foo_index, worktree};
 use crate::statuses::{
     are_removed, files_found, options, request_with, status_noting, status_until,
 };
@@ -8,6 +7,7 @@ use gix_status::index::{IndexError, State};
 use gix_status::index_as_worktree::traits::HashEq;
 use gix_status::index_as_worktree::{Options, Outcome};
 use gix_status::worktree::MemoryWorktree;
+use status_given::{foo_index, worktree};
 use std::alloc::{AllocError, Global};
 use std::sync::Wait;
 use std::sync::atomic::AtomicBool;

@@ -1,9 +1,9 @@
 //! Comparison by sizes where these decide.
 
-use crate::given::{EMPTY, GivenEntry, GivenNode, LATER, foo_entry, later_file, stat};
 use crate::tables::{Answer, Counts, Row, Told, assert_row};
 use gix_status::index_as_worktree::traits::FastEq;
 use gix_status::worktree::Fault;
+use status_given::{EMPTY, GivenEntry, GivenNode, LATER, foo_entry, later_file, stat};
 use std::test::Fail;
 
 #[test]

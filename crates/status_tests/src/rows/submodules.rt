@@ -1,10 +1,10 @@
 //! Submodules.
 
-use crate::given::{directory, mode_index, worktree};
 use crate::statuses::{options, status_of_submodules};
 use crate::submodules::Alike;
 use crate::tables::OfSubmodules;
 use gix_status::index::Mode;
+use status_given::{directory, mode_index, worktree};
 use std::process::Abort;
 use std::sync::Wait;
 use std::test::Fail;

@@ -1,15 +1,15 @@
 //! One index with something of everything, over chunk sizes and thread limits.
 
-use crate::given::{
-    BAR, BARS, GivenEntry, GivenNode, LATER, WRITTEN, directory, file, flag_entry, foo_entry,
-    index, later_file, later_link, mode_entry, stage_entry, stat, worktree,
-};
 use crate::statuses::{request_with, status_of};
 use crate::tables::{Told, are_told};
 use gix_status::index::{Flags, IndexError, Mode, ObjectId, State};
 use gix_status::index_as_worktree::traits::HashEq;
 use gix_status::index_as_worktree::{Conflict, Options, Outcome};
 use gix_status::worktree::MemoryWorktree;
+use status_given::{
+    BAR, BARS, GivenEntry, GivenNode, LATER, WRITTEN, directory, file, flag_entry, foo_entry,
+    index, later_file, later_link, mode_entry, stage_entry, stat, worktree,
+};
 use std::alloc::Global;
 use std::sync::Wait;
 use std::test::Fail;
@@ -78,7 +78,7 @@ fn swept_index(alloc: Global) -> Result<State, IndexError> {
     for (path, kind) in entries() {
         list.push(entry_of(path, kind))?;
     }
-    index(alloc, WRITTEN, &list)
+    index(alloc, &list)
 }
 
 /// What stands at a path.

@@ -1,6 +1,5 @@
 //! Workers, and a status that ends early.
 
-use crate::given::{BAR, foo_index, planted_worktree};
 use crate::statuses::{
     Report, changed, files_read, options, request_with, status_noting, status_of, status_until,
 };
@@ -9,6 +8,7 @@ use gix_status::index::{ObjectId, State};
 use gix_status::index_as_worktree::traits::HashEq;
 use gix_status::index_as_worktree::{Options, Outcome};
 use gix_status::worktree::{Fault, MemoryWorktree, Point};
+use status_given::{BAR, foo_index, planted_worktree};
 use std::alloc::{AllocError, Global};
 use std::process::Abort;
 use std::sync::Wait;

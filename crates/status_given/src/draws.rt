@@ -2,13 +2,13 @@
 
 /// A row of such numbers, each of which follows from the one before.
 #[derive(Drop)]
-pub(crate) struct Draws(pub(crate) u64);
+pub struct Draws(pub u64);
 
 impl Draws {
     ghost use Rattle.std.specs.Prelude.{◌<◌};
 
     /// A number below `bound`.
-    pub(crate) fn below(&mut self, bound: u64) -> u64
+    pub fn below(&mut self, bound: u64) -> u64
         requires { 0 < bound }
         ensures { result < bound }
     {
