@@ -1,0 +1,147 @@
+"""Rows of text: profiles with what the program has to say to them. tools/rows has a file for each subject.
+
+`== NAME` begins a row. Below it is a profile, which the program finds as `f` in its working folder (`{folder}` in it is
+that folder's path), and then sections, each below `-- KIND`: `words` (the arguments), `nodes` (what else is in the
+folder), `lines` (what is printed), `fault` (the line on standard error), `left` (what `o` has then: the lines put
+together, and a line feed), `rooms` (sizes of outputs that are too small for the lines). Above the first row is what the
+file is about, and then sections for the rows that have none of the kind. An empty line above a row belongs to nothing.
+"""
+
+import glob
+import json
+import os
+import re
+from dataclasses import dataclass
+
+ROWS = os.path.join(os.path.dirname(os.path.abspath(__file__)), "rows")
+MARK = re.compile(r"(==|--) (\S|\S.*\S)")
+# How few and how many lines a section of each kind has.
+ANY = float("inf")
+KINDS = {"words": (0, 1), "nodes": (1, ANY), "lines": (1, ANY), "fault": (1, 1), "left": (1, ANY), "rooms": (1, 1)}
+NODES = ("folder", "file", "link")
+
+
+class Malformed(Exception):
+    """What is wrong with a file of rows."""
+
+
+@dataclass(frozen=True)
+class Row:
+    """What a run of the program is given, and how it ends."""
+
+    name: str
+    words: list
+    # The texts of the files `f` and `o`. None where the file isn't there.
+    profile: "str | None"
+    left: "str | None"
+    # Lists of a kind, a path and a text or a target, and for a file also its time of change where that matters.
+    nodes: list
+    lines: str
+    fault: str
+    rooms: list
+
+    @property
+    def status(self):
+        """The exit status, which is 2 where the program says how it is called."""
+        return 2 if self.fault.startswith("usage: ") else int(self.fault != "")
+
+
+def row_files():
+    """The paths of all files of rows."""
+    return sorted(glob.glob(os.path.join(ROWS, "*.txt")))
+
+
+def read_rows(path):
+    """The rows of a file."""
+    with open(path, encoding="utf-8", newline="") as file:
+        text = file.read()
+    try:
+        return rows_of(text)
+    except Malformed as error:
+        raise Malformed(f"{os.path.basename(path)}: {error}") from error
+
+
+def rows_of(text):
+    """The rows of a file's text."""
+    (_, shared), *parts = parts_of(text)
+    names = [name for name, _ in parts]
+    if not names:
+        raise Malformed("there is no row")
+    twice = [name for name in names if names.count(name) > 1]
+    if twice:
+        raise Malformed(f"two rows are named {twice[0]}")
+    return [row_of(name, {**shared, **sections}) for name, sections in parts]
+
+
+def parts_of(text):
+    """What stands above the first row, and then the rows: of each the name, and the lines of sections by their kinds.
+    The lines above all sections are of the kind `profile`.
+    """
+    *lines, last = text.split("\n")
+    if last:
+        raise Malformed("the last line has no line feed")
+    section = []
+    parts = [("", {"profile": section})]
+    for number, line in enumerate(lines, 1):
+        mark = MARK.fullmatch(line)
+        if mark and mark[1] == "==":
+            if section[-1:] == [""]:
+                section.pop()
+            section = []
+            parts.append((mark[2], {"profile": section}))
+        elif mark:
+            section = begin_section(number, mark[2], parts[-1][1])
+        elif line[:2] in ("==", "--"):
+            raise Malformed(f"line {number}: neither a row nor a section begins like this")
+        else:
+            section.append(line)
+    return parts
+
+
+def begin_section(number, kind, sections):
+    """Begins a section of this kind, which the row doesn't have yet."""
+    if kind not in KINDS:
+        raise Malformed(f"line {number}: there is no section {kind}")
+    if kind in sections:
+        raise Malformed(f"line {number}: the row has two sections {kind}")
+    sections[kind] = []
+    return sections[kind]
+
+
+def row_of(name, sections):
+    """A row of this name, with these sections."""
+    if "words" not in sections:
+        raise Malformed(f"{name}: no words")
+    for kind, (least, most) in KINDS.items():
+        if kind in sections and not least <= len(sections[kind]) <= most:
+            raise Malformed(f"{name}: {len(sections[kind])} lines of the section {kind}")
+    lines = "".join(line + "\n" for line in sections.get("lines", []))
+    return Row(
+        name,
+        words="".join(sections["words"]).split(),
+        profile="\n".join(sections["profile"]) if sections["profile"] else None,
+        left="".join(sections["left"]) + "\n" if "left" in sections else None,
+        nodes=[node_of(name, line) for line in sections.get("nodes", [])],
+        lines=lines,
+        fault="".join(line + "\n" for line in sections.get("fault", [])),
+        rooms=rooms_of(name, "".join(sections.get("rooms", [])), len(lines.encode())),
+    )
+
+
+def node_of(name, line):
+    """A node of the working folder, which is a list as JSON text."""
+    try:
+        node = json.loads(line)
+    except ValueError:
+        node = None
+    if not isinstance(node, list) or node[:1] not in [[kind] for kind in NODES]:
+        raise Malformed(f"{name}: no node of a folder: {line}")
+    return node
+
+
+def rooms_of(name, line, size):
+    """Sizes of outputs, each too small for as many bytes as the row has."""
+    wrong = [word for word in line.split() if not re.fullmatch("[0-9]+", word) or int(word) >= size]
+    if wrong:
+        raise Malformed(f"{name}: no output is too small by having room for {wrong[0]} bytes of {size}")
+    return [int(word) for word in line.split()]

@@ -1,0 +1,234 @@
+#!/usr/bin/env python3
+"""Tests of what the program prints of whole profiles, which tools/rows has as text:  python3 tools/test_rows.py
+
+The rows are run where STATUS_PROGRAM names the built program. Without it they are read alone.
+"""
+
+import json
+import os
+import re
+import resource
+import signal
+import subprocess
+import tempfile
+import unittest
+from contextlib import contextmanager
+from functools import partial
+
+from cases import FOO, PROGRAM
+from row_files import Malformed, read_rows, row_files, rows_of
+
+# A profile of no entries and no nodes, and what it prints.
+NOTHING = b'{"timestamp":[9,0],"options":{"counts":true},"index":[],"worktree":[]}'
+TOTALS = b"total: to process 0, processed 0, skipped 0, lstat 0, to update 0, racy 0, read 0, bytes 0\n"
+
+WHOLE = """What the file is about.
+-- words
+status f
+-- fault
+not JSON
+
+== one
+not
+-- nodes
+["folder","d"]
+
+== two
+{
+
+}
+-- words
+-- left
+{"a":1,
+"b":2}
+-- lines
+- added "é"
+- added "b"
+-- fault
+usage: none
+-- rooms
+0 12
+"""
+MALFORMED = [
+    ("-- words\nstatus f\n", "there is no row"),
+    ("", "there is no row"),
+    ("-- words\nstatus f\n== a\nnot", "the last line has no line feed"),
+    ("-- words\nstatus f\n== a\nnot\n== a\nnot\n", "two rows are named a"),
+    ("== a\nnot\n", "a: no words"),
+    ("-- words\nstatus f\n== a\n--lines\n", "line 4: neither a row nor a section begins like this"),
+    ("-- words\nstatus f\n==\n", "line 3: neither a row nor a section begins like this"),
+    ("-- words\nstatus f\n== a\n-- line\nb\n", "line 4: there is no section line"),
+    ("-- words\nstatus f\n== a\n-- profile\nb\n", "line 4: there is no section profile"),
+    ("-- words\nstatus f\n== a\n-- lines\nb\n-- lines\nb\n", "line 6: the row has two sections lines"),
+    ("-- words\nstatus\nf\n== a\n", "a: 2 lines of the section words"),
+    ("-- words\nstatus f\n== a\n-- lines\n", "a: 0 lines of the section lines"),
+    ("-- words\nstatus f\n== a\n-- fault\nb\nc\n", "a: 2 lines of the section fault"),
+    ("-- words\nstatus f\n== a\n-- nodes\nb\n", "a: no node of a folder: b"),
+    ('-- words\nstatus f\n== a\n-- nodes\n["socket","b"]\n', 'a: no node of a folder: ["socket","b"]'),
+    ("-- words\nstatus f\n== a\n-- lines\nb\n-- rooms\n1 2\n", "a: no output is too small by having room for 2 bytes"),
+    ("-- words\nstatus f\n== a\n-- lines\nb\n-- rooms\n-1\n", "a: no output is too small by having room for -1 bytes"),
+]
+
+
+class Reader(unittest.TestCase):
+    def test_each_file_has_rows(self):
+        self.assertGreater(len(row_files()), 0)
+        for path in row_files():
+            with self.subTest(file=os.path.basename(path)):
+                self.assertGreater(len(read_rows(path)), 0)
+
+    def test_a_row_has_the_sections_above_the_first_one_where_it_has_none_of_its_own(self):
+        one, two = rows_of(WHOLE)
+        self.assertEqual((one.name, one.words, one.profile, one.status), ("one", ["status", "f"], "not", 1))
+        self.assertEqual((one.lines, one.fault, one.left), ("", "not JSON\n", None))
+        self.assertEqual((one.nodes, one.rooms), ([["folder", "d"]], []))
+        self.assertEqual((two.name, two.words, two.profile, two.status), ("two", [], "{\n\n}", 2))
+        self.assertEqual((two.lines, two.left), ('- added "é"\n- added "b"\n', '{"a":1,"b":2}\n'))
+        self.assertEqual((two.nodes, two.rooms), ([], [0, 12]))
+
+    def test_a_malformed_file_is_an_error(self):
+        for text, words in MALFORMED:
+            with self.subTest(text=text), self.assertRaisesRegex(Malformed, "^" + re.escape(words)):
+                rows_of(text)
+
+
+def make_node(folder, kind, name, text="", second=None):
+    """Makes a node in a folder, with a time of change where one is given."""
+    path = os.path.join(folder, name)
+    if kind == "folder":
+        os.mkdir(path)
+    elif kind == "link":
+        os.symlink(text, path)
+    else:
+        with open(path, "w", encoding="utf-8", newline="") as file:
+            file.write(text)
+    if second is not None:
+        os.utime(path, (second, second))
+        if os.stat(path).st_mtime != second:
+            raise unittest.SkipTest(f"no file has a time of {second} seconds here")
+
+
+@contextmanager
+def folder_of(row):
+    """A folder with the row's nodes, and with its profile in `f`."""
+    with tempfile.TemporaryDirectory() as name:
+        folder = os.path.realpath(name)
+        for node in row.nodes:
+            make_node(folder, *node)
+        if row.profile is not None:
+            make_node(folder, "file", "f", row.profile.replace("{folder}", json.dumps(folder)[1:-1]))
+        yield folder
+
+
+def run_program(folder, words, **settings):
+    """How the program ends in a folder, with these arguments."""
+    given = {"stdin": subprocess.DEVNULL, "stdout": subprocess.PIPE, "stderr": subprocess.PIPE, **settings}
+    return subprocess.run([PROGRAM, *words], cwd=folder, timeout=60, **given)
+
+
+def limit_files(size):
+    """Lets this process write no further than so many bytes into a file."""
+    # The signal would end the process. Where it is ignored, the write fails.
+    signal.signal(signal.SIGXFSZ, signal.SIG_IGN)
+    resource.setrlimit(resource.RLIMIT_FSIZE, (size, size))
+
+
+def all_rows():
+    """Each row, with the name of its file."""
+    return [(os.path.basename(path), row) for path in row_files() for row in read_rows(path)]
+
+
+@unittest.skipUnless(PROGRAM, "no built program")
+class Rows(unittest.TestCase):
+    maxDiff = None
+
+    def assert_left(self, folder, before, left):
+        """Beside what was there before, the folder has the file `o` with this text, or where that is None nothing."""
+        self.assertEqual(sorted(os.listdir(folder)), sorted(before + ([] if left is None else ["o"])))
+        if left is not None:
+            with open(os.path.join(folder, "o"), "rb") as file:
+                self.assertEqual(file.read(), left.encode())
+
+    def test_each_row_ends_as_it_says(self):
+        for file, row in all_rows():
+            with self.subTest(file=file, row=row.name), folder_of(row) as folder:
+                before = os.listdir(folder)
+                ran = run_program(folder, row.words)
+                wanted = (row.status, row.lines.encode(), row.fault.encode())
+                self.assertEqual((ran.returncode, ran.stdout, ran.stderr), wanted)
+                self.assert_left(folder, before, row.left)
+
+    def test_an_output_that_is_too_small_is_a_failure_with_no_line(self):
+        # Lines are kept until they are flushed, and then written at once. The system takes as many bytes of them as it
+        # has room for, so that these stand there, and refuses the next write.
+        for file, row in all_rows():
+            for size in row.rooms:
+                with self.subTest(file=file, row=row.name, room=size), folder_of(row) as folder:
+                    before = os.listdir(folder)
+                    with tempfile.TemporaryFile() as output:
+                        ran = run_program(folder, row.words, stdout=output, preexec_fn=partial(limit_files, size))
+                        output.seek(0)
+                        self.assertEqual((ran.returncode, ran.stderr), (1, b""))
+                        self.assertEqual(output.read(), row.lines.encode()[:size])
+                    self.assert_left(folder, before, None)
+
+    @unittest.skipUnless(os.path.exists("/dev/full"), "no /dev/full")
+    def test_an_output_that_is_not_flushed_is_a_failure_with_no_line(self):
+        for file, row in all_rows():
+            if row.rooms:
+                with self.subTest(file=file, row=row.name), folder_of(row) as folder, open("/dev/full", "wb") as full:
+                    before = os.listdir(folder)
+                    ran = run_program(folder, row.words, stdout=full)
+                    self.assertEqual((ran.returncode, ran.stderr), (1, b""))
+                    self.assert_left(folder, before, None)
+
+
+@unittest.skipUnless(PROGRAM, "no built program")
+class Inputs(unittest.TestCase):
+    """Profiles that are no text of a row."""
+
+    def setUp(self):
+        room = tempfile.TemporaryDirectory()
+        self.addCleanup(room.cleanup)
+        self.folder = os.path.realpath(room.name)
+
+    def assert_ends(self, words, status, lines, fault, **settings):
+        ran = run_program(self.folder, words.split(), **settings)
+        self.assertEqual((ran.returncode, ran.stdout, ran.stderr), (status, lines, fault))
+
+    def write(self, content):
+        with open(os.path.join(self.folder, "f"), "wb") as file:
+            file.write(content)
+
+    def test_a_profile_that_is_no_utf_8_is_refused(self):
+        self.write(b'{"hash":"\xff"}')
+        self.assert_ends("status f", 1, b"", b"not JSON\n")
+
+    def test_a_profile_may_come_by_standard_input(self):
+        self.write(NOTHING)
+        with open(os.path.join(self.folder, "f"), "rb") as file:
+            self.assert_ends("status /dev/stdin", 0, TOTALS, b"", stdin=file)
+        self.assert_ends("status /dev/stdin", 0, TOTALS, b"", stdin=None, input=NOTHING)
+
+    def test_standard_input_that_is_a_folder_cannot_be_read(self):
+        folder = os.open(self.folder, os.O_RDONLY)
+        self.addCleanup(os.close, folder)
+        for command in ("status /dev/stdin", "replay /dev/stdin", "refresh /dev/stdin o 10 0"):
+            with self.subTest(command=command):
+                self.assert_ends(command, 1, b"", b"cannot read /dev/stdin\n", stdin=folder)
+        self.assertEqual(os.listdir(self.folder), [])
+
+    def test_a_file_that_nobody_may_read_is_read_by_root_alone(self):
+        make_node(self.folder, "file", "locked", "foo")
+        os.chmod(os.path.join(self.folder, "locked"), 0)
+        entry = {"path": "locked", "mode": "100644", "id": FOO}
+        profile = {"timestamp": [9, 0], "index": [entry], "folder": self.folder}
+        self.write(json.dumps(profile).encode())
+        if os.geteuid() == 0:
+            self.assert_ends("status f", 0, b'0 update "locked"\n', b"")
+        else:
+            self.assert_ends("status f", 1, b"", b"status failed: permission denied\n")
+
+
+if __name__ == "__main__":
+    unittest.main()
