@@ -157,13 +157,23 @@ class StandIns(unittest.TestCase):
 @unittest.skipUnless(PROGRAM, "no built program")
 @unittest.skipUnless(tool.compiler() and sys.platform == "linux", "no C compiler")
 class Program(unittest.TestCase):
-    def test_the_first_row_with_each_call_refused(self):
+    def assert_swept(self, words, sweeps, fewest):
+        """Each run of these sweeps ends as it may, and each sweep has more than so many calls."""
         with contextlib.redirect_stdout(io.StringIO()) as printed:
-            status = tool.main(["--program", PROGRAM, "--rows", "modified", "--limits", "1", "2", "--repeat", "2"])
+            status = tool.main(["--program", PROGRAM, *words.split()])
         self.assertEqual(status, 0, printed.getvalue())
-        calls = [int(words.split(" calls")[0].split(" ")[-1]) for words in printed.getvalue().splitlines()[:4]]
+        lines = printed.getvalue().splitlines()[:sweeps]
+        calls = [int(line.split(" calls")[0].split(" ")[-1]) for line in lines]
+        self.assertEqual(len(calls), sweeps)
+        self.assertGreater(min(calls), fewest, printed.getvalue())
+
+    def test_the_first_row_with_each_call_refused(self):
         # The profile, the index, the worktree and the lines take more than a call for each entry.
-        self.assertGreater(min(calls), 10, printed.getvalue())
+        self.assert_swept("--rows modified --limits 1 2 --repeat 2", 4, 10)
+
+    def test_a_history_with_reopenings_with_each_call_refused(self):
+        # Each of its reopenings stores and reads each entry.
+        self.assert_swept("--rows reopened --limits 1 --repeat 1", 2, 100)
 
 
 if __name__ == "__main__":
