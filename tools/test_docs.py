@@ -44,7 +44,7 @@ class Docs(unittest.TestCase):
         there = {os.path.basename(path) for path in glob.glob(os.path.join(TOP, "docs", "*.md"))} - {"README.md"}
         self.assertEqual(named, there | {"../README.md"})
 
-    def test_the_examples_for_callers_are_quoted_from_the_tests(self):
+    def test_the_examples_for_callers_are_quoted_from_what_is_proved(self):
         page = text_of("docs", "CALLERS.md")
         examples = re.findall(r"^```rust\n(.*?)^```$.*?\]\(([^)\s]+)\)", page, re.M | re.S)
         self.assertGreater(len(examples), 0)
@@ -52,7 +52,7 @@ class Docs(unittest.TestCase):
         for example, link in examples:
             with self.subTest(link=link, example=example):
                 path = os.path.normpath(os.path.join("docs", link))
-                self.assertRegex(path, r"^crates/\w+_tests/src/")
+                self.assertRegex(path, r"^crates/status_given/src/")
                 self.assertIn("\n" + example, "\n" + text_of(path))
 
     def test_the_pictures_have_the_figures_of_the_page(self):

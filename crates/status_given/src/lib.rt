@@ -1,12 +1,26 @@
-//! What tests are given, in few words: indexes, worktrees, a filter that refuses files, numbers that look drawn.
+//! What tests are given: indexes, worktrees and events in few words, numbers that look drawn, and comparers, filters,
+//! walks and other interfaces as a caller writes them, each proved to mean what it says. Statuses are called as a caller
+//! calls them.
 #![tactic(auto)]
 
+pub mod collectors;
+pub mod comparers;
 mod draws;
 mod entries;
 mod filters;
+pub mod histories;
 mod ids;
+pub mod joined;
+pub mod listers;
 mod nodes;
+pub mod objects;
+mod pieces;
+mod returns;
 mod stamps;
+pub mod statuses;
+pub mod stored;
+pub mod submodules;
+pub mod worktrees;
 
 pub use draws::Draws;
 pub use entries::{
@@ -19,4 +33,5 @@ pub use nodes::{
     GivenNode, bar_worktree, directory, file, foo_blob, later_file, later_link, link, other,
     planted_worktree, short_file, worktree,
 };
+pub use returns::WithoutReturns;
 pub use stamps::{LATER, STAGED, WRITTEN};

@@ -1,30 +1,12 @@
-//! Tests of the status call that cross crates: its answers over comparers, filters and submodules as a caller writes
-//! them, each proved to mean what it says, and over worktrees, blobs and submodules that aren't modelled.
+//! Tests that are proved as well: the example of README.md; a board and rounds, whose threads are started as a caller
+//! starts them; and a very long path, which takes long where code is compiled with checks.
 #![tactic(auto)]
 
 #[cfg(test)]
-mod collectors;
+mod board;
 #[cfg(test)]
-mod comparers;
+mod deep;
 #[cfg(test)]
 mod example;
 #[cfg(test)]
-mod filters;
-#[cfg(test)]
-mod folders;
-#[cfg(test)]
-mod listers;
-#[cfg(test)]
-mod objects;
-#[cfg(test)]
-mod pieces;
-#[cfg(test)]
-mod rows;
-#[cfg(test)]
-mod statuses;
-#[cfg(test)]
-mod submodules;
-#[cfg(test)]
-mod tables;
-#[cfg(test)]
-mod worktrees;
+mod round;
