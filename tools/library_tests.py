@@ -1,6 +1,6 @@
 """The tests of tests/: which there are, and how the toolchain runs them.
 
-A folder of tests/ is a crate, which tests/crates.txt has in a line as crates.txt has the others. Its files end in .rt.txt,
+A folder of tests/ is a crate, which tests/libraries.txt has in a line as crates.txt has the others. Its files end in .rt.txt,
 since the toolchain proves each .rt file of a repository. Here they are run beside a copy of the crates: compiled with
 checks, but not proved.
 """
@@ -49,7 +49,7 @@ def beside_the_crates(suite):
         copy = pathlib.Path(folder)
         shutil.copytree(TOP / "crates", copy / "crates", ignore=shutil.ignore_patterns("out"))
         shutil.copy(TOP / "HANDLES", copy)
-        lines = (TESTS / "crates.txt").read_text(encoding="utf-8").splitlines(keepends=True)
+        lines = (TESTS / "libraries.txt").read_text(encoding="utf-8").splitlines(keepends=True)
         own = [line for line in lines if line.startswith(f"{suite}:")]
         (copy / "crates.txt").write_text("".join([(TOP / "crates.txt").read_text(encoding="utf-8"), *own]), encoding="utf-8")
         crate = copy / "crates" / suite
