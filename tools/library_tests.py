@@ -15,6 +15,8 @@ TOP = pathlib.Path(__file__).resolve().parent.parent
 TESTS = TOP / "tests"
 ENDING = ".rt.txt"
 NAME = "tests"
+# How long a test may take: ten times what the slowest one took, since it is compiled with checks.
+SECONDS = "600"
 
 
 def files():
@@ -67,7 +69,7 @@ def changed_layout(crate):
 
 def run(crate):
     """Runs all tests. Gives what became of each (`ok`, or why it failed), and all that was printed."""
-    ran = subprocess.run(["rt", "try", "--test"], cwd=crate, capture_output=True, text=True, check=False)
+    ran = subprocess.run(["rt", "try", "--test", "--seconds", SECONDS], cwd=crate, capture_output=True, text=True, check=False)
     printed = ran.stdout + ran.stderr
     found = {}
     for name, end, more in re.findall(r"^test (\S+) \.\.\. (\w+)\n((?: .*\n)*)", printed, re.M):
