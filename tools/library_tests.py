@@ -15,7 +15,7 @@ TOP = pathlib.Path(__file__).resolve().parent.parent
 TESTS = TOP / "tests"
 ENDING = ".rt.txt"
 NAME = "tests"
-# How long a test may take: ten times what the slowest one took, since it is compiled with checks.
+# How long a test may take: on a busy machine the slowest, compiled with checks, passed the minute that is usual.
 SECONDS = "600"
 
 
