@@ -1,6 +1,5 @@
 pub mod Absences
 pub mod EmptyBlob
-pub mod Halvings
 pub mod Indexes
 pub mod Places
 pub mod ReaderPlace

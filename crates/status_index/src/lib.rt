@@ -13,7 +13,6 @@ pub mod orders;
 mod path_probe;
 pub mod reader;
 pub mod reading;
-pub mod search;
 pub mod stat;
 pub mod state;
 
@@ -29,3 +28,4 @@ pub use reader::ReadBytes;
 pub use reading::read_all;
 pub use stat::{Moment, Stat, Time};
 pub use state::{IndexError, State};
+pub use status_search as search;

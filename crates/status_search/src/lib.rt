@@ -1,7 +1,8 @@
 //! The place at which an ascending question turns from yes to no, found by halving.
+#![tactic(auto)]
 
 ghost use Rattle.std.specs.Prelude.{◌≡◌, ℕ, ◌+◌, ◌<◌, ◌≤◌, ◌^◌, ◌↔◌, min, IsTrue};
-ghost use Rattle.status_index.specs.Probes.{once_more};
+ghost use Rattle.status_search.specs.Probes.{once_more};
 
 /// A question about places: yes below the cut, and no from there on.
 pub trait Probe {

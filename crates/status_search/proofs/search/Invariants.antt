@@ -1,6 +1,6 @@
 use Rattle.std.proofs.Common.{◌≡◌, ◌-◌, ◌≤◌, min}
-use Rattle.status_index.proofs.Halvings.{IsHalved}
-use Rattle.status_index.proofs.search.search.Given as goal
+use Rattle.status_search.proofs.Halvings.{IsHalved}
+use Rattle.status_search.proofs.search.Given as goal
 
 abbrev pub invariant-halves : goal.invariant-halves
 invariant-halves g l = record {

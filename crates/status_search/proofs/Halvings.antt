@@ -1,7 +1,7 @@
 -- How often a search by halves still asks.
 use Rattle.std.proofs.Common.{ℕ, zero, suc, ◌+◌, ◌<◌, ◌≤◌, ◌^◌, arith}
 use Rattle.std.proofs.Math.Nat.{pow-suc}
-use Rattle.status_index.specs.Probes.{once_more}
+use Rattle.status_search.specs.Probes.{once_more}
 
 -- with digits for all places, what was asked since and digits for the places left come to no more
 pub record IsHalved (start now left len : ℕ) : Type 0 where

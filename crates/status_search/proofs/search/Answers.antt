@@ -1,6 +1,6 @@
 use Rattle.std.proofs.Common.{◌∙◌, ◌-◌, ◌<◌, arith}
-use Rattle.status_index.proofs.Halvings.{IsHalved-next}
-use Rattle.status_index.proofs.search.search.Goals as goal
+use Rattle.status_search.proofs.Halvings.{IsHalved-next}
+use Rattle.status_search.proofs.search.Goals as goal
 
 pub halves-preserved-then-before : goal.halves-preserved-then-before
 halves-preserved-then-before g c =
