@@ -21,6 +21,7 @@ wrongly, 1 where one did, and 2 where there is no sweep. It needs Linux with gli
 """
 
 import argparse
+import contextlib
 import json
 import os
 import re
@@ -134,11 +135,16 @@ class Sweeper:
         said = wrong(self.row, Refused(letters, at, calls), ended)
         return ended, letters, said or (self.row.command == "refresh" and wrong_files(self.file, ended.status))
 
+    def calls(self):
+        """The letters of the calls of a run in which none is refused."""
+        _, letters, _ = self.judged(0, False, "")
+        return letters
+
     def sweep(self, on, repeat):
         """Gives the number of runs, the last call that came, and the wrong runs: which call was refused, what is wrong,
         and how the run ended.
         """
-        _, calls, _ = self.judged(0, False, "")
+        calls = self.calls()
         found, runs, at = [], 0, 0
         while True:
             at, runs = at + 1, runs + repeat
@@ -149,8 +155,9 @@ class Sweeper:
                 return runs, at - 1, found
 
 
-def sweep_row(program, library, name, limit, on, options):
-    """Sweeps one row with one limit, prints what came of it, and gives the number of wrong runs."""
+@contextlib.contextmanager
+def sweeper(program, library, name, limit, seconds):
+    """What runs one row with one limit, which may take so many seconds."""
     row = ROWS[name]
     with tempfile.TemporaryDirectory() as room, tempfile.TemporaryFile() as report:
         os.set_inheritable(report.fileno(), True)
@@ -161,8 +168,14 @@ def sweep_row(program, library, name, limit, on, options):
         file = os.path.join(room, "profile.json")
         with open(file, "w", encoding="utf-8") as out:
             json.dump(profile, out)
-        with Runner(program, options.seconds) as runner:
-            runs, last, found = Sweeper(runner, library, row, file, report).sweep(on, options.repeat)
+        with Runner(program, seconds) as runner:
+            yield Sweeper(runner, library, row, file, report)
+
+
+def sweep_row(program, library, name, limit, on, options):
+    """Sweeps one row with one limit, prints what came of it, and gives the number of wrong runs."""
+    with sweeper(program, library, name, limit, options.seconds) as it:
+        runs, last, found = it.sweep(on, options.repeat)
     which = "each from one on" if on else "one"
     print(f"{name}, limit {limit}, {which}: {last} calls, {runs} runs, {len(found)} wrong", flush=True)
     for at, said, ended in found[: options.show]:

@@ -20,6 +20,8 @@ from small_profiles import ROWS
 
 PROGRAM = os.path.abspath(os.environ["STATUS_PROGRAM"]) if os.environ.get("STATUS_PROGRAM") else None
 LINE = '0 modified -c- "a"\n'
+# The rows that have one piece at most.
+ONE_PIECE = ("malformed",)
 
 # Takes memory twice and starts a thread, which takes memory too, and then prints the line of the first row.
 STAND_IN = r"""
@@ -174,6 +176,18 @@ class Program(unittest.TestCase):
     def test_a_history_with_reopenings_with_each_call_refused(self):
         # Each of its reopenings stores and reads each entry.
         self.assert_swept("--rows reopened --limits 1 --repeat 1", 2, 100)
+
+    def test_only_a_limit_above_one_starts_a_thread(self):
+        # A status with untracked files walks the worktree in a thread, whatever the limit is.
+        rows = [name for name, row in ROWS.items() if not row.is_joined]
+        with tempfile.TemporaryDirectory() as folder:
+            library = tool.compile_library(folder)
+            for name in rows:
+                for limit in (1, 2):
+                    with self.subTest(row=name, limit=limit):
+                        with tool.sweeper(PROGRAM, library, name, limit, 10) as it:
+                            starts = it.calls().count("t")
+                        self.assertEqual(starts > 0, limit == 2 and name not in ONE_PIECE, starts)
 
 
 if __name__ == "__main__":

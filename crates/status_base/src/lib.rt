@@ -3,7 +3,6 @@
 
 pub mod fscache;
 pub mod index;
-pub mod stack;
 pub mod worktree;
 
 pub use status_board::board;

@@ -1,0 +1,4 @@
+pub mod CommonFronts
+pub mod LinkLemmas
+pub mod ListedOnce
+pub mod LooksLemmas

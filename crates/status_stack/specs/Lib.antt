@@ -1,0 +1,7 @@
+pub mod CheckState
+pub mod Common
+pub mod Kept
+pub mod LinkCheck
+pub mod Looks
+pub mod Stopped
+pub mod Verified
