@@ -20,12 +20,12 @@ use Rattle.status_joined.specs.declared.index_as_worktree_with_renames.error.Err
 use Rattle.status_joined.specs.declared.index_as_worktree_with_renames.rewrites.Outcome.{Outcome as RewritesOutcome}
 use Rattle.status_joined.specs.declared.index_as_worktree_with_renames.types.Options.{Options}
 use Rattle.status_joined.specs.Feeding.{AreReported}
-use Rattle.status_joined.specs.Identified.{Identifying}
-use Rattle.status_joined.specs.Items.{Item, Reported}
+use Rattle.status_items.specs.Identified.{Identifying}
+use Rattle.status_items.specs.Items.{Item, Reported}
 use Rattle.status_joined.specs.Joined.{IsRewriting, IsRewritingFault, tracked_options}
 use Rattle.status_joined.specs.JoinedTheorem.{HasJoinedList, IsFault, IsJoined, IsReportedOf, IsWhole}
 use Rattle.status_joined.specs.Listing.{HasList, IsHalfFault}
-use Rattle.status_joined.specs.Lists.{IsList, list_cmp, unsorted}
+use Rattle.status_items.specs.Lists.{IsList, list_cmp, unsorted}
 use Rattle.status_joined.specs.Summaries.{reported_cmp}
 use Rattle.status_joined.proofs.InOrder.{alone_in_order, rewritten_in_order}
 

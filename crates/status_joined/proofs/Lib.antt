@@ -1,10 +1,5 @@
-pub mod Copies
 pub mod Failing
 pub mod Feeding
-pub mod Identifying
 pub mod InOrder
 pub mod Joining
-pub mod Mapped
-pub mod Orders
 pub mod Rewriting
-pub mod Sides

@@ -21,13 +21,13 @@ use Rattle.status_tracker.specs.declared.tracker.TrackerError.{TrackerError}
 use Rattle.status_tracker.specs.declared.tracker.TrackerError.TheVariants as trackers
 use Rattle.status_walk.specs.WorktreeIds.{fault_of}
 use Rattle.status_walk.specs.declared.id.IdError.{IdError}
-use Rattle.status_joined.specs.Changes.{changed_of}
+use Rattle.status_items.specs.Changes.{changed_of}
 use Rattle.status_joined.specs.Errors.{error_of_id, error_of_refused, error_of_tracker}
-use Rattle.status_joined.specs.Identified.{Identifying, id_faults}
-use Rattle.status_joined.specs.Items.{Item, is_removed, is_walked}
+use Rattle.status_items.specs.Identified.{Identifying, id_faults}
+use Rattle.status_items.specs.Items.{Item, is_removed, is_walked}
 use Rattle.status_joined.specs.Joined.{AreIdentified, IsRewriting, IsRewritingFault}
-use Rattle.status_joined.specs.Listed.{item_of}
-use Rattle.status_joined.specs.declared.index_as_worktree_with_renames.item.ModificationOrDirwalkEntry.{ModificationOrDirwalkEntry}
+use Rattle.status_items.specs.Listed.{item_of}
+use Rattle.status_items.specs.declared.item.ModificationOrDirwalkEntry.{ModificationOrDirwalkEntry}
 use Rattle.status_joined.specs.declared.index_as_worktree_with_renames.rewrites.Outcome.{Outcome}
 
 -- pairs that are no copies are renames

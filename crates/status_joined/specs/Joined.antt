@@ -17,9 +17,9 @@ use Rattle.status_joined.specs.declared.index_as_worktree_with_renames.error.Err
 use Rattle.status_joined.specs.declared.index_as_worktree_with_renames.error.Error.TheVariants as errors
 use Rattle.status_joined.specs.declared.index_as_worktree_with_renames.rewrites.Outcome.{Outcome as RewritesOutcome}
 use Rattle.status_joined.specs.declared.index_as_worktree_with_renames.types.Options.{Options}
-use Rattle.status_joined.specs.Changes.{changed_of}
-use Rattle.status_joined.specs.Identified.{Identifying, forget, identified, id_faults}
-use Rattle.status_joined.specs.Items.{Item, is_removed, is_walked}
+use Rattle.status_items.specs.Changes.{changed_of}
+use Rattle.status_items.specs.Identified.{Identifying, forget, identified, id_faults}
+use Rattle.status_items.specs.Items.{Item, is_removed, is_walked}
 
 -- the tracked half's options: the listings are the joined call's own
 abbrev pub tracked_options : Options → StatusOptions

@@ -1,16 +1,10 @@
-pub mod Changes
-pub mod Copies
 pub mod DefaultOptions
 pub mod Errors
 pub mod Feeding
-pub mod Identified
-pub mod Items
 pub mod Joined
 pub mod JoinedInputs
 pub mod JoinedTheorem
-pub mod Listed
 pub mod Listing
-pub mod Lists
 pub mod Recorded
 pub mod RewritingAnswers
 pub mod Summaries

@@ -21,9 +21,9 @@ use Rattle.status_joined.specs.declared.index_as_worktree_with_renames.error.Err
 use Rattle.status_joined.specs.declared.index_as_worktree_with_renames.error.Error.TheVariants as errors
 use Rattle.status_joined.specs.declared.index_as_worktree_with_renames.listing.Listing.{Listing}
 use Rattle.status_joined.specs.Errors.{error_of_status, error_of_walk}
-use Rattle.status_joined.specs.Items.{Item}
-use Rattle.status_joined.specs.Listed.{item_of}
-use Rattle.status_joined.specs.Lists.{IsList, unsorted}
+use Rattle.status_items.specs.Items.{Item}
+use Rattle.status_items.specs.Listed.{item_of}
+use Rattle.status_items.specs.Lists.{IsList, unsorted}
 
 -- of a half that failed
 abbrev pub error_of_failed : Failed → Error

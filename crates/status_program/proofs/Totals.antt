@@ -11,8 +11,8 @@ use Rattle.status_tracker.specs.declared.tracker.Pair.{Pair}
 use Rattle.status_joined.specs.declared.index_as_worktree_with_renames.error.Error.{Error}
 use Rattle.status_joined.specs.declared.index_as_worktree_with_renames.types.Options.{Options}
 use Rattle.status_joined.specs.declared.index_as_worktree_with_renames.types.Outcome.{Outcome}
-use Rattle.status_joined.specs.Identified.{Identifying}
-use Rattle.status_joined.specs.Items.{Reported}
+use Rattle.status_items.specs.Identified.{Identifying}
+use Rattle.status_items.specs.Items.{Reported}
 use Rattle.status_joined.specs.JoinedTheorem.{IsWhole}
 
 module _ (T U : Type 0) (query : Settings → Query T U) (options : Options) (index : State) (interruptible : Bool) (walking : Option Walking) (ids : Identifying) (means : List Changed → Bool → Result (List Pair) TrackerFault → Type 0) (reported : List (Reported T U)) where

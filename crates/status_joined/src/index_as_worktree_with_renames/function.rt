@@ -2,7 +2,7 @@
 
 ghost use Rattle.std.specs.Prelude.{◌≡◌, IfOk, is_some, option_map};
 ghost use Rattle.status_halves.specs.BothHalves.{Walking};
-ghost use Rattle.status_joined.specs.Identified.{identifying};
+ghost use Rattle.status_items.specs.Identified.{identifying};
 ghost use Rattle.status_joined.specs.JoinedInputs.{wanted_walk, joined_inputs, walking_by};
 ghost use Rattle.status_joined.specs.JoinedTheorem.{IsJoined};
 

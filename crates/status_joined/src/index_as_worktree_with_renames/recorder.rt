@@ -1,7 +1,7 @@
 //! Who is given the entries of a status with untracked files, renames and copies.
 
 ghost use Rattle.std.specs.Prelude.{◌≡◌, ◌++◌, ◌∷◌, [], List, OnOk, OnErr};
-ghost use Rattle.status_joined.specs.Items.{Reported};
+ghost use Rattle.status_items.specs.Items.{Reported};
 ghost use Rattle.status_joined.specs.Entries.{reported_entry};
 
 use crate::index_as_worktree_with_renames::entry::Entry;
