@@ -5,9 +5,7 @@
 
 pub mod collectors;
 pub mod comparers;
-mod draws;
 mod entries;
-mod filters;
 pub mod histories;
 mod ids;
 pub mod joined;
@@ -22,12 +20,10 @@ pub mod stored;
 pub mod submodules;
 pub mod worktrees;
 
-pub use draws::Draws;
 pub use entries::{
     GivenEntry, empty_entry, flag_entry, foo_entry, foo_index, index, mode_entry, mode_index,
     stage_entry, staged_index, stat,
 };
-pub use filters::Refuses;
 pub use ids::{A_LINE, BAR, BARS, EMPTY, FOO};
 pub use nodes::{
     GivenNode, bar_worktree, directory, file, foo_blob, later_file, later_link, link, other,
