@@ -20,14 +20,8 @@ pub mod stored;
 pub mod submodules;
 pub mod worktrees;
 
-pub use entries::{
-    GivenEntry, empty_entry, flag_entry, foo_entry, foo_index, index, mode_entry, mode_index,
-    stage_entry, staged_index, stat,
-};
-pub use ids::{A_LINE, BAR, BARS, EMPTY, FOO};
-pub use nodes::{
-    GivenNode, bar_worktree, directory, file, foo_blob, later_file, later_link, link, other,
-    planted_worktree, short_file, worktree,
-};
+pub use entries::{GivenEntry, foo_entry, foo_index, index, mode_entry, mode_index, stat};
+pub use ids::{BAR, FOO};
+pub use nodes::{GivenNode, bar_worktree, file, later_file, put};
 pub use returns::WithoutReturns;
 pub use stamps::{LATER, STAGED, WRITTEN};
