@@ -12,7 +12,6 @@ pub mod joined;
 pub mod listers;
 mod nodes;
 pub mod objects;
-mod pieces;
 mod returns;
 mod stamps;
 pub mod statuses;
