@@ -1,6 +1,6 @@
-//! What tests are given: indexes, worktrees and events in few words, numbers that look drawn, and comparers, filters,
-//! walks and other interfaces as a caller writes them, each proved to mean what it says. Statuses are called as a caller
-//! calls them.
+//! What a caller writes, each proved to mean what it says: a comparer, a filter, walks and other interfaces, and calls
+//! of the library. docs/CALLERS.md quotes them. Indexes, worktrees and events in few words come with them. What else
+//! tests are given stands in `tests/given`, and isn't proved.
 #![tactic(auto)]
 
 pub mod collectors;
