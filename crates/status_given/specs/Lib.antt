@@ -1,4 +1,3 @@
 pub mod Lengths
-pub mod Pieces
 pub mod Returns
 pub mod Texts

@@ -1,4 +1,4 @@
-//! Collectors of a test's own.
+//! A collector of a test's own.
 
 ghost use Rattle.std.specs.Prelude.{◌≡◌, ◌++◌, ◌∷◌, [], Some, OnOk, OnErr, slice_get};
 ghost use Rattle.bstr.specs.BStr.{bstr_bytes};
@@ -7,49 +7,6 @@ use bstr::BStr;
 use gix_status::index::Entry;
 use gix_status::index_as_worktree::{EntryStatus, VisitEntry};
 use std::alloc::AllocError;
-use std::sync::atomic::{AtomicBool, Ordering};
-
-/// Hands on each record, sets a flag, and keeps the length of the list of entries that comes along.
-#[derive(Drop)]
-pub struct Noting<'a, V> {
-    pub collector: V,
-    pub flag: &'a AtomicBool,
-    pub lengths: Vec<usize>,
-}
-
-impl<'index, 'a, V: VisitEntry<'index>> VisitEntry<'index> for Noting<'a, V>
-where
-    V::ContentChange: Drop,
-    V::SubmoduleStatus: Drop,
-{
-    ghost use Rattle.std.specs.Prelude.{◌≡◌, ◌++◌, ◌∷◌, [], Some, OnOk, OnErr, slice_get};
-    ghost use Rattle.bstr.specs.BStr.{bstr_bytes};
-    ghost use Rattle.status_call.specs.Visits.{visit};
-
-    type ContentChange = V::ContentChange;
-
-    type SubmoduleStatus = V::SubmoduleStatus;
-
-    ghost visits = { λ s. V.visits s.collector };
-
-    fn visit_entry(
-        &mut self,
-        entries: &'index [Entry],
-        entry: &'index Entry,
-        entry_index: usize,
-        rela_path: BStr<'index>,
-        status: EntryStatus<V::ContentChange, V::SubmoduleStatus>,
-    ) -> Result<(), AllocError>
-        requires { slice_get entries.now entry_index ≡ Some entry.now }
-        ensures ok { OnOk result (V.visits self.new.collector ≡ V.visits self.old.collector ++ visit entries.now entry.now entry_index (bstr_bytes rela_path.entry) status ∷ []) }
-        ensures err { OnErr result (V.visits self.new.collector ≡ V.visits self.old.collector) }
-    {
-        self.flag.store(true, Ordering::SeqCst);
-        self.lengths.push(entries.len())?;
-        self.collector
-            .visit_entry(entries, entry, entry_index, rela_path, status)
-    }
-}
 
 /// Hands so many records on, and has no memory for the next.
 #[derive(Drop)]

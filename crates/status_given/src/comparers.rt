@@ -1,12 +1,9 @@
-//! Comparers as a caller writes them.
+//! A comparer as a caller writes it.
 
 ghost use Rattle.std.specs.Prelude.{◌≡◌, refl};
-ghost use Rattle.status_compare.specs.Comparers.{hash_answer};
 ghost use Rattle.status_given.specs.Lengths.{length_answer, length_counts};
-ghost use Rattle.status_given.specs.Pieces.{pieces_counts};
 
-use crate::pieces::id_by_pieces;
-use gix_status::index::{Entry, ObjectId};
+use gix_status::index::Entry;
 use gix_status::index_as_worktree::Error;
 use gix_status::index_as_worktree::traits::{CompareBlobs, ReadData};
 use std::alloc::Global;
@@ -36,35 +33,5 @@ impl CompareBlobs for BlobLength {
     ) -> Result<Option<u64>, Error> {
         let blob = data.read_blob(buffer)?;
         Ok((blob.len() as u64 != size).then_some(size))
-    }
-}
-
-/// Compares by ids as `HashEq` does, but reads what there is to be read in small pieces.
-#[derive(Clone, Copy, Debug)]
-pub struct SmallPieces;
-
-impl CompareBlobs for SmallPieces {
-    type Output = ObjectId;
-
-    ghost answer = { λ _ e _ m. hash_answer e m.file };
-
-    ghost counts_after = { λ _ _ _ m k. pieces_counts m.file k };
-
-    ghost clone_keeps_answer = { λ _ _ _. refl };
-
-    ghost clone_keeps_counts = { λ _ _ _. refl };
-
-    fn compare_blobs<R: ReadData>(
-        &mut self,
-        alloc: Global,
-        entry: &Entry,
-        _size: u64,
-        data: &mut R,
-        buffer: &mut Vec<u8>,
-    ) -> Result<Option<ObjectId>, Error> {
-        let mut stream = data.stream_worktree_file(buffer)?;
-        let id = id_by_pieces(alloc, entry.id.kind(), &mut stream)?;
-        data.counted(stream.bytes());
-        Ok((id != entry.id).then_some(id))
     }
 }

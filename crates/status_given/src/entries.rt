@@ -1,6 +1,6 @@
 //! Indexes in few words.
 
-use crate::ids::{EMPTY, FOO};
+use crate::ids::FOO;
 use crate::stamps::{STAGED, WRITTEN, stamp};
 use bstr::BString;
 use status_base::index::{Flags, IndexError, Mode, Moment, NewEntry, ObjectId, Stat, State};
@@ -26,28 +26,6 @@ pub fn foo_entry(path: &str) -> GivenEntry<'_> {
         mtime: STAGED,
         flags: Flags::from_stage(0),
         mode: Mode::File,
-    }
-}
-
-/// An entry with flags.
-pub fn flag_entry(path: &str, flags: Flags) -> GivenEntry<'_> {
-    GivenEntry {
-        flags,
-        ..foo_entry(path)
-    }
-}
-
-/// An entry with a stage.
-pub fn stage_entry(path: &str, stage: u32) -> GivenEntry<'_> {
-    flag_entry(path, Flags::from_stage(stage))
-}
-
-/// A plain entry, staged with no bytes.
-pub fn empty_entry(path: &str) -> GivenEntry<'_> {
-    GivenEntry {
-        id: EMPTY,
-        size: 0,
-        ..foo_entry(path)
     }
 }
 
@@ -98,15 +76,6 @@ pub fn mode_index(alloc: Global, mode: Mode, paths: &[&str]) -> Result<State, In
     let mut entries = Vec::new(alloc);
     for path in paths {
         entries.push(mode_entry(*path, mode))?;
-    }
-    index(alloc, &entries)
-}
-
-/// The index of plain entries, by path and stage.
-pub fn staged_index(alloc: Global, stages: &[(&str, u32)]) -> Result<State, IndexError> {
-    let mut entries = Vec::new(alloc);
-    for (path, stage) in stages {
-        entries.push(stage_entry(*path, *stage))?;
     }
     index(alloc, &entries)
 }

@@ -3,7 +3,7 @@
 use bstr::BString;
 use gix_status::index::{HashKind, Moment, stat};
 use gix_status::index_as_worktree::Error;
-use gix_status::world::{Comparer, Event, Refusal, Replay, Run, World, replay};
+use gix_status::world::{Event, Refusal, Replay, Run, World, replay};
 use std::alloc::{AllocError, Global};
 use std::sync::Wait;
 use std::thread::Threads;
@@ -68,76 +68,12 @@ pub fn events(alloc: Global, steps: &[Step]) -> Result<Vec<Event>, AllocError> {
     Ok(events)
 }
 
-/// A moment.
-pub fn at(secs: u32, nsecs: u32) -> Moment {
-    Moment { secs, nsecs }
-}
-
-/// A run by ids, one entry a piece and two workers at most, whose answers are stored in second 5.
-pub const RUN: Run = Run {
-    comparer: Comparer::Hash,
-    chunk_size: 1,
-    thread_limit: Some(2),
-    stamp: Moment { secs: 5, nsecs: 0 },
-};
-
-/// The same at a moment.
-pub fn run_at(stamp: Moment) -> Step {
-    Step::Run(Run { stamp, ..RUN })
-}
-
-/// That run, and the same a second and two later.
-pub const RUN_5: Step = Step::Run(RUN);
-
-pub const RUN_6: Step = Step::Run(Run {
-    stamp: Moment { secs: 6, nsecs: 0 },
-    ..RUN
-});
-
-pub const RUN_7: Step = Step::Run(Run {
-    stamp: Moment { secs: 7, nsecs: 0 },
-    ..RUN
-});
-
 /// What counts in a world.
 #[derive(Clone, Copy, Debug)]
 pub struct Setting {
     pub stat: stat::Options,
     pub executable_bit: bool,
 }
-
-/// Seconds count, and neither `ctime` nor executability does.
-pub const SECONDS: Setting = Setting {
-    stat: stat::Options {
-        trust_ctime: false,
-        check_stat: true,
-        use_nsec: false,
-        use_stdev: false,
-    },
-    executable_bit: false,
-};
-
-/// Nanoseconds count, and neither `ctime` nor executability does.
-pub const NANOSECONDS: Setting = Setting {
-    stat: stat::Options {
-        trust_ctime: false,
-        check_stat: true,
-        use_nsec: true,
-        use_stdev: false,
-    },
-    executable_bit: false,
-};
-
-/// Seconds count, and `ctime` and executability do.
-pub const ALL: Setting = Setting {
-    stat: stat::Options {
-        trust_ctime: true,
-        check_stat: true,
-        use_nsec: false,
-        use_stdev: false,
-    },
-    executable_bit: true,
-};
 
 /// An empty world whose index was written at its clock.
 pub fn new_world(alloc: Global, clock: Moment, setting: Setting) -> Result<World, Refusal> {
@@ -157,25 +93,6 @@ pub fn history_at<R: AllocGlobal + Threads + Wait>(
 ) -> Result<Replay, Refusal> {
     let world = new_world(rt.alloc(), clock, setting)?;
     go_on(rt, world, steps)
-}
-
-/// The same, in second 5.
-pub fn history<R: AllocGlobal + Threads + Wait>(
-    rt: &R,
-    setting: Setting,
-    steps: &[Step],
-) -> Result<Replay, Refusal> {
-    history_at(rt, at(5, 0), setting, steps)
-}
-
-/// The world after these steps.
-pub fn world_after<R: AllocGlobal + Threads + Wait>(
-    rt: &R,
-    setting: Setting,
-    steps: &[Step],
-) -> Result<World, Refusal> {
-    let Replay { world, .. } = history(rt, setting, steps)?;
-    Ok(world)
 }
 
 /// What comes of further steps in a world.

@@ -1,20 +1,17 @@
-//! What tests are given: indexes, worktrees and events in few words, numbers that look drawn, and comparers, filters,
-//! walks and other interfaces as a caller writes them, each proved to mean what it says. Statuses are called as a caller
-//! calls them.
+//! What a caller writes, each proved to mean what it says: a comparer, a filter, walks and other interfaces, and calls
+//! of the library. docs/CALLERS.md quotes them. Indexes, worktrees and events in few words come with them. What else
+//! tests are given stands in `tests/given`, and isn't proved.
 #![tactic(auto)]
 
 pub mod collectors;
 pub mod comparers;
-mod draws;
 mod entries;
-mod filters;
 pub mod histories;
 mod ids;
 pub mod joined;
 pub mod listers;
 mod nodes;
 pub mod objects;
-mod pieces;
 mod returns;
 mod stamps;
 pub mod statuses;
@@ -22,16 +19,8 @@ pub mod stored;
 pub mod submodules;
 pub mod worktrees;
 
-pub use draws::Draws;
-pub use entries::{
-    GivenEntry, empty_entry, flag_entry, foo_entry, foo_index, index, mode_entry, mode_index,
-    stage_entry, staged_index, stat,
-};
-pub use filters::Refuses;
-pub use ids::{A_LINE, BAR, BARS, EMPTY, FOO};
-pub use nodes::{
-    GivenNode, bar_worktree, directory, file, foo_blob, later_file, later_link, link, other,
-    planted_worktree, short_file, worktree,
-};
+pub use entries::{GivenEntry, foo_entry, foo_index, index, mode_entry, mode_index, stat};
+pub use ids::{BAR, FOO};
+pub use nodes::{GivenNode, bar_worktree, file, later_file, put};
 pub use returns::WithoutReturns;
 pub use stamps::{LATER, STAGED, WRITTEN};

@@ -1,11 +1,8 @@
 //! Worktrees in few words.
 
-use crate::ids::FOO;
 use crate::stamps::{LATER, STAGED, stamp};
 use bstr::BStr;
-use status_base::worktree::{
-    Fault, MemoryObjects, MemoryWorktree, Node, NodeKind, Point, TreeError,
-};
+use status_base::worktree::{MemoryWorktree, Node, NodeKind, TreeError};
 use std::alloc::{AllocError, Global};
 
 /// A node of a worktree.
@@ -39,46 +36,6 @@ pub fn later_file<'a>(path: &'a str, bytes: &'a [u8]) -> GivenNode<'a> {
     }
 }
 
-/// A file that ends before its length, which is four bytes. It is as old as the entries.
-pub fn short_file(path: &str) -> GivenNode<'_> {
-    GivenNode {
-        len: 4,
-        ..file(path, b"foo")
-    }
-}
-
-/// A link that was made after the entries were staged.
-pub fn later_link<'a>(path: &'a str, target: &'a [u8]) -> GivenNode<'a> {
-    GivenNode {
-        mtime: LATER,
-        ..link(path, target)
-    }
-}
-
-/// A link that is as old as the entries.
-pub fn link<'a>(path: &'a str, target: &'a [u8]) -> GivenNode<'a> {
-    GivenNode {
-        kind: NodeKind::Link,
-        ..file(path, target)
-    }
-}
-
-/// A node that is no file, link or directory.
-pub fn other(path: &str) -> GivenNode<'_> {
-    GivenNode {
-        kind: NodeKind::Other,
-        ..file(path, b"")
-    }
-}
-
-/// A directory.
-pub fn directory(path: &str) -> GivenNode<'_> {
-    GivenNode {
-        kind: NodeKind::Directory,
-        ..file(path, b"")
-    }
-}
-
 fn node(alloc: Global, given: &GivenNode<'_>) -> Result<Node, AllocError> {
     Ok(Node {
         kind: given.kind,
@@ -94,23 +51,14 @@ fn node(alloc: Global, given: &GivenNode<'_>) -> Result<Node, AllocError> {
     })
 }
 
-// Puts a node into a worktree.
-fn put(
+/// Puts a node into a worktree.
+pub fn put(
     alloc: Global,
     worktree: &mut MemoryWorktree,
     given: &GivenNode<'_>,
 ) -> Result<(), TreeError> {
     let node = node(alloc, given)?;
     worktree.put(BStr::from(given.path), node)
-}
-
-/// The worktree of these nodes.
-pub fn worktree(alloc: Global, nodes: &[GivenNode<'_>]) -> Result<MemoryWorktree, TreeError> {
-    let mut worktree = MemoryWorktree::new(alloc);
-    for given in nodes {
-        put(alloc, &mut worktree, given)?;
-    }
-    Ok(worktree)
 }
 
 /// The worktree of files with the content `bar` at these paths, which were written after the
@@ -121,24 +69,4 @@ pub fn bar_worktree(alloc: Global, paths: &[&str]) -> Result<MemoryWorktree, Tre
         put(alloc, &mut worktree, &later_file(*path, b"bar"))?;
     }
     Ok(worktree)
-}
-
-/// The same, where calls at some paths meet faults.
-pub fn planted_worktree(
-    alloc: Global,
-    paths: &[&str],
-    planted: &[(&str, Point, Fault)],
-) -> Result<MemoryWorktree, TreeError> {
-    let mut worktree = bar_worktree(alloc, paths)?;
-    for (path, point, fault) in planted {
-        worktree.plant(BStr::from(*path), *point, *fault)?;
-    }
-    Ok(worktree)
-}
-
-/// The blob of the plain entries, and no other.
-pub fn foo_blob(alloc: Global) -> Result<MemoryObjects, AllocError> {
-    let mut objects = MemoryObjects::new(alloc);
-    objects.put(FOO, b"foo")?;
-    Ok(objects)
 }

@@ -3,17 +3,15 @@
 ghost use Rattle.std.specs.Prelude.{◌<◌, ◌^◌, IfOk};
 ghost use Rattle.status_call.specs.Outcomes.{skipped_of};
 
-use crate::collectors::Noting;
-use crate::comparers::BlobLength;
-use gix_status::index::{Entry, ObjectId, State};
-use gix_status::index_as_worktree::traits::{CompareBlobs, HashEq};
+use gix_status::index::State;
+use gix_status::index_as_worktree::traits::CompareBlobs;
 use gix_status::index_as_worktree::{
     Capabilities, Change, Context, EntryStatus, Error, Options, Outcome, Record, Recorder,
     VisitEntry, index_as_worktree,
 };
 use gix_status::worktree::{
-    AllPaths, Fault, Find, FindError, Lister, MemoryObjects, NoFilter, NoLister, NoSubmodules,
-    Pathspec, SubmoduleStatus, ToGit, Worktree,
+    AllPaths, Find, MemoryObjects, NoFilter, NoLister, NoSubmodules, Pathspec, SubmoduleStatus,
+    ToGit, Worktree,
 };
 use std::alloc::Global;
 use std::sync::Wait;
@@ -107,11 +105,6 @@ pub fn changed<T, U>(content: T) -> EntryStatus<T, U> {
     })
 }
 
-/// A record of a file that isn't there.
-pub fn removed<T, U>() -> EntryStatus<T, U> {
-    EntryStatus::Change(Change::Removed)
-}
-
 /// What a status reported: the records, and what it took or why it failed.
 #[derive(Drop)]
 pub struct Report<'index, T, U> {
@@ -138,33 +131,10 @@ where
     W::File: Send,
     C::Output: Send + 'index,
 {
-    status_until(rt, index, worktree, compare, request, None)
+    status_with(rt, index, worktree, compare, request, None)
 }
 
-/// The same, with an interrupt flag.
-pub fn status_until<
-    'index,
-    R: AllocGlobal + Threads + Wait,
-    W: Worktree + Sync,
-    C: CompareBlobs + Send,
-    P: Pathspec + Send,
-    T: ToGit + Send,
->(
-    rt: &R,
-    index: &'index State,
-    worktree: &W,
-    compare: C,
-    request: FileRequest<P, T>,
-    interrupt: Option<&AtomicBool>,
-) -> Report<'index, C::Output, ()>
-where
-    W::File: Send,
-    C::Output: Send + 'index,
-{
-    status_with(rt, index, worktree, compare, request, interrupt)
-}
-
-/// The status with any submodules and any blobs.
+/// The same with any submodules and any blobs, and with an interrupt flag.
 pub fn status_with<
     'index,
     R: AllocGlobal + Threads + Wait,
@@ -203,153 +173,6 @@ where
         records: recorder.records,
         answer,
     }
-}
-
-/// The status by ids, with submodules.
-pub fn status_of_submodules<
-    'index,
-    R: AllocGlobal + Threads + Wait,
-    W: Worktree + Sync,
-    S: SubmoduleStatus + Send,
->(
-    rt: &R,
-    index: &'index State,
-    worktree: &W,
-    submodule: S,
-    options: Options,
-) -> Report<'index, ObjectId, S::Output>
-where
-    W::File: Send,
-    S::Output: Send + 'index,
-{
-    let objects = MemoryObjects::new(rt.alloc());
-    let request = Request::new(submodule, objects, AllPaths, NoFilter, options);
-    status_with(rt, index, worktree, HashEq, request, None)
-}
-
-/// The status by ids with a lister, which is asked where the options have it.
-pub fn status_listed<'index, R: AllocGlobal + Threads + Wait, W: Worktree + Sync, L: Lister + Send>(
-    rt: &R,
-    index: &'index State,
-    worktree: &W,
-    lister: L,
-    options: Options,
-) -> Report<'index, ObjectId, ()>
-where
-    W::File: Send,
-{
-    let alloc = rt.alloc();
-    let mut recorder = Recorder::new(alloc);
-    let context = Context {
-        pathspec: AllPaths,
-        filter: NoFilter,
-        lister,
-        should_interrupt: None,
-    };
-    let answer = index_as_worktree(
-        rt,
-        alloc,
-        index,
-        worktree,
-        &mut recorder,
-        HashEq,
-        NoSubmodules,
-        MemoryObjects::new(alloc),
-        context,
-        options,
-    );
-    Report {
-        records: recorder.records,
-        answer,
-    }
-}
-
-/// The status by the lengths of files and blobs.
-pub fn status_by_lengths<
-    'index,
-    R: AllocGlobal + Threads + Wait,
-    W: Worktree + Sync,
-    O: Find + Send,
->(rt: &R, index: &'index State, worktree: &W, objects: O) -> Report<'index, u64, ()>
-where
-    W::File: Send,
-{
-    let request = Request::new(NoSubmodules, objects, AllPaths, NoFilter, options());
-    status_with(rt, index, worktree, BlobLength, request, None)
-}
-
-/// How many entries a status skips, where it succeeds.
-pub fn skipped<
-    R: AllocGlobal + Threads + Wait,
-    W: Worktree + Sync,
-    C: CompareBlobs + Send,
-    P: Pathspec + Send,
-    T: ToGit + Send,
->(rt: &R, index: &State, worktree: &W, compare: C, request: FileRequest<P, T>) -> Option<usize>
-where
-    W::File: Send,
-    C::Output: Send,
-{
-    let alloc = rt.alloc();
-    let mut recorder = Recorder::new(alloc);
-    match report_to(
-        rt,
-        alloc,
-        index,
-        worktree,
-        &mut recorder,
-        compare,
-        request,
-        None,
-    ) {
-        Ok(outcome) => Some(outcome.skipped()),
-        Err(_) => None,
-    }
-}
-
-/// The status by a collector that sets a flag at each record. Beside the report stands how long the list was that came
-/// along with each.
-pub fn status_noting<
-    'index,
-    R: AllocGlobal + Threads + Wait,
-    W: Worktree + Sync,
-    C: CompareBlobs + Send,
-    P: Pathspec + Send,
-    T: ToGit + Send,
->(
-    rt: &R,
-    index: &'index State,
-    worktree: &W,
-    compare: C,
-    request: FileRequest<P, T>,
-    flag: &AtomicBool,
-    interrupt: Option<&AtomicBool>,
-) -> (Report<'index, C::Output, ()>, Vec<usize>)
-where
-    W::File: Send,
-    C::Output: Send,
-{
-    let alloc = rt.alloc();
-    let mut noting = Noting {
-        collector: Recorder::new(alloc),
-        flag,
-        lengths: Vec::new(alloc),
-    };
-    let answer = report_to(
-        rt,
-        alloc,
-        index,
-        worktree,
-        &mut noting,
-        compare,
-        request,
-        interrupt,
-    );
-    let report = Report {
-        records: noting.collector.records,
-        answer,
-    };
-    (report, noting.lengths)
 }
 
 /// Reports to `collector` the status of an index against a worktree.
@@ -405,71 +228,6 @@ impl<'index, T, U> Report<'index, T, U> {
             Err(_) => false,
         }
     }
-
-    /// Whether the status failed by this fault of the worktree.
-    pub fn failed_by(&self, wanted: Fault) -> bool {
-        match &self.answer {
-            Err(Error::Io(fault)) => *fault == wanted,
-            _ => false,
-        }
-    }
-
-    /// Whether the status failed by this fault, as the status call tells it.
-    pub fn ended_by(&self, wanted: Fault) -> bool {
-        match (&self.answer, wanted) {
-            (Err(Error::IllformedUtf8), Fault::IllformedUtf8)
-            | (Err(Error::Memory), Fault::Memory) => true,
-            (Err(Error::Io(fault)), _) => *fault == wanted && !is_told_apart(wanted),
-            _ => false,
-        }
-    }
-
-    /// Whether the status failed by the submodule at a path, with this text.
-    pub fn failed_at(&self, path: &str, text: &str) -> bool {
-        match &self.answer {
-            Err(
-                Error::SubmoduleStatus {
-                    rela_path,
-                    text: found,
-                },
-            ) => rela_path.as_bytes() == path.as_bytes() && found.as_bytes() == text.as_bytes(),
-            _ => false,
-        }
-    }
-
-    /// Whether the status failed by a blob that is missing.
-    pub fn lacks_blob(&self) -> bool {
-        matches!(&self.answer, Err(Error::Find(FindError::Missing)))
-    }
-
-    /// Whether each record has the entry that stands at its place of this index, and that entry's path.
-    pub fn is_of(&self, index: &State) -> bool {
-        for record in &self.records {
-            let Some(entry) = index.entries().get(record.entry_index) else {
-                return false;
-            };
-            let path = entry.path_in(index.path_backing());
-            if record.relative_path != path || !is_same(record.entry, entry, index) {
-                return false;
-            }
-        }
-        true
-    }
-}
-
-// Whether a fault of a worktree is an error of its own.
-fn is_told_apart(fault: Fault) -> bool {
-    matches!(fault, Fault::IllformedUtf8 | Fault::Memory)
-}
-
-// Whether two entries of an index are the same one.
-fn is_same(entry: &Entry, other: &Entry, index: &State) -> bool {
-    let backing = index.path_backing();
-    entry.path_in(backing) == other.path_in(backing)
-        && entry.stat == other.stat
-        && entry.id == other.id
-        && entry.flags == other.flags
-        && entry.mode == other.mode
 }
 
 impl<'index, T: PartialEq, U: PartialEq> Report<'index, T, U> {
@@ -497,15 +255,4 @@ pub fn is_record<T: PartialEq, U: PartialEq>(
     record.entry_index == at
         && record.relative_path.as_bytes() == path.as_bytes()
         && record.status == *status
-}
-
-/// Whether records are of the first entries of an index, none of which has a file.
-pub fn are_removed<T, U>(records: &[Record<'_, T, U>]) -> bool {
-    for (at, record) in records.iter().enumerate() {
-        let is_removed = matches!(record.status, EntryStatus::Change(Change::Removed));
-        if record.entry_index != at || !is_removed {
-            return false;
-        }
-    }
-    true
 }

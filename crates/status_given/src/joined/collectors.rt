@@ -1,4 +1,4 @@
-//! Collectors of a test's own.
+//! A collector of a test's own.
 
 use status_joined::index_as_worktree_with_renames::{Entry, VisitEntry};
 use std::alloc::AllocError;

@@ -1,48 +1,25 @@
-//! Statuses in few words: what is asked for, and what is reported, as lines of text.
-//!
-//! A test takes an index of entries and a worktree of nodes from this crate, asks by `joined`, and compares lines:
-//!
-//! ```text
-//! let index = index(alloc, &[foo_entry("a")])?;
-//! let worktree = worktree(alloc, &[file("b", b"foo")])?;
-//! let request = Request::rewritten(UntrackedWalk::new(alloc), IdentityTracker::new(alloc));
-//! let report = joined(&rt, &index, &worktree, request);
-//! assert_eq!(rt; report.reported(alloc)?.as_str(), "- renamed \"a\" \"b\"\n");
-//! ```
+//! Statuses in few words: what is asked for, and what is reported.
 //!
 //! Other options or an interrupt flag are set as fields: `Request { options: .., ..request }`. `report.answer` is what
 //! the status answered, and `report.records` are the entries themselves.
 
-use bstr::BStr;
 use status_base::index::{ObjectId, State};
 use status_base::worktree::{
-    AllPaths, Fault, Lister, MemoryObjects, MemoryWorktree, NoFilter, NoLister, NoSubmodules,
-    Point, SubmoduleStatus, ToGit, TreeError, Worktree,
+    AllPaths, Lister, MemoryObjects, NoFilter, NoLister, NoSubmodules, SubmoduleStatus, ToGit,
+    Worktree,
 };
 use status_call::index_as_worktree::{self, Capabilities};
 use status_compare::HashEq;
 use status_joined::index_as_worktree_with_renames::{
     Context, DirwalkContext, Entry, Error, ExactClone, Options, Outcome, Recorder, Sorting,
-    Summary, VisitEntry, index_as_worktree_with_renames,
+    VisitEntry, index_as_worktree_with_renames,
 };
 use status_tracker::{Rewrites, Tracker};
-use status_walk::{Status, Walk};
-use std::alloc::{AllocError, Global};
+use status_walk::Walk;
+use std::alloc::Global;
 use std::sync::Wait;
 use std::sync::atomic::AtomicBool;
 use std::thread::Threads;
-
-/// The worktree with faults planted at calls on some paths.
-pub fn failing(
-    worktree: MemoryWorktree,
-    faults: &[(Point, &str, Fault)],
-) -> Result<MemoryWorktree, TreeError> {
-    let mut worktree = worktree;
-    for (point, path, fault) in faults {
-        worktree.plant(BStr::from(*path), *point, *fault)?;
-    }
-    Ok(worktree)
-}
 
 /// What is asked for, beside an index and a worktree: a walk, a tracker, options and an interrupt flag.
 #[derive(Drop)]
@@ -204,59 +181,4 @@ where
         context,
         options,
     )
-}
-
-impl<'index> Report<'index> {
-    /// A line for each entry, in order: its place in the index or `-`, a word, and its path; a rename or a copy has both
-    /// paths.
-    pub fn reported(&self, alloc: Global) -> Result<String, AllocError> {
-        let mut text = String::new(alloc);
-        for entry in &self.records {
-            text.push_str(&line(alloc, entry)?)?;
-        }
-        Ok(text)
-    }
-}
-
-/// The line of an entry.
-pub fn line(alloc: Global, entry: &Entry<'_, ObjectId, ()>) -> Result<String, AllocError> {
-    let word = word(entry);
-    let source = entry.source_rela_path();
-    let destination = entry.destination_rela_path();
-    match entry {
-        Entry::Modification { entry_index, .. } => {
-            format!(in alloc; "{entry_index} {word} \"{source}\"\n")
-        }
-        Entry::DirectoryContents { .. } => format!(in alloc; "- {word} \"{source}\"\n"),
-        Entry::Rewrite { .. } => format!(in alloc; "- {word} \"{source}\" \"{destination}\"\n"),
-    }
-}
-
-/// What happened to an entry's path, in a word.
-fn word(entry: &Entry<'_, ObjectId, ()>) -> &'static str {
-    match entry.summary() {
-        Some(Summary::Removed) => "removed",
-        Some(Summary::Added) => "added",
-        Some(Summary::Modified) => "modified",
-        Some(Summary::TypeChange) => "type",
-        Some(Summary::Renamed) => "renamed",
-        Some(Summary::Copied) => "copied",
-        Some(Summary::IntentToAdd) => "intent",
-        Some(Summary::Conflict) => "conflict",
-        None => word_without_summary(entry),
-    }
-}
-
-/// What an entry is that has no summary, in a word.
-fn word_without_summary(entry: &Entry<'_, ObjectId, ()>) -> &'static str {
-    match entry {
-        Entry::Modification { .. } => "update",
-        Entry::DirectoryContents { entry, .. } => match entry.status {
-            Status::Untracked => "untracked",
-            Status::Ignored => "ignored",
-            Status::Tracked => "tracked",
-            Status::Pruned => "pruned",
-        },
-        Entry::Rewrite { .. } => "rewritten",
-    }
 }

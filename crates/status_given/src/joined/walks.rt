@@ -2,13 +2,11 @@
 
 ghost use Rattle.std.specs.Prelude.{◌≡◌, false, [], None, IfOk};
 
-use crate::joined::worktrees::comes;
 use bstr::{BStr, BString};
 use status_base::index::State;
 use status_base::worktree::{Fault, Pathspec, Worktree};
 use status_walk::{Action, Delegate, DirEntry, Kind, Outcome, Status, Walk, WalkError};
 use std::alloc::{AllocError, Global};
-use std::sync::atomic::{AtomicBool, Ordering};
 
 /// A node that a walk hands out.
 #[derive(Clone, Copy)]
@@ -48,7 +46,7 @@ fn entry(alloc: Global, found: &Found<'_>) -> Result<DirEntry, AllocError> {
 }
 
 /// Hands nodes out, until the delegate ends that.
-fn hand_out<D: Delegate>(
+pub fn hand_out<D: Delegate>(
     alloc: Global,
     nodes: &[Found<'_>],
     delegate: &mut D,
@@ -123,78 +121,4 @@ impl<'a, W: Worktree> Walk<W> for Fails<'a> {
             fault: self.fault,
         })
     }
-}
-
-/// Hands the first nodes out, sets a flag once the status has looked at a node, and goes on with the rest.
-#[derive(Clone, Copy)]
-pub struct Interrupts<'a> {
-    pub alloc: Global,
-    pub first: &'a [Found<'a>],
-    pub looked: &'a AtomicBool,
-    pub flag: &'a AtomicBool,
-    pub rest: &'a [Found<'a>],
-}
-
-impl<'a, W: Worktree> Walk<W> for Interrupts<'a> {
-    ghost modelled = { λ _. false };
-
-    ghost meaning = { λ _ _ _ _ _. record { entries = []; fault = None } };
-
-    fn walk<P: Pathspec, D: Delegate>(
-        &mut self,
-        _worktree: &W,
-        _index: &State,
-        _pathspec: &P,
-        delegate: &mut D,
-    ) -> Result<Outcome, WalkError> {
-        let first = hand_out(self.alloc, self.first, delegate)?;
-        if first.cancelled {
-            return Ok(first);
-        }
-        if !comes(self.looked) {
-            return Err(too_late(self.alloc)?);
-        }
-        self.flag.store(true, Ordering::SeqCst);
-        let rest = hand_out(self.alloc, self.rest, delegate)?;
-        Ok(Outcome {
-            emitted: first.emitted.saturating_add(rest.emitted),
-            cancelled: rest.cancelled,
-        })
-    }
-}
-
-/// Says that it has begun, and ends only once the status has looked at a node.
-#[derive(Clone, Copy)]
-pub struct Meets<'a> {
-    pub alloc: Global,
-    pub begun: &'a AtomicBool,
-    pub looked: &'a AtomicBool,
-}
-
-impl<'a, W: Worktree> Walk<W> for Meets<'a> {
-    ghost modelled = { λ _. false };
-
-    ghost meaning = { λ _ _ _ _ _. record { entries = []; fault = None } };
-
-    fn walk<P: Pathspec, D: Delegate>(
-        &mut self,
-        _worktree: &W,
-        _index: &State,
-        _pathspec: &P,
-        _delegate: &mut D,
-    ) -> Result<Outcome, WalkError> {
-        self.begun.store(true, Ordering::SeqCst);
-        if !comes(self.looked) {
-            return Err(too_late(self.alloc)?);
-        }
-        Ok(Outcome::default())
-    }
-}
-
-/// The fault of a walk that nothing met.
-fn too_late(alloc: Global) -> Result<WalkError, AllocError> {
-    Ok(WalkError::Fault {
-        rela_path: BString::from_slice(alloc, "")?,
-        fault: Fault::Other(1),
-    })
 }
