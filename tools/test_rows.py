@@ -218,6 +218,15 @@ class Inputs(unittest.TestCase):
                 self.assert_ends(command, 1, b"", b"cannot read /dev/stdin\n", stdin=folder)
         self.assertEqual(os.listdir(self.folder), [])
 
+    def test_a_path_of_ten_thousand_components_is_followed(self):
+        path = "/".join(["a"] * 10_000)
+        entry = {"path": path, "id": FOO, "size": 3, "mtime": [5, 0]}
+        node = {"path": path, "text": "bar", "mtime": [7, 0]}
+        profile = {"timestamp": [9, 0], "options": {"counts": True}, "index": [entry], "worktree": [node]}
+        self.write(json.dumps(profile).encode())
+        totals = "total: to process 1, processed 1, skipped 0, lstat 1, to update 0, racy 0, read 1, bytes 3\n"
+        self.assert_ends("status f", 0, f'0 modified -c- "{path}"\n{totals}'.encode(), b"")
+
     def test_a_file_that_nobody_may_read_is_read_by_root_alone(self):
         make_node(self.folder, "file", "locked", "foo")
         os.chmod(os.path.join(self.folder, "locked"), 0)

@@ -1,4 +1,4 @@
-//! Statuses, and what they report.
+//! Statuses, called with some of the interfaces fixed.
 
 ghost use Rattle.std.specs.Prelude.{◌<◌, ◌^◌, IfOk};
 ghost use Rattle.status_call.specs.Outcomes.{skipped_of};
@@ -6,8 +6,7 @@ ghost use Rattle.status_call.specs.Outcomes.{skipped_of};
 use gix_status::index::State;
 use gix_status::index_as_worktree::traits::CompareBlobs;
 use gix_status::index_as_worktree::{
-    Capabilities, Change, Context, EntryStatus, Error, Options, Outcome, Record, Recorder,
-    VisitEntry, index_as_worktree,
+    Capabilities, Context, Error, Options, Outcome, Record, Recorder, VisitEntry, index_as_worktree,
 };
 use gix_status::worktree::{
     AllPaths, Find, MemoryObjects, NoFilter, NoLister, NoSubmodules, Pathspec, SubmoduleStatus,
@@ -70,39 +69,6 @@ pub fn options() -> Options {
         },
         ..Options::default()
     }
-}
-
-/// What it takes to compare one file of so many bytes.
-pub fn one_file_read(bytes: u64) -> Outcome {
-    files_read(1, bytes)
-}
-
-/// What it takes to compare so many files of so many bytes in all: an lstat of each.
-pub fn files_read(files: usize, bytes: u64) -> Outcome {
-    Outcome {
-        worktree_files_read: files,
-        worktree_bytes: bytes,
-        ..files_found(files)
-    }
-}
-
-/// What it takes to find so many files, or that they aren't there. Nothing is read.
-pub fn files_found(files: usize) -> Outcome {
-    Outcome {
-        entries_to_process: files,
-        entries_processed: files,
-        symlink_metadata_calls: files,
-        ..Outcome::default()
-    }
-}
-
-/// A record of a file that has other content, by what its comparer reports.
-pub fn changed<T, U>(content: T) -> EntryStatus<T, U> {
-    EntryStatus::Change(Change::Modification {
-        executable_bit_changed: false,
-        content_change: Some(content),
-        set_entry_stat_size_zero: false,
-    })
 }
 
 /// What a status reported: the records, and what it took or why it failed.
@@ -218,41 +184,4 @@ where
     index_as_worktree(
         rt, alloc, index, worktree, collector, compare, submodule, objects, context, options,
     )
-}
-
-impl<'index, T, U> Report<'index, T, U> {
-    /// Whether the status succeeded and took just this.
-    pub fn took(&self, wanted: &Outcome) -> bool {
-        match &self.answer {
-            Ok(outcome) => *outcome == *wanted,
-            Err(_) => false,
-        }
-    }
-}
-
-impl<'index, T: PartialEq, U: PartialEq> Report<'index, T, U> {
-    /// Whether there is one record for each of the first entries, which have these paths, all with the same status.
-    pub fn is_each(&self, paths: &[&str], status: &EntryStatus<T, U>) -> bool {
-        if self.records.len() != paths.len() {
-            return false;
-        }
-        for (at, (record, path)) in self.records.iter().zip(paths).enumerate() {
-            if !is_record(record, at, *path, status) {
-                return false;
-            }
-        }
-        true
-    }
-}
-
-/// Whether a record is of the entry at this place and path, with this status.
-pub fn is_record<T: PartialEq, U: PartialEq>(
-    record: &Record<'_, T, U>,
-    at: usize,
-    path: &str,
-    status: &EntryStatus<T, U>,
-) -> bool {
-    record.entry_index == at
-        && record.relative_path.as_bytes() == path.as_bytes()
-        && record.status == *status
 }

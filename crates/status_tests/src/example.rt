@@ -88,9 +88,3 @@ fn a_change_and_a_removal(rt: HostRuntime) -> Result<(), Fail> {
     Ok(())
 }
 // The example ends.
-
-// The id that the example expects is the one that git gives `bar`.
-#[test]
-fn the_id_of_the_example_is_that_of_git(rt: HostRuntime) {
-    assert_eq!(rt; compute_hash(HashKind::Sha1, b"bar"), status_given::BAR);
-}
