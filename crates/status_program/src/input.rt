@@ -1,6 +1,6 @@
 //! Reading the file of a profile.
 
-use status_text::failure::Failure;
+use crate::failure::Failure;
 use std::alloc::Global;
 use std::io;
 

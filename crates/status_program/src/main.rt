@@ -1,17 +1,20 @@
 //! A command line over the status of an index against a worktree, and over histories of both.
 #![tactic(auto)]
 
+mod failure;
 mod input;
+mod lines;
 mod output;
+mod profile;
 pub mod refresh;
 pub mod replay;
 pub mod status;
 
+use crate::failure::Failure;
 use crate::output::write_whole;
 use crate::refresh::run_refresh;
 use crate::replay::run_replay;
 use crate::status::run_status;
-use status_text::failure::Failure;
 use std::convert::AsStr;
 use std::io::BufWriter;
 use std::process::ExitCode;

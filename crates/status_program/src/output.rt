@@ -3,11 +3,11 @@
 ghost use Rattle.std.specs.Prelude.{◌<◌, ◌^◌};
 ghost use Rattle.status_call.specs.Outcomes.{skipped_of};
 
+use crate::failure::Failure;
+use crate::lines::{entry_line, status_line, total_line};
 use bstr::BStr;
 use gix_status::index_as_worktree::{EntryStatus, Outcome};
 use gix_status::index_as_worktree_with_renames::Entry;
-use status_text::failure::Failure;
-use status_text::lines::{entry_line, status_line, total_line};
 use std::alloc::Global;
 use std::fs::{self, File, OpenFile as _};
 use std::io::{self, Write as _};

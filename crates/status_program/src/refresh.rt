@@ -1,13 +1,13 @@
 //! The refresh of a profile's index.
 
+use crate::failure::Failure;
 use crate::input::read_all;
+use crate::profile::{Key, Profile, ProfileError, Texts, put_value};
 use crate::status::{Statuses, print_profile};
 use gix_status::index::{Moment, State};
 use gix_status::index_as_worktree::{Change, EntryStatus};
 use serde_json::Value;
 use status_stored::{StoreError, store_one};
-use status_text::failure::Failure;
-use status_text::profile::{Key, Profile, ProfileError, Texts, put_value};
 use std::alloc::Global;
 use std::collections::BTreeMap;
 use std::io;

@@ -3,13 +3,13 @@
 ghost use Rattle.std.specs.Prelude.{All};
 ghost use Rattle.status_world.specs.Reports.{HasSum};
 
+use crate::failure::Failure;
 use crate::input::read_all;
+use crate::lines::run_line;
 use crate::output::{flush, print, print_record, print_totals};
+use crate::profile::History;
 use gix_status::world::{Event, Report, World};
 use status_reopening::{ReopenedReplay, Stop, replay_reopening};
-use status_text::failure::Failure;
-use status_text::lines::run_line;
-use status_text::profile::History;
 use std::alloc::Global;
 use std::io;
 use std::sync::Wait;

@@ -7,8 +7,10 @@ mod joined;
 mod no_walk;
 mod request;
 
+use crate::failure::Failure;
 use crate::input::read_all;
 use crate::output::{flush, print_record, print_totals};
+use crate::profile::{Place, Profile};
 use crate::status::joined::print_joined;
 use crate::status::no_walk::NoWalk;
 use crate::status::request::Request;
@@ -23,8 +25,6 @@ use gix_status::worktree::{
     AllPaths, DiskWorktree, MemoryObjects, MemoryWorktree, NoFilter, NoLister, NoSubmodules, Node,
     Pathspec, Prefix, Worktree,
 };
-use status_text::failure::Failure;
-use status_text::profile::{Place, Profile};
 use std::alloc::{AllocError, Global};
 use std::io;
 use std::path::Path;

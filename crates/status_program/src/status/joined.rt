@@ -3,7 +3,9 @@
 ghost use Rattle.std.specs.Prelude.{◌<◌, ◌^◌, IfOk};
 ghost use Rattle.status_call.specs.Outcomes.{skipped_of};
 
+use crate::failure::Failure;
 use crate::output::{flush, print_entry, print_totals};
+use crate::profile::ProfileOptions;
 use crate::status::request::Request;
 use gix_status::index::HashKind;
 use gix_status::index_as_worktree::traits::CompareBlobs;
@@ -14,8 +16,6 @@ use gix_status::index_as_worktree_with_renames::{
 use gix_status::tracker::{IdentityTracker, Rewrites};
 use gix_status::walk::Walk;
 use gix_status::worktree::{MemoryObjects, NoFilter, NoLister, NoSubmodules, Pathspec, Worktree};
-use status_text::failure::Failure;
-use status_text::profile::ProfileOptions;
 use std::alloc::Global;
 use std::io;
 use std::sync::Wait;

@@ -1,7 +1,7 @@
 //! What the status of a profile is asked for.
 
+use crate::profile::ProfileOptions;
 use gix_status::index::{HashKind, State};
-use status_text::profile::ProfileOptions;
 
 /// A status that is asked for.
 #[derive(Drop)]
