@@ -20,7 +20,7 @@ import sys
 import beside
 
 LIBRARIES = (
-    "gix_status status_joined status_disk_walk status_halves status_rewrites status_tracker status_walk status_world "
+    "gix_status status_joined status_rewrites status_walk status_world "
     "status_call status_compare status_base status_index bstr"
 )
 PARTS = ("pairs", "unsorted", "sorted", "renames")

@@ -1,8 +1,7 @@
 """The tests of tests/: which there are, and how the toolchain runs them.
 
 They are a crate over the libraries that tests/libraries names. Its files end in .rt.txt, since the toolchain proves each
-.rt file of a repository. Here they are run beside a copy of the crates: compiled with checks, but not proved. A program
-is no library, so the modules of it that they test are copied among them.
+.rt file of a repository. Here they are run beside a copy of the crates: compiled with checks, but not proved.
 """
 
 import contextlib
@@ -14,8 +13,6 @@ import tempfile
 
 TOP = pathlib.Path(__file__).resolve().parent.parent
 TESTS = TOP / "tests"
-PROGRAM = TOP / "crates" / "status_program" / "src"
-PROGRAM_MODULES = ("failure", "lines", "profile")
 ENDING = ".rt.txt"
 NAME = "tests"
 # How long a test may take: on a busy machine the slowest, compiled with checks, passed the minute that is usual.
@@ -59,11 +56,6 @@ def beside_the_crates():
         for path in files():
             in_copy(crate, path).parent.mkdir(parents=True, exist_ok=True)
             shutil.copy(path, in_copy(crate, path))
-        for path in PROGRAM.rglob("*.rt"):
-            inner = path.relative_to(PROGRAM)
-            if inner.with_suffix("").parts[0] in PROGRAM_MODULES:
-                (crate / "src" / inner.parent).mkdir(exist_ok=True)
-                shutil.copy(path, crate / "src" / inner)
         subprocess.run(["git", "init", "--quiet"], cwd=copy, check=True)
         yield crate
 

@@ -6,6 +6,5 @@ pub mod index_as_worktree_with_renames;
 pub mod tracker;
 pub mod walk;
 
-pub use status_base::{board, fscache, index, worktree};
-pub use status_stack as stack;
+pub use status_base::{board, fscache, index, stack, worktree};
 pub use status_world::world;

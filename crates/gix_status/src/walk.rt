@@ -1,6 +1,5 @@
 //! Walks over a worktree: what lies in it beside the entries of an index.
 
-pub use status_disk_walk::DiskWalk;
 pub use status_walk::{
-    Action, Delegate, DirEntry, Kind, Outcome, Status, UntrackedWalk, Walk, WalkError,
+    Action, Delegate, DirEntry, DiskWalk, Kind, Outcome, Status, UntrackedWalk, Walk, WalkError,
 };

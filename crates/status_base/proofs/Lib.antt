@@ -1,7 +1,11 @@
 pub mod AnyPath
+pub mod CommonFronts
 pub mod Contents
 pub mod FileReads
+pub mod LinkLemmas
+pub mod ListedOnce
 pub mod ListingTables
+pub mod LooksLemmas
 pub mod PathFronts
 pub mod Placed
 pub mod PlantedReads

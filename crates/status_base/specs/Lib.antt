@@ -1,9 +1,14 @@
+pub mod CheckState
+pub mod Common
 pub mod Converted
 pub mod Found
+pub mod Kept
 pub mod Lawful
+pub mod LinkCheck
 pub mod Listed
 pub mod Listing
 pub mod ListingTable
+pub mod Looks
 pub mod MemoryTree
 pub mod Nodes
 pub mod Objects
@@ -11,6 +16,8 @@ pub mod Outcomes
 pub mod PathTables
 pub mod Paths
 pub mod Points
+pub mod Stopped
 pub mod Submodules
 pub mod Trees
+pub mod Verified
 pub mod Windows

@@ -2,5 +2,5 @@
 
 pub use status_index::{
     Entry, EntryKind, Flags, HashKind, IndexError, Mode, Moment, NewEntry, ObjectId, PathStorage,
-    Stat, State, Time, compute_hash, compute_stream_hash, mode, orders, search, stat,
+    Probe, Stat, State, Time, compute_hash, compute_stream_hash, mode, orders, search, stat,
 };

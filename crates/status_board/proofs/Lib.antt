@@ -1,6 +1,11 @@
-pub mod Totals
+pub mod Accounting
 pub mod Counts
-pub mod Steps
 pub mod Cuts
-pub mod Lasts
 pub mod Hands
+pub mod Lasts
+pub mod Lists
+pub mod Results
+pub mod Rounds
+pub mod Slots
+pub mod Steps
+pub mod Totals

@@ -7,7 +7,7 @@ use Rattle.std.proofs.lemmas.List.{get_or_push}
 use Rattle.std.proofs.lemmas.List.Elements.{All-nil, All-cons, All-append, All-weaker}
 use Rattle.std.proofs.Math.ListN.{get_or-append}
 use Rattle.status_index.specs.Entries.{IndexEntry}
-use Rattle.status_round.specs.Round.{IsRound, EndsShort}
+use Rattle.status_board.specs.Round.{IsRound, EndsShort}
 use Rattle.status_call.specs.declared.index_as_worktree.piece.End.TheVariants.{Whole, Cut, Faulty}
 use Rattle.status_call.specs.declared.index_as_worktree.piece.End.{End}
 use Rattle.status_call.specs.declared.index_as_worktree.piece.Piece.{Piece}

@@ -9,10 +9,10 @@ use Rattle.status_index.specs.Stat.{is_racy}
 use Rattle.status_index.specs.declared.stat.Stat.{Stat}
 use Rattle.bstr.specs.declared.bstr.BStr.{BStr}
 use Rattle.bstr.specs.BStr.{bstr_bytes}
-use Rattle.status_stack.specs.declared.error.StackError.{StackError}
-use Rattle.status_stack.specs.declared.error.StackError.TheVariants as stacks
-use Rattle.status_stack.specs.LinkCheck.{LinkCheck, accepted, empty_path, not_normal}
-use Rattle.status_stack.specs.Verified.{IsRefused}
+use Rattle.status_base.specs.declared.stack.error.StackError.{StackError}
+use Rattle.status_base.specs.declared.stack.error.StackError.TheVariants as stacks
+use Rattle.status_base.specs.LinkCheck.{LinkCheck, accepted, empty_path, not_normal}
+use Rattle.status_base.specs.Verified.{IsRefused}
 use Rattle.status_compare.specs.declared.error.Error.{Error}
 use Rattle.status_compare.specs.declared.error.Error.TheVariants as errors
 use Rattle.status_compare.specs.EntryMeaning.{both_modelled}

@@ -13,7 +13,7 @@ use Rattle.status_index.specs.Entries.{IndexEntry}
 use Rattle.status_index.specs.Absence.{is_absence}
 use Rattle.status_index.specs.Mode.{is_submodule, mode_change}
 use Rattle.status_index.specs.NodeStat.{stat_of}
-use Rattle.status_stack.specs.LinkCheck.{LinkCheck, accepted}
+use Rattle.status_base.specs.LinkCheck.{LinkCheck, accepted}
 use Rattle.status_compare.specs.declared.error.Error.{Error}
 use Rattle.status_call.specs.declared.index_as_worktree.types.Change.TheVariants as changes
 use Rattle.status_call.specs.declared.index_as_worktree.types.EntryStatus.{EntryStatus}

@@ -11,7 +11,7 @@ use Rattle.status_base.specs.declared.worktree.lister.Lister as lister
 use Rattle.status_base.specs.declared.worktree.tree.Worktree as worktree
 use Rattle.status_base.specs.contracts.fscache.names.Names as names
 use Rattle.status_base.specs.contracts.fscache.listings.Listings as listings
-use Rattle.status_stack.specs.contracts.SymlinkCheck as check
+use Rattle.status_base.specs.contracts.stack.SymlinkCheck as check
 use Rattle.status_call.specs.contracts.index_as_worktree.inputs.Settings as settings
 use Rattle.status_call.specs.contracts.index_as_worktree.decider.Decider as decider
 

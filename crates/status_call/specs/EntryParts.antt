@@ -16,7 +16,7 @@ use Rattle.status_call.specs.declared.index_as_worktree.site.Site.{Site}
 use Rattle.status_call.specs.declared.index_as_worktree.site.Site.TheVariants as sites
 use Rattle.status_compare.specs.declared.comparison.Comparison.{Comparison}
 use Rattle.status_compare.specs.Comparisons.{IsComparison}
-use Rattle.status_stack.specs.LinkCheck.{link_check}
+use Rattle.status_base.specs.LinkCheck.{link_check}
 use Rattle.status_call.specs.Counts.{is_accepted, is_racy_case, is_compared_case}
 use Rattle.status_call.specs.Query.{Query}
 use Rattle.status_call.specs.Status.{Found, nothing, refused, directory, present, Case, compared, answer, found_by, cached_or, case_of_found, case_of_content, is_trusted, meaning}

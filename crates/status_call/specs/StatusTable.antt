@@ -13,7 +13,7 @@ use Rattle.status_index.specs.Absence.{is_absence}
 use Rattle.status_index.specs.Mode.{is_submodule, mode_change}
 use Rattle.status_index.specs.NodeStat.{stat_of}
 use Rattle.status_index.specs.Stat.{is_racy}
-use Rattle.status_stack.specs.LinkCheck.{LinkCheck, accepted, empty_path, not_normal, through_link, faulty, link_check}
+use Rattle.status_base.specs.LinkCheck.{LinkCheck, accepted, empty_path, not_normal, through_link, faulty, link_check}
 use Rattle.status_compare.specs.declared.error.Error.{Error}
 use Rattle.status_compare.specs.declared.error.Error.TheVariants as errors
 use Rattle.status_compare.specs.Errors.{error_of}

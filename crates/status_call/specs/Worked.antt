@@ -3,8 +3,8 @@ use Rattle.std.specs.Prelude.{◌≡◌, ◌⊎◌, ℕ, ◌<◌, Bool, false, I
 use Rattle.status_index.specs.Entries.{IndexEntry}
 use Rattle.status_compare.specs.declared.error.Error.{Error}
 use Rattle.status_compare.specs.declared.error.Error.TheVariants.{Memory, SpawnThread}
-use Rattle.status_round.specs.declared.round.Refused.{Refused}
-use Rattle.status_round.specs.declared.round.Refused.TheVariants as refusals
+use Rattle.status_board.specs.declared.round.Refused.{Refused}
+use Rattle.status_board.specs.declared.round.Refused.TheVariants as refusals
 use Rattle.status_call.specs.declared.index_as_worktree.counts.Progress.{Progress}
 use Rattle.status_call.specs.declared.index_as_worktree.counts.Totals.{Totals}
 use Rattle.status_call.specs.declared.index_as_worktree.types.Finding.{Finding}

@@ -1,5 +1,6 @@
 pub mod Absences
 pub mod EmptyBlob
+pub mod Halvings
 pub mod Indexes
 pub mod Places
 pub mod ReaderPlace

@@ -9,6 +9,7 @@ pub mod HasherState
 pub mod Mode
 pub mod NodeStat
 pub mod Orders
+pub mod Probes
 pub mod ReadAll
 pub mod Staging
 pub mod Stat

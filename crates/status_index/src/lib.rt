@@ -1,4 +1,7 @@
 //! A git index, and what a worktree reports of a file: the values that a status is made of.
+//!
+//! Read `entry` with `stat`, `mode`, `flags` and `id`, of which an entry is made; then `state`, the index, whose look-ups go by `probe`
+//! and `path_probe`. `metadata`, `fault` and `reader` are what a worktree says of a file, and `hash` makes ids of its bytes.
 #![tactic(auto)]
 
 pub mod byte_text;
@@ -11,6 +14,7 @@ pub mod metadata;
 pub mod mode;
 pub mod orders;
 mod path_probe;
+mod probe;
 pub mod reader;
 pub mod reading;
 pub mod stat;
@@ -24,8 +28,8 @@ pub use hash::{compute_hash, compute_stream_hash};
 pub use id::{HashKind, ObjectId};
 pub use metadata::{Metadata, NodeKind, TimeError};
 pub use mode::{EntryKind, Mode};
+pub use probe::{Probe, search};
 pub use reader::ReadBytes;
 pub use reading::read_all;
 pub use stat::{Moment, Stat, Time};
 pub use state::{IndexError, State};
-pub use status_search as search;

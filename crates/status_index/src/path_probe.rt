@@ -6,7 +6,7 @@ ghost use Rattle.status_index.specs.Entries.{index_entry, index_entries};
 ghost use Rattle.status_index.specs.Stretch.{meets, IsFront};
 
 use crate::entry::{Entry, PathStorage};
-use status_search::{Probe, search};
+use crate::probe::{Probe, search};
 
 /// What is asked of a path.
 #[derive(Clone, Copy)]

@@ -8,9 +8,9 @@ use Rattle.status_compare.specs.declared.error.Error.TheVariants as statuses
 use Rattle.status_call.specs.Query.{Query}
 use Rattle.status_call.specs.declared.index_as_worktree.inputs.Settings.{Settings}
 use Rattle.status_call.specs.declared.index_as_worktree.types.Options.{Options}
-use Rattle.status_halves.specs.BothHalves.{IsBoth, Walking}
-use Rattle.status_halves.specs.declared.halves.Failed.{Failed}
-use Rattle.status_halves.specs.declared.halves.Failed.TheVariants as failures
+use Rattle.status_joined.specs.BothHalves.{IsBoth, Walking}
+use Rattle.status_joined.specs.declared.halves.Failed.{Failed}
+use Rattle.status_joined.specs.declared.halves.Failed.TheVariants as failures
 use Rattle.status_walk.specs.declared.walk.WalkError.TheVariants as walks
 use Rattle.status_joined.specs.Listing.{error_of_failed, IsHalfFault}
 

@@ -8,7 +8,7 @@ use Rattle.status_rewrites.specs.declared.rewritten.Rewritten.{Rewritten}
 use Rattle.status_rewrites.specs.declared.rewritten.Rewritten.TheVariants.{Alone, Rewrite}
 use Rattle.status_rewrites.specs.Entries.{IsLed}
 use Rattle.status_joined.specs.Feeding.{AreReported}
-use Rattle.status_items.specs.Items.{Item, Reported, tracked, walked, modification, contents, rewrite, is_walked, IsReported}
+use Rattle.status_joined.specs.Items.{Item, Reported, tracked, walked, modification, contents, rewrite, is_walked, IsReported}
 
 module _ {T U : Type 0} where
   reported_append : (xs ys : List (Rewritten (Item T U))) (ts us : List (Reported T U)) → AreReported xs ts → AreReported ys us → AreReported (xs ++ ys) (ts ++ us)

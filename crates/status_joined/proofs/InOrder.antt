@@ -17,12 +17,12 @@ use Rattle.status_rewrites.specs.declared.rewritten.Rewritten.{Rewritten}
 use Rattle.status_rewrites.specs.declared.rewritten.Rewritten.TheVariants.{Alone, Rewrite}
 use Rattle.status_rewrites.specs.AfterRewrites.{after_rewrites, coming, pairs_of, standing, staying}
 use Rattle.status_rewrites.specs.Parts.{goes}
-use Rattle.status_tracker.specs.declared.tracker.Pair.{Pair}
-use Rattle.status_tracker.proofs.Lists.{IsSortedBy-map}
+use Rattle.status_rewrites.specs.declared.tracker.Pair.{Pair}
+use Rattle.status_rewrites.proofs.Lists.{IsSortedBy-map}
 use Rattle.status_joined.specs.Feeding.{AreReported}
-use Rattle.status_items.specs.Identified.{forget}
-use Rattle.status_items.specs.Items.{Item, Reported, IsReported, tracked, walked, path_of, side_of}
-use Rattle.status_items.specs.Lists.{list_cmp}
+use Rattle.status_joined.specs.Identified.{forget}
+use Rattle.status_joined.specs.Items.{Item, Reported, IsReported, tracked, walked, path_of, side_of}
+use Rattle.status_joined.specs.Lists.{list_cmp}
 use Rattle.status_joined.specs.Summaries.{destination_path, reported_cmp, reported_side}
 
 module _ {I K : Type 0} (key : I → K) where

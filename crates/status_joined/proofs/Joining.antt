@@ -7,25 +7,25 @@ use Rattle.status_index.specs.declared.state.State.{State}
 use Rattle.status_call.specs.Query.{Query}
 use Rattle.status_call.specs.declared.index_as_worktree.inputs.Settings.{Settings}
 use Rattle.status_call.specs.declared.index_as_worktree.types.Outcome.{Outcome as StatusOutcome}
-use Rattle.status_halves.specs.BothHalves.{Walking}
+use Rattle.status_joined.specs.BothHalves.{Walking}
 use Rattle.status_rewrites.specs.declared.rewritten.Rewritten.{Rewritten}
 use Rattle.status_rewrites.specs.declared.rewritten.Rewritten.TheVariants.{Alone}
-use Rattle.status_tracker.specs.Changed.{Changed}
-use Rattle.status_tracker.specs.Trackers.{TrackerFault}
-use Rattle.status_tracker.specs.declared.tracker.Pair.{Pair}
-use Rattle.status_tracker.specs.declared.tracker.Rewrites.{Rewrites}
+use Rattle.status_rewrites.specs.Changed.{Changed}
+use Rattle.status_rewrites.specs.Trackers.{TrackerFault}
+use Rattle.status_rewrites.specs.declared.tracker.Pair.{Pair}
+use Rattle.status_rewrites.specs.declared.tracker.Rewrites.{Rewrites}
 use Rattle.status_walk.specs.declared.walk.Outcome.{Outcome as WalkOutcome}
 use Rattle.status_joined.specs.declared.index_as_worktree_with_renames.error.Error.{Error}
 use Rattle.status_joined.specs.declared.index_as_worktree_with_renames.error.Error.TheVariants as errors
 use Rattle.status_joined.specs.declared.index_as_worktree_with_renames.rewrites.Outcome.{Outcome as RewritesOutcome}
 use Rattle.status_joined.specs.declared.index_as_worktree_with_renames.types.Options.{Options}
 use Rattle.status_joined.specs.Feeding.{AreReported}
-use Rattle.status_items.specs.Identified.{Identifying}
-use Rattle.status_items.specs.Items.{Item, Reported}
+use Rattle.status_joined.specs.Identified.{Identifying}
+use Rattle.status_joined.specs.Items.{Item, Reported}
 use Rattle.status_joined.specs.Joined.{IsRewriting, IsRewritingFault, tracked_options}
 use Rattle.status_joined.specs.JoinedTheorem.{HasJoinedList, IsFault, IsJoined, IsReportedOf, IsWhole}
 use Rattle.status_joined.specs.Listing.{HasList, IsHalfFault}
-use Rattle.status_items.specs.Lists.{IsList, list_cmp, unsorted}
+use Rattle.status_joined.specs.Lists.{IsList, list_cmp, unsorted}
 use Rattle.status_joined.specs.Summaries.{reported_cmp}
 use Rattle.status_joined.proofs.InOrder.{alone_in_order, rewritten_in_order}
 

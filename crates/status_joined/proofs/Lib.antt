@@ -1,5 +1,12 @@
+pub mod Copies
 pub mod Failing
 pub mod Feeding
+pub mod Halving
+pub mod Identifying
 pub mod InOrder
 pub mod Joining
+pub mod Mapped
+pub mod Orders
 pub mod Rewriting
+pub mod Sides
+pub mod Tracking

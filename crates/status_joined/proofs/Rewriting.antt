@@ -14,20 +14,20 @@ use Rattle.status_rewrites.specs.declared.refused.Refused.TheVariants as refusal
 use Rattle.status_rewrites.specs.declared.rewritten.Rewritten.{Rewritten}
 use Rattle.status_rewrites.proofs.Led.{destinations_walked}
 use Rattle.status_rewrites.proofs.Mapped.{bad_pair_mapped, rewritten_mapped}
-use Rattle.status_tracker.specs.Changed.{Changed}
-use Rattle.status_tracker.specs.Trackers.{TrackerFault, IsMeantAnswer}
-use Rattle.status_tracker.specs.declared.tracker.Pair.{Pair}
-use Rattle.status_tracker.specs.declared.tracker.TrackerError.{TrackerError}
-use Rattle.status_tracker.specs.declared.tracker.TrackerError.TheVariants as trackers
+use Rattle.status_rewrites.specs.Changed.{Changed}
+use Rattle.status_rewrites.specs.Trackers.{TrackerFault, IsMeantAnswer}
+use Rattle.status_rewrites.specs.declared.tracker.Pair.{Pair}
+use Rattle.status_rewrites.specs.declared.tracker.TrackerError.{TrackerError}
+use Rattle.status_rewrites.specs.declared.tracker.TrackerError.TheVariants as trackers
 use Rattle.status_walk.specs.WorktreeIds.{fault_of}
 use Rattle.status_walk.specs.declared.id.IdError.{IdError}
-use Rattle.status_items.specs.Changes.{changed_of}
+use Rattle.status_joined.specs.Changes.{changed_of}
 use Rattle.status_joined.specs.Errors.{error_of_id, error_of_refused, error_of_tracker}
-use Rattle.status_items.specs.Identified.{Identifying, id_faults}
-use Rattle.status_items.specs.Items.{Item, is_removed, is_walked}
+use Rattle.status_joined.specs.Identified.{Identifying, id_faults}
+use Rattle.status_joined.specs.Items.{Item, is_removed, is_walked}
 use Rattle.status_joined.specs.Joined.{AreIdentified, IsRewriting, IsRewritingFault}
-use Rattle.status_items.specs.Listed.{item_of}
-use Rattle.status_items.specs.declared.item.ModificationOrDirwalkEntry.{ModificationOrDirwalkEntry}
+use Rattle.status_joined.specs.Listed.{item_of}
+use Rattle.status_joined.specs.declared.item.ModificationOrDirwalkEntry.{ModificationOrDirwalkEntry}
 use Rattle.status_joined.specs.declared.index_as_worktree_with_renames.rewrites.Outcome.{Outcome}
 
 -- pairs that are no copies are renames

@@ -6,7 +6,7 @@ use Rattle.status_joined.specs.declared.index_as_worktree_with_renames.entry.Ent
 use Rattle.status_joined.specs.declared.index_as_worktree_with_renames.entry.Entry.TheVariants as entries
 use Rattle.status_joined.specs.declared.index_as_worktree_with_renames.entry.RewriteSource.{RewriteSource}
 use Rattle.status_joined.specs.declared.index_as_worktree_with_renames.entry.RewriteSource.TheVariants.{RewriteFromIndex, CopyFromDirectoryEntry}
-use Rattle.status_items.specs.Items.{Item, Reported, tracked, walked, modification, contents, rewrite}
+use Rattle.status_joined.specs.Items.{Item, Reported, tracked, walked, modification, contents, rewrite}
 
 -- what was renamed or copied
 abbrev pub reported_source : {T U : Type 0} → RewriteSource T U → Item T U

@@ -5,8 +5,8 @@ use Rattle.status_compare.specs.declared.error.Error.{Error as StatusError}
 use Rattle.status_compare.specs.declared.error.Error.TheVariants as statuses
 use Rattle.status_rewrites.specs.declared.refused.Refused.{Refused}
 use Rattle.status_rewrites.specs.declared.refused.Refused.TheVariants as refusals
-use Rattle.status_tracker.specs.declared.tracker.TrackerError.{TrackerError}
-use Rattle.status_tracker.specs.declared.tracker.TrackerError.TheVariants as trackers
+use Rattle.status_rewrites.specs.declared.tracker.TrackerError.{TrackerError}
+use Rattle.status_rewrites.specs.declared.tracker.TrackerError.TheVariants as trackers
 use Rattle.status_walk.specs.declared.id.IdError.{IdError}
 use Rattle.status_walk.specs.declared.id.IdError.TheVariants.{Open, Hash, ReadLink, Convert}
 use Rattle.status_walk.specs.declared.walk.WalkError.{WalkError}

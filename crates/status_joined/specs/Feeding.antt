@@ -1,7 +1,7 @@
 -- What of a list's entries was reported to a collector.
 use Rattle.std.specs.Prelude.{◌≡◌, ℕ, ◌<◌, List, [], ◌∷◌, ◌++◌, length, take, Result, Ok, Err, ⊤}
 use Rattle.status_rewrites.specs.declared.rewritten.Rewritten.{Rewritten}
-use Rattle.status_items.specs.Items.{Item, Reported, IsReported}
+use Rattle.status_joined.specs.Items.{Item, Reported, IsReported}
 
 -- one entry was reported, or nothing
 abbrev pub IsReportedOne : {T U A E : Type 0} → Rewritten (Item T U) → List (Reported T U) → Result A E → List (Reported T U) → Type 0

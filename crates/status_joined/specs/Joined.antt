@@ -7,19 +7,19 @@ use Rattle.status_call.specs.declared.index_as_worktree.types.Options.{Options a
 use Rattle.status_rewrites.specs.AfterRewrites.{IsRewritten}
 use Rattle.status_rewrites.specs.Lawful.{AreLawful, IsBadPair}
 use Rattle.status_rewrites.specs.declared.rewritten.Rewritten.{Rewritten}
-use Rattle.status_tracker.specs.Changed.{Changed}
-use Rattle.status_tracker.specs.Trackers.{TrackerFault, bad_pair, refused}
-use Rattle.status_tracker.specs.declared.tracker.Pair.{Pair}
-use Rattle.status_tracker.specs.declared.tracker.TrackerError.TheVariants as tracker_errors
+use Rattle.status_rewrites.specs.Changed.{Changed}
+use Rattle.status_rewrites.specs.Trackers.{TrackerFault, bad_pair, refused}
+use Rattle.status_rewrites.specs.declared.tracker.Pair.{Pair}
+use Rattle.status_rewrites.specs.declared.tracker.TrackerError.TheVariants as tracker_errors
 use Rattle.status_walk.specs.declared.id.IdError.{IdError}
 use Rattle.status_walk.specs.declared.id.IdError.TheVariants.{Open, Hash, ReadLink, Convert}
 use Rattle.status_joined.specs.declared.index_as_worktree_with_renames.error.Error.{Error}
 use Rattle.status_joined.specs.declared.index_as_worktree_with_renames.error.Error.TheVariants as errors
 use Rattle.status_joined.specs.declared.index_as_worktree_with_renames.rewrites.Outcome.{Outcome as RewritesOutcome}
 use Rattle.status_joined.specs.declared.index_as_worktree_with_renames.types.Options.{Options}
-use Rattle.status_items.specs.Changes.{changed_of}
-use Rattle.status_items.specs.Identified.{Identifying, forget, identified, id_faults}
-use Rattle.status_items.specs.Items.{Item, is_removed, is_walked}
+use Rattle.status_joined.specs.Changes.{changed_of}
+use Rattle.status_joined.specs.Identified.{Identifying, forget, identified, id_faults}
+use Rattle.status_joined.specs.Items.{Item, is_removed, is_walked}
 
 -- the tracked half's options: the listings are the joined call's own
 abbrev pub tracked_options : Options → StatusOptions

@@ -5,7 +5,7 @@ use Rattle.status_index.specs.Entries.{IndexEntry}
 use Rattle.status_index.specs.States.{index_of}
 use Rattle.status_index.specs.declared.state.State.{State}
 use Rattle.status_call.specs.declared.index_as_worktree.inputs.Inputs.{Inputs}
-use Rattle.status_halves.specs.BothHalves.{Walking, walking}
+use Rattle.status_joined.specs.BothHalves.{Walking, walking}
 use Rattle.status_walk.specs.Walks.{WalkMeaning}
 use Rattle.status_joined.specs.declared.index_as_worktree_with_renames.types.Context.{Context}
 

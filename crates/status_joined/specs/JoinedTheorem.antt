@@ -6,13 +6,13 @@ use Rattle.status_call.specs.Query.{Query}
 use Rattle.status_call.specs.StatusTheorem.{IsBeginning}
 use Rattle.status_call.specs.declared.index_as_worktree.inputs.Settings.{Settings}
 use Rattle.status_call.specs.declared.index_as_worktree.types.Outcome.{Outcome as StatusOutcome}
-use Rattle.status_halves.specs.BothHalves.{Walking}
+use Rattle.status_joined.specs.BothHalves.{Walking}
 use Rattle.status_rewrites.specs.declared.rewritten.Rewritten.{Rewritten}
 use Rattle.status_rewrites.specs.declared.rewritten.Rewritten.TheVariants.{Alone}
-use Rattle.status_tracker.specs.Changed.{Changed}
-use Rattle.status_tracker.specs.Trackers.{TrackerFault}
-use Rattle.status_tracker.specs.declared.tracker.Pair.{Pair}
-use Rattle.status_tracker.specs.declared.tracker.Rewrites.{Rewrites}
+use Rattle.status_rewrites.specs.Changed.{Changed}
+use Rattle.status_rewrites.specs.Trackers.{TrackerFault}
+use Rattle.status_rewrites.specs.declared.tracker.Pair.{Pair}
+use Rattle.status_rewrites.specs.declared.tracker.Rewrites.{Rewrites}
 use Rattle.status_walk.specs.declared.walk.Outcome.{Outcome as WalkOutcome}
 use Rattle.status_joined.specs.declared.index_as_worktree_with_renames.error.Error.{Error}
 use Rattle.status_joined.specs.declared.index_as_worktree_with_renames.error.Error.TheVariants.{DirWalk, Memory, TrackedFileModifications}
@@ -20,8 +20,8 @@ use Rattle.status_joined.specs.declared.index_as_worktree_with_renames.rewrites.
 use Rattle.status_joined.specs.declared.index_as_worktree_with_renames.types.Options.{Options}
 use Rattle.status_joined.specs.declared.index_as_worktree_with_renames.types.Outcome.{Outcome}
 use Rattle.status_joined.specs.Feeding.{AreReported}
-use Rattle.status_items.specs.Identified.{Identifying}
-use Rattle.status_items.specs.Items.{Item, Reported}
+use Rattle.status_joined.specs.Identified.{Identifying}
+use Rattle.status_joined.specs.Items.{Item, Reported}
 use Rattle.status_joined.specs.Joined.{IsRewriting, IsRewritingFault, tracked_options}
 use Rattle.status_joined.specs.Listing.{HasList, IsHalfFault}
 use Rattle.status_joined.specs.Summaries.{reported_cmp}

@@ -10,10 +10,10 @@ use Rattle.status_call.specs.Visits.{Visit}
 use Rattle.status_call.specs.declared.index_as_worktree.inputs.Settings.{Settings}
 use Rattle.status_call.specs.declared.index_as_worktree.types.Options.{Options}
 use Rattle.status_call.specs.declared.index_as_worktree.types.Outcome.{Outcome}
-use Rattle.status_halves.specs.BothHalves.{Walking, HasWalked, IsWalkedHalf, IsWalkFailure}
-use Rattle.status_halves.specs.Recorded.{IsTrackedHalf, IsTrackedFailure}
-use Rattle.status_halves.specs.declared.halves.Failed.{Failed}
-use Rattle.status_halves.specs.declared.halves.Failed.TheVariants as failures
+use Rattle.status_joined.specs.BothHalves.{Walking, HasWalked, IsWalkedHalf, IsWalkFailure}
+use Rattle.status_joined.specs.TrackedHalf.{IsTrackedHalf, IsTrackedFailure}
+use Rattle.status_joined.specs.declared.halves.Failed.{Failed}
+use Rattle.status_joined.specs.declared.halves.Failed.TheVariants as failures
 use Rattle.status_walk.specs.Walked.{Walked}
 use Rattle.status_walk.specs.declared.walk.Outcome.{Outcome as WalkOutcome}
 use Rattle.status_walk.specs.declared.walk.WalkError.TheVariants as walks
@@ -21,9 +21,9 @@ use Rattle.status_joined.specs.declared.index_as_worktree_with_renames.error.Err
 use Rattle.status_joined.specs.declared.index_as_worktree_with_renames.error.Error.TheVariants as errors
 use Rattle.status_joined.specs.declared.index_as_worktree_with_renames.listing.Listing.{Listing}
 use Rattle.status_joined.specs.Errors.{error_of_status, error_of_walk}
-use Rattle.status_items.specs.Items.{Item}
-use Rattle.status_items.specs.Listed.{item_of}
-use Rattle.status_items.specs.Lists.{IsList, unsorted}
+use Rattle.status_joined.specs.Items.{Item}
+use Rattle.status_joined.specs.Listed.{item_of}
+use Rattle.status_joined.specs.Lists.{IsList, unsorted}
 
 -- of a half that failed
 abbrev pub error_of_failed : Failed → Error

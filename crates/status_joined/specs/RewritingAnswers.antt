@@ -2,16 +2,16 @@
 use Rattle.std.specs.Prelude.{Bool, List, map, Result, Ok, Err}
 use Rattle.status_index.specs.declared.id.HashKind.{HashKind}
 use Rattle.status_rewrites.specs.Entries.{map_rewritten}
-use Rattle.status_tracker.specs.Changed.{Changed}
-use Rattle.status_tracker.specs.Trackers.{TrackerFault}
-use Rattle.status_tracker.specs.declared.tracker.Pair.{Pair}
-use Rattle.status_tracker.specs.declared.tracker.Rewrites.{Rewrites}
+use Rattle.status_rewrites.specs.Changed.{Changed}
+use Rattle.status_rewrites.specs.Trackers.{TrackerFault}
+use Rattle.status_rewrites.specs.declared.tracker.Pair.{Pair}
+use Rattle.status_rewrites.specs.declared.tracker.Rewrites.{Rewrites}
 use Rattle.status_joined.specs.declared.index_as_worktree_with_renames.error.Error.{Error}
 use Rattle.status_joined.specs.declared.index_as_worktree_with_renames.rewriting.RewrittenList.{RewrittenList}
-use Rattle.status_items.specs.Identified.{Identifying}
+use Rattle.status_joined.specs.Identified.{Identifying}
 use Rattle.status_joined.specs.Joined.{IsRewriting, IsRewritingFault}
-use Rattle.status_items.specs.Listed.{item_of}
-use Rattle.status_items.specs.declared.item.ModificationOrDirwalkEntry.{ModificationOrDirwalkEntry}
+use Rattle.status_joined.specs.Listed.{item_of}
+use Rattle.status_joined.specs.declared.item.ModificationOrDirwalkEntry.{ModificationOrDirwalkEntry}
 
 -- the list with its renames and copies, or why it has none
 abbrev pub IsRewritingAnswer : {T U : Type 0} → Identifying → HashKind → (List Changed → Bool → Result (List Pair) TrackerFault → Type 0) → Rewrites → List (ModificationOrDirwalkEntry T U) → Result (RewrittenList T U) Error → Type 0

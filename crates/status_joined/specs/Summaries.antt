@@ -10,7 +10,7 @@ use Rattle.status_walk.specs.declared.entry.Status.{Status}
 use Rattle.status_walk.specs.declared.entry.Status.TheVariants as nodes
 use Rattle.status_joined.specs.declared.index_as_worktree_with_renames.summary.Summary.{Summary}
 use Rattle.status_joined.specs.declared.index_as_worktree_with_renames.summary.Summary.TheVariants.{Removed, Added, Modified, TypeChange, Renamed, Copied, IntentToAdd, Conflict}
-use Rattle.status_items.specs.Items.{Reported, modification, contents, rewrite, path_of}
+use Rattle.status_joined.specs.Items.{Reported, modification, contents, rewrite, path_of}
 
 -- of a path that the index has; another stat alone is no change
 abbrev pub status_summary : {T U : Type 0} → EntryStatus T U → Option Summary

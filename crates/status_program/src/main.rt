@@ -1,20 +1,10 @@
-//! A command line over the status of an index against a worktree, and over histories of both.
+//! The program: its arguments, the files that it reads and writes, and how it is called.
 #![tactic(auto)]
 
-mod failure;
-mod input;
-mod lines;
-mod output;
-mod profile;
-pub mod refresh;
-pub mod replay;
-pub mod status;
+mod whole;
 
-use crate::failure::Failure;
-use crate::output::write_whole;
-use crate::refresh::run_refresh;
-use crate::replay::run_replay;
-use crate::status::run_status;
+use crate::whole::write_whole;
+use status_cli::{Failure, run_refresh, run_replay, run_status};
 use std::convert::AsStr;
 use std::io::BufWriter;
 use std::process::ExitCode;

@@ -2,7 +2,7 @@
 use Rattle.std.proofs.Common.{◌≡◌, refl, ap, subst, ◌∙◌, ℕ, ◌≤◌, Bool, List, length, take, take_all, flat_map, sum_by, Option, Some, None, option_map}
 use Rattle.std.specs.List.{enumerate_from}
 use Rattle.std.proofs.lemmas.List.Folds.{flat_map-map}
-use Rattle.status_tracker.specs.declared.tracker.Pair.{Pair}
+use Rattle.status_rewrites.specs.declared.tracker.Pair.{Pair}
 use Rattle.status_rewrites.specs.declared.place.Place.{Place}
 use Rattle.status_rewrites.specs.declared.rewritten.Rewritten.{Rewritten}
 use Rattle.status_rewrites.specs.AfterRewrites.{IsRewritten, after_rewrites, coming, pairs_of, parts, standing, staying}

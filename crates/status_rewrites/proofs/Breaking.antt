@@ -2,7 +2,7 @@
 use Rattle.std.proofs.Common.{◌≡◌, refl, sym, ap, subst, ◌∙◌, ℕ, ◌+◌, ◌<◌, ◌==◌, ◌&&◌, inl, inr, Bool, true, false, cond, not, List, [], ◌∷◌, ◌++◌, length, take, Some, None, slice_get, get_or, eq-eqb, ne_eqb, arith}
 use Rattle.std.proofs.lemmas.Bool.{false≢true, cases_lt, and_from}
 use Rattle.std.proofs.lemmas.List.{get_or_push, length_push, take_more}
-use Rattle.status_tracker.specs.declared.tracker.Pair.{Pair}
+use Rattle.status_rewrites.specs.declared.tracker.Pair.{Pair}
 use Rattle.status_rewrites.specs.declared.place.Place.{Place}
 use Rattle.status_rewrites.specs.AfterRewrites.{coming, pairs_of}
 use Rattle.status_rewrites.specs.Lawful.{AreLawful, IsBadPair}

@@ -5,7 +5,7 @@ use Rattle.std.proofs.lemmas.List.{map_push}
 use Rattle.std.proofs.lemmas.List.Folds.{find-append}
 use Rattle.std.proofs.lemmas.List.Sums.{sum_by-cons, sum_by_push}
 use Rattle.std.proofs.lemmas.Option.{none-some}
-use Rattle.status_tracker.specs.declared.tracker.Pair.{Pair}
+use Rattle.status_rewrites.specs.declared.tracker.Pair.{Pair}
 use Rattle.status_rewrites.specs.AfterRewrites.{coming, pairs_of}
 use Rattle.status_rewrites.specs.Parts.{goes, copied, comes}
 use Rattle.status_rewrites.proofs.Gets.{or_none}

@@ -4,7 +4,7 @@ use Rattle.std.proofs.lemmas.Bool.{false≢true, not-true, eqb-false, and_parts,
 use Rattle.std.proofs.lemmas.List.{take_more}
 use Rattle.std.proofs.lemmas.List.Elements.{All-nil, All-push}
 use Rattle.std.proofs.lemmas.Option.{same_Some, slice_get_within}
-use Rattle.status_tracker.specs.declared.tracker.Pair.{Pair}
+use Rattle.status_rewrites.specs.declared.tracker.Pair.{Pair}
 use Rattle.status_rewrites.specs.declared.place.Place.{Place}
 use Rattle.status_rewrites.specs.AfterRewrites.{IsOf, Brings, coming, pairs_of, staying}
 use Rattle.status_rewrites.specs.Lawful.{IsLawfulAt, AreLawful}

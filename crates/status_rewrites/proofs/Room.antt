@@ -1,7 +1,7 @@
 -- Which places leave room for a pair.
 use Rattle.std.proofs.Common.{◌≡◌, refl, ap, ◌∙◌, ℕ, zero, suc, Bool, true, false, Option, Some, None}
 use Rattle.std.proofs.lemmas.Bool.{false≢true, true≢false}
-use Rattle.status_tracker.specs.declared.tracker.Pair.{Pair}
+use Rattle.status_rewrites.specs.declared.tracker.Pair.{Pair}
 use Rattle.status_rewrites.specs.Places.{is_free, may_go}
 use Rattle.status_rewrites.proofs.Placing.{place_of}
 

@@ -2,7 +2,7 @@
 use Rattle.std.specs.Prelude.{◌≡◌, ℕ, zero, suc, ◌==◌, Bool, true, false, List, [], ◌∷◌, map, Option, Some, None, Result, Ok, Err, slice_get, find, ⊤}
 use Rattle.std.specs.Global.{Vec}
 use Rattle.std.specs.List.{All, enumerate_from, flat_map, sum_by}
-use Rattle.status_tracker.specs.declared.tracker.Pair.{Pair}
+use Rattle.status_rewrites.specs.declared.tracker.Pair.{Pair}
 use Rattle.status_rewrites.specs.declared.refused.Refused.{Refused}
 use Rattle.status_rewrites.specs.declared.refused.Refused.TheVariants.{BadPair, Memory}
 use Rattle.status_rewrites.specs.declared.rewritten.Rewritten.{Rewritten}

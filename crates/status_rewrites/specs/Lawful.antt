@@ -1,7 +1,7 @@
 -- Pairs that break no rule, and the first that breaks one.
 use Rattle.std.specs.Prelude.{◌≡◌, ℕ, ◌+◌, ◌<◌, ◌≤◌, Bool, true, List, length, take, Some, slice_get}
 use Rattle.std.specs.List.{All}
-use Rattle.status_tracker.specs.declared.tracker.Pair.{Pair}
+use Rattle.status_rewrites.specs.declared.tracker.Pair.{Pair}
 use Rattle.status_rewrites.specs.Parts.{goes, copied, comes}
 
 -- an item plays one part at most: one rename's source, one pair's destination, or the source of copies

@@ -1,5 +1,12 @@
 pub mod AfterRewrites
+pub mod Buckets
+pub mod Changed
 pub mod Entries
+pub mod IdentityPairs
+pub mod Joins
 pub mod Lawful
 pub mod Parts
 pub mod Places
+pub mod Renames
+pub mod SeenItems
+pub mod Trackers

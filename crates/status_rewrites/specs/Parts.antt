@@ -1,7 +1,7 @@
 -- What the pairs do at a place of the list.
 use Rattle.std.specs.Prelude.{ℕ, ◌==◌, not, ◌&&◌, List}
 use Rattle.std.specs.List.{count_by}
-use Rattle.status_tracker.specs.declared.tracker.Pair.{Pair}
+use Rattle.status_rewrites.specs.declared.tracker.Pair.{Pair}
 
 -- how many renames take its item out
 abbrev pub goes : List Pair → ℕ → ℕ

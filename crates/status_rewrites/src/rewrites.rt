@@ -4,11 +4,11 @@ ghost use Rattle.std.specs.Prelude.{◌≡◌, ◌<◌, true, IfOk, OnOk, length
 ghost use Rattle.status_rewrites.specs.AfterRewrites.{IsAnswer};
 ghost use Rattle.status_rewrites.specs.Places.{free, fits, passes, is_free, may_go, standing_in, IsPaired};
 
+use crate::Pair;
 use crate::item::Item;
 use crate::place::{Place, entry_of, leave, may_come, may_go, reach};
 use crate::refused::Refused;
 use crate::rewritten::Rewritten;
-use status_tracker::Pair;
 use std::alloc::{AllocError, Global};
 
 /// A place for each item.

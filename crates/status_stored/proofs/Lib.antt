@@ -2,6 +2,9 @@ pub mod Back
 pub mod Depths
 pub mod FlagsBack
 pub mod Fronts
+pub mod Glued
+pub mod Opened
 pub mod Reopening
 pub mod Stamps
 pub mod Storing
+pub mod Stretches

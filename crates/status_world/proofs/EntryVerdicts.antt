@@ -18,7 +18,7 @@ use Rattle.status_index.specs.Entries.{IndexEntry, stage_of}
 use Rattle.status_index.specs.FlagBits.{has_bits, bits_of_stage, stage_of_bits}
 use Rattle.status_index.specs.Mode.{is_submodule, new_mode}
 use Rattle.status_index.specs.NodeStat.{stat_of}
-use Rattle.status_stack.specs.LinkCheck.{LinkCheck, accepted, empty_path, not_normal, through_link, faulty, link_check}
+use Rattle.status_base.specs.LinkCheck.{LinkCheck, accepted, empty_path, not_normal, through_link, faulty, link_check}
 use Rattle.status_base.specs.MemoryTree.{Placed, lstat_in, has_below, has_file_above, absence, bare_directory}
 use Rattle.status_base.specs.Nodes.{is_bad_path}
 use Rattle.status_compare.specs.declared.error.Error.{Error}

@@ -6,11 +6,11 @@ use Rattle.std.proofs.lemmas.Bool.{cond-true, cond-false, false_from_ne_true}
 use Rattle.std.proofs.lemmas.List.Folds.{list_any_at}
 use Rattle.status_index.specs.declared.metadata.NodeKind.{NodeKind}
 use Rattle.status_index.specs.declared.metadata.NodeKind.TheVariants.{File, Link, Directory, Other}
-use Rattle.status_stack.specs.LinkCheck.{accepted, barrier_of, link_check}
+use Rattle.status_base.specs.LinkCheck.{accepted, barrier_of, link_check}
 use Rattle.status_base.specs.MemoryTree.{Tree, Placed, PathMap, is_no_directory, is_no_directory_kind, has_below, has_file_above, lstat_in}
 use Rattle.status_base.specs.Nodes.{is_bad_path}
 use Rattle.status_base.specs.Paths.{directories, lies_above}
-use Rattle.status_stack.proofs.LinkLemmas.{link_check_clear}
+use Rattle.status_base.proofs.LinkLemmas.{link_check_clear}
 use Rattle.status_world.specs.PlainWorld.{with_value}
 use Rattle.status_world.specs.StampedWorld.{is_stored_kind}
 use Rattle.status_world.proofs.EntryLists.{is_path, path_of}

@@ -17,12 +17,12 @@ use Rattle.status_index.specs.declared.fault.Fault.TheVariants as faults
 use Rattle.status_index.specs.declared.metadata.Metadata.{Metadata}
 use Rattle.status_index.specs.declared.metadata.NodeKind.{NodeKind}
 use Rattle.status_index.specs.declared.metadata.NodeKind.TheVariants.{File, Link, Directory, Other}
-use Rattle.status_stack.specs.LinkCheck.{LinkCheck, accepted, empty_path, not_normal, through_link, faulty, barrier_of_kind, barrier_of, decided, leftmost_barrier, link_check}
+use Rattle.status_base.specs.LinkCheck.{LinkCheck, accepted, empty_path, not_normal, through_link, faulty, barrier_of_kind, barrier_of, decided, leftmost_barrier, link_check}
 use Rattle.status_base.specs.MemoryTree.{Tree, Placed, PathMap, Planted, planted_or_none, or_planted, lstat_of_node, lstat_in, has_below, has_file_above, absence, bare_directory}
 use Rattle.status_base.specs.Nodes.{is_bad_path}
 use Rattle.status_base.specs.Paths.{is_slash, directories, lies_above, odd_component}
-use Rattle.status_stack.proofs.LinkLemmas.{directories_contain, link_check_normal}
-use Rattle.status_stack.proofs.LooksLemmas.{all_above}
+use Rattle.status_base.proofs.LinkLemmas.{directories_contain, link_check_normal}
+use Rattle.status_base.proofs.LooksLemmas.{all_above}
 use Rattle.status_world.specs.PlainWorld.{with_value}
 use Rattle.status_world.proofs.EntryLists.{is_path, path_of}
 

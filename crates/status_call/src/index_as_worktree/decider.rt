@@ -3,7 +3,7 @@
 ghost use Rattle.std.specs.Prelude.{◌≡◌, List, Option, Result, IsTrue};
 ghost use Rattle.std.proofs.Props.{props};
 ghost use Rattle.bstr.specs.BStr.{bstr_bytes};
-ghost use Rattle.status_stack.specs.CheckState.{IsClear};
+ghost use Rattle.status_base.specs.CheckState.{IsClear};
 ghost use Rattle.status_index.specs.Entries.{entry_at};
 ghost use Rattle.status_compare.specs.Reading.{IsMeant};
 ghost use Rattle.status_call.specs.Known.{Keeps};
@@ -20,11 +20,11 @@ use bitflags::Flags as _;
 use bstr::{BStr, BString};
 use status_base::fscache::Listings;
 use status_base::index::{Entry, Flags, Stat, mode};
+use status_base::stack::SymlinkCheck;
 use status_base::worktree::{
     ByteText, Find, Lister, Metadata, Pathspec, SubmoduleFault, SubmoduleStatus, ToGit, Worktree,
 };
 use status_compare::{CompareBlobs, Comparison};
-use status_stack::SymlinkCheck;
 use std::alloc::{AllocError, Global};
 
 /// Decides entries over a worktree. It keeps the buffers and what was listed, so that an entry whose stat decides takes

@@ -2,9 +2,9 @@
 
 ghost use Rattle.std.specs.Prelude.{◌≡◌, ◌&&◌, Bool, IsTrue, Ok, Result};
 ghost use Rattle.bstr.specs.BStr.{bstr_bytes};
-ghost use Rattle.status_stack.specs.CheckState.{IsClear};
-ghost use Rattle.status_stack.specs.LinkCheck.{LinkCheck};
-ghost use Rattle.status_stack.specs.Verified.{IsRefused};
+ghost use Rattle.status_base.specs.CheckState.{IsClear};
+ghost use Rattle.status_base.specs.LinkCheck.{LinkCheck};
+ghost use Rattle.status_base.specs.Verified.{IsRefused};
 ghost use Rattle.status_index.specs.declared.metadata.Metadata.{Metadata as NodeMetadata};
 ghost use Rattle.status_index.specs.declared.fault.Fault.{Fault as WorktreeFault};
 ghost use Rattle.status_call.specs.EntryParts.{IsSite};
@@ -15,8 +15,8 @@ ghost use Rattle.status_call.specs.Status.{found_by, found_fault, found_node};
 use crate::index_as_worktree::types::Error;
 use bstr::BStr;
 use status_base::fscache::Listings;
+use status_base::stack::{StackError, SymlinkCheck};
 use status_base::worktree::{Fault, Lister, Metadata, NodeKind, Worktree};
-use status_stack::{StackError, SymlinkCheck};
 use std::alloc::AllocError;
 
 /// What stands at an entry's path.

@@ -2,7 +2,7 @@
 
 ghost use Rattle.std.specs.Prelude.{◌≡◌};
 ghost use Rattle.bstr.specs.BStr.{bstr_bytes};
-ghost use Rattle.status_items.specs.Items.{path_of};
+ghost use Rattle.status_joined.specs.Items.{path_of};
 ghost use Rattle.status_joined.specs.Summaries.{summary_of, status_summary, source_path, destination_path};
 ghost use Rattle.status_joined.specs.Entries.{reported_entry, reported_source};
 

@@ -5,8 +5,7 @@ ghost use Rattle.status_joined.specs.Errors.{error_of_walk, error_of_id, error_o
 
 use status_base::worktree::{Fault, FindError};
 use status_call::index_as_worktree;
-use status_rewrites::Refused;
-use status_tracker::TrackerError;
+use status_rewrites::{Refused, TrackerError};
 use status_walk::{IdError, WalkError};
 use std::alloc::AllocError;
 use thiserror::Error;

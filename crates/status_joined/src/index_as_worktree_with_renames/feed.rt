@@ -4,14 +4,14 @@ ghost use Rattle.std.specs.Prelude.{◌≡◌, true, map, All};
 ghost use Rattle.status_rewrites.specs.Entries.{map_rewritten, IsLed};
 ghost use Rattle.status_rewrites.specs.declared.rewritten.Rewritten.TheVariants.{Alone, Rewrite};
 ghost use Rattle.status_joined.specs.Feeding.{IsFed, IsReportedOne};
-ghost use Rattle.status_items.specs.Items.{is_walked, IsReported};
-ghost use Rattle.status_items.specs.Listed.{item_of};
+ghost use Rattle.status_joined.specs.Items.{is_walked, IsReported};
+ghost use Rattle.status_joined.specs.Listed.{item_of};
 ghost use Rattle.status_joined.specs.Entries.{reported_entry, reported_source};
 
+use crate::ModificationOrDirwalkEntry;
 use crate::index_as_worktree_with_renames::entry::{Entry, RewriteSource};
 use crate::index_as_worktree_with_renames::recorder::VisitEntry;
 use status_call::index_as_worktree::Record;
-use status_items::ModificationOrDirwalkEntry;
 use status_rewrites::Rewritten;
 use std::alloc::AllocError;
 

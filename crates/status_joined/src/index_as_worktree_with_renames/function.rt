@@ -1,11 +1,12 @@
 //! The status of an index against a worktree with untracked files, renames and copies.
 
 ghost use Rattle.std.specs.Prelude.{◌≡◌, IfOk, is_some, option_map};
-ghost use Rattle.status_halves.specs.BothHalves.{Walking};
-ghost use Rattle.status_items.specs.Identified.{identifying};
+ghost use Rattle.status_joined.specs.BothHalves.{Walking};
+ghost use Rattle.status_joined.specs.Identified.{identifying};
 ghost use Rattle.status_joined.specs.JoinedInputs.{wanted_walk, joined_inputs, walking_by};
 ghost use Rattle.status_joined.specs.JoinedTheorem.{IsJoined};
 
+use crate::Request;
 use crate::index_as_worktree_with_renames::error::Error;
 use crate::index_as_worktree_with_renames::exact_clone::ExactClone;
 use crate::index_as_worktree_with_renames::feed::{feed_items, feed_rewritten};
@@ -18,8 +19,7 @@ use status_base::worktree::{Find, Lister, Pathspec, SubmoduleStatus, ToGit, Work
 use status_call::index_as_worktree;
 use status_call::index_as_worktree::inputs::{Inputs, Means};
 use status_compare::CompareBlobs;
-use status_halves::Request;
-use status_tracker::Tracker;
+use status_rewrites::Tracker;
 use status_walk::Walk;
 use std::alloc::{AllocError, Global};
 use std::sync::Wait;

@@ -1,18 +1,17 @@
 //! The list of both halves.
 
 ghost use Rattle.std.specs.Prelude.{◌≡◌, is_some, option_map};
-ghost use Rattle.status_halves.specs.RequestInputs.{inputs_of};
+ghost use Rattle.status_joined.specs.RequestInputs.{inputs_of};
 ghost use Rattle.status_joined.specs.JoinedInputs.{walking_by};
 ghost use Rattle.status_joined.specs.Listing.{error_of_failed, IsListing};
 
 use crate::index_as_worktree_with_renames::error::{Error, walk_error};
+use crate::{Failed, Halves, ModificationOrDirwalkEntry, Request, Tracked, list_of, run_halves};
 use status_base::index::{HashKind, State};
 use status_base::worktree::{Find, Lister, Pathspec, SubmoduleStatus, ToGit, Worktree};
 use status_call::index_as_worktree::Outcome;
 use status_call::index_as_worktree::inputs::{Inputs, Means};
 use status_compare::CompareBlobs;
-use status_halves::{Failed, Halves, Request, Tracked, run_halves};
-use status_items::{ModificationOrDirwalkEntry, list_of};
 use status_walk::Walk;
 use std::alloc::Global;
 use std::sync::Wait;

@@ -12,11 +12,11 @@ mod rewriting;
 mod summary;
 mod types;
 
+pub use crate::ModificationOrDirwalkEntry;
 pub use entry::{Entry, RewriteSource};
 pub use error::Error;
 pub use exact_clone::ExactClone;
 pub use function::index_as_worktree_with_renames;
 pub use recorder::{Recorder, VisitEntry};
-pub use status_items::ModificationOrDirwalkEntry;
 pub use summary::Summary;
 pub use types::{Context, DirwalkContext, Options, Outcome, Sorting};

@@ -1,7 +1,7 @@
 //! Who is given the entries of a status with untracked files, renames and copies.
 
 ghost use Rattle.std.specs.Prelude.{◌≡◌, ◌++◌, ◌∷◌, [], List, OnOk, OnErr};
-ghost use Rattle.status_items.specs.Items.{Reported};
+ghost use Rattle.status_joined.specs.Items.{Reported};
 ghost use Rattle.status_joined.specs.Entries.{reported_entry};
 
 use crate::index_as_worktree_with_renames::entry::Entry;
@@ -38,7 +38,7 @@ pub struct Recorder<'index, T, U> {
 
 impl<'index, T, U> Recorder<'index, T, U> {
     ghost use Rattle.std.specs.Prelude.{◌≡◌, []};
-    ghost use Rattle.status_joined.specs.Recorded.{reported_of_recorder};
+    ghost use Rattle.status_joined.specs.RecordedItems.{reported_of_recorder};
 
     /// A recorder with no entry.
     pub fn new(alloc: Global) -> Recorder<'index, T, U>
@@ -52,7 +52,7 @@ impl<'index, T, U> Recorder<'index, T, U> {
 
 impl<'index, T: Drop, U: Drop> VisitEntry<'index> for Recorder<'index, T, U> {
     ghost use Rattle.std.specs.Prelude.{◌≡◌, ◌++◌, ◌∷◌, [], OnOk, OnErr};
-    ghost use Rattle.status_joined.specs.Recorded.{reported_of_recorder};
+    ghost use Rattle.status_joined.specs.RecordedItems.{reported_of_recorder};
     ghost use Rattle.status_joined.specs.Entries.{reported_entry};
 
     type ContentChange = T;

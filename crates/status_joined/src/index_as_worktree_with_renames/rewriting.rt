@@ -3,19 +3,18 @@
 ghost use Rattle.std.specs.Prelude.{◌≡◌, IfOk, map, not, All};
 ghost use Rattle.std.specs.List.{count_by};
 ghost use Rattle.status_rewrites.specs.Entries.{map_rewritten, IsLed};
-ghost use Rattle.status_items.specs.Identified.{identifying};
-ghost use Rattle.status_items.specs.Items.{is_walked};
-ghost use Rattle.status_items.specs.Listed.{item_of};
+ghost use Rattle.status_joined.specs.Identified.{identifying};
+ghost use Rattle.status_joined.specs.Items.{is_walked};
+ghost use Rattle.status_joined.specs.Listed.{item_of};
 ghost use Rattle.status_joined.specs.RewritingAnswers.{IsRewritingAnswer};
 
 use crate::index_as_worktree_with_renames::error::{Error, id_error, refused_error};
 use crate::index_as_worktree_with_renames::exact_clone::ExactClone;
 use crate::index_as_worktree_with_renames::rewrites::Outcome;
+use crate::{ModificationOrDirwalkEntry, identify};
 use status_base::index::HashKind;
 use status_base::worktree::{ToGit, Worktree};
-use status_items::{ModificationOrDirwalkEntry, identify};
-use status_rewrites::{Rewritten, rewrite};
-use status_tracker::{Pair, Rewrites, Tracker};
+use status_rewrites::{Pair, Rewrites, Rewritten, Tracker, rewrite};
 use std::alloc::Global;
 
 /// A list with its renames and copies, and how many there are.

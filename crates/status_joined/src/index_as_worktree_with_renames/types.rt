@@ -3,7 +3,7 @@
 use crate::index_as_worktree_with_renames::rewrites;
 use status_base::index::HashKind;
 use status_call::index_as_worktree;
-use status_tracker::Rewrites;
+use status_rewrites::Rewrites;
 use std::sync::atomic::AtomicBool;
 
 /// How the entries are sorted.

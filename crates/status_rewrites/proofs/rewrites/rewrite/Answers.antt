@@ -2,7 +2,7 @@ use Rattle.std.proofs.Common.{◌≡◌, sym, ap, ◌∙◌, true, false, slice_
 use Rattle.std.proofs.lemmas.List.{get_or_default}
 use Rattle.status_rewrites.specs.Places.{fits}
 use Rattle.status_rewrites.proofs.Afterwards.{all_rewritten}
-use Rattle.status_rewrites.proofs.Blank.{blank}
+use Rattle.status_rewrites.proofs.BlankPair.{blank}
 use Rattle.status_rewrites.proofs.Breaking.{bad_pair}
 use Rattle.status_rewrites.proofs.Pairing.{paired_none, paired_step}
 use Rattle.status_rewrites.proofs.rewrites.rewrite.Goals as goal

@@ -3,9 +3,9 @@ use Rattle.std.specs.Vec.Iter.{into_iter_items}
 use Rattle.std.proofs.lemmas.List.{nil_from_length}
 use Rattle.status_rewrites.specs.declared.rewritten.Rewritten.{Rewritten}
 use Rattle.status_rewrites.specs.Entries.{IsLed, map_rewritten}
-use Rattle.status_items.specs.declared.item.ModificationOrDirwalkEntry.{ModificationOrDirwalkEntry}
-use Rattle.status_items.specs.Items.{is_walked}
-use Rattle.status_items.specs.Listed.{item_of}
+use Rattle.status_joined.specs.declared.item.ModificationOrDirwalkEntry.{ModificationOrDirwalkEntry}
+use Rattle.status_joined.specs.Items.{is_walked}
+use Rattle.status_joined.specs.Listed.{item_of}
 use Rattle.status_joined.proofs.Feeding.{none_reported, one_more, holds_next, all_reported, reported_until}
 use Rattle.status_joined.proofs.index_as_worktree_with_renames.feed.feed_rewritten.Goals as goal
 

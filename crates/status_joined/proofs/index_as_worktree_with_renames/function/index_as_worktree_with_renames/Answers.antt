@@ -1,6 +1,6 @@
 use Rattle.status_index.specs.States.{index_of}
-use Rattle.status_halves.specs.BothHalves.{walking}
-use Rattle.status_items.specs.Identified.{ids_by}
+use Rattle.status_joined.specs.BothHalves.{walking}
+use Rattle.status_joined.specs.Identified.{ids_by}
 use Rattle.status_joined.proofs.Joining.{quietly, of_half_at, plain_all, plain_some, late, rewritten_all, rewritten_some}
 use Rattle.status_joined.proofs.index_as_worktree_with_renames.function.index_as_worktree_with_renames.Goals as goal
 

@@ -1,6 +1,6 @@
 use Rattle.std.proofs.Common.{rules, ◌≡◌}
 use Rattle.std.specs.List.{count_by}
-use Rattle.status_tracker.specs.declared.tracker.Pair.{Pair}
+use Rattle.status_rewrites.specs.declared.tracker.Pair.{Pair}
 use Rattle.status_joined.proofs.Rewriting.{count_others}
 use Rattle.status_joined.proofs.index_as_worktree_with_renames.rewriting.count.Goals as goal
 

@@ -1,0 +1,38 @@
+-- How often a check for links calls lstat for a row of queries.
+use Rattle.std.specs.Prelude.{◌≡◌, ◌≢◌, ◌≤◌, ◌+◌, ℕ, Bool, not, List, [], ◌∷◌, ◌++◌, length, filter, AllPairs, Contains, Result, Ok}
+use Rattle.std.specs.List.{list_any}
+use Rattle.std.specs.Ordering.{nat_cmp}
+use Rattle.std.specs.Cmp.Lexicographic.{slice_cmp}
+use Rattle.std.specs.declared.cmp.Ordering.TheVariants.{Less}
+use Rattle.bstr.specs.declared.bstr.BStr.{BStr}
+use Rattle.status_index.specs.declared.fault.Fault.{Fault}
+use Rattle.status_index.specs.declared.metadata.Metadata.{Metadata}
+use Rattle.status_base.specs.Paths.{directories, lies_above}
+use Rattle.status_base.specs.CheckState.{CheckState}
+use Rattle.status_base.specs.Verified.{IsAfterVerified}
+
+-- a row of queries to one check, each answered by its path
+abbrev pub AreVerified : Bool → (List ℕ → Result Metadata Fault) → CheckState → List (List ℕ) → CheckState → Type 0
+AreVerified modelled lstat old [] new = new ≡ old
+AreVerified modelled lstat old (q ∷ qs) new = (mid : CheckState) × (answer : BStr) × IsAfterVerified modelled lstat q (Ok answer) old mid × AreVerified modelled lstat mid qs new
+
+-- the directories above some paths that don't stand above an earlier one, each at the first path below it
+abbrev pub directories_beside : List (List ℕ) → List (List ℕ) → List (List ℕ)
+directories_beside earlier [] = []
+directories_beside earlier (q ∷ qs) = filter (λ d. not (list_any (lies_above d) earlier)) (directories q) ++ directories_beside (q ∷ earlier) qs
+
+-- the directories above some paths, each once, at the first path below it
+abbrev pub directories_above : List (List ℕ) → List (List ℕ)
+directories_above qs = directories_beside [] qs
+
+-- each path stands before the later ones by its bytes
+abbrev pub IsAscending : List (List ℕ) → Type 0
+IsAscending qs = AllPairs (λ a b. slice_cmp nat_cmp a b ≡ Less) qs
+
+-- a check whose tested path is empty, as a new one's, looks at most once at each directory above paths that ascend
+abbrev pub LooksLaw : Bool → (List ℕ → Result Metadata Fault) → CheckState → List (List ℕ) → CheckState → Type 0
+LooksLaw modelled lstat old qs new = old.path ≡ [] → IsAscending qs → AreVerified modelled lstat old qs new → new.looks ≤ old.looks + length (directories_above qs)
+
+-- no directory is listed twice, and each one above one of the paths is listed
+abbrev pub ListedOnceLaw : List (List ℕ) → Type 0
+ListedOnceLaw qs = AllPairs (λ a b. a ≢ b) (directories_above qs) × ((q d : List ℕ) → Contains qs q → Contains (directories q) d → Contains (directories_above qs) d)

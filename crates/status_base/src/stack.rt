@@ -1,0 +1,338 @@
+//! Whether a path leads through a symbolic link.
+
+ghost use Rattle.std.specs.Prelude.{◌≡◌, ◌≤◌, ◌<◌, ◌+◌, None, IsTrue, List, [], ◌∷◌, length, take, drop, option_map, IfOk, OnOk, IfErr, IfSome, vec_len, position};
+ghost use Rattle.std.specs.Option.{option_map_or};
+ghost use Rattle.bstr.specs.BStr.{bstr_bytes};
+ghost use Rattle.status_base.specs.Paths.{is_slash, components, is_odd, odd_component, joined};
+ghost use Rattle.status_base.specs.LinkCheck.{link_check, barrier_of};
+ghost use Rattle.bstr.specs.Owned.{bstring_bytes};
+ghost use Rattle.status_base.specs.CheckState.{IsClear, IsClearBelow};
+ghost use Rattle.status_index.specs.Content.{saturate};
+ghost use Rattle.status_base.specs.Stopped.{IsWay, IsStop, IsBarrier, IsOfDirectory, looked_at};
+
+mod error;
+mod front;
+pub mod laws;
+
+use crate::worktree::{Fault, NodeKind, Worktree};
+use bstr::{BStr, BString};
+pub use error::StackError;
+use front::{common_front, component_start};
+use std::alloc::{AllocError, Global};
+use std::marker::Model;
+
+/// A check that paths don't lead through a symbolic link. Each answer is a fresh check's, whatever
+/// queries came before, as long as the worktree answers as it did.
+#[derive(Drop)]
+pub struct SymlinkCheck {
+    parts: Parts,
+}
+
+impl Model for SymlinkCheck {
+    ghost use Rattle.status_base.specs.CheckState.{CheckState};
+
+    ghost Value = { CheckState };
+
+    ghost use Rattle.status_base.specs.Kept.{state_of};
+
+    ghost view = { λ a. state_of a.parts };
+}
+
+impl SymlinkCheck {
+    ghost use Rattle.std.specs.Borrow.{sem};
+    ghost use Rattle.std.specs.Prelude.{◌≢◌};
+    ghost use Rattle.std.specs.Io.BufRead.{Rests};
+    ghost use Rattle.status_index.specs.declared.fault.Fault.TheVariants.{NotFound};
+    ghost use Rattle.status_base.specs.declared.stack.error.StackError.TheVariants as errors;
+    ghost use Rattle.status_base.specs.contracts.stack.SymlinkCheck.{the_row};
+    ghost use Rattle.status_base.specs.Verified.{IsVerified, IsNamed, IsNormal, IsAfterVerified, IsAfterLenient, accepting_absent};
+
+    /// A check of paths below a root. An empty root stands before no path.
+    pub fn new(alloc: Global, root: BString) -> SymlinkCheck
+        ensures { result ≡ record { root = bstring_bytes root; path = []; looks = 0 } }
+    {
+        let parts = Parts {
+            root,
+            buffer: Vec::new(alloc),
+            start: 0,
+            tested: 0,
+            looks: 0,
+        };
+        SymlinkCheck { parts }
+    }
+
+    /// The root that it was made with.
+    pub fn root(&self) -> BStr<'_>
+        ensures { bstr_bytes result ≡ self.now.root }
+    {
+        self.parts.root.as_bstr()
+    }
+
+    /// How often `lstat` was called. It stays at the greatest number that fits.
+    pub fn looks(&self) -> u64
+        ensures { result ≡ self.now.looks }
+    {
+        self.parts.looks
+    }
+
+    /// The path below the root, where no directory above it is a symbolic link or has a fault. What stands at the path
+    /// itself isn't looked at.
+    ///
+    /// # Errors
+    /// The first that applies: the path is empty; it has a component that is empty, `.` or `..`; one of its proper
+    /// directory prefixes is a link or has a fault, the leftmost of them deciding. Want of memory.
+    pub fn verified_path<'s, 'p, W: Worktree>(
+        &'s mut self,
+        worktree: &W,
+        path: BStr<'p>,
+    ) -> Result<BStr<'s>, StackError<'p>>
+        ensures answer { IsTrue (W.modelled worktree.now) → IsClear (W.lstat_of worktree.now) self.old.path
+            → IsVerified (link_check (W.lstat_of worktree.now) (bstr_bytes path.entry)) (joined self.old.root (bstr_bytes path.entry)) result }
+        ensures named { IfErr result (IsNamed (bstr_bytes path.entry)) }
+        ensures normal { OnOk result (IsNormal (bstr_bytes path.entry)) }
+        ensures joined { IfOk result (λ answer. bstr_bytes answer ≡ joined self.old.root (bstr_bytes path.entry)) }
+        ensures* rests { sem 𝓛 (Rests the_row self.entry
+            (IsAfterVerified (W.modelled worktree.now) (W.lstat_of worktree.now) (bstr_bytes path.entry) result self.old)) }
+    {
+        match self.parts.verify(worktree, path.as_bytes()) {
+            Ok(()) => Ok(BStr::new(self.parts.buffer.as_slice())),
+            Err(error) => Err(error),
+        }
+    }
+
+    /// As `verified_path`, but answers the path too where a directory above it isn't there.
+    ///
+    /// # Errors
+    /// As `verified_path`, without NotFound.
+    pub fn verified_path_allow_nonexisting<'s, 'p, W: Worktree>(
+        &'s mut self,
+        worktree: &W,
+        path: BStr<'p>,
+    ) -> Result<BStr<'s>, StackError<'p>>
+        ensures answer { IsTrue (W.modelled worktree.now) → IsClear (W.lstat_of worktree.now) self.old.path
+            → IsVerified (accepting_absent (link_check (W.lstat_of worktree.now) (bstr_bytes path.entry)))
+            (joined self.old.root (bstr_bytes path.entry)) result }
+        ensures named { IfErr result (IsNamed (bstr_bytes path.entry)) }
+        ensures normal { OnOk result (IsNormal (bstr_bytes path.entry)) }
+        ensures joined { IfOk result (λ answer. bstr_bytes answer ≡ joined self.old.root (bstr_bytes path.entry)) }
+        ensures present { IfErr result (λ e. e ≢ errors.Fault NotFound) }
+        ensures* rests { sem 𝓛 (Rests the_row self.entry
+            (IsAfterLenient (W.modelled worktree.now) (W.lstat_of worktree.now) (bstr_bytes path.entry) result self.old)) }
+    {
+        match self.parts.verify(worktree, path.as_bytes()) {
+            Ok(()) => Ok(BStr::new(self.parts.buffer.as_slice())),
+            Err(StackError::Fault(Fault::NotFound)) => {
+                Ok(BStr::new(self.parts.buffer.as_slice()))
+            }
+            Err(error) => Err(error),
+        }
+    }
+}
+
+/// What a check holds. The buffer may hold anything where no path is tested.
+#[derive(Drop)]
+struct Parts {
+    /// What stands before each path.
+    root: BString,
+    /// The root and the path of the last query.
+    buffer: Vec<u8>,
+    /// Where in the buffer the path begins.
+    start: usize,
+    /// How much of the path is known to have no link or fault above it.
+    tested: usize,
+    /// How often `lstat` was called.
+    looks: u64,
+    ghost within: { start + tested ≤ vec_len buffer },
+    ghost below: { 0 < tested → take start buffer.items ≡ joined (bstring_bytes root) [] },
+    ghost even: { 0 < tested → odd_component (take tested (drop start buffer.items)) ≡ None },
+}
+
+impl Parts {
+    ghost use Rattle.std.specs.Result.{result_err};
+    ghost use Rattle.status_base.specs.Common.{IsCommon};
+    ghost use Rattle.status_base.specs.Verified.{IsRefused, IsNamed, IsNormal, IsAfterQuery, IsChecked};
+    ghost use Rattle.status_base.specs.Stopped.{OnReached};
+    ghost use Rattle.status_base.specs.Kept.{state_of};
+
+    /// Tests a path, and leaves it below the root in the buffer. Of the directories above it those are tested that don't
+    /// stand above the tested path.
+    ///
+    /// # Errors
+    /// As `verified_path`.
+    fn verify<'p, W: Worktree>(
+        &mut self,
+        worktree: &W,
+        path: &'p [u8],
+    ) -> Result<(), StackError<'p>>
+        ensures answer { IsTrue (W.modelled worktree.now) → IsClear (W.lstat_of worktree.now) (state_of self.old).path → IsChecked (link_check (W.lstat_of worktree.now) path.now) result }
+        ensures named { IfErr result (IsNamed path.now) }
+        ensures normal { OnReached result (IsNormal path.now) }
+        ensures joined { OnReached result (self.new.buffer.items ≡ joined (bstring_bytes self.old.root) path.now) }
+        ensures tested { OnOk result ((state_of self.new).path ≡ path.now) }
+        ensures after { IsAfterQuery (W.modelled worktree.now) (W.lstat_of worktree.now) path.now (result_err result) (state_of self.old) (state_of self.new) }
+    {
+        if path.is_empty() {
+            return Err(StackError::EmptyPath);
+        }
+        let common = self.common_with(path);
+        // The tested path has no odd component, so the first that may be one begins behind the last slash in common.
+        let first = component_start(&path[..common]);
+        if let Some(component) = leftmost_odd(&path[first..]) {
+            let component = BStr::new(component);
+            return Err(StackError::NotNormal { component });
+        }
+        self.write(path, common)?;
+        match first_barrier(worktree, path, common, &mut self.looks) {
+            None => {
+                self.tested = path.len();
+                Ok(())
+            }
+            Some(stop) => {
+                self.tested = stop.at;
+                Err(stop.error)
+            }
+        }
+    }
+
+    /// How many bytes a path has in common with the tested path.
+    fn common_with(&self, path: &[u8]) -> usize
+        ensures { IsCommon (state_of self.now).path path.now result }
+    {
+        common_front(&self.buffer[self.start..self.start + self.tested], path)
+    }
+
+    /// Writes a path below the root, but for what it has in common with the tested path, which stays. Nothing is tested
+    /// then, also where memory was wanting.
+    ///
+    /// # Errors
+    /// Want of memory.
+    fn write(&mut self, path: &[u8], common: usize) -> Result<(), AllocError>
+        requires { IsCommon (state_of self.old).path path.now common }
+        ensures joined { OnOk result (self.new.buffer.items ≡ joined (bstring_bytes self.old.root) path.now) }
+        ensures below { OnOk result (take self.new.start self.new.buffer.items ≡ joined (bstring_bytes self.new.root) []) }
+        ensures path { OnOk result (drop self.new.start self.new.buffer.items ≡ path.now) }
+        ensures length { OnOk result (self.new.start + length path.now ≡ vec_len self.new.buffer) }
+        ensures forgotten { self.new.tested ≡ 0 }
+        ensures kept { (self.new.root ≡ self.old.root) × (self.new.looks ≡ self.old.looks) }
+    {
+        // Before the buffer changes: memory may be refused.
+        self.tested = 0;
+        if common == 0 {
+            self.start = 0;
+            self.start = join_into(&mut self.buffer, self.root.as_bytes(), path)?;
+            return Ok(());
+        }
+        self.buffer.truncate(self.start + common);
+        self.buffer.extend_from_slice(&path[common..])?;
+        Ok(())
+    }
+}
+
+/// Writes a path below a root in place of what the buffer held, and answers where the path begins. An empty root stands
+/// before no path.
+///
+/// # Errors
+/// Want of memory.
+fn join_into(buffer: &mut Vec<u8>, root: &[u8], path: &[u8]) -> Result<usize, AllocError>
+    ensures joined { OnOk result (buffer.new.items ≡ joined root.now path.now) }
+    ensures below { IfOk result (λ start. take start buffer.new.items ≡ joined root.now []) }
+    ensures path { IfOk result (λ start. drop start buffer.new.items ≡ path.now) }
+    ensures length { IfOk result (λ start. start + length path.now ≡ vec_len buffer.new) }
+{
+    buffer.clear();
+    if !root.is_empty() {
+        buffer.extend_from_slice(root)?;
+        buffer.push(b'/')?;
+    }
+    let start = buffer.len();
+    buffer.extend_from_slice(path)?;
+    Ok(start)
+}
+
+/// Where the way to a path is barred: the end of a directory above it, and why.
+#[derive(Clone, Copy)]
+struct Stop<'p> {
+    at: usize,
+    error: StackError<'p>,
+}
+
+/// The leftmost proper directory prefix of a path that is a link or has a fault, of those that end at a place or behind
+/// it. Each `lstat` is counted.
+fn first_barrier<'p, W: Worktree>(
+    worktree: &W,
+    path: &'p [u8],
+    from: usize,
+    looks: &mut u64,
+) -> Option<Stop<'p>>
+    ensures way { IsTrue (W.modelled worktree.now) → IsClearBelow (W.lstat_of worktree.now) path.now from → IsWay (W.lstat_of worktree.now) path.now result }
+    ensures stop { IfSome result (IsStop path.now) }
+    ensures behind { IfSome result (λ stop. from ≤ stop.at) }
+    ensures looks { looks.old ≤ looks.new }
+    ensures few { looks.new ≤ looks.old + looked_at path.now from result }
+    ensures counted { saturate (looks.old + looked_at path.now from result) ≤ looks.new }
+{
+    for at in from..path.len() {
+        if path[at] == b'/' {
+            *looks = looks.saturating_add(1);
+            if let Some(error) = barrier(worktree, &path[..at]) {
+                return Some(Stop { at, error });
+            }
+        }
+    }
+    None
+}
+
+/// What keeps paths from leading through a directory: a link there, or a fault.
+fn barrier<'p, W: Worktree>(worktree: &W, directory: &'p [u8]) -> Option<StackError<'p>>
+    ensures barrier { IsTrue (W.modelled worktree.now) → IsBarrier directory.now (barrier_of (W.lstat_of worktree.now directory.now)) result }
+    ensures of_directory { IfSome result (IsOfDirectory directory.now) }
+{
+    let prefix = BStr::new(directory);
+    match worktree.lstat(prefix) {
+        Ok(node) if node.kind == NodeKind::Link => Some(StackError::ThroughLink { prefix }),
+        Ok(_) => None,
+        Err(fault) => Some(StackError::Fault(fault)),
+    }
+}
+
+/// The leftmost component of a path that is empty, `.` or `..`.
+fn leftmost_odd(path: &[u8]) -> Option<&[u8]>
+    ensures { option_map (λ component. component.now) result ≡ odd_component path.now }
+{
+    let mut rest = path;
+    'components: loop {
+        let (component, others) = first_component(rest);
+        if is_odd(component) {
+            return Some(component);
+        }
+        match others {
+            Some(others) => rest = others,
+            None => return None,
+        }
+    }
+}
+
+/// A path's first component, and the path behind it.
+fn first_component(path: &[u8]) -> (&[u8], Option<&[u8]>)
+    ensures parts { components path.now ≡ result.0.now ∷ option_map_or (λ others. components others.now) result.1 [] }
+    ensures shorter { IfSome result.1 (λ others. length others.now < length path.now) }
+{
+    match first_slash(path) {
+        Some(at) => (&path[..at], Some(&path[at + 1..])),
+        None => (path, None),
+    }
+}
+
+/// Where the first slash stands.
+fn first_slash(path: &[u8]) -> Option<usize>
+    ensures { result ≡ position is_slash path.now }
+{
+    path.iter().position(|byte| *byte == b'/')
+}
+
+/// Whether a component is empty, `.` or `..`.
+fn is_odd(component: &[u8]) -> bool
+    ensures { result ≡ is_odd component.now }
+{
+    matches!(component, [] | [b'.'] | [b'.', b'.'])
+}

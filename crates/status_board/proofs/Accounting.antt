@@ -1,0 +1,117 @@
+-- What workers finished accounts for what their seats drew.
+use Rattle.std.proofs.Common.{inl, inr, ◌≡◌, refl, sym, ap, subst, ◌∙◌, ℕ, ◌+◌, ◌-◌, ◌<◌, ◌==◌, Bool, true, false, if◌then◌else◌, List, [], ◌∷◌, ◌++◌, length, All, arith}
+use Rattle.std.proofs.lemmas.List.{length-append, append-nil, append_assoc}
+use Rattle.std.proofs.lemmas.List.Elements.{All-nil, All-append, All-push}
+use Rattle.std.proofs.lemmas.Bool.{cases_Bool}
+use Rattle.status_board.specs.Numbers.{times, after_last}
+use Rattle.status_board.specs.Seats.{BoardId, SeatState, fresh, drawn_of, barred_of, reported_of}
+use Rattle.status_board.specs.declared.worker.Finished.{Finished}
+use Rattle.status_board.specs.Accounts.{Accounts, IsGathered, IsWorked}
+use Rattle.status_board.specs.Finished.{outs_at, shorts_of}
+use Rattle.status_board.proofs.Counts.{times-append}
+use Rattle.status_board.proofs.Lasts.{after_last-snoc, after_last-le}
+use Rattle.status_board.proofs.Lists.{outs_at-append, shorts_of-append, shorts_of-here, shorts_of-other}
+
+-- a draw leaves fewer numbers
+pub fewer_left : (pieces n : ℕ) (old mid new : List ℕ) → new ≡ mid → mid ≡ old ++ n ∷ [] → n < pieces → All (λ k. k < n) old → pieces - after_last new < pieces - after_last old
+fewer_left pieces n old mid new same is inside above =
+    let now : after_last new ≡ n + 1 = ap after_last (same ∙ is) ∙ after_last-snoc old n in
+    let before = after_last-le n old above in
+    omega arith
+
+times-drawn_of : (n : ℕ) (ss : List SeatState) (s : SeatState) → times n (drawn_of (ss ++ s ∷ [])) ≡ times n (drawn_of ss) + times n s.drawn
+times-drawn_of n [] s = ap (times n) (append-nil s.drawn) ∙ omega arith
+times-drawn_of n (r ∷ ss) s =
+    let rest = times-drawn_of n ss s in
+    omega (arith, times-append n r.drawn (drawn_of (ss ++ s ∷ [])), times-append n r.drawn (drawn_of ss))
+
+times-barred_of : (n : ℕ) (ss : List SeatState) (s : SeatState) → times n (barred_of (ss ++ s ∷ [])) ≡ times n (barred_of ss) + times n s.barred
+times-barred_of n [] s = ap (times n) (append-nil s.barred) ∙ omega arith
+times-barred_of n (r ∷ ss) s =
+    let rest = times-barred_of n ss s in
+    omega (arith, times-append n r.barred (barred_of (ss ++ s ∷ [])), times-append n r.barred (barred_of ss))
+
+reported_of-push : (ss : List SeatState) (s : SeatState) → reported_of (ss ++ s ∷ []) ≡ reported_of ss ++ s.reported
+reported_of-push [] s = append-nil s.reported
+reported_of-push (r ∷ ss) s = ap (λ (ks : List ℕ). r.reported ++ ks) (reported_of-push ss s) ∙ sym (append_assoc r.reported (reported_of ss) s.reported)
+
+module _ {O : Type 0} where
+  -- a finished piece counts once at its number
+  one_out : (n : ℕ) (f : Finished O) → length (outs_at n (f ∷ [])) ≡ times n (f.number ∷ [])
+  one_out n f = elim (cases_Bool (f.number == n)) [ inl e ↦ rw e refl | inr e ↦ rw e refl ]
+
+  outs_more : (n : ℕ) (fs gs : List (Finished O)) → length (outs_at n (fs ++ gs)) ≡ length (outs_at n fs) + length (outs_at n gs)
+  outs_more n fs gs = ap length (outs_at-append n fs gs) ∙ length-append (outs_at n fs) (outs_at n gs)
+
+  module _ (gives : ℕ → O → Type 0) (short : O → Bool) where
+    abbrev Given : Finished O → Type 0
+    Given f = gives f.number f.out
+
+    pub accounts_start : (board : BoardId) (s : SeatState) (fs : List (Finished O)) → s ≡ fresh board → fs ≡ [] → Accounts gives short [] s fs
+    accounts_start board s fs is nil = record {
+      drawn = λ n. let d : times n s.drawn ≡ 0 = ap (λ (u : SeatState). times n u.drawn) is in let b : times n s.barred ≡ 0 = ap (λ (u : SeatState). times n u.barred) is in let o : length (outs_at n fs) ≡ 0 = ap (λ (gs : List (Finished O)). length (outs_at n gs)) nil in omega arith;
+      reported = ap (λ (u : SeatState). u.reported) is ∙ sym (ap (shorts_of short) nil);
+      each = subst (λ (gs : List (Finished O)). All Given gs) (sym nil) (All-nil Given);
+    }
+
+    pub accounts_same : (s t : SeatState) (pending : List ℕ) (fs : List (Finished O)) → t ≡ s → Accounts gives short pending s fs → Accounts gives short pending t fs
+    accounts_same s t pending fs is a = subst (λ (u : SeatState). Accounts gives short pending u fs) (sym is) a
+
+    pub worked_end : (board : BoardId) (s t : SeatState) (fs : List (Finished O)) → t ≡ record s { done = true } → s.board ≡ board → Accounts gives short [] s fs → IsWorked gives short board t fs
+    worked_end board s t fs is of_board a = record {
+      board_is = ap (λ (u : SeatState). u.board) is ∙ of_board;
+      done = ap (λ (u : SeatState). u.done) is;
+      accounts = subst (λ (u : SeatState). Accounts gives short [] u fs) (sym is) (record { drawn = a.drawn; reported = a.reported; each = a.each });
+    }
+
+    pub accounts_drawn : (s t : SeatState) (n : ℕ) (fs : List (Finished O)) → t ≡ record s { drawn = s.drawn ++ n ∷ [] } → Accounts gives short [] s fs → Accounts gives short (n ∷ []) t fs
+    accounts_drawn s t n fs is a = record {
+      drawn = λ x. let d : times x t.drawn ≡ times x (s.drawn ++ n ∷ []) = ap (λ (u : SeatState). times x u.drawn) is in let b : times x t.barred ≡ times x s.barred = ap (λ (u : SeatState). times x u.barred) is in omega (arith, a.drawn x, times-append x s.drawn (n ∷ []));
+      reported = ap (λ (u : SeatState). u.reported) is ∙ a.reported;
+      each = a.each;
+    }
+
+    pub accounts_barred : (s t : SeatState) (n : ℕ) (fs : List (Finished O)) → t ≡ record s { barred = s.barred ++ n ∷ [] } → Accounts gives short (n ∷ []) s fs → Accounts gives short [] t fs
+    accounts_barred s t n fs is a = record {
+      drawn = λ x. let d : times x t.drawn ≡ times x s.drawn = ap (λ (u : SeatState). times x u.drawn) is in let b : times x t.barred ≡ times x (s.barred ++ n ∷ []) = ap (λ (u : SeatState). times x u.barred) is in omega (arith, a.drawn x, times-append x s.barred (n ∷ []));
+      reported = ap (λ (u : SeatState). u.reported) is ∙ a.reported;
+      each = a.each;
+    }
+
+    module _ (s t : SeatState) (f : Finished O) (fs : List (Finished O)) (given : gives f.number f.out) (a : Accounts gives short (f.number ∷ []) s fs) where
+      kept : t.drawn ≡ s.drawn → t.barred ≡ s.barred → t.reported ≡ s.reported ++ shorts_of short (f ∷ []) → Accounts gives short [] t (fs ++ f ∷ [])
+      kept same_drawn same_barred reported = record {
+        drawn = λ x. let d : times x t.drawn ≡ times x s.drawn = ap (times x) same_drawn in let b : times x t.barred ≡ times x s.barred = ap (times x) same_barred in omega (arith, a.drawn x, outs_more x fs (f ∷ []), one_out x f);
+        reported = reported ∙ ap (λ (ks : List ℕ). ks ++ shorts_of short (f ∷ [])) a.reported ∙ sym (shorts_of-append short fs (f ∷ []));
+        each = All-push Given fs f a.each given;
+      }
+
+      kept_by : (b : Bool) → short f.out ≡ b → t ≡ (if b then record s { reported = s.reported ++ f.number ∷ [] } else s) → Accounts gives short [] t (fs ++ f ∷ [])
+      kept_by true e is =
+          kept (ap (λ (u : SeatState). u.drawn) is) (ap (λ (u : SeatState). u.barred) is)
+          (ap (λ (u : SeatState). u.reported) is ∙ sym (ap (λ (ks : List ℕ). s.reported ++ ks) (shorts_of-here short f [] e)))
+      kept_by false e is =
+          kept (ap (λ (u : SeatState). u.drawn) is) (ap (λ (u : SeatState). u.barred) is)
+          (ap (λ (u : SeatState). u.reported) is ∙ sym (append-nil s.reported) ∙ sym (ap (λ (ks : List ℕ). s.reported ++ ks) (shorts_of-other short f [] e)))
+
+      pub accounts_finished : t ≡ (if short f.out then record s { reported = s.reported ++ f.number ∷ [] } else s) → Accounts gives short [] t (fs ++ f ∷ [])
+      accounts_finished is = kept_by (short f.out) refl is
+
+    module _ (board : BoardId) where
+      pub gathered_none : (ss : List SeatState) (fs : List (Finished O)) → ss ≡ [] → fs ≡ [] → IsGathered gives short board ss fs
+      gathered_none ss fs none nil = record {
+        boards = subst (λ (us : List SeatState). All (λ s. s.board ≡ board) us) (sym none) (All-nil (λ (s : SeatState). s.board ≡ board));
+        done = subst (λ (us : List SeatState). All (λ s. s.done ≡ true) us) (sym none) (All-nil (λ (s : SeatState). s.done ≡ true));
+        drawn = λ n. let d : times n (drawn_of ss) ≡ 0 = ap (λ (us : List SeatState). times n (drawn_of us)) none in let b : times n (barred_of ss) ≡ 0 = ap (λ (us : List SeatState). times n (barred_of us)) none in let o : length (outs_at n fs) ≡ 0 = ap (λ (gs : List (Finished O)). length (outs_at n gs)) nil in omega arith;
+        reported = ap reported_of none ∙ sym (ap (shorts_of short) nil);
+        each = subst (λ (gs : List (Finished O)). All Given gs) (sym nil) (All-nil Given);
+      }
+
+      pub gathered_more : (ss : List SeatState) (s : SeatState) (fs gs : List (Finished O)) → IsGathered gives short board ss fs → IsWorked gives short board s gs → IsGathered gives short board (ss ++ s ∷ []) (fs ++ gs)
+      gathered_more ss s fs gs all one = record {
+        boards = All-push (λ (u : SeatState). u.board ≡ board) ss s all.boards one.board_is;
+        done = All-push (λ (u : SeatState). u.done ≡ true) ss s all.done one.done;
+        drawn = λ n. let a = all.drawn n in let b = one.accounts.drawn n in omega (arith, times-drawn_of n ss s, times-barred_of n ss s, outs_more n fs gs);
+        reported = reported_of-push ss s ∙ ap (λ (ks : List ℕ). ks ++ s.reported) all.reported ∙ ap (λ (ks : List ℕ). shorts_of short fs ++ ks) one.accounts.reported ∙ sym (shorts_of-append short fs gs);
+        each = All-append Given fs gs all.each one.accounts.each;
+      }

@@ -1,0 +1,23 @@
+-- Finished pieces, and what they gave.
+use Rattle.std.specs.Prelude.{◌≡◌, ◌==◌, ℕ, ◌<◌, Bool, List, [], ◌∷◌, ◌++◌, length, map, Option, Some, None, slice_get}
+use Rattle.std.specs.List.{filter, slice_index_or}
+use Rattle.std.specs.Option.{option_to_list}
+use Rattle.status_board.specs.declared.worker.Finished.{Finished}
+
+-- what the pieces of a number gave
+abbrev pub outs_at : {O : Type 0} → ℕ → List (Finished O) → List O
+outs_at n fs = map (λ f. f.out) (filter (λ f. f.number == n) fs)
+
+-- the numbers of the pieces that ended short
+abbrev pub shorts_of : {O : Type 0} → (O → Bool) → List (Finished O) → List ℕ
+shorts_of short fs = map (λ f. f.number) (filter (λ f. short f.out) fs)
+
+-- the outs are those of the pieces below `end`, one for each, in order
+pub record IsInOrder {O : Type 0} (fs : List (Finished O)) (end : ℕ) (outs : List O) : Type 0 where
+  pub all : length outs ≡ end
+  pub each : (n : ℕ) (out : O) → slice_get outs n ≡ Some out → outs_at n fs ≡ out ∷ []
+
+-- with what is still to be placed, each slot has what the pieces of its number gave
+pub record IsPlaced {O : Type 0} (fs : List (Finished O)) (end : ℕ) (slots : List (Option O)) (rest : List (Finished O)) : Type 0 where
+  pub all : length slots ≡ end
+  pub each : (n : ℕ) → n < end → option_to_list (slice_index_or slots n None) ++ outs_at n rest ≡ outs_at n fs

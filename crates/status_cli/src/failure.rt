@@ -1,0 +1,239 @@
+//! Why a run of the program fails, and the line that says so.
+
+use crate::lines::path_value;
+use bstr::BStr;
+use gix_status::index_as_worktree::Error;
+use gix_status::index_as_worktree_with_renames::Error as JoinedError;
+use gix_status::tracker::TrackerError;
+use gix_status::walk::WalkError;
+use gix_status::worktree::{Fault, FindError, TreeError};
+use gix_status::world::Refusal;
+use status_profile::ProfileError;
+use std::alloc::{AllocError, Global};
+use std::io;
+
+/// Why a run fails.
+#[derive(Debug, Drop)]
+pub enum Failure {
+    /// The profile's file can't be read.
+    Unreadable,
+    /// The profile isn't one.
+    Profile(ProfileError),
+    /// A node of the profile can't be put into the worktree.
+    Worktree {
+        /// Why it can't.
+        error: TreeError,
+        /// The node's place in the profile.
+        at: usize,
+    },
+    /// The status fails.
+    Status(Error),
+    /// The status with untracked files, renames or sorted lines fails.
+    Joined(JoinedError),
+    /// The beginning of a world is refused.
+    Start(Refusal),
+    /// An event is refused.
+    Event {
+        /// Why it is.
+        refusal: Refusal,
+        /// The event's place in the profile.
+        at: usize,
+    },
+    /// The output can't be written.
+    Output,
+    /// The file of a refreshed profile can't be written.
+    Unwritable,
+    /// Memory ran out.
+    Memory,
+}
+
+impl Failure {
+    /// The failure of opening or reading the profile's file.
+    pub fn of_reading(error: io::Error) -> Failure {
+        match error.kind() {
+            io::ErrorKind::OutOfMemory => Failure::Memory,
+            _ => Failure::Unreadable,
+        }
+    }
+
+    /// The failure of putting the node at this place of the profile into the worktree.
+    pub fn of_node(error: TreeError, at: usize) -> Failure {
+        match error {
+            TreeError::Memory => Failure::Memory,
+            error => Failure::Worktree { error, at },
+        }
+    }
+
+    /// The failure of a world's beginning.
+    pub fn of_start(refusal: Refusal) -> Failure {
+        if is_refused_memory(&refusal) {
+            return Failure::Memory;
+        }
+        Failure::Start(refusal)
+    }
+
+    /// The failure of the event at this place of the profile.
+    pub fn of_event(refusal: Refusal, at: usize) -> Failure {
+        if is_refused_memory(&refusal) {
+            return Failure::Memory;
+        }
+        Failure::Event { refusal, at }
+    }
+
+    /// Writes the failure in one line, and gives the exit status. `name` is the name of the file
+    /// that is read or written.
+    pub fn report<E: io::Write>(&self, alloc: Global, name: &str, faults: &mut E) -> u8 {
+        // Where the line can't be written there is nowhere left to say that.
+        let _ = self.write_line(alloc, name, faults);
+        1
+    }
+
+    /// Writes the failure in one line. Where the output can't be written nothing more is.
+    fn write_line<E: io::Write>(
+        &self,
+        alloc: Global,
+        name: &str,
+        faults: &mut E,
+    ) -> io::Result<()> {
+        match self {
+            Failure::Unreadable => writeln!(faults, "cannot read {name}"),
+            Failure::Profile(error) => writeln!(faults, "{error}"),
+            Failure::Worktree { error, at } => writeln!(faults, "bad worktree: {error} at {at}"),
+            Failure::Status(error) => write_status_line(status_words(alloc, error), faults),
+            Failure::Joined(error) => write_status_line(joined_words(alloc, error), faults),
+            Failure::Start(refusal) => {
+                let words = refusal_words(refusal);
+                writeln!(faults, "refused start: {words}")
+            }
+            Failure::Event { refusal, at } => {
+                let words = refusal_words(refusal);
+                writeln!(faults, "refused {at}: {words}")
+            }
+            Failure::Output => Ok(()),
+            Failure::Unwritable => writeln!(faults, "cannot write {name}"),
+            Failure::Memory => writeln!(faults, "out of memory"),
+        }
+    }
+}
+
+/// Writes the line of a status that failed, with these words.
+fn write_status_line<E: io::Write>(
+    words: Result<String, AllocError>,
+    faults: &mut E,
+) -> io::Result<()> {
+    match words {
+        Ok(words) => writeln!(faults, "status failed: {words}"),
+        Err(_) => writeln!(faults, "out of memory"),
+    }
+}
+
+/// The words for a status that failed.
+fn status_words(alloc: Global, error: &Error) -> Result<String, AllocError> {
+    match error {
+        Error::IllformedUtf8 => String::from_str(alloc, "ill-formed UTF-8"),
+        Error::Time => String::from_str(alloc, "time"),
+        Error::Io(fault) => format!(in alloc; "{fault}"),
+        Error::Find(_) => String::from_str(alloc, "missing object"),
+        Error::SubmoduleStatus { rela_path, .. } => {
+            let path = path_value(alloc, BStr::new(rela_path.as_bytes()))?;
+            format!(in alloc; "submodule {path}")
+        }
+        Error::SpawnThread => String::from_str(alloc, "no thread"),
+        Error::Memory => Err(AllocError),
+    }
+}
+
+/// The words for a status with untracked files, renames or sorted lines that failed.
+fn joined_words(alloc: Global, error: &JoinedError) -> Result<String, AllocError> {
+    match error {
+        JoinedError::TrackedFileModifications(error) => status_words(alloc, error),
+        JoinedError::DirWalk(WalkError::Fault { fault, .. }) => format!(in alloc; "walk: {fault}"),
+        JoinedError::SpawnThread => status_words(alloc, &Error::SpawnThread),
+        JoinedError::SetAttributeContext => String::from_str(alloc, "attributes"),
+        JoinedError::OpenWorktreeFile(fault) => format!(in alloc; "open: {fault}"),
+        JoinedError::HashFile(fault) => format!(in alloc; "hash: {fault}"),
+        JoinedError::ReadLink(fault) => format!(in alloc; "read link: {fault}"),
+        JoinedError::ConvertToGit(fault) => format!(in alloc; "convert: {fault}"),
+        JoinedError::RewriteTracker(_) => String::from_str(alloc, "tracker"),
+        JoinedError::DirWalk(WalkError::Memory) | JoinedError::Memory => Err(AllocError),
+    }
+}
+
+/// The words for a refusal.
+fn refusal_words(refusal: &Refusal) -> &'static str {
+    match refusal {
+        Refusal::ClockEnd => "clock end",
+        Refusal::BadPath => "bad path",
+        Refusal::InTheWay => "in the way",
+        Refusal::TooLarge => "too large",
+        Refusal::NotAFile => "not a file",
+        Refusal::StampLater => "stamp later",
+        Refusal::Interrupted => "interrupted",
+        Refusal::Run(_) => "run failed",
+        Refusal::Memory => "out of memory",
+        Refusal::BadMoment => "bad moment",
+        Refusal::OtherIndex => "other index",
+    }
+}
+
+/// Whether a refusal is want of memory, within a run too.
+fn is_refused_memory(refusal: &Refusal) -> bool {
+    match refusal {
+        Refusal::Memory => true,
+        Refusal::Run(error) => is_memory(error),
+        _ => false,
+    }
+}
+
+/// Whether a status fails for want of memory, wherever it is met.
+fn is_memory(error: &Error) -> bool {
+    matches!(
+        error,
+        Error::Memory | Error::Io(Fault::Memory) | Error::Find(FindError::Memory)
+    )
+}
+
+/// Whether a status with untracked files, renames or sorted lines fails for want of memory, wherever it is met.
+fn is_joined_memory(error: &JoinedError) -> bool {
+    match error {
+        JoinedError::TrackedFileModifications(error) => is_memory(error),
+        JoinedError::DirWalk(WalkError::Fault { fault, .. })
+        | JoinedError::OpenWorktreeFile(fault)
+        | JoinedError::HashFile(fault)
+        | JoinedError::ReadLink(fault)
+        | JoinedError::ConvertToGit(fault) => *fault == Fault::Memory,
+        JoinedError::RewriteTracker(error) => *error == TrackerError::Memory,
+        JoinedError::DirWalk(WalkError::Memory) | JoinedError::Memory => true,
+        JoinedError::SpawnThread | JoinedError::SetAttributeContext => false,
+    }
+}
+
+impl From<AllocError> for Failure {
+    fn from(_error: AllocError) -> Failure {
+        Failure::Memory
+    }
+}
+
+impl From<ProfileError> for Failure {
+    fn from(error: ProfileError) -> Failure {
+        Failure::Profile(error)
+    }
+}
+
+impl From<Error> for Failure {
+    fn from(error: Error) -> Failure {
+        if is_memory(&error) {
+            return Failure::Memory;
+        }
+        Failure::Status(error)
+    }
+}
+
+impl From<JoinedError> for Failure {
+    fn from(error: JoinedError) -> Failure {
+        if is_joined_memory(&error) {
+            return Failure::Memory;
+        }
+        Failure::Joined(error)
+    }
+}

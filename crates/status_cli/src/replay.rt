@@ -1,0 +1,130 @@
+//! The replay of a profile's history.
+
+ghost use Rattle.std.specs.Prelude.{All};
+ghost use Rattle.status_world.specs.Reports.{HasSum};
+
+use crate::failure::Failure;
+use crate::input::read_all;
+use crate::lines::run_line;
+use crate::output::{flush, print, print_record, print_totals};
+use gix_status::world::{Event, Report, World};
+use status_profile::History;
+use status_stored::{ReopenedReplay, Stop, replay_reopening};
+use std::alloc::Global;
+use std::io;
+use std::sync::Wait;
+use std::thread::Threads;
+
+/// Reads a profile, lets its events happen, and prints for each run to `output` its number, a line a record, and with
+/// `counts` a line of totals. `name` is the name of the profile's file.
+///
+/// Gives the exit status: 0, or 1 after a failure, which is one line on `faults`. What was printed before stays. Where
+/// `output` can't be written nothing more is.
+pub fn run_replay<R: AllocGlobal + Threads + Wait, I: io::Read, O: io::Write, E: io::Write>(
+    rt: &R,
+    name: &str,
+    profile: &mut I,
+    output: &mut O,
+    faults: &mut E,
+) -> u8 {
+    match print_replay(rt, profile, output) {
+        Ok(()) => 0,
+        Err(failure) => failure.report(rt.alloc(), name, faults),
+    }
+}
+
+fn print_replay<R: AllocGlobal + Threads + Wait, I: io::Read, O: io::Write>(
+    rt: &R,
+    profile: &mut I,
+    output: &mut O,
+) -> Result<(), Failure> {
+    let alloc = rt.alloc();
+    let text = read_all(alloc, profile)?;
+    let history = History::from_json(alloc, text.as_slice())?;
+    let world = begin(alloc, &history)?;
+    let ReopenedReplay {
+        reports,
+        stopped,
+        ..
+    } = replay_reopening(rt, alloc, world, &history.stretches);
+    print_reports(alloc, &reports, history.options.counts, output)?;
+    match stopped {
+        Some(stop) => Err(failure_of(stop, &history.stretches)),
+        None => Ok(()),
+    }
+}
+
+/// Why a replay was stopped, with a place in the profile's list of events.
+fn failure_of(stop: Stop, stretches: &[Vec<Event>]) -> Failure {
+    match stop {
+        Stop::Event {
+            stretch,
+            at,
+            refusal,
+        } => Failure::of_event(refusal, first_place(stretches, stretch).saturating_add(at)),
+        Stop::Opening { stretch, refusal } => {
+            Failure::of_event(refusal, first_place(stretches, stretch).saturating_sub(1))
+        }
+        Stop::Reports { .. } => Failure::Memory,
+    }
+}
+
+/// The place of a stretch's first event in the profile's list, where each reopening before it is an event too.
+fn first_place(stretches: &[Vec<Event>], stretch: usize) -> usize {
+    let mut place: usize = 0;
+    for events in stretches.iter().take(stretch) {
+        place = place.saturating_add(events.len()).saturating_add(1);
+    }
+    place
+}
+
+/// The world that a history begins with.
+fn begin(alloc: Global, history: &History) -> Result<World, Failure> {
+    let options = history.options;
+    World::new(
+        alloc,
+        history.hash,
+        history.clock,
+        history.timestamp,
+        options.stat,
+        options.executable_bit,
+    )
+    .map_err(Failure::of_start)
+}
+
+/// Prints what the runs report, whose numbers begin with 1.
+fn print_reports<O: io::Write>(
+    alloc: Global,
+    reports: &[Report],
+    counts: bool,
+    output: &mut O,
+) -> Result<(), Failure>
+    requires { All HasSum reports.now }
+{
+    for (at, report) in reports.iter().enumerate() {
+        print(run_line(alloc, at + 1)?.as_str(), output)?;
+        print_report(alloc, report, counts, output)?;
+    }
+    flush(output)
+}
+
+/// Prints what a run reports.
+fn print_report<O: io::Write>(
+    alloc: Global,
+    report: &Report,
+    counts: bool,
+    output: &mut O,
+) -> Result<(), Failure>
+    requires { HasSum report.now }
+{
+    for record in &report.records {
+        print_record(
+            alloc,
+            record.entry_index,
+            record.path.as_bstr(),
+            &record.status,
+            output,
+        )?;
+    }
+    print_totals(alloc, &report.outcome, counts, output)
+}

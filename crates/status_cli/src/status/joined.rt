@@ -1,0 +1,127 @@
+//! The status of a profile with untracked files, renames or sorted lines.
+
+ghost use Rattle.std.specs.Prelude.{◌<◌, ◌^◌, IfOk};
+ghost use Rattle.status_call.specs.Outcomes.{skipped_of};
+
+use crate::failure::Failure;
+use crate::output::{flush, print_entry, print_totals};
+use crate::status::request::Request;
+use gix_status::index::HashKind;
+use gix_status::index_as_worktree::traits::CompareBlobs;
+use gix_status::index_as_worktree_with_renames::{
+    Context, DirwalkContext, Entry, Error, ExactClone, Options, Outcome, Recorder, Sorting,
+    VisitEntry, index_as_worktree_with_renames,
+};
+use gix_status::tracker::{IdentityTracker, Rewrites};
+use gix_status::walk::Walk;
+use gix_status::worktree::{MemoryObjects, NoFilter, NoLister, NoSubmodules, Pathspec, Worktree};
+use status_profile::ProfileOptions;
+use std::alloc::Global;
+use std::io;
+use std::sync::Wait;
+use std::thread::Threads;
+
+/// Prints the status of these paths by this comparer. A status that fails has no lines.
+pub fn print_joined<
+    'a,
+    R: AllocGlobal + Threads + Wait,
+    W: Worktree + Sync,
+    K: Walk<W> + Send + Drop,
+    P: Pathspec + Send,
+    C: CompareBlobs + Send,
+    O: io::Write,
+>(
+    rt: &R,
+    request: Request<'a, W, K>,
+    pathspec: P,
+    compare: C,
+    output: &mut O,
+) -> Result<(), Failure>
+where
+    W::File: Send,
+    C::Output: Send + ExactClone + 'a,
+{
+    let alloc = rt.alloc();
+    let counts = request.options.counts;
+    let mut recorder = Recorder::new(alloc);
+    let outcome = report_joined(rt, alloc, request, &mut recorder, pathspec, compare)?;
+    print_entries(alloc, recorder.records.as_slice(), output)?;
+    print_totals(alloc, &outcome.tracked_file_modification, counts, output)?;
+    flush(output)
+}
+
+/// Reports the status to a collector, with no filter, listing, submodule or blob, and with renames by equal content.
+fn report_joined<
+    'a,
+    R: Threads + Wait,
+    W: Worktree + Sync,
+    K: Walk<W> + Send + Drop,
+    V: VisitEntry<'a, ContentChange = C::Output, SubmoduleStatus = ()>,
+    P: Pathspec + Send,
+    C: CompareBlobs + Send,
+>(
+    rt: &R,
+    alloc: Global,
+    request: Request<'a, W, K>,
+    collector: &mut V,
+    pathspec: P,
+    compare: C,
+) -> Result<Outcome, Error>
+where
+    W::File: Send,
+    C::Output: Send + ExactClone + 'a,
+    ensures { IfOk result (λ o. skipped_of o.tracked_file_modification < 2 ^ 64) }
+{
+    let Request {
+        index,
+        worktree,
+        walk,
+        hash,
+        options,
+    } = request;
+    let context = Context {
+        pathspec,
+        filter: NoFilter,
+        lister: NoLister,
+        should_interrupt: None,
+        dirwalk: DirwalkContext { walk },
+        tracker: IdentityTracker::new(alloc),
+    };
+    let objects = MemoryObjects::new(alloc);
+    index_as_worktree_with_renames(
+        rt,
+        alloc,
+        index,
+        worktree,
+        collector,
+        compare,
+        NoSubmodules,
+        objects,
+        context,
+        joined_options(options, hash),
+    )
+}
+
+/// How such a status is computed, with untracked ids of this kind. Empty files are never renamed.
+fn joined_options(options: ProfileOptions, hash: HashKind) -> Options {
+    Options {
+        sorting: options.sort.then_some(Sorting::ByPathCaseSensitive),
+        object_hash: hash,
+        fscache: options.status.fscache,
+        tracked_file_modifications: options.status,
+        dirwalk: options.untracked,
+        rewrites: options.renames.then_some(Rewrites { track_empty: false }),
+    }
+}
+
+/// Prints a line an entry.
+fn print_entries<T: Drop, U: Drop, O: io::Write>(
+    alloc: Global,
+    entries: &[Entry<'_, T, U>],
+    output: &mut O,
+) -> Result<(), Failure> {
+    for entry in entries {
+        print_entry(alloc, entry, output)?;
+    }
+    flush(output)
+}

@@ -1,6 +1,0 @@
-pub mod Changes
-pub mod Copies
-pub mod Identified
-pub mod Items
-pub mod Listed
-pub mod Lists

@@ -1,0 +1,22 @@
+-- What of a walk was kept.
+use Rattle.std.specs.Prelude.{◌≡◌, Bool, List, false, [], map, Some, Result, Ok, Err, ⊤}
+use Rattle.bstr.specs.Owned.{bstring_bytes}
+use Rattle.status_walk.specs.declared.walk.Outcome.{Outcome}
+use Rattle.status_walk.specs.declared.walk.WalkError.{WalkError}
+use Rattle.status_walk.specs.declared.walk.WalkError.TheVariants.{Fault, Memory}
+use Rattle.status_walk.specs.Walked.{Walked}
+use Rattle.status_walk.specs.Walks.{WalkMeaning, IsWalked}
+use Rattle.status_joined.specs.declared.beside.Beside.{Beside}
+use Rattle.status_joined.specs.Keeping.{is_kept, kept_walked}
+
+-- of a walk to its end all is kept that can be tracked and isn't, and of one that the flag ended, the first of it. A walk without
+-- a flag comes to its end
+pub record IsKeptOf (m : WalkMeaning) (interruptible : Bool) (kept : List Walked) (o : Outcome) : Type 0 where
+  pub walked : IsWalked m is_kept [] kept o.cancelled o
+  pub uncut : interruptible ≡ false → o.cancelled ≡ false
+
+-- so it ended, or with the fault that is meant, or memory ran out
+abbrev pub IsBeside : WalkMeaning → Bool → Result Beside WalkError → Type 0
+IsBeside m interruptible (Ok b) = IsKeptOf m interruptible (map kept_walked b.kept.items) b.outcome
+IsBeside m interruptible (Err (Fault path fault)) = m.fault ≡ Some (record { path = bstring_bytes path; fault = fault })
+IsBeside m interruptible (Err Memory) = ⊤

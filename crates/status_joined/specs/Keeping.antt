@@ -1,0 +1,24 @@
+-- What of a walk is kept.
+use Rattle.std.specs.Prelude.{Bool, true, false, not, ◌&&◌, Option, Some}
+use Rattle.status_walk.specs.declared.entry.Kind.{Kind}
+use Rattle.status_walk.specs.declared.entry.Kind.TheVariants.{Untrackable}
+use Rattle.status_walk.specs.declared.entry.Status.{Status}
+use Rattle.status_walk.specs.declared.entry.Status.TheVariants.{Tracked}
+use Rattle.status_walk.specs.Walked.{Walked, walked_of}
+use Rattle.status_joined.specs.declared.kept.Kept.{Kept}
+
+abbrev pub is_untrackable : Option Kind → Bool
+is_untrackable (Some Untrackable) = true
+is_untrackable _ = false
+
+abbrev pub is_tracked : Status → Bool
+is_tracked Tracked = true
+is_tracked _ = false
+
+-- what can be tracked, and isn't
+abbrev pub is_kept : Walked → Bool
+is_kept w = not (is_untrackable w.disk_kind) && not (is_tracked w.status)
+
+-- the node that was kept
+abbrev pub kept_walked : Kept → Walked
+kept_walked k = walked_of k.entry k.collapsed_directory_status

@@ -1,0 +1,60 @@
+//! The list of a status: its records and nodes.
+
+ghost use Rattle.std.specs.Prelude.{◌≡◌, IfOk, map};
+ghost use Rattle.status_call.specs.Recorded.{visit_of};
+ghost use Rattle.status_joined.specs.Keeping.{kept_walked};
+ghost use Rattle.status_joined.specs.Listed.{item_of};
+ghost use Rattle.status_joined.specs.Lists.{unsorted, IsList};
+
+use crate::Kept;
+use crate::item::ModificationOrDirwalkEntry;
+use crate::order::put_in_order;
+use status_base::index::{HashKind, ObjectId};
+use status_call::index_as_worktree::Record;
+use std::alloc::{AllocError, Global};
+
+/// The records, and behind them the nodes, which have no ids yet.
+fn unsorted<'index, T: Drop, U: Drop>(
+    alloc: Global,
+    kind: HashKind,
+    records: Vec<Record<'index, T, U>>,
+    kept: Vec<Kept>,
+) -> Result<Vec<ModificationOrDirwalkEntry<'index, T, U>>, AllocError>
+    ensures { IfOk result (λ list. map item_of list.items
+        ≡ unsorted kind (map visit_of records.entry.items) (map kept_walked kept.items)) }
+{
+    let mut list = Vec::with_capacity(alloc, records.len() + kept.len())?;
+    for record in records {
+        list.push(ModificationOrDirwalkEntry::Modification(record))?;
+    }
+    for node in kept {
+        list.push(ModificationOrDirwalkEntry::DirwalkEntry {
+            entry: node.entry,
+            id: ObjectId::null(kind),
+            collapsed_directory_status: node.collapsed_directory_status,
+        })?;
+    }
+    Ok(list)
+}
+
+/// The list of a status: the records in the order of the index, and behind them the kept nodes in the order of the walk.
+/// With `sorting` it is sorted by path, and keeps that order at equal paths.
+///
+/// # Errors
+/// Want of memory.
+pub fn list_of<'index, T: Drop, U: Drop>(
+    alloc: Global,
+    kind: HashKind,
+    records: Vec<Record<'index, T, U>>,
+    kept: Vec<Kept>,
+    sorting: bool,
+) -> Result<Vec<ModificationOrDirwalkEntry<'index, T, U>>, AllocError>
+    ensures { IfOk result (λ list. IsList sorting
+        (unsorted kind (map visit_of records.entry.items) (map kept_walked kept.items)) (map item_of list.items)) }
+{
+    let mut list = unsorted(alloc, kind, records, kept)?;
+    if sorting {
+        put_in_order(&mut list)?;
+    }
+    Ok(list)
+}

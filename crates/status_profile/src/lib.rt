@@ -1,0 +1,119 @@
+//! Profiles, read from JSON text: of a status, an index and a worktree with options; of a replay, a history.
+//!
+//! Read `key`, the keys that there are, and `error`; then what a profile is made of: `options`, `entry`, `node`, `event` with `history`.
+//! `members`, `list`, `held` and `field` find the values of an object's keys, and `texts` keeps the texts of all.
+#![tactic(auto)]
+
+mod ahead;
+mod entry;
+mod error;
+mod event;
+mod field;
+mod hash;
+mod held;
+mod history;
+mod key;
+mod list;
+mod members;
+mod node;
+mod options;
+mod stat;
+mod texts;
+mod value;
+
+use crate::field::{Fields, stamped_moment_of};
+use crate::hash::read_hash;
+use crate::node::read_place;
+use crate::options::read_options;
+pub use error::{FieldError, Key, ProfileError};
+use gix_status::index::{HashKind, Moment, State};
+pub use history::History;
+pub use list::Way;
+pub use members::Members;
+pub use node::Place;
+pub use options::{HistoryOptions, ProfileOptions};
+use std::alloc::Global;
+pub use texts::{Texts, put_value};
+
+/// What the profile of a status says.
+#[derive(Drop)]
+pub struct Profile {
+    /// How ids of untracked files are made. An entry's id says itself of which kind it is.
+    pub hash: HashKind,
+    /// How the status is computed, and what is printed.
+    pub options: ProfileOptions,
+    /// The index.
+    pub index: State,
+    /// Where the worktree is.
+    pub place: Place,
+}
+
+impl Profile {
+    /// Reads a profile from JSON text.
+    ///
+    /// # Errors
+    /// Text that isn't JSON, else the first key that is missing or has a wrong form, else the first
+    /// entry that can't stand where it is. Or want of memory.
+    pub fn from_json(alloc: Global, text: &[u8]) -> Result<Profile, ProfileError> {
+        Profile::read(alloc, text, Kind::Any)
+    }
+
+    /// Reads a profile whose status has neither untracked files nor renames nor sorted lines.
+    ///
+    /// # Errors
+    /// The same. Options that ask for one of these have a wrong form.
+    pub fn plain_from_json(alloc: Global, text: &[u8]) -> Result<Profile, ProfileError> {
+        Profile::read(alloc, text, Kind::Plain)
+    }
+
+    /// The profile that these members are.
+    ///
+    /// # Errors
+    /// As those of `from_json`, but that its text is JSON.
+    pub fn from_members(alloc: Global, members: Members) -> Result<Profile, ProfileError> {
+        profile_of(alloc, members, Kind::Any)
+    }
+
+    fn read(alloc: Global, text: &[u8], kind: Kind) -> Result<Profile, ProfileError> {
+        match Members::from_json(alloc, text)? {
+            Some(members) => profile_of(alloc, members, kind),
+            None => Err(ProfileError::Bad(Key::Hash)),
+        }
+    }
+}
+
+/// The statuses that a profile may ask for.
+#[derive(Clone, Copy, Debug, PartialEq, Eq)]
+enum Kind {
+    /// Each that there is.
+    Any,
+    /// One without untracked files, renames and sorted lines.
+    Plain,
+}
+
+fn profile_of(alloc: Global, members: Members, kind: Kind) -> Result<Profile, ProfileError> {
+    let Members {
+        entries,
+        nodes,
+        others,
+    } = members;
+    let fields = Fields::new(&others);
+    let hash = read_hash(fields).map_err(|error| error.under(Key::Hash))?;
+    let timestamp = read_timestamp(fields).map_err(|error| error.under(Key::Timestamp))?;
+    let options = read_options(alloc, fields).map_err(|error| error.under(Key::Options))?;
+    if kind == Kind::Plain && options.is_joined() {
+        return Err(ProfileError::Bad(Key::Options));
+    }
+    let entries = entries.map_err(|error| error.under(Key::Index))?;
+    let place = read_place(alloc, fields, nodes).map_err(|error| error.under(Key::Worktree))?;
+    Ok(Profile {
+        hash,
+        options,
+        index: entries.into_index(timestamp)?,
+        place,
+    })
+}
+
+fn read_timestamp(fields: Fields<'_>) -> Result<Moment, FieldError> {
+    fields.required("timestamp").and_then(stamped_moment_of)
+}

@@ -1,3 +1,0 @@
-pub mod Glued
-pub mod Opened
-pub mod Stretches

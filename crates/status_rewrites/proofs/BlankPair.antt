@@ -1,0 +1,6 @@
+-- A pair that stands for none: what reading a list past its end gives.
+use Rattle.std.proofs.Common.{false}
+use Rattle.status_rewrites.specs.declared.tracker.Pair.{Pair}
+
+abbrev pub blank : Pair
+blank = record { source = 0; destination = 0; copy = false }

@@ -1,0 +1,7 @@
+use Rattle.std.proofs.Common.{take}
+use Rattle.status_rewrites.specs.Buckets.{AreBuckets}
+use Rattle.status_rewrites.specs.Joins.{side_of}
+use Rattle.status_rewrites.proofs.buckets.deal.Given as goal
+
+abbrev pub invariant-loop-item : goal.invariant-loop-item
+invariant-loop-item l = AreBuckets (side_of l.side l.track_empty (take l.item-index l.seen)) l.buckets.items

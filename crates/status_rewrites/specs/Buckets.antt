@@ -1,0 +1,57 @@
+-- A list that is joined bucket by bucket.
+use Rattle.std.specs.Prelude.{◌≡◌, ◌==◌, ℕ, ◌+◌, ◌*◌, ◌/◌, ◌<◌, min, Bool, List, ◌++◌, length, map, slice_index}
+use Rattle.std.specs.List.{filter, slice_index_or}
+use Rattle.std.specs.Global.{Vec}
+use denote.Ref.{Bor}
+use Rattle.status_index.specs.BlobId.{id_kind, id_bytes}
+use Rattle.status_index.specs.Orders.{kind_rank}
+use Rattle.status_rewrites.specs.declared.change.ChangeKind.TheVariants.{Deletion, Addition}
+use Rattle.status_rewrites.specs.declared.seen.Seen.{Seen}
+use Rattle.status_rewrites.specs.declared.tracker.Pair.{Pair}
+use Rattle.status_rewrites.specs.Changed.{Changed}
+use Rattle.status_rewrites.specs.IdentityPairs.{mode_number}
+use Rattle.status_rewrites.specs.Joins.{HasRows, IsJoin, side_of}
+use Rattle.status_rewrites.specs.SeenItems.{changed_of}
+
+-- three kinds of node, two of id, and what twelve bits say
+unfoldable pub bucket_count : ℕ
+bucket_count = 3 * 2 * 4096
+
+-- the first twelve bits of bytes; at 4095 for numbers that are no bytes
+abbrev pub leading_bits : List ℕ → ℕ
+leading_bits bytes = min (slice_index bytes 0 * 16 + min (slice_index bytes 1) 255 / 16) 4095
+
+-- the bucket of a change, by kind of node, kind of id and the id's first bits
+unfoldable pub bucket_number : Changed → ℕ
+bucket_number x = (mode_number x.mode * 2 + kind_rank (id_kind x.id)) * 4096 + leading_bits (id_bytes x.id)
+
+-- what of a list belongs into a bucket
+abbrev pub in_bucket : ℕ → List Seen → List Seen
+in_bucket number xs = filter (λ s. bucket_number (changed_of s) == number) xs
+
+-- what a bucket names
+abbrev pub named_in : Vec (Bor Seen) → List Seen
+named_in bucket = map (λ s. s.now) bucket.items
+
+-- the buckets of a list, each in the list's order
+pub record AreBuckets (xs : List Seen) (buckets : List (Vec (Bor Seen))) : Type 0 where
+  pub count : length buckets ≡ bucket_count
+  pub each : (i : ℕ) (d : Vec (Bor Seen)) → i < length buckets → named_in (slice_index_or buckets i d) ≡ in_bucket i xs
+
+-- pairs with those of two buckets behind them
+pub record IsAppendedJoin (gone came : List Seen) (old new : List Pair) : Type 0 where
+  pub first : List Seen
+  pub second : List Seen
+  pub more : List Pair
+  pub is : new ≡ old ++ more
+  pub first_rows : HasRows gone first
+  pub second_rows : HasRows came second
+  pub join : IsJoin first second more
+
+-- the pairs of a list's two sides
+pub record ArePairsOf (track_empty : Bool) (xs : List Seen) (pairs : List Pair) : Type 0 where
+  pub gone : List Seen
+  pub came : List Seen
+  pub gone_rows : HasRows (side_of Deletion track_empty xs) gone
+  pub came_rows : HasRows (side_of Addition track_empty xs) came
+  pub join : IsJoin gone came pairs

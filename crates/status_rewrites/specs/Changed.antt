@@ -1,0 +1,12 @@
+-- What a tracker sees of a change.
+use Rattle.std.specs.Prelude.{ℕ, List}
+use Rattle.status_index.specs.declared.id.ObjectId.{ObjectId}
+use Rattle.status_index.specs.declared.mode.EntryKind.{EntryKind}
+use Rattle.status_rewrites.specs.declared.change.ChangeKind.{ChangeKind}
+
+-- what a tracker sees of a change
+pub record Changed : Type 0 where
+  pub id : ObjectId
+  pub kind : ChangeKind
+  pub mode : EntryKind
+  pub path : List ℕ

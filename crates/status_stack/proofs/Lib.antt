@@ -1,4 +1,0 @@
-pub mod CommonFronts
-pub mod LinkLemmas
-pub mod ListedOnce
-pub mod LooksLemmas

@@ -1,5 +1,0 @@
-use Rattle.status_stack.proofs.ListedOnce.{listed_once_law}
-use Rattle.status_stack.proofs.laws.directories_are_listed_once.Goals as goal
-
-pub returns : goal.returns
-returns c = λ qs. listed_once_law qs

@@ -1,5 +1,0 @@
-use Rattle.status_stack.proofs.LooksLemmas.{looks_law}
-use Rattle.status_stack.proofs.laws.looks_are_few.Goals as goal
-
-pub returns : goal.returns
-returns c = λ modelled lstat old new qs. looks_law modelled lstat old new qs

@@ -1,0 +1,40 @@
+-- A replay of stretches of events, between which the index is stored and opened again.
+use Rattle.std.specs.Prelude.{ℕ, ◌+◌, ◌<◌, List, [], ◌∷◌, ◌++◌, length, take, Option, Some, None, Vec, ⊤}
+use Rattle.std.specs.List.{slice_index_or}
+use Rattle.std.specs.declared.alloc.Global.{Global}
+use Rattle.status_stored.specs.declared.stop.Stop.{Stop}
+use Rattle.status_stored.specs.declared.stop.Stop.TheVariants as stops
+use Rattle.status_stored.specs.Storable.{IsNotUtf8At}
+use Rattle.status_world.specs.declared.world.event.Event.{Event}
+use Rattle.status_world.specs.declared.world.refusal.Refusal.{Refusal}
+use Rattle.status_world.specs.declared.world.refusal.Refusal.TheVariants as refusals
+use Rattle.status_world.specs.History.{IsReplay}
+use Rattle.status_world.specs.Reports.{RunReport}
+use Rattle.status_world.specs.Sound.{IsFormed}
+use Rattle.status_world.specs.StampedWorld.{StampedWorld}
+
+-- the events of some stretches, in order
+abbrev pub events_in : List (Vec Event Global) → List Event
+events_in [] = []
+events_in (s ∷ ss) = s.items ++ events_in ss
+
+-- an index isn't opened again where memory is wanting; or where a path isn't UTF-8, in a world that events made
+abbrev pub IsOpeningRefusal : StampedWorld → Refusal → Type 0
+IsOpeningRefusal w refusals.Memory = ⊤
+IsOpeningRefusal w refusals.OtherIndex = IsFormed w → (at : ℕ) × IsNotUtf8At w.entries at
+IsOpeningRefusal w _ = ⊥
+
+-- an event of a stretch, by both their places
+abbrev pub IsPlaceIn : List (Vec Event Global) → ℕ → ℕ → Type 0
+IsPlaceIn ss stretch at = (stretch < length ss) × ((d : Vec Event Global) → at < length (slice_index_or ss stretch d).items)
+
+-- what is left is what a replay of the events leaves without a reopening: of all; up to a refused one; of those before a
+-- stretch that isn't the first; or, where there was no memory for the last stretch's reports, without these
+abbrev pub IsReopenedReplay : StampedWorld → List (Vec Event Global) → StampedWorld → List RunReport → Option Stop → Type 0
+IsReopenedReplay w ss final reports None = IsReplay w (events_in ss) final reports None
+IsReopenedReplay w ss final reports (Some (stops.Event stretch at refusal)) =
+    IsPlaceIn ss stretch at × IsReplay w (events_in ss) final reports (Some (length (events_in (take stretch ss)) + at, refusal))
+IsReopenedReplay w ss final reports (Some (stops.Opening stretch refusal)) =
+    (0 < stretch) × (stretch < length ss) × IsReplay w (events_in (take stretch ss)) final reports None × IsOpeningRefusal final refusal
+IsReopenedReplay w ss final reports (Some (stops.Reports stretch)) =
+    (stretch < length ss) × (lost : List RunReport) × (stopped : Option (ℕ × Refusal)) × IsReplay w (events_in (take (stretch + 1) ss)) final (reports ++ lost) stopped

@@ -1,0 +1,38 @@
+//! The index of a world, stored and opened again.
+
+ghost use Rattle.std.specs.Prelude.{◌≡◌, ◌<◌, IfErr};
+ghost use Rattle.status_stored.specs.Reopening.{IsOpeningRefusal};
+
+use crate::{ReopenError, reopened};
+use status_world::world::{Refusal, World};
+use std::alloc::Global;
+
+/// Stores the index of a world, writes it as text, parses and loads that, and opens in the world what was loaded. The
+/// world says what it said, whatever is answered.
+///
+/// # Errors
+/// Where a path isn't UTF-8 there is no such index. Or where memory runs out.
+fn open_again(alloc: Global, world: &mut World) -> Result<(), Refusal>
+    ensures kept { world.new ≡ world.old }
+    ensures refused { IfErr result (IsOpeningRefusal world.old) }
+{
+    let index = match reopened(alloc, world.index()) {
+        Ok(index) => index,
+        Err(ReopenError::Memory) => return Err(Refusal::Memory),
+        Err(ReopenError::NotUtf8 { .. }) => return Err(Refusal::OtherIndex),
+        Err(ReopenError::Unreadable) => return Err(Refusal::OtherIndex),
+    };
+    world.reopen(index)
+}
+
+/// The same before a stretch of events, where it isn't the first.
+pub(crate) fn open_before(alloc: Global, world: &mut World, stretch: usize) -> Result<(), Refusal>
+    ensures kept { world.new ≡ world.old }
+    ensures refused { IfErr result (IsOpeningRefusal world.old) }
+    ensures later { IfErr result (λ _. 0 < stretch) }
+{
+    if stretch == 0 {
+        return Ok(());
+    }
+    open_again(alloc, world)
+}

@@ -1,0 +1,71 @@
+//! Replaying stretches of events.
+
+ghost use Rattle.std.specs.Prelude.{All, map};
+ghost use Rattle.status_stored.specs.Reopening.{IsReopenedReplay};
+ghost use Rattle.status_world.specs.Reports.{HasSum, report_value};
+ghost use Rattle.status_world.specs.Sound.{IsFormed};
+
+use crate::opening::open_before;
+use crate::stop::{ReopenedReplay, Stop};
+use status_world::world::{Event, Replay, World, replay};
+use std::alloc::Global;
+use std::sync::Wait;
+use std::thread::Threads;
+
+/// Lets the events of some stretches happen in turn, up to the first that is refused. Between two stretches the index is
+/// stored, written as text, parsed, loaded, and opened again in the world.
+///
+/// **To store an index and open it again changes nothing**: the reports and the world are those of a
+/// [`replay`](status_world::world::replay) of all the events without a reopening.
+pub fn replay_reopening<R: Threads + Wait>(
+    rt: &R,
+    alloc: Global,
+    world: World,
+    stretches: &[Vec<Event>],
+) -> ReopenedReplay
+    ensures replay { IsReopenedReplay world stretches.now result.world (map report_value result.reports.items) result.stopped }
+    ensures formed { IsFormed world → IsFormed result.world }
+    ensures sums { All HasSum result.reports.items }
+{
+    let mut world = world;
+    let mut reports = Vec::new(alloc);
+    for (stretch, events) in stretches.iter().enumerate() {
+        if let Err(refusal) = open_before(alloc, &mut world, stretch) {
+            return ReopenedReplay {
+                world,
+                reports,
+                stopped: Some(Stop::Opening { stretch, refusal }),
+            };
+        }
+        let Replay {
+            world: next,
+            reports: mut more,
+            stopped,
+        } = replay(rt, alloc, world, events);
+        world = next;
+        if reports.append(&mut more).is_err() {
+            return ReopenedReplay {
+                world,
+                reports,
+                stopped: Some(Stop::Reports { stretch }),
+            };
+        }
+        if let Some((at, refusal)) = stopped {
+            let stopped = Some(Stop::Event {
+                stretch,
+                at,
+                refusal,
+            });
+            return ReopenedReplay {
+                world,
+                reports,
+                stopped,
+            };
+        }
+    }
+    ReopenedReplay {
+        world,
+        reports,
+        stopped: None,
+    }
+}

@@ -1,0 +1,184 @@
+//! Statuses in few words: what is asked for, and what is reported.
+//!
+//! Other options or an interrupt flag are set as fields: `Request { options: .., ..request }`. `report.answer` is what
+//! the status answered, and `report.records` are the entries themselves.
+
+use status_base::index::{ObjectId, State};
+use status_base::worktree::{
+    AllPaths, Lister, MemoryObjects, NoFilter, NoLister, NoSubmodules, SubmoduleStatus, ToGit,
+    Worktree,
+};
+use status_call::index_as_worktree::{self, Capabilities};
+use status_compare::HashEq;
+use status_joined::index_as_worktree_with_renames::{
+    Context, DirwalkContext, Entry, Error, ExactClone, Options, Outcome, Recorder, Sorting,
+    VisitEntry, index_as_worktree_with_renames,
+};
+use status_rewrites::{Rewrites, Tracker};
+use status_walk::Walk;
+use std::alloc::Global;
+use std::sync::Wait;
+use std::sync::atomic::AtomicBool;
+use std::thread::Threads;
+
+/// What is asked for, beside an index and a worktree: a walk, a tracker, options and an interrupt flag.
+#[derive(Drop)]
+pub struct Request<'a, K, X> {
+    pub walk: K,
+    pub tracker: X,
+    pub options: Options,
+    pub interrupt: Option<&'a AtomicBool>,
+}
+
+impl<'a, K, X> Request<'a, K, X> {
+    /// Asks for what the index and the walk have, sorted, with no renames or copies. Links count, and executability
+    /// doesn't.
+    pub fn sorted(walk: K, tracker: X) -> Request<'a, K, X> {
+        Request {
+            walk,
+            tracker,
+            options: options(None),
+            interrupt: None,
+        }
+    }
+
+    /// Asks for renames and copies as well, but not for those of files with no bytes.
+    pub fn rewritten(walk: K, tracker: X) -> Request<'a, K, X> {
+        Request {
+            walk,
+            tracker,
+            options: options(Some(Rewrites { track_empty: false })),
+            interrupt: None,
+        }
+    }
+}
+
+/// Options with which the list is sorted, the worktree is walked, links count and executability doesn't.
+pub fn options(rewrites: Option<Rewrites>) -> Options {
+    Options {
+        sorting: Some(Sorting::ByPathCaseSensitive),
+        dirwalk: true,
+        rewrites,
+        tracked_file_modifications: index_as_worktree::Options {
+            fs: Capabilities {
+                symlink: true,
+                executable_bit: false,
+            },
+            ..index_as_worktree::Options::default()
+        },
+        ..Options::default()
+    }
+}
+
+/// What was reported: the entries, and what the status took or why it failed.
+#[derive(Drop)]
+pub struct Report<'index> {
+    pub records: Vec<Entry<'index, ObjectId, ()>>,
+    pub answer: Result<Outcome, Error>,
+}
+
+/// Tells of an index and a worktree, by ids.
+pub fn joined<
+    'index,
+    R: AllocGlobal + Threads + Wait,
+    W: Worktree + Sync,
+    K: Walk<W> + Send + Drop,
+    X: Tracker + Drop,
+>(rt: &R, index: &'index State, worktree: &W, request: Request<'_, K, X>) -> Report<'index>
+where
+    W::File: Send,
+{
+    let alloc = rt.alloc();
+    let mut recorder = Recorder::new(alloc);
+    let answer = tell(rt, alloc, index, worktree, &mut recorder, request);
+    Report {
+        records: recorder.records,
+        answer,
+    }
+}
+
+/// Tells a collector of an index and a worktree, by ids.
+pub fn tell<
+    'index,
+    R: Threads + Wait,
+    W: Worktree + Sync,
+    V: VisitEntry<'index, ContentChange = ObjectId, SubmoduleStatus = ()>,
+    K: Walk<W> + Send + Drop,
+    X: Tracker + Drop,
+>(
+    rt: &R,
+    alloc: Global,
+    index: &'index State,
+    worktree: &W,
+    collector: &mut V,
+    request: Request<'_, K, X>,
+) -> Result<Outcome, Error>
+where
+    W::File: Send,
+{
+    tell_handed(
+        rt,
+        alloc,
+        index,
+        worktree,
+        collector,
+        NoSubmodules,
+        NoFilter,
+        NoLister,
+        request,
+    )
+}
+
+/// Tells a collector of an index and a worktree, by ids, with submodules, a filter and a lister.
+pub fn tell_handed<
+    'index,
+    R: Threads + Wait,
+    W: Worktree + Sync,
+    S: SubmoduleStatus + Send,
+    F: ToGit + Send,
+    L: Lister + Send,
+    V: VisitEntry<'index, ContentChange = ObjectId, SubmoduleStatus = S::Output>,
+    K: Walk<W> + Send + Drop,
+    X: Tracker + Drop,
+>(
+    rt: &R,
+    alloc: Global,
+    index: &'index State,
+    worktree: &W,
+    collector: &mut V,
+    submodule: S,
+    filter: F,
+    lister: L,
+    request: Request<'_, K, X>,
+) -> Result<Outcome, Error>
+where
+    W::File: Send,
+    S::Output: Send + ExactClone + 'index,
+{
+    let Request {
+        walk,
+        tracker,
+        options,
+        interrupt,
+    } = request;
+    let context = Context {
+        pathspec: AllPaths,
+        filter,
+        lister,
+        should_interrupt: interrupt,
+        dirwalk: DirwalkContext { walk },
+        tracker,
+    };
+    index_as_worktree_with_renames(
+        rt,
+        alloc,
+        index,
+        worktree,
+        collector,
+        HashEq,
+        submodule,
+        MemoryObjects::new(alloc),
+        context,
+        options,
+    )
+}

@@ -1,9 +1,0 @@
--- A change that stands for none: what reading a list past its end gives.
-use Rattle.std.proofs.Common.{[]}
-use Rattle.status_index.specs.declared.id.ObjectId.TheVariants.{Sha1}
-use Rattle.status_index.specs.declared.mode.EntryKind.TheVariants.{Tree}
-use Rattle.status_tracker.specs.declared.change.ChangeKind.TheVariants.{Deletion}
-use Rattle.status_tracker.specs.declared.seen.Seen.{Seen}
-
-abbrev pub blank : Seen
-blank = record { place = 0; id = Sha1 []; kind = Deletion; mode = Tree; path = record { ref_ptr = (0, 0); now = [] } }

@@ -1,7 +1,0 @@
-use Rattle.std.proofs.Common.{take}
-use Rattle.status_tracker.specs.Buckets.{AreBuckets}
-use Rattle.status_tracker.specs.Joins.{side_of}
-use Rattle.status_tracker.proofs.buckets.deal.Given as goal
-
-abbrev pub invariant-loop-item : goal.invariant-loop-item
-invariant-loop-item l = AreBuckets (side_of l.side l.track_empty (take l.item-index l.seen)) l.buckets.items

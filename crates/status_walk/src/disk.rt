@@ -1,0 +1,133 @@
+//! The walk over a folder of the disk.
+
+ghost use Rattle.std.specs.Prelude.{[], None, false};
+
+use crate::disk::entries::{is_submodule, is_tracked};
+use crate::disk::folder::{Folder, found};
+use crate::disk::pending::{Pending, fault_at};
+use crate::{Action, Delegate, DirEntry, Kind, Outcome, Status, Walk, WalkError};
+use bstr::{BStr, BString};
+use status_base::index::State;
+use status_base::worktree::{Fault, Pathspec, Worktree};
+use std::alloc::AllocError;
+use std::path::Path;
+use std::rt::Files;
+
+// Git keeps its own things under this name.
+const GIT_NAME: &str = ".git";
+
+/// Finds what lies in a folder of the disk and isn't tracked: the files, links and other nodes that a pathspec includes,
+/// whose paths no entry has, and which lie below no submodule's entry, in ascending order of their paths.
+///
+/// A node named `.git` is passed over with all below it, wherever it lies: git keeps its own things there, and takes no
+/// such path into an index. Another repository in the folder is walked like any directory, unless it is a submodule. A
+/// symbolic link is handed out, and isn't followed.
+///
+/// What is gone before the walk comes to it is passed over, as is a folder that isn't there. A directory that can't be
+/// listed ends the walk with its fault, as a node does that can't be told by `lstat`. A name that isn't UTF-8 can't be had
+/// from the system: it ends the walk with `IllformedUtf8` at its directory.
+///
+/// The folder may change while the walk goes on, so the walk isn't modelled.
+#[derive(Drop)]
+pub struct DiskWalk<R> {
+    folder: Folder<R>,
+}
+
+impl<R: Files + AllocGlobal + Clone + Drop> DiskWalk<R> {
+    /// A walk over the folder at a path, where an empty path is the working folder. It has to be the folder of the
+    /// worktree that is walked: directories are listed here, and that worktree's `lstat` tells what the names are of.
+    ///
+    /// # Errors
+    /// Want of memory.
+    pub fn new(rt: R, root: Path<'_>) -> Result<DiskWalk<R>, AllocError> {
+        Ok(DiskWalk {
+            folder: Folder::new(rt, root)?,
+        })
+    }
+
+    /// Adds what lies in a directory to what is to be visited.
+    fn enter<W: Worktree>(
+        &self,
+        worktree: &W,
+        directory: &str,
+        pending: &mut Pending,
+    ) -> Result<(), WalkError> {
+        let alloc = self.folder.alloc();
+        let listing = match self.folder.list(directory) {
+            Ok(listing) => listing,
+            Err(Fault::NotFound) => return Ok(()),
+            Err(fault) => return Err(fault_at(alloc, name_of(directory), fault)),
+        };
+        for listed in listing {
+            let entry = match found(listed) {
+                Ok(entry) => entry,
+                Err(fault) => return Err(fault_at(alloc, name_of(directory), fault)),
+            };
+            if entry.file_name() != GIT_NAME {
+                pending.add(worktree, directory, entry.file_name())?;
+            }
+        }
+        Ok(())
+    }
+}
+
+impl<W: Worktree, R: Files + AllocGlobal + Clone + Drop> Walk<W> for DiskWalk<R> {
+    ghost modelled = { λ _. false };
+
+    ghost meaning = { λ _ _ _ _ _. record { entries = []; fault = None } };
+
+    fn walk<P: Pathspec, D: Delegate>(
+        &mut self,
+        worktree: &W,
+        index: &State,
+        pathspec: &P,
+        delegate: &mut D,
+    ) -> Result<Outcome, WalkError> {
+        let mut pending = Pending::root(self.folder.alloc())?;
+        let mut emitted = 0;
+        for turn in 0..u64::MAX {
+            let Some((path, kind)) = pending.pop() else {
+                return Ok(Outcome {
+                    emitted,
+                    cancelled: false,
+                });
+            };
+            if kind == Kind::Directory {
+                if !is_submodule(index, name_of(path.as_str())) {
+                    self.enter(worktree, path.as_str(), &mut pending)?;
+                }
+            } else if is_untracked(index, pathspec, path.as_str()) {
+                match delegate.emit(untracked(path, kind), None)? {
+                    Action::Continue => emitted += 1,
+                    Action::Cancel => {
+                        return Ok(Outcome {
+                            emitted: emitted + 1,
+                            cancelled: true,
+                        });
+                    }
+                }
+            }
+        }
+        // More nodes than memory has room for.
+        Err(WalkError::Memory)
+    }
+}
+
+/// The path of a directory as an index has it: without the slash at its end.
+fn name_of(directory: &str) -> &str {
+    directory.strip_suffix('/').unwrap_or(directory)
+}
+
+/// Whether a pathspec includes a path that no entry has.
+fn is_untracked<P: Pathspec>(index: &State, pathspec: &P, path: &str) -> bool {
+    pathspec.includes(BStr::new(path.as_bytes()), false) && !is_tracked(index, path)
+}
+
+/// The entry of a node that isn't tracked.
+fn untracked(path: String, kind: Kind) -> DirEntry {
+    DirEntry {
+        rela_path: BString::from(path),
+        status: Status::Untracked,
+        disk_kind: Some(kind),
+    }
+}

@@ -1,0 +1,83 @@
+//! What a walk is still to visit.
+
+use crate::{Kind, WalkError};
+use bstr::{BStr, BString};
+use status_base::worktree::{Fault, NodeKind, Worktree};
+use std::alloc::Global;
+use std::collections::BTreeMap;
+
+/// What a walk is still to visit, in ascending order of the paths. A directory's path ends in a slash, so that it stands
+/// where the paths below it do.
+#[derive(Drop)]
+pub(crate) struct Pending {
+    alloc: Global,
+    nodes: BTreeMap<String, Kind>,
+}
+
+impl Pending {
+    /// The folder itself, whose path is empty.
+    ///
+    /// # Errors
+    /// Want of memory.
+    pub(crate) fn root(alloc: Global) -> Result<Pending, WalkError> {
+        let mut pending = Pending {
+            alloc,
+            nodes: BTreeMap::new(alloc),
+        };
+        pending.put(String::new(alloc), Kind::Directory)?;
+        Ok(pending)
+    }
+
+    /// Takes the first node out.
+    pub(crate) fn pop(&mut self) -> Option<(String, Kind)> {
+        self.nodes.pop_first()
+    }
+
+    /// Adds what has a name in a directory. What is gone already is passed over.
+    ///
+    /// # Errors
+    /// The fault of its `lstat`, or want of memory.
+    pub(crate) fn add<W: Worktree>(
+        &mut self,
+        worktree: &W,
+        directory: &str,
+        name: &str,
+    ) -> Result<(), WalkError> {
+        let mut path = String::from_str(self.alloc, directory)?;
+        path.push_str(name)?;
+        match worktree.lstat(BStr::new(path.as_bytes())) {
+            Ok(node) if node.kind == NodeKind::Directory => {
+                path.push('/')?;
+                self.put(path, Kind::Directory)
+            }
+            Ok(node) => self.put(path, kind_of(node.kind)),
+            Err(Fault::NotFound) => Ok(()),
+            Err(fault) => Err(fault_at(self.alloc, path.as_str(), fault)),
+        }
+    }
+
+    fn put(&mut self, path: String, kind: Kind) -> Result<(), WalkError> {
+        match self.nodes.insert(path, kind) {
+            Ok(_replaced) => Ok(()),
+            Err(_refused) => Err(WalkError::Memory),
+        }
+    }
+}
+
+/// What a node is as an entry of a walk.
+fn kind_of(kind: NodeKind) -> Kind {
+    match kind {
+        NodeKind::File => Kind::File,
+        NodeKind::Link => Kind::Symlink,
+        NodeKind::Directory => Kind::Directory,
+        NodeKind::Other => Kind::Untrackable,
+    }
+}
+
+/// A fault that was met at a path.
+pub(crate) fn fault_at(alloc: Global, path: &str, fault: Fault) -> WalkError {
+    match BString::from_slice(alloc, path) {
+        Ok(rela_path) if fault != Fault::Memory => WalkError::Fault { rela_path, fault },
+        _ => WalkError::Memory,
+    }
+}
