@@ -21,6 +21,7 @@ use Rattle.status_call.specs.Pieces.{IsAsMeant, IsFaultAt}
 use Rattle.status_call.specs.Outcomes.{outcome_of, skipped_of}
 use Rattle.status_call.specs.Query.{Query}
 use Rattle.status_call.specs.Records.{records_in, records_of, faults_in, first_fault, verdict}
+use Rattle.status_call.specs.StatusOf.{IsUnspawned}
 use Rattle.status_call.specs.StatusTheorem.{IsBeginning, IsComplete, IsMet, IsStatusOf, IsFirstFault, NeverSpawns, considered_entries, start_of}
 use Rattle.status_call.specs.Visits.{Visit, finding_of, IsFaithful}
 use Rattle.status_call.specs.Worked.{IsShortage, IsStopped, IsReportedWork}
@@ -242,6 +243,14 @@ work_kept q r faithful interruptible workers start place whole part old new resu
     subst (λ l. IsReportedWork q start l 0 faithful interruptible workers (length l) old result new) of
     (subst (λ n. IsReportedWork q n part 0 faithful interruptible workers (length part) old result new) at
     (subst (λ x. IsReportedWork x place part 0 faithful interruptible workers (length part) old result new) same work))
+
+-- what is met by an equal query
+pub met_along : {T U : Type 0} (q r : Query T U) → r ≡ q → (index : State) (old : List (Visit T U)) (result : Result Outcome Error) (new : List (Visit T U)) → IsMet r index old result new → IsMet q index old result new
+met_along q r same index old result new met = subst (λ x. IsMet x index old result new) same met
+
+-- the same of threads, and by an equal limit
+pub unspawned_along : {T U : Type 0} (q r : Query T U) → r ≡ q → (m n : Option ℕ) → n ≡ m → (result : Result Outcome Error) → IsUnspawned r n result → IsUnspawned q m result
+unspawned_along q r same m n limit result alone = subst (λ x. IsUnspawned x m result) same (subst (λ x. IsUnspawned r x result) limit alone)
 
 -- how many entries are considered, and how many aren't
 module _ {X Y : Type 0} (all whole : List X) (entries : List Y) (s e : ℕ) (part : part_of all s e ≡ whole) (order : s ≤ e) (inside : e ≤ length entries) (same : length all ≡ length entries) where

@@ -1,5 +1,5 @@
 -- The status theorem of a call, by what was handed in, the options and the index.
-use Rattle.std.specs.Prelude.{◌≡◌, ◌≢◌, IsTrue, List, Some, Result, Err}
+use Rattle.std.specs.Prelude.{◌≡◌, ◌≢◌, ℕ, IsTrue, List, Option, Some, Result, Err}
 use Rattle.status_index.specs.declared.state.State.{State}
 use Rattle.status_compare.specs.declared.error.Error.{Error}
 use Rattle.status_compare.specs.declared.error.Error.TheVariants.{SpawnThread}
@@ -11,6 +11,10 @@ use Rattle.status_call.specs.Query.{Query}
 use Rattle.status_call.specs.StatusTheorem.{IsMet, NeverSpawns}
 use Rattle.status_call.specs.Visits.{Visit}
 
+-- with limit 1 no thread is refused, where the comparer doesn't answer so
+abbrev pub IsUnspawned : {T U : Type 0} → Query T U → Option ℕ → Result Outcome Error → Type 0
+IsUnspawned q limit result = IsTrue q.modelled → limit ≡ Some 1 → NeverSpawns q → result ≢ Err SpawnThread
+
 module _ {I T U : Type 0} (query : I → Settings → Query T U) (given : I) (options : Options)
     (index : State) where
   abbrev query_of : Query T U
@@ -21,7 +25,6 @@ module _ {I T U : Type 0} (query : I → Settings → Query T U) (given : I) (op
       → Type 0
   IsStatus visits old result new = IsMet query_of index (visits old) result (visits new)
 
-  -- with limit 1 no thread is refused, where the comparer doesn't answer so
+  -- the same of threads
   abbrev pub IsAlone : Result Outcome Error → Type 0
-  IsAlone result = IsTrue query_of.modelled → options.thread_limit ≡ Some 1 → NeverSpawns query_of
-      → result ≢ Err SpawnThread
+  IsAlone result = IsUnspawned query_of options.thread_limit result

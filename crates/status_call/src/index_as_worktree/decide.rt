@@ -37,6 +37,10 @@ pub trait Decide {
     /// What decisions depend on.
     ghost query: { Self → Query Self.Content Self.Submodule };
 
+    /// With what the path of each considered entry begins, where any entry's does.
+    fn common_prefix(&self) -> BStr<'_>
+        ensures { bstr_bytes result ≡ (query self.now).prefix };
+
     /// Whether the pathspec includes an entry.
     fn includes(&self, entry: &Entry, path: BStr<'_>) -> bool
         ensures { result

@@ -13,7 +13,7 @@ use crate::index_as_worktree::content::{
     compare_node, decision_of, is_trusted, needs_comparison, unread,
 };
 use crate::index_as_worktree::decide::{Decide, Decided};
-use crate::index_as_worktree::inputs::{Inputs, Means, Settings};
+use crate::index_as_worktree::inputs::{HasQuery, Inputs, Settings};
 use crate::index_as_worktree::site::{Look, Site, find};
 use crate::index_as_worktree::types::{Change, EntryStatus, Error};
 use bitflags::Flags as _;
@@ -64,7 +64,7 @@ where
         settings: Settings,
     ) -> Decider<'w, W, C, S, O, P, T, L>
         ensures { ⟦<Decider<'w, W, C, S, O, P, T, L> as Decide>⟧.query result
-            ≡ ⟦<Inputs<'w, W, C, S, O, P, T, L> as Means>⟧.query inputs.entry settings }
+            ≡ ⟦<Inputs<'w, W, C, S, O, P, T, L> as HasQuery>⟧.query inputs.entry settings }
     {
         let root = BString::new(Vec::new(alloc));
         let check = SymlinkCheck::new(alloc, root);
@@ -229,7 +229,11 @@ where
 
     type Submodule = S::Output;
 
-    ghost query = { λ d. ⟦<Inputs<'w, W, C, S, O, P, T, L> as Means>⟧.query d.inputs d.settings };
+    ghost query = { λ d. ⟦<Inputs<'w, W, C, S, O, P, T, L> as HasQuery>⟧.query d.inputs d.settings };
+
+    fn common_prefix(&self) -> BStr<'_> {
+        self.inputs.pathspec.common_prefix()
+    }
 
     fn includes(&self, entry: &Entry, path: BStr<'_>) -> bool {
         let is_submodule = entry.mode.is_submodule();

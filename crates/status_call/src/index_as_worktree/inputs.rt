@@ -2,12 +2,13 @@
 
 ghost use Rattle.std.specs.Prelude.{◌≡◌, IfOk};
 ghost use Rattle.status_base.specs.Listed.{known_node};
+ghost use Rattle.status_call.specs.Inputs.{settings};
 ghost use Rattle.status_call.specs.Modelled.{all_modelled, are_modelled};
 ghost use Rattle.status_call.specs.Query.{Query};
 ghost use Rattle.status_call.specs.declared.index_as_worktree.inputs.Settings.{Settings as StatusSettings};
 
-use crate::index_as_worktree::types::Capabilities;
-use status_base::index::{Moment, stat};
+use crate::index_as_worktree::types::{Capabilities, Options};
+use status_base::index::{Moment, State, stat};
 use status_base::worktree::{Find, Lister, Pathspec, SubmoduleStatus, ToGit, Worktree};
 use status_compare::CompareBlobs;
 use std::alloc::AllocError;
@@ -23,6 +24,20 @@ pub struct Settings {
     pub fs: Capabilities,
     /// Whether listings of directories are asked before `lstat`.
     pub fscache: bool,
+}
+
+impl Settings {
+    /// Those that the options and the index name.
+    pub fn of(options: &Options, index: &State) -> Settings
+        ensures { result ≡ settings options.now index.now }
+    {
+        Settings {
+            timestamp: index.timestamp(),
+            stat: options.stat,
+            fs: options.fs,
+            fscache: options.fscache,
+        }
+    }
 }
 
 /// The worktree and the interfaces that a caller hands in.
@@ -45,7 +60,7 @@ pub struct Inputs<'w, W, C, S, O, P, T, L> {
 }
 
 /// What a status is computed from, whoever hands it in.
-pub trait Means {
+pub trait HasQuery {
     /// What a comparer reports of a change.
     type Content;
     /// What a submodule reports of a change.
@@ -71,7 +86,7 @@ impl<
     P: Pathspec,
     T: ToGit,
     L: Lister,
-> Means for Inputs<'w, W, C, S, O, P, T, L> {
+> HasQuery for Inputs<'w, W, C, S, O, P, T, L> {
     type Content = C::Output;
 
     type Submodule = S::Output;

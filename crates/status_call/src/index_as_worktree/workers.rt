@@ -3,6 +3,7 @@
 ghost use Rattle.std.specs.Prelude.{◌≡◌, ◌≤◌, min};
 ghost use Rattle.status_call.specs.Workers.{most_workers};
 
+use crate::index_as_worktree::types::Options;
 use std::sync::atomic::AtomicBool;
 
 /// The greatest number of workers.
@@ -10,6 +11,28 @@ const MOST_WORKERS: usize = 64;
 
 /// How many workers there are where nothing is said.
 const WORKERS: usize = 4;
+
+/// How the work is shared out.
+#[derive(Clone, Copy, Debug)]
+pub struct Limits {
+    /// How many workers there are at most; the usual number for None and 0.
+    pub thread_limit: Option<usize>,
+    /// How many entries a piece of work has, or 0 for the usual number.
+    pub chunk_size: usize,
+}
+
+impl Limits {
+    /// Those that the options name.
+    pub fn of(options: &Options) -> Limits
+        ensures thread_limit { result.thread_limit ≡ options.now.thread_limit }
+        ensures chunk_size { result.chunk_size ≡ options.now.chunk_size }
+    {
+        Limits {
+            thread_limit: options.thread_limit,
+            chunk_size: options.chunk_size,
+        }
+    }
+}
 
 /// The workers of a call.
 #[derive(Drop)]

@@ -1,57 +1,14 @@
 use Rattle.status_call.proofs.Sent.{decider_crosses}
-use Rattle.std.proofs.Common.{rules, ap, ◌∙◌, ◌<◌, ◌^◌, length}
-use Rattle.std.proofs.lemmas.List.{length-map}
-use Rattle.status_index.specs.Entries.{index_entry}
-use Rattle.status_index.specs.States.{entries_of, backing_of, index_of}
-use Rattle.status_call.proofs.Parts.{map-part}
-use Rattle.status_call.proofs.StatusProof.{status_alone, status_ok, status_err, work_kept, part_len, rest_len, skip_room}
+use Rattle.status_call.proofs.StatusProof.{met_along, unspawned_along}
 use Rattle.status_call.proofs.index_as_worktree.function.index_as_worktree.Goals as goal
 
 -- a decider may go to another thread, with its table of listings
-pub run_rounds-requires : goal.run_rounds-requires
-run_rounds-requires g c κs = (search decider_crosses depth 60, search decider_crosses depth 60)
-
-pub returns-in-Ok-clause-all : goal.returns-in-Ok-clause-all
-returns-in-Ok-clause-all g c =
-    let index = c.args.index.now in
-    let part_is = c.considered_entries-considered in
-    let considered = part_is.result in
-    let query = rw c.timestamp.ensures at c.new-decider.ensures in
-    let part = rw c.common_prefix.ensures at part_is.ensures.part in
-    let start = rw c.common_prefix.ensures at part_is.ensures.start in
-    let whole = map-part (index_entry (backing_of index)) (entries_of index) considered.start considered.end ∙ part in
-    let work = rw (part_is.ensures.entries, part_is.ensures.backing, c.by_limit-workers.ensures.interrupt) at c.in-Ok.ensures in
-    let kept = work_kept _ _ _ _ _ _ _ _ _ _ _ _ query start whole work in
-    let len = length-map (entries_of index) (index_entry (backing_of index)) in
-    let order = part_is.ensures.order in
-    let inside = part_is.ensures.inside in
-    let same = ap length part_is.ensures.entries in
-    let fits : length considered.entries.now < 2 ^ 64 = search rules in
-    rw c.of.ensures (status_ok _ _ _ _ _ _ c.in-Ok.progress _ _ kept
-    (part_len (index_of index) _ (entries_of index) considered.start considered.end part order inside len)
-    (rest_len (index_of index) _ (entries_of index) considered.start considered.end part order inside len _ same)
-    (skip_room (index_of index) _ (entries_of index) considered.start considered.end part order inside len _ same fits))
+pub status_by-requires : goal.status_by-requires
+status_by-requires g c κs = (search decider_crosses depth 60, search decider_crosses depth 60)
 
 pub returns-clause-all : goal.returns-clause-all
-returns-clause-all g c =
-    let index = c.args.index.now in
-    let part_is = c.considered_entries-considered in
-    let considered = part_is.result in
-    let query = rw c.timestamp.ensures at c.new-decider.ensures in
-    let part = rw c.common_prefix.ensures at part_is.ensures.part in
-    let start = rw c.common_prefix.ensures at part_is.ensures.start in
-    let whole = map-part (index_entry (backing_of index)) (entries_of index) considered.start considered.end ∙ part in
-    let work = rw (part_is.ensures.entries, part_is.ensures.backing, c.by_limit-workers.ensures.interrupt) at c.in-Err.ensures in
-    status_err _ _ _ _ _ _ c.in-Err.error (work_kept _ _ _ _ _ _ _ _ _ _ _ _ query start whole work)
+returns-clause-all g c = met_along _ _ (rw c.of-settings.ensures at c.new-decider.ensures) _ _ _ _ c.status_by.ensures.all
 
 pub returns-clause-alone : goal.returns-clause-alone
 returns-clause-alone g c =
-    let index = c.args.index.now in
-    let part_is = c.considered_entries-considered in
-    let considered = part_is.result in
-    let query = rw c.timestamp.ensures at c.new-decider.ensures in
-    let part = rw c.common_prefix.ensures at part_is.ensures.part in
-    let start = rw c.common_prefix.ensures at part_is.ensures.start in
-    let whole = map-part (index_entry (backing_of index)) (entries_of index) considered.start considered.end ∙ part in
-    let work = rw (part_is.ensures.entries, part_is.ensures.backing, c.by_limit-workers.ensures.interrupt) at c.in-Err.ensures in
-    status_alone _ index _ _ _ _ c.in-Err.error (work_kept _ _ _ _ _ _ _ _ _ _ _ _ query start whole work) c.args.options.thread_limit c.by_limit-workers.ensures.most
+    unspawned_along _ _ (rw c.of-settings.ensures at c.new-decider.ensures) _ _ c.of-limits.ensures.thread_limit _ c.status_by.ensures.alone

@@ -1,0 +1,116 @@
+//! The status of an index by whoever decides its entries.
+
+ghost use Rattle.std.specs.Prelude.{◌≡◌, ◌≤◌, None, IfOk, false, length};
+ghost use Rattle.status_index.specs.States.{entries_of, backing_of, index_of};
+ghost use Rattle.bstr.specs.BStr.{bstr_bytes};
+ghost use Rattle.status_index.specs.Stretch.{part_of};
+ghost use Rattle.status_call.specs.Considered.{considered, considered_start};
+ghost use Rattle.status_call.specs.StatusOf.{IsUnspawned};
+ghost use Rattle.status_call.specs.StatusTheorem.{IsMet};
+ghost use Rattle.status_call.specs.Workers.{chunk_size_of};
+
+use crate::index_as_worktree::considered::Considered;
+use crate::index_as_worktree::decide::Decide;
+use crate::index_as_worktree::types::{Error, Outcome, VisitEntry};
+use crate::index_as_worktree::work::run_rounds;
+use crate::index_as_worktree::workers::{Limits, Workers};
+use bstr::BStr;
+use status_base::index::State;
+use std::alloc::Global;
+use std::ops::Range;
+use std::sync::Wait;
+use std::sync::atomic::AtomicBool;
+use std::thread::Threads;
+
+/// How many entries a piece of work has where nothing is said, as git has it.
+const CHUNK_SIZE: usize = 500;
+
+/// The places of the considered entries: of those whose paths begin with the prefix, or of all, where none does.
+fn considered_range(index: &State, prefix: BStr<'_>) -> Range<usize>
+    ensures order { result.start ≤ result.end }
+    ensures inside { result.end ≤ length (entries_of index.now) }
+    ensures part { part_of (index_of index.now) result.start result.end
+        ≡ considered (bstr_bytes prefix.entry) (index_of index.now) }
+    ensures start { result.start ≡ considered_start (bstr_bytes prefix.entry) (index_of index.now) }
+{
+    match index.prefixed_entries_range(prefix) {
+        Some(range) => range,
+        None => 0..index.entries().len(),
+    }
+}
+
+/// The considered entries of an index: those whose paths begin with the prefix, or all, where none does.
+fn considered_entries<'index>(index: &'index State, prefix: BStr<'_>) -> Considered<'index>
+    ensures entries { result.entries.now ≡ entries_of index.entry.now }
+    ensures backing { result.backing.now ≡ backing_of index.entry.now }
+    ensures order { result.start ≤ result.end }
+    ensures inside { result.end ≤ length (entries_of index.entry.now) }
+    ensures part { part_of (index_of index.entry.now) result.start result.end
+        ≡ considered (bstr_bytes prefix.entry) (index_of index.entry.now) }
+    ensures start { result.start
+        ≡ considered_start (bstr_bytes prefix.entry) (index_of index.entry.now) }
+{
+    let range = considered_range(index, prefix);
+    Considered {
+        entries: index.entries(),
+        backing: index.path_backing(),
+        start: range.start,
+        end: range.end,
+    }
+}
+
+/// The number of entries of a piece, by what the options say.
+fn chunk_size_of(chunk_size: usize) -> usize
+    ensures { result ≡ chunk_size_of chunk_size }
+{
+    match chunk_size {
+        0 => CHUNK_SIZE,
+        chunk_size => chunk_size,
+    }
+}
+
+/// Reports to `collector` how what the decider sees differs from `index`, entry by entry in the order of the index, and
+/// answers what that took. Where the interrupt flag is seen set, the call ends early, and the outcome says so.
+///
+/// # Errors
+/// The fault of the first entry that has one, once the records before it were reported. A refused thread, or want of
+/// memory; then a beginning of the records was reported.
+pub fn status_by<
+    'index,
+    R: Threads + Wait,
+    D: Decide + Send + Drop,
+    V: VisitEntry<'index, ContentChange = D::Content, SubmoduleStatus = D::Submodule>,
+>(
+    rt: &R,
+    alloc: Global,
+    index: &'index State,
+    decider: &D,
+    interrupt: Option<&AtomicBool>,
+    limits: Limits,
+    collector: &mut V,
+) -> Result<Outcome, Error>
+where
+    D::Content: Send,
+    D::Submodule: Send,
+    ensures all { IsMet (D.query decider.now) index.now (V.visits collector.old) result (V.visits collector.new) }
+    ensures uninterrupted { interrupt.entry ≡ None → IfOk result (λ o. o.interrupted ≡ false) }
+    ensures alone { IsUnspawned (D.query decider.now) limits.thread_limit result }
+{
+    let considered = considered_entries(index, decider.common_prefix());
+    let workers = Workers::by_limit(limits.thread_limit, interrupt);
+    match run_rounds(
+        rt,
+        alloc,
+        &considered,
+        chunk_size_of(limits.chunk_size),
+        &workers,
+        decider,
+        collector,
+    ) {
+        Ok(progress) => {
+            let range = considered.start..considered.end;
+            Ok(Outcome::of(progress, considered.entries.len(), range))
+        }
+        Err(error) => Err(error),
+    }
+}
