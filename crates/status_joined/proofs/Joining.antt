@@ -5,9 +5,8 @@ use Rattle.std.proofs.lemmas.Bool.{false≢true}
 use Rattle.std.proofs.lemmas.List.{append-nil, length-take-le, take-append-drop}
 use Rattle.status_index.specs.declared.state.State.{State}
 use Rattle.status_call.specs.Query.{Query}
-use Rattle.status_call.specs.declared.index_as_worktree.inputs.Settings.{Settings}
 use Rattle.status_call.specs.declared.index_as_worktree.types.Outcome.{Outcome as StatusOutcome}
-use Rattle.status_joined.specs.BothHalves.{Walking}
+use Rattle.status_joined.specs.Walkings.{Walking}
 use Rattle.status_rewrites.specs.declared.rewritten.Rewritten.{Rewritten}
 use Rattle.status_rewrites.specs.declared.rewritten.Rewritten.TheVariants.{Alone}
 use Rattle.status_rewrites.specs.Changed.{Changed}
@@ -22,19 +21,19 @@ use Rattle.status_joined.specs.declared.index_as_worktree_with_renames.types.Opt
 use Rattle.status_joined.specs.Feeding.{AreReported}
 use Rattle.status_joined.specs.Identified.{Identifying}
 use Rattle.status_joined.specs.Items.{Item, Reported}
-use Rattle.status_joined.specs.Joined.{IsRewriting, IsRewritingFault, tracked_options}
+use Rattle.status_joined.specs.Joined.{IsRewriting, IsRewritingFault}
 use Rattle.status_joined.specs.JoinedTheorem.{HasJoinedList, IsFault, IsJoined, IsReportedOf, IsWhole}
 use Rattle.status_joined.specs.Listing.{HasList, IsHalfFault}
 use Rattle.status_joined.specs.Lists.{IsList, list_cmp, unsorted}
 use Rattle.status_joined.specs.Summaries.{reported_cmp}
 use Rattle.status_joined.proofs.InOrder.{alone_in_order, rewritten_in_order}
 
-module _ {T U : Type 0} (query : Settings → Query T U) (options : Options) (index : State) (interruptible : Bool) (walking : Option Walking) (ids : Identifying) (means : List Changed → Bool → Result (List Pair) TrackerFault → Type 0) where
+module _ {T U : Type 0} (query : Query T U) (options : Options) (index : State) (interruptible : Bool) (walking : Option Walking) (ids : Identifying) (means : List Changed → Bool → Result (List Pair) TrackerFault → Type 0) where
   -- an error before anything was reported
   pub quietly : (old : List (Reported T U)) (e : Error) → IsFault query options index interruptible walking ids means e → IsJoined query options index interruptible walking ids means old (Err e) old
   quietly old e fault = record { more = []; grew = sym (append-nil old); complete = tt; fault = fault; quiet = inl (λ i. []) }
 
-  pub of_half : (e : Error) → IsHalfFault query (tracked_options options) index interruptible walking options.object_hash (is_some options.sorting) e → IsFault query options index interruptible walking ids means e
+  pub of_half : (e : Error) → IsHalfFault query options.tracked_file_modifications.thread_limit index interruptible walking options.object_hash (is_some options.sorting) e → IsFault query options index interruptible walking ids means e
   of_half (errors.DirWalk x) fault = fault
   of_half (errors.TrackedFileModifications x) fault = fault
   of_half errors.Memory fault = tt
@@ -46,13 +45,19 @@ module _ {T U : Type 0} (query : Settings → Query T U) (options : Options) (in
   of_half (errors.ConvertToGit x) fault = absurd fault
   of_half (errors.RewriteTracker x) fault = absurd fault
 
-  pub of_half_at : (w : Option Walking) → w ≡ walking → (e : Error) → IsHalfFault query (tracked_options options) index interruptible w options.object_hash (is_some options.sorting) e → IsFault query options index interruptible walking ids means e
-  of_half_at w same e fault = of_half e (subst (λ x. IsHalfFault query (tracked_options options) index interruptible x options.object_hash (is_some options.sorting) e) same fault)
+  pub of_half_at : (r : Query T U) → r ≡ query → (n : Option ℕ) → n ≡ options.tracked_file_modifications.thread_limit → (w : Option Walking) → w ≡ walking → (e : Error) → IsHalfFault r n index interruptible w options.object_hash (is_some options.sorting) e → IsFault query options index interruptible walking ids means e
+  of_half_at r same n limited w walked e fault =
+      of_half e
+      (subst (λ x. IsHalfFault query options.tracked_file_modifications.thread_limit index interruptible x options.object_hash (is_some options.sorting) e) walked
+      (subst (λ x. IsHalfFault query x index interruptible w options.object_hash (is_some options.sorting) e) limited
+      (subst (λ x. IsHalfFault x n index interruptible w options.object_hash (is_some options.sorting) e) same fault)))
 
-  pub list_at : (w : Option Walking) → w ≡ walking → (sorted : Bool) → sorted ≡ is_some options.sorting → (list : List (Item T U)) (o : StatusOutcome) (walked : Option WalkOutcome) → HasList query (tracked_options options) index interruptible w options.object_hash sorted list o walked → HasJoinedList query options index interruptible walking ids means list o walked
-  list_at w same sorted wanted list o walked has =
-      subst (λ x. HasList query (tracked_options options) index interruptible x options.object_hash (is_some options.sorting) list o walked) same
-      (subst (λ y. HasList query (tracked_options options) index interruptible w options.object_hash y list o walked) wanted has)
+  pub list_at : (r : Query T U) → r ≡ query → (n : Option ℕ) → n ≡ options.tracked_file_modifications.thread_limit → (w : Option Walking) → w ≡ walking → (sorted : Bool) → sorted ≡ is_some options.sorting → (list : List (Item T U)) (o : StatusOutcome) (walked : Option WalkOutcome) → HasList r n index interruptible w options.object_hash sorted list o walked → HasJoinedList query options index interruptible walking ids means list o walked
+  list_at r same n limited w walks sorted wanted list o walked has =
+      subst (λ x. HasList query options.tracked_file_modifications.thread_limit index interruptible x options.object_hash (is_some options.sorting) list o walked) walks
+      (subst (λ x. HasList query x index interruptible w options.object_hash (is_some options.sorting) list o walked) limited
+      (subst (λ x. HasList x n index interruptible w options.object_hash (is_some options.sorting) list o walked) same
+      (subst (λ y. HasList r n index interruptible w options.object_hash y list o walked) wanted has)))
 
   pub alone_reported : options.rewrites ≡ None → (list : List (Item T U)) (ts : List (Reported T U)) → AreReported (map Alone list) ts → IsReportedOf query options index interruptible walking ids means options.rewrites list ts None
   alone_reported unwanted list ts reported = rw unwanted reported
@@ -126,9 +131,9 @@ module _ {T U : Type 0} (query : Settings → Query T U) (options : Options) (in
         }
 
   -- the same with what the call's steps say: of the walk that was wanted for, of whether the list is sorted, and of the ids' filter
-  module _ (w : Option Walking) (same_walk : w ≡ walking) (sorted : Bool) (same_order : sorted ≡ is_some options.sorting) (list : List (Item T U)) (tracked : StatusOutcome) (walked : Option WalkOutcome) (has : HasList query (tracked_options options) index interruptible w options.object_hash sorted list tracked walked) where
+  module _ (r : Query T U) (same_query : r ≡ query) (n : Option ℕ) (same_limit : n ≡ options.tracked_file_modifications.thread_limit) (w : Option Walking) (same_walk : w ≡ walking) (sorted : Bool) (same_order : sorted ≡ is_some options.sorting) (list : List (Item T U)) (tracked : StatusOutcome) (walked : Option WalkOutcome) (has : HasList r n index interruptible w options.object_hash sorted list tracked walked) where
     joined : HasJoinedList query options index interruptible walking ids means list tracked walked
-    joined = list_at w same_walk sorted same_order list tracked walked has
+    joined = list_at r same_query n same_limit w same_walk sorted same_order list tracked walked has
 
     pub plain_all : options.rewrites ≡ None → (old new : List (Reported T U)) → (ts : List (Reported T U)) × AreReported (map Alone list) ts × (new ≡ old ++ ts) → IsJoined query options index interruptible walking ids means old (Ok (record { tracked_file_modification = tracked; dirwalk = walked; rewrites = None })) new
     plain_all unwanted old new fed = reported_all list tracked walked joined (map Alone list) None (alone_reported unwanted list) old new fed

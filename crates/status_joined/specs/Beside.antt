@@ -1,5 +1,5 @@
 -- What of a walk was kept.
-use Rattle.std.specs.Prelude.{◌≡◌, Bool, List, false, [], map, Some, Result, Ok, Err, ⊤}
+use Rattle.std.specs.Prelude.{◌≡◌, Bool, IsTrue, List, false, [], map, Some, Result, Ok, Err, ⊤}
 use Rattle.bstr.specs.Owned.{bstring_bytes}
 use Rattle.status_walk.specs.declared.walk.Outcome.{Outcome}
 use Rattle.status_walk.specs.declared.walk.WalkError.{WalkError}
@@ -8,6 +8,7 @@ use Rattle.status_walk.specs.Walked.{Walked}
 use Rattle.status_walk.specs.Walks.{WalkMeaning, IsWalked}
 use Rattle.status_joined.specs.declared.beside.Beside.{Beside}
 use Rattle.status_joined.specs.Keeping.{is_kept, kept_walked}
+use Rattle.status_joined.specs.Walkings.{Walking}
 
 -- of a walk to its end all is kept that can be tracked and isn't, and of one that the flag ended, the first of it. A walk without
 -- a flag comes to its end
@@ -20,3 +21,7 @@ abbrev pub IsBeside : WalkMeaning → Bool → Result Beside WalkError → Type 
 IsBeside m interruptible (Ok b) = IsKeptOf m interruptible (map kept_walked b.kept.items) b.outcome
 IsBeside m interruptible (Err (Fault path fault)) = m.fault ≡ Some (record { path = bstring_bytes path; fault = fault })
 IsBeside m interruptible (Err Memory) = ⊤
+
+-- the same where what there is to walk is modelled
+abbrev pub IsBesideOf : Walking → Bool → Result Beside WalkError → Type 0
+IsBesideOf w interruptible result = IsTrue w.modelled → IsBeside w.meaning interruptible result

@@ -1,12 +1,14 @@
 -- The joined theorem: what a status with untracked files, renames and copies reports to its collector, and what it answers.
 use Rattle.std.specs.Prelude.{◌≡◌, ◌⊎◌, ◌<◌, Bool, IsTrue, List, [], ◌++◌, length, map, Option, Some, None, is_some, Result, IfOk, IfErr, ⊤}
 use Rattle.std.specs.List.Sorted.{IsSorted}
+use Rattle.status_index.specs.States.{index_of}
 use Rattle.status_index.specs.declared.state.State.{State}
+use Rattle.status_call.specs.Inputs.{settings}
 use Rattle.status_call.specs.Query.{Query}
 use Rattle.status_call.specs.StatusTheorem.{IsBeginning}
-use Rattle.status_call.specs.declared.index_as_worktree.inputs.Settings.{Settings}
 use Rattle.status_call.specs.declared.index_as_worktree.types.Outcome.{Outcome as StatusOutcome}
-use Rattle.status_joined.specs.BothHalves.{Walking}
+use Rattle.status_joined.specs.JoinedQuery.{JoinedQuery}
+use Rattle.status_joined.specs.Walkings.{Walking, wanted_walk}
 use Rattle.status_rewrites.specs.declared.rewritten.Rewritten.{Rewritten}
 use Rattle.status_rewrites.specs.declared.rewritten.Rewritten.TheVariants.{Alone}
 use Rattle.status_rewrites.specs.Changed.{Changed}
@@ -26,10 +28,10 @@ use Rattle.status_joined.specs.Joined.{IsRewriting, IsRewritingFault, tracked_op
 use Rattle.status_joined.specs.Listing.{HasList, IsHalfFault}
 use Rattle.status_joined.specs.Summaries.{reported_cmp}
 
-module _ {T U : Type 0} (query : Settings → Query T U) (options : Options) (index : State) (interruptible : Bool) (walking : Option Walking) (ids : Identifying) (means : List Changed → Bool → Result (List Pair) TrackerFault → Type 0) where
+module _ {T U : Type 0} (query : Query T U) (options : Options) (index : State) (interruptible : Bool) (walking : Option Walking) (ids : Identifying) (means : List Changed → Bool → Result (List Pair) TrackerFault → Type 0) where
   -- both halves came through and ended so, and this is the list of what they found
   abbrev pub HasJoinedList : List (Item T U) → StatusOutcome → Option WalkOutcome → Type 0
-  HasJoinedList = HasList query (tracked_options options) index interruptible walking options.object_hash (is_some options.sorting)
+  HasJoinedList = HasList query options.tracked_file_modifications.thread_limit index interruptible walking options.object_hash (is_some options.sorting)
 
   -- what is reported of a list: each item alone; or, where renames and copies are looked for, the list with these
   abbrev pub IsReportedOf : Option Rewrites → List (Item T U) → List (Reported T U) → Option RewritesOutcome → Type 0
@@ -62,8 +64,8 @@ module _ {T U : Type 0} (query : Settings → Query T U) (options : Options) (in
 
   -- the fault of a half; or, where both came through, of their list; or memory ran out
   abbrev pub IsFault : Error → Type 0
-  IsFault (DirWalk e) = IsHalfFault query (tracked_options options) index interruptible walking options.object_hash (is_some options.sorting) (DirWalk e)
-  IsFault (TrackedFileModifications e) = IsHalfFault query (tracked_options options) index interruptible walking options.object_hash (is_some options.sorting) (TrackedFileModifications e)
+  IsFault (DirWalk e) = IsHalfFault query options.tracked_file_modifications.thread_limit index interruptible walking options.object_hash (is_some options.sorting) (DirWalk e)
+  IsFault (TrackedFileModifications e) = IsHalfFault query options.tracked_file_modifications.thread_limit index interruptible walking options.object_hash (is_some options.sorting) (TrackedFileModifications e)
   IsFault Memory = ⊤
   IsFault e = IsLateFault e
 
@@ -85,3 +87,9 @@ module _ {T U : Type 0} (query : Settings → Query T U) (options : Options) (in
     pub fault : IfErr result IsFault
     -- on an error nothing was reported; or the collector's memory ran out, behind a beginning
     pub quiet : IfErr result (λ e. (more ≡ []) ⊎ ((e ≡ Memory) × IsCutShort more))
+
+-- the same by what was handed in: the status of the index by its options, the walk where one is wanted, and the ids by their kind
+abbrev pub IsJoinedBy : {T U : Type 0} → JoinedQuery T U → Options → State → Bool → (List Changed → Bool → Result (List Pair) TrackerFault → Type 0) → List (Reported T U) → Result Outcome Error → List (Reported T U) → Type 0
+IsJoinedBy q options index interruptible means =
+    IsJoined (q.status (settings (tracked_options options) index)) options index interruptible
+    (wanted_walk options.dirwalk (q.walking (index_of index))) (q.identifying options.object_hash) means

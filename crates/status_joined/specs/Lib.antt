@@ -10,13 +10,14 @@ pub mod Identified
 pub mod Items
 pub mod Joined
 pub mod JoinedInputs
+pub mod JoinedQuery
 pub mod JoinedTheorem
 pub mod Keeping
 pub mod Listed
 pub mod Listing
 pub mod Lists
 pub mod RecordedItems
-pub mod RequestInputs
 pub mod RewritingAnswers
 pub mod Summaries
 pub mod TrackedHalf
+pub mod Walkings

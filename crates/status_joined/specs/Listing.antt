@@ -1,5 +1,5 @@
 -- The list of both halves, and why there is none.
-use Rattle.std.specs.Prelude.{Bool, List, map, Option, Result, Ok, Err, ⊤}
+use Rattle.std.specs.Prelude.{ℕ, Bool, List, map, Option, Result, Ok, Err, ⊤}
 use Rattle.status_index.specs.declared.id.HashKind.{HashKind}
 use Rattle.status_index.specs.declared.fault.Fault.TheVariants as faults
 use Rattle.status_index.specs.declared.state.State.{State}
@@ -7,10 +7,9 @@ use Rattle.status_call.specs.Query.{Query}
 use Rattle.status_base.specs.declared.worktree.objects.FindError.TheVariants as finds
 use Rattle.status_compare.specs.declared.error.Error.TheVariants as statuses
 use Rattle.status_call.specs.Visits.{Visit}
-use Rattle.status_call.specs.declared.index_as_worktree.inputs.Settings.{Settings}
-use Rattle.status_call.specs.declared.index_as_worktree.types.Options.{Options}
 use Rattle.status_call.specs.declared.index_as_worktree.types.Outcome.{Outcome}
-use Rattle.status_joined.specs.BothHalves.{Walking, HasWalked, IsWalkedHalf, IsWalkFailure}
+use Rattle.status_joined.specs.BothHalves.{HasWalked, IsWalkedHalf, IsWalkFailure}
+use Rattle.status_joined.specs.Walkings.{Walking}
 use Rattle.status_joined.specs.TrackedHalf.{IsTrackedHalf, IsTrackedFailure}
 use Rattle.status_joined.specs.declared.halves.Failed.{Failed}
 use Rattle.status_joined.specs.declared.halves.Failed.TheVariants as failures
@@ -30,12 +29,12 @@ abbrev pub error_of_failed : Failed → Error
 error_of_failed (failures.Walk e) = error_of_walk e
 error_of_failed (failures.Tracked e) = error_of_status e
 
-module _ {T U : Type 0} (query : Settings → Query T U) (options : Options) (index : State) (interruptible : Bool) (walking : Option Walking) (kind : HashKind) (sorted : Bool) where
+module _ {T U : Type 0} (query : Query T U) (limit : Option ℕ) (index : State) (interruptible : Bool) (walking : Option Walking) (kind : HashKind) (sorted : Bool) where
   -- both halves came through and ended so, and this is the list of what they found
   pub record HasList (list : List (Item T U)) (o : Outcome) (w : Option WalkOutcome) : Type 0 where
     pub visits : List (Visit T U)
     pub kept : List Walked
-    pub tracked : IsTrackedHalf query options index interruptible visits o
+    pub tracked : IsTrackedHalf query index interruptible visits o
     pub walked : IsWalkedHalf interruptible walking kept w
     pub list_is : IsList sorted (unsorted kind visits kept) list
 
@@ -47,7 +46,7 @@ module _ {T U : Type 0} (query : Settings → Query T U) (options : Options) (in
   IsHalfFault (errors.TrackedFileModifications statuses.Memory) = ⊥
   IsHalfFault (errors.TrackedFileModifications (statuses.Io faults.Memory)) = ⊥
   IsHalfFault (errors.TrackedFileModifications (statuses.Find finds.Memory)) = ⊥
-  IsHalfFault (errors.TrackedFileModifications e) = HasWalked interruptible walking × IsTrackedFailure query options index e
+  IsHalfFault (errors.TrackedFileModifications e) = HasWalked interruptible walking × IsTrackedFailure query limit index e
   IsHalfFault errors.Memory = ⊤
   IsHalfFault _ = ⊥
 

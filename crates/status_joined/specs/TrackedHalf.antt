@@ -1,42 +1,37 @@
 -- What the tracked half recorded.
-use Rattle.std.specs.Prelude.{◌≡◌, ◌≢◌, ◌<◌, ◌^◌, Bool, true, false, IsTrue, List, map, All, AllPairs, Some, Result, Ok, Err}
+use Rattle.std.specs.Prelude.{◌≡◌, ◌≢◌, ℕ, ◌<◌, ◌^◌, Bool, true, false, IsTrue, List, map, All, AllPairs, Option, Some, Result, Ok, Err}
 use Rattle.status_index.specs.declared.state.State.{State}
 use Rattle.status_index.specs.States.{entries_of, backing_of}
 use Rattle.status_compare.specs.declared.error.Error.{Error}
 use Rattle.status_compare.specs.declared.error.Error.TheVariants.{Memory, SpawnThread}
-use Rattle.status_call.specs.Inputs.{settings}
 use Rattle.status_call.specs.Outcomes.{skipped_of}
 use Rattle.status_call.specs.Query.{Query}
 use Rattle.status_call.specs.Recorded.{visits_of}
 use Rattle.status_call.specs.StatusTheorem.{IsComplete, IsFirstFault, IsStatusOfSome, NeverSpawns}
 use Rattle.status_call.specs.Visits.{Visit, finding_of, IsFaithful}
-use Rattle.status_call.specs.declared.index_as_worktree.inputs.Settings.{Settings}
 use Rattle.status_call.specs.declared.index_as_worktree.types.Finding.{Finding}
-use Rattle.status_call.specs.declared.index_as_worktree.types.Options.{Options}
 use Rattle.status_call.specs.declared.index_as_worktree.types.Outcome.{Outcome}
 use Rattle.status_joined.specs.declared.tracked.Tracked.{Tracked}
 
-module _ {T U : Type 0} (query : Settings → Query T U) (options : Options) (index : State) where
-  abbrev query_of : Query T U
-  query_of = query (settings options index)
-
+module _ {T U : Type 0} (query : Query T U) (index : State) where
   -- the records of the index's entries, each with the index's own entry, in the index's order. Where all that was handed in is
   -- modelled they are all records, or, where the flag was seen, those of the first considered entries
   pub record IsTrackedHalf (interruptible : Bool) (visits : List (Visit T U)) (o : Outcome) : Type 0 where
     pub faithful : All (IsFaithful (entries_of index) (backing_of index)) visits
     pub ascends : AllPairs (λ a b. a.entry_index < b.entry_index) visits
-    pub complete : IsTrue query_of.modelled → o.interrupted ≡ false → IsComplete query_of index (map finding_of visits) o
-    pub interrupted : IsTrue query_of.modelled → o.interrupted ≡ true → IsStatusOfSome query_of index (map finding_of visits) o
+    pub complete : IsTrue query.modelled → o.interrupted ≡ false → IsComplete query index (map finding_of visits) o
+    pub interrupted : IsTrue query.modelled → o.interrupted ≡ true → IsStatusOfSome query index (map finding_of visits) o
     pub uninterrupted : interruptible ≡ false → o.interrupted ≡ false
     pub fits : skipped_of o < 2 ^ 64
 
+module _ {T U : Type 0} (query : Query T U) (limit : Option ℕ) (index : State) where
   -- the status failed at its first fault, unless memory or a thread was refused. With limit 1 no thread is, where the comparer doesn't
   -- answer so
   pub record IsTrackedFailure (e : Error) : Type 0 where
     pub found : List (Finding T U)
-    pub first : IsTrue query_of.modelled → e ≢ Memory → e ≢ SpawnThread → IsFirstFault query_of index found e
-    pub alone : IsTrue query_of.modelled → options.thread_limit ≡ Some 1 → NeverSpawns query_of → e ≢ SpawnThread
+    pub first : IsTrue query.modelled → e ≢ Memory → e ≢ SpawnThread → IsFirstFault query index found e
+    pub alone : IsTrue query.modelled → limit ≡ Some 1 → NeverSpawns query → e ≢ SpawnThread
 
   abbrev pub IsRecorded : Bool → Result (Tracked T U) Error → Type 0
-  IsRecorded interruptible (Ok t) = IsTrackedHalf interruptible (visits_of t.recorder) t.outcome
+  IsRecorded interruptible (Ok t) = IsTrackedHalf query index interruptible (visits_of t.recorder) t.outcome
   IsRecorded interruptible (Err e) = IsTrackedFailure e

@@ -14,13 +14,13 @@ mod keeper;
 pub mod kept;
 pub mod list;
 mod order;
-pub mod request;
 pub mod tracked;
+pub mod walker;
 
 pub use halves::{Failed, Halves, run_halves};
 pub use ids::identify;
 pub use item::ModificationOrDirwalkEntry;
 pub use kept::Kept;
 pub use list::list_of;
-pub use request::Request;
 pub use tracked::Tracked;
+pub use walker::{FindBeside, Walker};

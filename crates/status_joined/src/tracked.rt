@@ -1,15 +1,13 @@
 //! The tracked half: what of the index differs from the worktree.
 
 ghost use Rattle.std.specs.Prelude.{is_some};
-ghost use Rattle.status_joined.specs.RequestInputs.{inputs_of};
 ghost use Rattle.status_joined.specs.TrackedHalf.{IsRecorded};
 
-use crate::request::Request;
 use status_base::index::State;
-use status_base::worktree::{Find, Lister, Pathspec, SubmoduleStatus, ToGit, Worktree};
-use status_call::index_as_worktree::inputs::{Inputs, Means};
-use status_call::index_as_worktree::{Context, Error, Outcome, Recorder, index_as_worktree};
-use status_compare::CompareBlobs;
+use status_call::index_as_worktree::decide::Decide;
+use status_call::index_as_worktree::status_by::status_by;
+use status_call::index_as_worktree::workers::Limits;
+use status_call::index_as_worktree::{Error, Outcome, Recorder};
 use std::alloc::Global;
 use std::sync::Wait;
 use std::sync::atomic::AtomicBool;
@@ -28,60 +26,21 @@ pub struct Tracked<'index, T, U> {
 ///
 /// # Errors
 /// Those of `index_as_worktree`.
-pub(crate) fn record_tracked<
-    'index,
-    'w,
-    R: Threads + Wait,
-    W: Worktree + Sync,
-    C: CompareBlobs + Send,
-    S: SubmoduleStatus + Send,
-    O: Find + Send,
-    P: Pathspec + Send,
-    T: ToGit + Send,
-    L: Lister + Send,
->(
+pub(crate) fn record_tracked<'index, R: Threads + Wait, D: Decide + Send + Drop>(
     rt: &R,
     alloc: Global,
     index: &'index State,
-    worktree: &'w W,
-    request: Request<C, S, O, P, T, L>,
+    decider: D,
+    limits: Limits,
     interrupt: Option<&AtomicBool>,
-) -> Result<Tracked<'index, C::Output, S::Output>, Error>
+) -> Result<Tracked<'index, D::Content, D::Submodule>, Error>
 where
-    W::File: Send,
-    C::Output: Send + Drop + 'index,
-    S::Output: Send + Drop + 'index,
-    ensures { IsRecorded (⟦<Inputs<'w, W, C, S, O, P, T, L> as Means>⟧.query (inputs_of worktree.entry request))
-        request.options index.now (is_some interrupt.entry) result }
+    D::Content: Send + Drop + 'index,
+    D::Submodule: Send + Drop + 'index,
+    ensures { IsRecorded (D.query decider) limits.thread_limit index.now (is_some interrupt.entry) result }
 {
-    let Request {
-        compare,
-        submodule,
-        objects,
-        pathspec,
-        filter,
-        lister,
-        options,
-    } = request;
-    let context = Context {
-        pathspec,
-        filter,
-        lister,
-        should_interrupt: interrupt,
-    };
     let mut recorder = Recorder::new(alloc);
-    match index_as_worktree(
-        rt,
-        alloc,
-        index,
-        worktree,
-        &mut recorder,
-        compare,
-        submodule,
-        objects,
-        context,
-        options,
-    ) {
+    match status_by(rt, alloc, index, &decider, interrupt, limits, &mut recorder) {
         Ok(outcome) => Ok(Tracked { recorder, outcome }),
         Err(error) => Err(error),
     }

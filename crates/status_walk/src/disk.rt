@@ -2,6 +2,10 @@
 
 ghost use Rattle.std.specs.Prelude.{[], None, false};
 
+mod entries;
+mod folder;
+mod pending;
+
 use crate::disk::entries::{is_submodule, is_tracked};
 use crate::disk::folder::{Folder, found};
 use crate::disk::pending::{Pending, fault_at};

@@ -1,23 +1,25 @@
 //! The status of an index against a worktree with untracked files, renames and copies.
 
-ghost use Rattle.std.specs.Prelude.{◌≡◌, IfOk, is_some, option_map};
-ghost use Rattle.status_joined.specs.BothHalves.{Walking};
-ghost use Rattle.status_joined.specs.Identified.{identifying};
-ghost use Rattle.status_joined.specs.JoinedInputs.{wanted_walk, joined_inputs, walking_by};
-ghost use Rattle.status_joined.specs.JoinedTheorem.{IsJoined};
+ghost use Rattle.std.specs.Prelude.{◌≡◌, IfOk, is_some};
+ghost use Rattle.status_joined.specs.Joined.{tracked_options};
+ghost use Rattle.status_joined.specs.JoinedInputs.{joined_inputs};
+ghost use Rattle.status_joined.specs.JoinedTheorem.{IsJoinedBy};
 
-use crate::Request;
 use crate::index_as_worktree_with_renames::error::Error;
 use crate::index_as_worktree_with_renames::exact_clone::ExactClone;
-use crate::index_as_worktree_with_renames::feed::{feed_items, feed_rewritten};
+use crate::index_as_worktree_with_renames::feed::feed_items;
+use crate::index_as_worktree_with_renames::inputs::{HasJoinedQuery, JoinedInputs};
 use crate::index_as_worktree_with_renames::listing::{Listing, list_halves};
 use crate::index_as_worktree_with_renames::recorder::VisitEntry;
-use crate::index_as_worktree_with_renames::rewriting::{RewrittenList, rewrite_list};
+use crate::index_as_worktree_with_renames::rewriting::report_rewritten;
 use crate::index_as_worktree_with_renames::types::{Context, DirwalkContext, Options, Outcome};
+use crate::walker::wanted_walker;
 use status_base::index::State;
 use status_base::worktree::{Find, Lister, Pathspec, SubmoduleStatus, ToGit, Worktree};
 use status_call::index_as_worktree;
-use status_call::index_as_worktree::inputs::{Inputs, Means};
+use status_call::index_as_worktree::decider::Decider;
+use status_call::index_as_worktree::inputs::{Inputs, Settings};
+use status_call::index_as_worktree::workers::Limits;
 use status_compare::CompareBlobs;
 use status_rewrites::Tracker;
 use status_walk::Walk;
@@ -32,11 +34,18 @@ fn another<T: ToGit>(filter: &T) -> Result<T, AllocError>
     filter.clone()
 }
 
-/// The walk, where one is wanted.
-fn wanted_walk<K: Drop>(wanted: bool, walk: K) -> Option<K>
-    ensures { (f : K → Walking) → option_map f result ≡ wanted_walk wanted (f walk) }
+/// The options of the status of the index. The listings are the joined call's own.
+fn tracked_options(options: &Options) -> index_as_worktree::Options
+    ensures { result ≡ tracked_options options.now }
 {
-    if wanted { Some(walk) } else { None }
+    let tracked = &options.tracked_file_modifications;
+    index_as_worktree::Options {
+        fs: tracked.fs,
+        thread_limit: tracked.thread_limit,
+        stat: tracked.stat,
+        fscache: options.fscache,
+        chunk_size: tracked.chunk_size,
+    }
 }
 
 /// Reports to `collector` how the worktree differs from `index`, what lies in it beside the index, and what of both are
@@ -85,14 +94,10 @@ where
     W::File: Send,
     C::Output: Send + ExactClone + 'index,
     S::Output: Send + ExactClone + 'index,
-    ensures { IsJoined (⟦<Inputs<'w, W, C, S, O, P, T, L> as Means>⟧.query
+    ensures { IsJoinedBy (⟦<JoinedInputs<'w, W, C, S, O, P, T, L, K> as HasJoinedQuery>⟧.query
         (joined_inputs worktree.entry compare submodule objects context.entry))
-        options index.now (is_some context.entry.should_interrupt)
-        (wanted_walk options.dirwalk (walking_by K.modelled W.modelled K.meaning P.prefix P.included
-        index.now worktree.entry.now context.entry.pathspec context.entry.dirwalk.walk))
-        (identifying W.modelled W.lstat_of W.open_of W.target_of T.conversion
-        options.object_hash worktree.entry.now context.entry.filter)
-        (X.means context.entry.tracker) (V.visits collector.old) result (V.visits collector.new) }
+        options index.now (is_some context.entry.should_interrupt) (X.means context.entry.tracker)
+        (V.visits collector.old) result (V.visits collector.new) }
 {
     let Context {
         pathspec,
@@ -102,57 +107,52 @@ where
         dirwalk: DirwalkContext { walk },
         mut tracker,
     } = context;
-    let id_filter = match another(&filter) {
-        Ok(filter) => filter,
-        Err(_refused) => return Err(Error::Memory),
+    let Ok(id_filter) = another(&filter) else {
+        return Err(Error::Memory);
     };
-    let request = Request {
+    let Ok(finder) = wanted_walker(options.dirwalk, worktree, walk, &pathspec) else {
+        return Err(Error::Memory);
+    };
+    let inputs = Inputs {
+        worktree,
         compare,
         submodule,
         objects,
         pathspec,
         filter,
         lister,
-        options: index_as_worktree::Options {
-            fs: options.tracked_file_modifications.fs,
-            thread_limit: options.tracked_file_modifications.thread_limit,
-            stat: options.tracked_file_modifications.stat,
-            fscache: options.fscache,
-            chunk_size: options.tracked_file_modifications.chunk_size,
-        },
     };
-    let walk = wanted_walk(options.dirwalk, walk);
+    let tracked_options = tracked_options(&options);
+    let decider = Decider::new(alloc, inputs, Settings::of(&tracked_options, index));
+    let limits = Limits::of(&tracked_options);
     let kind = options.object_hash;
     let sorted = options.sorting.is_some();
+    let listing = list_halves(
+        rt,
+        alloc,
+        index,
+        finder,
+        decider,
+        limits,
+        should_interrupt,
+        kind,
+        sorted,
+    );
     let Listing {
         items,
         tracked,
         walked,
-    } = match list_halves(
-        rt,
-        alloc,
-        index,
-        worktree,
-        walk,
-        request,
-        should_interrupt,
-        kind,
-        sorted,
-    ) {
+    } = match listing {
         Ok(listing) => listing,
         Err(error) => return Err(error),
     };
-    match options.rewrites {
+    let rewrites = match options.rewrites {
         None => match feed_items(items, collector) {
-            Ok(()) => Ok(Outcome {
-                tracked_file_modification: tracked,
-                dirwalk: walked,
-                rewrites: None,
-            }),
-            Err(_refused) => Err(Error::Memory),
+            Ok(()) => None,
+            Err(_refused) => return Err(Error::Memory),
         },
         Some(rewrites) => {
-            let RewrittenList { entries, outcome } = match rewrite_list(
+            let reported = report_rewritten(
                 alloc,
                 kind,
                 worktree,
@@ -160,18 +160,17 @@ where
                 &mut tracker,
                 rewrites,
                 items,
-            ) {
-                Ok(list) => list,
+                collector,
+            );
+            match reported {
+                Ok(outcome) => Some(outcome),
                 Err(error) => return Err(error),
-            };
-            match feed_rewritten(entries, collector) {
-                Ok(()) => Ok(Outcome {
-                    tracked_file_modification: tracked,
-                    dirwalk: walked,
-                    rewrites: Some(outcome),
-                }),
-                Err(_refused) => Err(Error::Memory),
             }
         }
-    }
+    };
+    Ok(Outcome {
+        tracked_file_modification: tracked,
+        dirwalk: walked,
+        rewrites,
+    })
 }

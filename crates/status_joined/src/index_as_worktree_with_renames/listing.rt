@@ -1,18 +1,16 @@
 //! The list of both halves.
 
 ghost use Rattle.std.specs.Prelude.{◌≡◌, is_some, option_map};
-ghost use Rattle.status_joined.specs.RequestInputs.{inputs_of};
-ghost use Rattle.status_joined.specs.JoinedInputs.{walking_by};
+ghost use Rattle.status_index.specs.States.{index_of};
 ghost use Rattle.status_joined.specs.Listing.{error_of_failed, IsListing};
 
 use crate::index_as_worktree_with_renames::error::{Error, walk_error};
-use crate::{Failed, Halves, ModificationOrDirwalkEntry, Request, Tracked, list_of, run_halves};
+use crate::walker::FindBeside;
+use crate::{Failed, Halves, ModificationOrDirwalkEntry, Tracked, list_of, run_halves};
 use status_base::index::{HashKind, State};
-use status_base::worktree::{Find, Lister, Pathspec, SubmoduleStatus, ToGit, Worktree};
 use status_call::index_as_worktree::Outcome;
-use status_call::index_as_worktree::inputs::{Inputs, Means};
-use status_compare::CompareBlobs;
-use status_walk::Walk;
+use status_call::index_as_worktree::decide::Decide;
+use status_call::index_as_worktree::workers::Limits;
 use std::alloc::Global;
 use std::sync::Wait;
 use std::sync::atomic::AtomicBool;
@@ -42,38 +40,27 @@ fn failed_error(failed: Failed) -> Error
 /// The walk's, or else the status's. Want of memory.
 pub(crate) fn list_halves<
     'index,
-    'w,
     R: Threads + Wait,
-    W: Worktree + Sync,
-    K: Walk<W> + Send + Drop,
-    C: CompareBlobs + Send,
-    S: SubmoduleStatus + Send,
-    O: Find + Send,
-    P: Pathspec + Send,
-    T: ToGit + Send,
-    L: Lister + Send,
+    B: FindBeside + Send + Drop,
+    D: Decide + Send + Drop,
 >(
     rt: &R,
     alloc: Global,
     index: &'index State,
-    worktree: &'w W,
-    walk: Option<K>,
-    request: Request<C, S, O, P, T, L>,
+    finder: Option<B>,
+    decider: D,
+    limits: Limits,
     interrupt: Option<&AtomicBool>,
     kind: HashKind,
     sorted: bool,
-) -> Result<Listing<'index, C::Output, S::Output>, Error>
+) -> Result<Listing<'index, D::Content, D::Submodule>, Error>
 where
-    W::File: Send,
-    C::Output: Send + Drop + 'index,
-    S::Output: Send + Drop + 'index,
-    ensures { IsListing (⟦<Inputs<'w, W, C, S, O, P, T, L> as Means>⟧.query (inputs_of worktree.entry request))
-        request.options index.now (is_some interrupt.entry)
-        (option_map (walking_by K.modelled W.modelled K.meaning P.prefix P.included index.now worktree.entry.now request.pathspec)
-        walk)
-        kind sorted result }
+    D::Content: Send + Drop + 'index,
+    D::Submodule: Send + Drop + 'index,
+    ensures { IsListing (D.query decider) limits.thread_limit index.now (is_some interrupt.entry)
+        (option_map (λ b. B.walking b (index_of index.now)) finder) kind sorted result }
 {
-    let halves = match run_halves(rt, alloc, index, worktree, walk, request, interrupt) {
+    let halves = match run_halves(rt, alloc, index, finder, decider, limits, interrupt) {
         Ok(halves) => halves,
         Err(failed) => return Err(failed_error(failed)),
     };

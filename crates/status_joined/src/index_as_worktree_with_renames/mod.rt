@@ -5,6 +5,7 @@ mod error;
 mod exact_clone;
 mod feed;
 mod function;
+pub mod inputs;
 mod listing;
 mod recorder;
 pub mod rewrites;

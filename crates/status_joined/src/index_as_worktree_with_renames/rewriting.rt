@@ -6,10 +6,12 @@ ghost use Rattle.status_rewrites.specs.Entries.{map_rewritten, IsLed};
 ghost use Rattle.status_joined.specs.Identified.{identifying};
 ghost use Rattle.status_joined.specs.Items.{is_walked};
 ghost use Rattle.status_joined.specs.Listed.{item_of};
-ghost use Rattle.status_joined.specs.RewritingAnswers.{IsRewritingAnswer};
+ghost use Rattle.status_joined.specs.RewritingAnswers.{IsRewritingAnswer, IsRewritingReported};
 
 use crate::index_as_worktree_with_renames::error::{Error, id_error, refused_error};
 use crate::index_as_worktree_with_renames::exact_clone::ExactClone;
+use crate::index_as_worktree_with_renames::feed::feed_rewritten;
+use crate::index_as_worktree_with_renames::recorder::VisitEntry;
 use crate::index_as_worktree_with_renames::rewrites::Outcome;
 use crate::{ModificationOrDirwalkEntry, identify};
 use status_base::index::HashKind;
@@ -66,5 +68,38 @@ pub(crate) fn rewrite_list<'index, W: Worktree, F: ToGit, X: Tracker, T: ExactCl
     match rewrite(alloc, items, pairs.as_slice()) {
         Ok(entries) => Ok(RewrittenList { entries, outcome }),
         Err(refused) => Err(refused_error(refused)),
+    }
+}
+
+/// Rewrites the list as `rewrite_list` does, and reports it to a collector. Gives how many renames and copies there are.
+///
+/// # Errors
+/// Those of `rewrite_list`; then nothing was reported. Want of memory; then nothing was reported, or a beginning.
+pub(crate) fn report_rewritten<'index, W: Worktree, F: ToGit, X: Tracker, V: VisitEntry<'index>>(
+    alloc: Global,
+    kind: HashKind,
+    worktree: &W,
+    filter: &F,
+    tracker: &mut X,
+    rewrites: Rewrites,
+    items: Vec<ModificationOrDirwalkEntry<'index, V::ContentChange, V::SubmoduleStatus>>,
+    collector: &mut V,
+) -> Result<Outcome, Error>
+where
+    V::ContentChange: ExactClone + Drop,
+    V::SubmoduleStatus: ExactClone + Drop,
+    ensures { IsRewritingReported
+        (identifying W.modelled W.lstat_of W.open_of W.target_of F.conversion kind worktree.now filter.now)
+        kind (X.means tracker.old) rewrites items.entry.items (V.visits collector.old) result (V.visits collector.new) }
+{
+    let RewrittenList { entries, outcome } = match rewrite_list(
+        alloc, kind, worktree, filter, tracker, rewrites, items,
+    ) {
+        Ok(list) => list,
+        Err(error) => return Err(error),
+    };
+    match feed_rewritten(entries, collector) {
+        Ok(()) => Ok(outcome),
+        Err(_refused) => Err(Error::Memory),
     }
 }
