@@ -1,5 +1,5 @@
 -- The joined theorem at each way out of the call.
-use Rattle.std.proofs.Common.{inl, inr, ◌≡◌, ◌<◌, ℕ, Bool, true, false, IsTrue, List, [], ◌++◌, map, take, drop, length, Option, Some, None, is_some, Result, Ok, Err, sym, subst, arith}
+use Rattle.std.proofs.Common.{inl, inr, ◌⊎◌, ◌≡◌, ◌<◌, ℕ, Bool, true, false, IsTrue, List, [], ◌++◌, map, take, drop, length, Option, Some, None, is_some, Result, Ok, Err, sym, subst, arith}
 use Rattle.std.specs.List.Sorted.{IsSorted}
 use Rattle.std.proofs.lemmas.Bool.{false≢true}
 use Rattle.std.proofs.lemmas.List.{append-nil, length-take-le, take-append-drop}
@@ -18,7 +18,7 @@ use Rattle.status_joined.specs.declared.index_as_worktree_with_renames.error.Err
 use Rattle.status_joined.specs.declared.index_as_worktree_with_renames.error.Error.TheVariants as errors
 use Rattle.status_joined.specs.declared.index_as_worktree_with_renames.rewrites.Outcome.{Outcome as RewritesOutcome}
 use Rattle.status_joined.specs.declared.index_as_worktree_with_renames.types.Options.{Options}
-use Rattle.status_joined.specs.Feeding.{AreReported}
+use Rattle.status_joined.specs.Feeding.{AreReported, IsFed}
 use Rattle.status_joined.specs.Identified.{Identifying}
 use Rattle.status_joined.specs.Items.{Item, Reported}
 use Rattle.status_joined.specs.Joined.{IsRewriting, IsRewritingFault}
@@ -131,9 +131,9 @@ module _ {T U : Type 0} (query : Query T U) (options : Options) (index : State) 
         }
 
   -- the same with what the call's steps say: of the walk that was wanted for, of whether the list is sorted, and of the ids' filter
-  module _ (r : Query T U) (same_query : r ≡ query) (n : Option ℕ) (same_limit : n ≡ options.tracked_file_modifications.thread_limit) (w : Option Walking) (same_walk : w ≡ walking) (sorted : Bool) (same_order : sorted ≡ is_some options.sorting) (list : List (Item T U)) (tracked : StatusOutcome) (walked : Option WalkOutcome) (has : HasList r n index interruptible w options.object_hash sorted list tracked walked) where
+  module _ (by : Query T U) (same_query : by ≡ query) (n : Option ℕ) (same_limit : n ≡ options.tracked_file_modifications.thread_limit) (w : Option Walking) (same_walk : w ≡ walking) (sorted : Bool) (same_order : sorted ≡ is_some options.sorting) (list : List (Item T U)) (tracked : StatusOutcome) (walked : Option WalkOutcome) (has : HasList by n index interruptible w options.object_hash sorted list tracked walked) where
     joined : HasJoinedList query options index interruptible walking ids means list tracked walked
-    joined = list_at r same_query n same_limit w same_walk sorted same_order list tracked walked has
+    joined = list_at by same_query n same_limit w same_walk sorted same_order list tracked walked has
 
     pub plain_all : options.rewrites ≡ None → (old new : List (Reported T U)) → (ts : List (Reported T U)) × AreReported (map Alone list) ts × (new ≡ old ++ ts) → IsJoined query options index interruptible walking ids means old (Ok (record { tracked_file_modification = tracked; dirwalk = walked; rewrites = None })) new
     plain_all unwanted old new fed = reported_all list tracked walked joined (map Alone list) None (alone_reported unwanted list) old new fed
@@ -149,6 +149,16 @@ module _ {T U : Type 0} (query : Query T U) (options : Options) (index : State) 
       rewritten_all entries o rewriting old new fed =
           reported_all list tracked walked joined entries (Some o) (rewritten_reported r wanted known same_ids list entries o rewriting) old new fed
 
-      pub rewritten_some : (entries : List (Rewritten (Item T U))) (o : RewritesOutcome) → IsRewriting known options.object_hash means r.track_empty list entries o → (old new : List (Reported T U)) → (ts : List (Reported T U)) × AreReported entries ts × ((n : ℕ) × (n < length ts) × (new ≡ old ++ take n ts)) → IsJoined query options index interruptible walking ids means old (Err errors.Memory) new
+      rewritten_some : (entries : List (Rewritten (Item T U))) (o : RewritesOutcome) → IsRewriting known options.object_hash means r.track_empty list entries o → (old new : List (Reported T U)) → (ts : List (Reported T U)) × AreReported entries ts × ((n : ℕ) × (n < length ts) × (new ≡ old ++ take n ts)) → IsJoined query options index interruptible walking ids means old (Err errors.Memory) new
       rewritten_some entries o rewriting old new fed =
           reported_some list tracked walked joined entries (Some o) (rewritten_reported r wanted known same_ids list entries o rewriting) old new fed
+
+      -- the list has no renames and copies, or memory ran out while it was reported
+      pub unreported : (old new : List (Reported T U)) (e : Error)
+          → (IsRewritingFault known options.object_hash means r.track_empty list e × (new ≡ old))
+          ⊎ ((e ≡ errors.Memory) × ((entries : List (Rewritten (Item T U))) × ((o : RewritesOutcome)
+          × (IsRewriting known options.object_hash means r.track_empty list entries o × IsFed {A = RewritesOutcome} entries old (Err e) new))))
+          → IsJoined query options index interruptible walking ids means old (Err e) new
+      unreported old new e (inl (fault, same)) = subst (λ x. IsJoined query options index interruptible walking ids means old (Err e) x) (sym same) (late old e fault)
+      unreported old new e (inr (memory, (entries, (o, (rewriting, fed))))) =
+          subst (λ x. IsJoined query options index interruptible walking ids means old (Err x) new) (sym memory) (rewritten_some entries o rewriting old new fed)

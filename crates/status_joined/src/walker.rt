@@ -1,6 +1,6 @@
 //! Who finds what lies in a worktree beside an index.
 
-ghost use Rattle.std.specs.Prelude.{List, IfOk, IsTrue, false};
+ghost use Rattle.std.specs.Prelude.{◌≡◌, List, IfOk, IsTrue, false};
 ghost use Rattle.status_index.specs.Entries.{IndexEntry};
 ghost use Rattle.status_index.specs.States.{index_of};
 ghost use Rattle.status_walk.specs.Walks.{IsWalk};

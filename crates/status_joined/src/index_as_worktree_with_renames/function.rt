@@ -122,9 +122,10 @@ where
         filter,
         lister,
     };
-    let tracked_options = tracked_options(&options);
-    let decider = Decider::new(alloc, inputs, Settings::of(&tracked_options, index));
-    let limits = Limits::of(&tracked_options);
+    let status_options = tracked_options(&options);
+    let settings = Settings::of(&status_options, index);
+    let decider = Decider::new(alloc, inputs, settings);
+    let limits = Limits::of(&status_options);
     let kind = options.object_hash;
     let sorted = options.sorting.is_some();
     let listing = list_halves(
@@ -146,10 +147,14 @@ where
         Ok(listing) => listing,
         Err(error) => return Err(error),
     };
-    let rewrites = match options.rewrites {
+    match options.rewrites {
         None => match feed_items(items, collector) {
-            Ok(()) => None,
-            Err(_refused) => return Err(Error::Memory),
+            Ok(()) => Ok(Outcome {
+                tracked_file_modification: tracked,
+                dirwalk: walked,
+                rewrites: None,
+            }),
+            Err(_refused) => Err(Error::Memory),
         },
         Some(rewrites) => {
             let reported = report_rewritten(
@@ -163,14 +168,13 @@ where
                 collector,
             );
             match reported {
-                Ok(outcome) => Some(outcome),
-                Err(error) => return Err(error),
+                Ok(outcome) => Ok(Outcome {
+                    tracked_file_modification: tracked,
+                    dirwalk: walked,
+                    rewrites: Some(outcome),
+                }),
+                Err(error) => Err(error),
             }
         }
-    };
-    Ok(Outcome {
-        tracked_file_modification: tracked,
-        dirwalk: walked,
-        rewrites,
-    })
+    }
 }

@@ -1,0 +1,16 @@
+use Rattle.std.proofs.Common.{◌++◌, ap, ◌∙◌}
+use Rattle.status_joined.proofs.Tracking.{none_of}
+use Rattle.status_joined.proofs.tracked.record_tracked.Goals as goal
+
+pub returns-in-Ok : goal.returns-in-Ok
+returns-in-Ok g c =
+    let m = c.in-Ok.ensures.all in
+    let grew = m.grew ∙ ap (λ v. v ++ m.more) c.new-recorder.ensures in
+    record {
+      faithful = rw grew m.faithful;
+      ascends = rw grew m.ascends;
+      complete = rw grew m.complete;
+      interrupted = rw grew m.interrupted;
+      uninterrupted = λ unset. c.in-Ok.ensures.uninterrupted (none_of _ unset);
+      fits = m.fits;
+    }
