@@ -69,7 +69,7 @@ class Docs(unittest.TestCase):
         page = text_of("docs", "ARCHITECTURE.md")
         table = page[page.index("| Change |") :].partition("\n\n")[0]
         folder = ""
-        for files in re.findall(r"^\|[^|]*\|([^|]*)\|[^|]*\|$", table, re.M)[2:]:
+        for files in re.findall(r"^\|[^|]*\| (`[^|]*)\|[^|]*\|$", table, re.M):
             for path in re.findall(r"`([^`]+\.\w+)`", files):
                 with self.subTest(files=files, path=path):
                     top = path.split("/")[0] in ("docs", "tests", "tools", "bench", "README.md")
@@ -82,11 +82,12 @@ class Docs(unittest.TestCase):
     def test_the_definitions_are_in_the_files_that_are_named(self):
         page = text_of("docs", "DEFINITIONS.md")
         for crate, part in re.findall(r"^## (status_\w+)\n(.*?)(?=^## |\Z)", page, re.M | re.S):
-            for files in re.findall(r"^\| (`[^|]*?) \|", part, re.M):
-                for name in re.findall(r"`([A-Z]\w+)`", files):
-                    with self.subTest(crate=crate, file=name):
-                        path = os.path.join(TOP, "crates", crate, "specs", name + ".antt")
-                        self.assertTrue(os.path.exists(path))
+            for files, words in re.findall(r"^\| (`[^|]*?) \| ([^|]*) \|", part, re.M):
+                with self.subTest(crate=crate, files=files):
+                    names = re.findall(r"`(\w+)`", files)
+                    texts = [text_of("crates", crate, "specs", name + ".antt") for name in names]
+                    for word in re.findall(r"`(\w+)`(?! \(`status)", words):
+                        self.assertRegex("\n".join(texts), rf"\b{word}\b")
 
     def test_the_pictures_have_the_figures_of_the_page(self):
         command = [sys.executable, os.path.join(TOP, "bench", "plot.py"), "--check"]
