@@ -1,10 +1,10 @@
 //! The status call: how a worktree differs from an index, entry by entry.
 //!
-//! Read `types` in `index_as_worktree` first, what the call takes and returns, and `function`, the call. Then what one
-//! entry takes: `step`, `decide`, `decider`, `site`, `content` and `conflict`. Then how entries are shared out and
-//! reported: `considered`, `workers`, `work`, `round`, `piece`, `feed`, `counts` and `recorder`. `inputs` is what the
-//! caller passed, as one value, and `laws` has what is proved of the definitions. Callers use the names of the crate
-//! `gix_status`.
+//! Read `types` in `index_as_worktree` first, what the call takes and returns, and `function`, the call, which puts its
+//! arguments into one value (`inputs`). Then what one entry takes: `step`, `decide`, `decider`, `site`, `content` and
+//! `conflict`. Then how entries are shared out and reported: `status_by`, `considered`, `workers`, `work`, `round`,
+//! `piece`, `feed`, `counts` and `recorder`. `laws` has what is proved of the definitions. Callers use the names of the
+//! crate `gix_status`.
 #![tactic(auto)]
 
 pub mod index_as_worktree;
