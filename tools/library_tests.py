@@ -1,7 +1,7 @@
 """The tests of tests/: which there are, and how the toolchain runs them.
 
-They are a crate over the libraries that tests/libraries names. Its files end in .rt.txt, since the toolchain proves each
-.rt file of a repository. Here they are run beside a copy of the crates: compiled with checks, but not proved.
+They are a crate over the libraries that tests/libraries names. Its files end in .rt.txt, since the toolchain stops at a
+.rt file that no crate has. Here they are run beside a copy of the crates: compiled with checks, but not proved.
 """
 
 import contextlib

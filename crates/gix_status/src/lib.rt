@@ -1,4 +1,6 @@
-//! How a git worktree differs from an index: the status, and what it is made of.
+//! The names for callers: the modules of the Rust crate gix-status, and no code.
+//!
+//! Each module names the items of the crate below that has them.
 #![tactic(auto)]
 
 pub mod index_as_worktree;

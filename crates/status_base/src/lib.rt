@@ -1,8 +1,9 @@
-//! What a status stands on: the worktree, the interfaces that a caller hands in, and the check that no step goes through a
-//! symbolic link.
+//! The worktree, the interfaces that a caller passes to a status, and the check that no path leads through a symbolic
+//! link.
 //!
-//! Read `worktree` first: a module for each interface, and the worktrees and blobs of memory and of the disk. Then `stack`, the link
-//! check, and `fscache`, which remembers listings of folders. `index` gives the index by the name that callers know.
+//! Read `worktree` first: a module for each interface, and the worktrees and blobs in memory and on the disk. Then
+//! `stack`, the link check, and `fscache`, which remembers listings of directories. `index` and `board` are the crates
+//! below, by the names that callers know.
 #![tactic(auto)]
 
 pub mod fscache;

@@ -1,8 +1,8 @@
-//! The pieces of a task, shared out to several workers, with one result for every schedule.
+//! The pieces of a task, shared among workers, with the same result for every schedule.
 //!
-//! Read `board`, from which workers draw the numbers of pieces, each once, under the rule of `rules`. Then `work`, which says
-//! what a piece is, and `round`, which has all pieces worked: by `worker` in each thread, which `crew` starts and joins, and
-//! `order` puts what came out in the order of the pieces.
+//! Read `board` first: workers draw the numbers of pieces from it, each number once, by the rules in `rules`. Then
+//! `work`, which says what a piece is, and `round`, which has all pieces worked: `crew` starts and joins the threads,
+//! each runs `worker`, and `order` puts the results in the order of the pieces.
 #![tactic(auto)]
 
 pub mod board;

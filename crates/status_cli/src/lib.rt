@@ -1,7 +1,7 @@
-//! The commands of the program, over any reader and writers: `run_status`, `run_replay` and `run_refresh`.
+//! The program's commands `status`, `replay` and `refresh`, over any reader and writers.
 //!
-//! Read `status`, `replay` and `refresh`, a command each; then `lines`, the text of each line, `output`, which writes it, and `failure`,
-//! why a command fails and the line that says so.
+//! Read `status`, `replay` and `refresh` first, a command each. Then `lines`, the text of each line, `output`, which
+//! writes it, and `failure`, why a command fails and the line that says so. `input` reads the file of a profile.
 #![tactic(auto)]
 
 pub mod failure;

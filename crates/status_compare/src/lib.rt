@@ -1,4 +1,8 @@
-//! How a file of a worktree is compared with what an index entry names.
+//! How a file of the worktree is compared with the blob of an index entry: readers and comparers.
+//!
+//! Read `compare` first, the interface of a comparer, and `read_data`, what it may read. `hash_eq` compares by ids and
+//! `fast_eq` by sizes first. `entry_reader` reads the file and the blob of one entry, through `stream`, and `reads`
+//! counts that. `comparison` calls a comparer, and `error` is why a status fails.
 #![tactic(auto)]
 
 pub mod compare;

@@ -1,7 +1,9 @@
-//! A git index, and what a worktree reports of a file: the values that a status is made of.
+//! A git index in memory: entries with their stats, modes, flags and ids, and the search for a path.
 //!
-//! Read `entry` with `stat`, `mode`, `flags` and `id`, of which an entry is made; then `state`, the index, whose look-ups go by `probe`
-//! and `path_probe`. `metadata`, `fault` and `reader` are what a worktree says of a file, and `hash` makes ids of its bytes.
+//! Read `entry` first, with `stat`, `mode`, `flags` and `id`, of which an entry is made. Then `state`, the index, which
+//! finds a path by `path_probe` and `probe`. `metadata`, `fault` and `reader` are what a worktree reports of a file,
+//! `reading` reads it whole, and `hash` computes the id of its bytes. `orders` compares these values, and `byte_text`
+//! is a text in an error.
 #![tactic(auto)]
 
 pub mod byte_text;

@@ -1,8 +1,8 @@
-//! The status of an index against a worktree with untracked files, renames and copies. Callers name it by the crate
-//! `gix_status`.
+//! The joined call: a status with untracked files, renames and copies in one list.
 //!
-//! Read `index_as_worktree_with_renames`, the call. Then its parts in their order: `halves`, the status (`tracked`) and the walk
-//! (`beside`, by a `keeper`) side by side; `list`, of the `item`s of both, in their `order`; `ids`, for a tracker.
+//! Read `index_as_worktree_with_renames` first, the call. Then its parts in their order: `halves`, the status
+//! (`tracked`) next to the walk (`beside`, with `keeper` and `kept`); `list`, which makes one list of `item`s, in their
+//! `order`; and `ids`, for a tracker. Callers use the names of the crate `gix_status`.
 #![tactic(auto)]
 
 mod beside;

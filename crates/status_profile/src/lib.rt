@@ -1,7 +1,9 @@
-//! Profiles, read from JSON text: of a status, an index and a worktree with options; of a replay, a history.
+//! Profiles, the program's input: an index, a worktree and options, or a history, read from JSON.
 //!
-//! Read `key`, the keys that there are, and `error`; then what a profile is made of: `options`, `entry`, `node`, `event` with `history`.
-//! `members`, `list`, `held` and `field` find the values of an object's keys, and `texts` keeps the texts of all.
+//! Read `Profile` below and `history` first, then `options`, `entry`, `node` and `event`, what they are made of. `key`
+//! has the keys of entries and nodes, and `error` those of a profile. `members` reads the text: `list` in two ways,
+//! straight from the text (`ahead`) or through a JSON value (`held`), both as a `value`. `field` reads options and
+//! events, and `texts` keeps all keys as text.
 #![tactic(auto)]
 
 mod ahead;

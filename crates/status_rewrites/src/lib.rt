@@ -1,8 +1,9 @@
-//! Renames and copies: what a tracker sees of a list of changes and answers, and the list with its pairs as entries.
+//! Renames and copies: which changes are pairs, and the list in which each pair is one entry.
 //!
-//! Read `change`, what a tracker sees, and `tracker`, the interface; `identity` is the tracker by equal content (`seen`, `buckets` and
-//! `join` are its parts). Then `item` and `rewrites`, which makes one entry of the two items of a pair: by `place`, into what `rewritten`
-//! has, unless `refused` says why not.
+//! Read `change` first, what a tracker sees, and `tracker`, the interface. `identity` is the tracker by equal content,
+//! and `seen`, `join` and `buckets` are its parts. Then `item` and `rewrites`, which makes one entry of the two items
+//! of a pair: `place` decides whether there is room, `rewritten` is an entry of the new list, and `refused` is why
+//! there is none.
 #![tactic(auto)]
 
 mod buckets;

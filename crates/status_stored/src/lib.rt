@@ -1,7 +1,8 @@
-//! An index as a JSON value, stored and read back; and histories in which it is stored and opened again between events.
+//! The stored index: an index as a JSON value, read back, and histories in which that happens between events.
 //!
-//! Read `words`, the names of flags and modes; `store` and `load`, with their `error`s (`read` and `text` are parts of the latter); `laws`.
-//! Then `replay`, which has a history's events happen and the index opened again (`opening`) until something `stop`s it.
+//! Read `words` first, the names of modes, flags and ids. Then `store` and `load`, with `read` for the fields of an
+//! entry and `error`. `text` goes through JSON text and back, and `laws` says what is read back. `replay` is a history
+//! whose index is opened again (`opening`) between events, until something stops it (`stop`).
 #![tactic(auto)]
 
 mod error;

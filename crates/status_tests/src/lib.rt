@@ -1,5 +1,7 @@
-//! What a caller writes (`given`), each proved to mean what it says; and tests that are proved as well: the example of README.md, and a
-//! board, whose threads are started as a caller starts them.
+//! Interfaces and calls as a caller writes them, and the few tests that are proved.
+//!
+//! Read `example` first, which README.md shows, then `given`, interfaces and calls of a caller, and `board`, whose
+//! threads a caller starts. The other tests are in `tests/` of the repository.
 #![tactic(auto)]
 
 #[cfg(test)]

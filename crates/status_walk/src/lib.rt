@@ -1,7 +1,7 @@
-//! Walks over a worktree: what lies in it beside the entries of an index.
+//! Walks: the files and links of a worktree that no index entry has.
 //!
-//! Read `walk`, the interface, with `entry`, what it finds, and `delegate`, to whom it hands that. `untracked` walks a worktree in
-//! memory and `disk` a folder of the disk; `id` gives the id of what was found.
+//! Read `walk` first, the interface, with `entry`, what a walk finds, and `delegate`, who receives it. `untracked`
+//! walks a worktree in memory, and `disk` a folder of the disk. `id` computes the id of what was found.
 #![tactic(auto)]
 
 pub mod delegate;
