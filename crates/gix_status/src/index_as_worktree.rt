@@ -1,6 +1,6 @@
 //! The status of an index against a worktree.
 
 pub use status_call::index_as_worktree::{
-    Capabilities, Change, Conflict, ConflictIndexEntry, Context, EntryStatus, Error, Options,
-    Outcome, Record, Recorder, VisitEntry, index_as_worktree, laws, traits,
+    ApplyChange, Capabilities, Change, Conflict, ConflictIndexEntry, Context, EntryStatus, Error,
+    Options, Outcome, Record, Recorder, VisitEntry, apply_changes, index_as_worktree, laws, traits,
 };

@@ -7,6 +7,7 @@ pub mod EntryCases
 pub mod Feeding
 pub mod Groups
 pub mod Heads
+pub mod IndexChanges
 pub mod KnownNodes
 pub mod LawChanges
 pub mod LawConflicts

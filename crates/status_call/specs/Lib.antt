@@ -6,6 +6,7 @@ pub mod DefaultCapabilities
 pub mod DefaultOptions
 pub mod EntryParts
 pub mod Fed
+pub mod IndexChanges
 pub mod Inputs
 pub mod Known
 pub mod Laws

@@ -5,14 +5,15 @@ use Rattle.status_index.specs.Entries.{IndexEntry}
 use Rattle.status_base.specs.MemoryTree.{PathMap}
 use Rattle.status_base.specs.Nodes.{is_bad_path}
 use Rattle.status_compare.specs.declared.error.Error.{Error}
-use Rattle.status_call.specs.declared.index_as_worktree.types.Change.TheVariants.{Modification}
-use Rattle.status_call.specs.declared.index_as_worktree.types.EntryStatus.TheVariants as statuses
+use Rattle.status_call.specs.declared.index_as_worktree.apply.ApplyChange.{ApplyChange}
+use Rattle.status_call.specs.declared.index_as_worktree.apply.ApplyChange.TheVariants.{NewStat, SetSizeToZero}
+use Rattle.status_call.specs.IndexChanges.{change_of, updated_entry}
 use Rattle.status_world.specs.declared.world.event.Comparer.{Comparer}
 use Rattle.status_world.specs.PlainWorld.{with_value}
 use Rattle.status_world.specs.Reports.{RunStatus}
 use Rattle.status_world.specs.Sound.{IsFormed}
 use Rattle.status_index.specs.Staging.{with_entry}
-use Rattle.status_world.specs.StampedWorld.{StampedWorld, node_at, entry_at, stored_status, stored_verdict, verdict_in}
+use Rattle.status_world.specs.StampedWorld.{StampedWorld, node_at, entry_at, stored_verdict, verdict_in}
 use Rattle.status_world.proofs.EntryLists.{is_path, path_of, entry_at-with, entry_at-map, KeepsPaths, found_path, found_holds}
 use Rattle.status_world.proofs.EntryVerdicts.{IsStagedEntry, staged_entry, verdict_by, verdict_is}
 use Rattle.status_world.proofs.TreeLaws.{get-with}
@@ -41,14 +42,14 @@ each_staged es m p new v P named here others q =
 
 -- ---- a run
 
-status_path : (e : IndexEntry) (s : RunStatus) → (stored_status e s).path ≡ e.path
-status_path e (statuses.NeedsUpdate stat) = refl
-status_path e (statuses.Change (Modification x c true)) = refl
-status_path e _ = refl
+updated_path : (o : Option ApplyChange) (e : IndexEntry) → (updated_entry o e).path ≡ e.path
+updated_path (Some (NewStat at stat)) e = refl
+updated_path (Some (SetSizeToZero at)) e = refl
+updated_path None e = refl
 
 -- what a verdict stores is an entry of the same path
 pub stored_path : (e : IndexEntry) (v : Result (Option RunStatus) Error) → (stored_verdict e v).path ≡ e.path
-stored_path e (Ok (Some s)) = status_path e s
+stored_path e (Ok (Some s)) = updated_path (change_of 0 s) e
 stored_path e (Ok None) = refl
 stored_path e (Err x) = refl
 

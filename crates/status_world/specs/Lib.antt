@@ -11,5 +11,4 @@ pub mod RunStatus
 pub mod Sound
 pub mod StagedPaths
 pub mod StampedWorld
-pub mod Stored
 pub mod Worlds

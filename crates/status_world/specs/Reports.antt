@@ -1,12 +1,15 @@
 -- What a run reports, as plain values.
 use Rattle.std.specs.Prelude.{ℕ, ◌<◌, ◌^◌, Bool, true, false, List, filter, map, Option}
+use Rattle.std.specs.List.{filter_map}
 use Rattle.bstr.specs.BStr.{bstr_bytes}
 use Rattle.bstr.specs.Owned.{bstring_bytes}
 use Rattle.status_index.specs.declared.id.ObjectId.{ObjectId}
+use Rattle.status_call.specs.declared.index_as_worktree.apply.ApplyChange.{ApplyChange}
 use Rattle.status_call.specs.declared.index_as_worktree.recorder.Record.{Record}
 use Rattle.status_call.specs.declared.index_as_worktree.types.EntryStatus.{EntryStatus}
 use Rattle.status_call.specs.declared.index_as_worktree.types.EntryStatus.TheVariants as statuses
 use Rattle.status_call.specs.declared.index_as_worktree.types.Outcome.{Outcome}
+use Rattle.status_call.specs.IndexChanges.{change_of}
 use Rattle.status_call.specs.Outcomes.{skipped_of}
 use Rattle.status_world.specs.declared.world.report.Report.{Report}
 use Rattle.status_world.specs.declared.world.report.ReportRecord.{ReportRecord}
@@ -33,6 +36,10 @@ record_value r = record { entry_index = r.entry_index; path = bstr_bytes r.relat
 
 abbrev pub report_value : Report → RunReport
 report_value r = record { records = map reported_value r.records.items; outcome = r.outcome }
+
+-- what records ask of the index
+abbrev pub changes_in : List Reported → List ApplyChange
+changes_in rs = filter_map (λ r. change_of r.entry_index r.status) rs
 
 -- the counts of the skipped entries add up to a number that fits
 abbrev pub HasSum : Report → Type 0

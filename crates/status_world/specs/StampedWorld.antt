@@ -20,7 +20,6 @@ use Rattle.status_index.specs.FlagBits.{bits_of_stage}
 use Rattle.status_index.specs.Mode.{new_mode}
 use Rattle.status_index.specs.NodeStat.{stat_of}
 use Rattle.status_index.specs.Staging.{with_entry}
-use Rattle.status_index.specs.States.{with_stat, smudged}
 use Rattle.status_base.specs.Converted.{same}
 use Rattle.status_base.specs.MemoryTree.{Placed, PathMap, Tree, lstat_in, open_in, target_in}
 use Rattle.status_base.specs.Trees.{empty_tree}
@@ -29,9 +28,8 @@ use Rattle.status_compare.specs.declared.error.Error.{Error}
 use Rattle.status_compare.specs.declared.reads.Reads.{Reads}
 use Rattle.status_compare.specs.Comparers.{hash_answer, fast_answer, counts_after_hash, counts_after_fast}
 use Rattle.status_compare.specs.Reading.{Meaning}
-use Rattle.status_call.specs.declared.index_as_worktree.types.Change.TheVariants.{Modification}
-use Rattle.status_call.specs.declared.index_as_worktree.types.EntryStatus.TheVariants as statuses
 use Rattle.status_call.specs.Counts.{counts_in, reads_in}
+use Rattle.status_call.specs.IndexChanges.{change_of, updated_entry}
 use Rattle.status_call.specs.Outcomes.{outcome_of}
 use Rattle.status_call.specs.Query.{Query}
 use Rattle.status_call.specs.Records.{verdict}
@@ -220,14 +218,9 @@ report_of w comparer = record {
       (record { start = 0; end = length w.entries });
 }
 
--- an entry after its status is stored: a new stat, or the size 0 where the status says so
-abbrev pub stored_status : IndexEntry → RunStatus → IndexEntry
-stored_status e (statuses.NeedsUpdate stat) = with_stat stat e
-stored_status e (statuses.Change (Modification x c true)) = smudged e
-stored_status e _ = e
-
+-- an entry after what its status asks is stored; its place, here 0, plays no part in that
 abbrev pub stored_verdict : IndexEntry → Result (Option RunStatus) Error → IndexEntry
-stored_verdict e (Ok (Some status)) = stored_status e status
+stored_verdict e (Ok (Some status)) = updated_entry (change_of 0 status) e
 stored_verdict e (Ok None) = e
 stored_verdict e (Err fault) = e
 

@@ -1,5 +1,6 @@
 //! The status of an index against a worktree.
 
+pub mod apply;
 mod conflict;
 pub mod considered;
 mod content;
@@ -21,6 +22,7 @@ mod types;
 pub mod work;
 pub mod workers;
 
+pub use apply::{ApplyChange, apply_changes};
 pub use function::index_as_worktree;
 pub use recorder::{Record, Recorder};
 pub use types::{

@@ -1,12 +1,15 @@
 //! Statuses, called with some of the interfaces fixed.
 
-ghost use Rattle.std.specs.Prelude.{◌<◌, ◌^◌, IfOk};
+ghost use Rattle.std.specs.Prelude.{◌≡◌, ◌<◌, ◌^◌, [], IfOk, OnErr, OnOk};
+ghost use Rattle.status_index.specs.States.{index_of, timestamp_of};
+ghost use Rattle.status_call.specs.IndexChanges.{AreInside, DifferInStats, changes_of};
 ghost use Rattle.status_call.specs.Outcomes.{skipped_of};
 
-use gix_status::index::State;
-use gix_status::index_as_worktree::traits::CompareBlobs;
+use gix_status::index::{Moment, State};
+use gix_status::index_as_worktree::traits::{CompareBlobs, HashEq};
 use gix_status::index_as_worktree::{
-    Capabilities, Context, Error, Options, Outcome, Record, Recorder, VisitEntry, index_as_worktree,
+    ApplyChange, Capabilities, Context, Error, Options, Outcome, Record, Recorder, VisitEntry,
+    apply_changes, index_as_worktree,
 };
 use gix_status::worktree::{
     AllPaths, Find, MemoryObjects, NoFilter, NoLister, NoSubmodules, Pathspec, SubmoduleStatus,
@@ -166,7 +169,8 @@ where
     W::File: Send,
     C::Output: Send,
     S::Output: Send,
-    ensures { IfOk result (λ o. skipped_of o < 2 ^ 64) }
+    ensures sum { IfOk result (λ o. skipped_of o < 2 ^ 64) }
+    ensures inside { V.visits collector.old ≡ [] → AreInside (changes_of (V.visits collector.new)) (index_of index.now) }
 {
     let Request {
         submodule,
@@ -184,4 +188,43 @@ where
     index_as_worktree(
         rt, alloc, index, worktree, collector, compare, submodule, objects, context, options,
     )
+}
+
+/// What the status of an index asks of it.
+fn changes<R: AllocGlobal + Threads + Wait, W: Worktree + Sync>(
+    rt: &R,
+    index: &State,
+    worktree: &W,
+) -> Result<Vec<ApplyChange>, Error>
+where
+    W::File: Send,
+    ensures { IfOk result (λ changes. AreInside changes.items (index_of index.now)) }
+{
+    let alloc = rt.alloc();
+    let mut recorder = Recorder::new(alloc);
+    let request = plain_request(alloc);
+    report_to(rt, alloc, index, worktree, &mut recorder, HashEq, request, None)?;
+    Ok(recorder.changes()?)
+}
+
+/// Refreshes an index: stores what its status asks, and says that it is written at `timestamp`.
+///
+/// # Errors
+/// The status's. The index then is as it was.
+pub fn refresh<R: AllocGlobal + Threads + Wait, W: Worktree + Sync>(
+    rt: &R,
+    index: &mut State,
+    worktree: &W,
+    timestamp: Moment,
+) -> Result<(), Error>
+where
+    W::File: Send,
+    ensures stats { DifferInStats (index_of index.new) (index_of index.old) }
+    ensures unchanged { OnErr result (index.new ≡ index.old) }
+    ensures timestamp { OnOk result (timestamp_of index.new ≡ timestamp) }
+{
+    let changes = changes(rt, index, worktree)?;
+    apply_changes(index, &changes);
+    index.set_timestamp(timestamp);
+    Ok(())
 }

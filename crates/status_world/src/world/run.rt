@@ -6,8 +6,7 @@ ghost use Rattle.status_compare.specs.declared.error.Error.TheVariants.{SpawnThr
 ghost use Rattle.status_call.specs.StatusTheorem.{IsMet, NeverSpawns};
 ghost use Rattle.status_world.specs.RunStatus.{status_query};
 ghost use Rattle.status_world.specs.Applied.{IsRunReport, IsRunApplied};
-ghost use Rattle.status_world.specs.Stored.{store_record, store_records};
-ghost use Rattle.status_world.specs.Reports.{HasSum, reported_value, record_value, report_value};
+ghost use Rattle.status_world.specs.Reports.{HasSum, changes_in, reported_value, record_value};
 ghost use Rattle.status_world.specs.StampedWorld.{after_event, report_of};
 ghost use Rattle.status_world.specs.declared.world.event.Event.TheVariants as events;
 
@@ -19,8 +18,8 @@ use bstr::BString;
 use status_base::index::{ObjectId, State};
 use status_base::worktree::{AllPaths, MemoryObjects, NoFilter, NoLister, NoSubmodules, Worktree};
 use status_call::index_as_worktree::{
-    Capabilities, Change, Context, EntryStatus, Error, Options, Outcome, Record, Recorder,
-    VisitEntry, index_as_worktree,
+    ApplyChange, Capabilities, Context, Error, Options, Outcome, Record, Recorder, VisitEntry,
+    apply_changes, index_as_worktree,
 };
 use status_compare::CompareBlobs;
 use std::alloc::{AllocError, Global};
@@ -40,17 +39,18 @@ impl World {
             return Err(Refusal::StampLater);
         }
         let report = self.report(rt, run)?;
-        self.store(run, &report);
+        let changes = report.changes()?;
+        self.store(run, &changes);
         Ok(report)
     }
 
-    /// Stores what a run reports: the answers in the index, and the index's new timestamp.
-    fn store(&mut self, run: &Run, report: &Report)
-        requires { report_value report.now ≡ report_of self.old run.now.comparer }
+    /// Stores what a run asks of the index, and the index's new timestamp.
+    fn store(&mut self, run: &Run, changes: &[ApplyChange])
+        requires { changes.now ≡ changes_in (report_of self.old run.now.comparer).records }
         ensures { self.new ≡ after_event (events.Run run.now) self.old }
     {
         let index = &mut self.parts.index;
-        store_records(index, &report.records);
+        apply_changes(index, changes);
         index.set_timestamp(run.stamp);
     }
 
@@ -173,33 +173,4 @@ fn owned_record(
         path: BString::from_slice(alloc, relative_path.as_bytes())?,
         status,
     })
-}
-
-/// Stores what was reported in the index.
-fn store_records(index: &mut State, records: &[ReportRecord])
-    requires { All (λ r. r.entry_index < length (index_of index.old)) (map reported_value records.now) }
-    ensures index { (index_of index.new) ≡ store_records (map reported_value records.now) (index_of index.old) }
-    ensures timestamp { timestamp_of index.new ≡ timestamp_of index.old }
-{
-    for record in records {
-        store_record(index, record);
-    }
-}
-
-/// Stores what was reported of one entry: a new stat, or the size 0.
-fn store_record(index: &mut State, record: &ReportRecord)
-    requires { record.now.entry_index < length (index_of index.old) }
-    ensures index { (index_of index.new) ≡ store_record (index_of index.old) (reported_value record.now) }
-    ensures timestamp { timestamp_of index.new ≡ timestamp_of index.old }
-{
-    match &record.status {
-        EntryStatus::NeedsUpdate(stat) => index.set_stat(record.entry_index, *stat),
-        EntryStatus::Change(
-            Change::Modification {
-                set_entry_stat_size_zero: true,
-                ..
-            },
-        ) => index.smudge(record.entry_index),
-        _ => {}
-    }
 }
