@@ -46,16 +46,16 @@ shown_some b None = refl
 shown_some b (Some x) = refl
 
 -- what was found of a stage
-pub record IsFound (run : List Entry) (stage : ℕ) (o : Option (Bor Entry)) (found : Bool) : Type 0 where
+pub record IsStageFound (run : List Entry) (stage : ℕ) (o : Option (Bor Entry)) (found : Bool) : Type 0 where
   pub last : option_copied o ≡ stored_of_stage run stage
   pub some : found ≡ is_some o
 
 module _ (b : PathStorage) (base ours theirs : Option (Bor Entry)) (x y z : Bool) where
-  shown : (run : List Entry) (stage : ℕ) (o : Option (Bor Entry)) (found : Bool) → IsFound run stage o found → option_map (index_entry b) (option_copied o) ≡ entry_of_stage (index_entries b run) stage
+  shown : (run : List Entry) (stage : ℕ) (o : Option (Bor Entry)) (found : Bool) → IsStageFound run stage o found → option_map (index_entry b) (option_copied o) ≡ entry_of_stage (index_entries b run) stage
   shown run stage o found f = ap (option_map (index_entry b)) f.last ∙ stored_is b run stage
 
   -- whether a run has an entry of a stage
-  some_stage : (run : List Entry) (stage : ℕ) (o : Option (Bor Entry)) (found : Bool) → IsFound run stage o found → has_stage (index_entries b run) stage ≡ found
+  some_stage : (run : List Entry) (stage : ℕ) (o : Option (Bor Entry)) (found : Bool) → IsStageFound run stage o found → has_stage (index_entries b run) stage ≡ found
   some_stage run stage o found f = ap is_some (sym (shown run stage o found f)) ∙ shown_some b o ∙ sym f.some
 
   -- a run that names a conflict has an entry
@@ -63,7 +63,7 @@ module _ (b : PathStorage) (base ours theirs : Option (Bor Entry)) (x y z : Bool
   last_after [] c h = cc
   last_after (e ∷ run) c h = omega arith
 
-  module _ (run : List Entry) (f : IsFound run 1 base x) (g : IsFound run 2 ours y) (h : IsFound run 3 theirs z) where
+  module _ (run : List Entry) (f : IsStageFound run 1 base x) (g : IsStageFound run 2 ours y) (h : IsStageFound run 3 theirs z) where
     conflict_is : conflict_of (index_entries b run) ≡ conflict_named x y z
     conflict_is = rw (some_stage run 1 base x f, some_stage run 2 ours y g, some_stage run 3 theirs z h)
 

@@ -18,12 +18,12 @@ use Rattle.status_compare.specs.declared.error.Error.TheVariants as errors
 use Rattle.status_compare.specs.EntryMeaning.{both_modelled}
 use Rattle.status_compare.specs.declared.reads.Reads.{Reads}
 use Rattle.status_compare.specs.Reads.{no_reads}
-use Rattle.status_call.specs.declared.index_as_worktree.site.Look.{Look}
-use Rattle.status_call.specs.declared.index_as_worktree.site.Site.TheVariants as sites
+use Rattle.status_call.specs.declared.index_as_worktree.lookup.Look.{Look}
+use Rattle.status_call.specs.declared.index_as_worktree.lookup.AtPath.TheVariants as presences
 use Rattle.status_call.specs.declared.index_as_worktree.decide.Decided.{Decided}
 use Rattle.status_call.specs.Counts.{is_accepted, is_racy_case, is_compared_case, calls_lstat, reads_of_found, ModelsReads}
 use Rattle.status_call.specs.Decisions.{IsDecided}
-use Rattle.status_call.specs.EntryParts.{IsSite, found_site, IsOfCase, IsCaseDecided}
+use Rattle.status_call.specs.EntryParts.{IsLook, found_presence, IsOfCase, IsCaseDecided}
 use Rattle.status_call.specs.Modelled.{all_modelled}
 use Rattle.status_call.specs.Query.{Query}
 use Rattle.status_call.specs.Status.{Found, cached_or, found_by, found_node, refused, present, Case, compared, answer, found, meaning, is_trusted, case_of_found, case_of_content}
@@ -50,15 +50,15 @@ all_listings true true false d t = absurd (cc)
 all_listings true false c d t = absurd (cc)
 all_listings false b c d t = absurd (cc)
 
--- a site that was found by an equal check
+-- a presence that was found by an equal check
 pub site_at : (meant check : LinkCheck) (node : Result Metadata Fault) (unknown : Bool) (r : Result Look Error) → check ≡ meant
-    → IsSite (found_by meant node) (is_accepted meant && unknown) r → IsSite (found_by check node) (is_accepted check && unknown) r
+    → IsLook (found_by meant node) (is_accepted meant && unknown) r → IsLook (found_by check node) (is_accepted check && unknown) r
 site_at meant check node unknown r same h =
-    let P : LinkCheck → Type 0 = λ k. IsSite (found_by k node) (is_accepted k && unknown) r in subst P (sym same) h
+    let P : LinkCheck → Type 0 = λ k. IsLook (found_by k node) (is_accepted k && unknown) r in subst P (sym same) h
 
 -- a node that was found
-pub site_node : (found : Found) (called : Bool) (look : Look) (n : Metadata) → look.site ≡ sites.Node n → IsSite found called (Ok look) → (found ≡ present n) × (look.lstat_called ≡ called)
-site_node found called look n same h = (h.0 ∙ ap found_site same, h.1)
+pub presence_node : (found : Found) (called : Bool) (look : Look) (n : Metadata) → look.presence ≡ presences.Node n → IsLook found called (Ok look) → (found ≡ present n) × (look.lstat_called ≡ called)
+presence_node found called look n same h = (h.0 ∙ ap found_presence same, h.1)
 
 -- an answer that is no want of memory is the one that is meant
 pub live_answer : (meant : Result Metadata Fault) (n : Metadata) → IsAnswer meant (Ok n) → meant ≡ Ok n
@@ -67,29 +67,29 @@ live_answer meant n (inr h) = absurd (cc)
 
 -- a node that listings know, and one that `lstat` finds
 pub site_known : (check : LinkCheck) (known : Option Metadata) (answered : Result Metadata Fault) (n : Metadata) (look : Look) → check ≡ accepted → known ≡ Some n
-    → IsSite (found_node (Ok n)) false (Ok look) → IsSite (found_by check (cached_or known answered)) (is_accepted check && not (is_some known)) (Ok look)
+    → IsLook (found_node (Ok n)) false (Ok look) → IsLook (found_by check (cached_or known answered)) (is_accepted check && not (is_some known)) (Ok look)
 site_known check known answered n look verified is h =
-    let P : LinkCheck → Type 0 = λ k. IsSite (found_by k (cached_or known answered)) (is_accepted k && not (is_some known)) (Ok look) in
-    let Q : Option Metadata → Type 0 = λ o. IsSite (found_by accepted (cached_or o answered)) (is_accepted accepted && not (is_some o)) (Ok look) in
+    let P : LinkCheck → Type 0 = λ k. IsLook (found_by k (cached_or known answered)) (is_accepted k && not (is_some known)) (Ok look) in
+    let Q : Option Metadata → Type 0 = λ o. IsLook (found_by accepted (cached_or o answered)) (is_accepted accepted && not (is_some o)) (Ok look) in
     subst P (sym verified) (subst Q (sym is) h)
 
 pub site_live : (check : LinkCheck) (known : Option Metadata) (answered : Result Metadata Fault) (n : Metadata) (look : Look) → check ≡ accepted → known ≡ None → answered ≡ Ok n
-    → IsSite (found_node (Ok n)) true (Ok look) → IsSite (found_by check (cached_or known answered)) (is_accepted check && not (is_some known)) (Ok look)
+    → IsLook (found_node (Ok n)) true (Ok look) → IsLook (found_by check (cached_or known answered)) (is_accepted check && not (is_some known)) (Ok look)
 site_live check known answered n look verified is live h =
-    let P : LinkCheck → Type 0 = λ k. IsSite (found_by k (cached_or known answered)) (is_accepted k && not (is_some known)) (Ok look) in
-    let Q : Option Metadata → Type 0 = λ o. IsSite (found_by accepted (cached_or o answered)) (is_accepted accepted && not (is_some o)) (Ok look) in
-    let R : Result Metadata Fault → Type 0 = λ r. IsSite (found_node r) true (Ok look) in
+    let P : LinkCheck → Type 0 = λ k. IsLook (found_by k (cached_or known answered)) (is_accepted k && not (is_some known)) (Ok look) in
+    let Q : Option Metadata → Type 0 = λ o. IsLook (found_by accepted (cached_or o answered)) (is_accepted accepted && not (is_some o)) (Ok look) in
+    let R : Result Metadata Fault → Type 0 = λ r. IsLook (found_node r) true (Ok look) in
     subst P (sym verified) (subst Q (sym is) (subst R (sym live) h))
 
 -- a path that isn't normal
 pub site_odd : (error : StackError) (check : LinkCheck) (node : Result Metadata Fault) (unknown : Bool)
     → (error ≡ stacks.EmptyPath) ⊎ ((component : BStr) × (error ≡ stacks.NotNormal component)) → IsRefused check error
-    → IsSite (found_by check node) (is_accepted check && unknown) (Err (errors.Io faults.NotNormal))
+    → IsLook (found_by check node) (is_accepted check && unknown) (Err (errors.Io faults.NotNormal))
 site_odd stacks.EmptyPath check node unknown odd same =
-    let found : IsSite (refused faults.NotNormal) false (Err (errors.Io faults.NotNormal)) = inl (faults.NotNormal, refl, refl) in
+    let found : IsLook (refused faults.NotNormal) false (Err (errors.Io faults.NotNormal)) = inl (faults.NotNormal, refl, refl) in
     site_at empty_path check node unknown (Err (errors.Io faults.NotNormal)) same found
 site_odd (stacks.NotNormal component) check node unknown odd same =
-    let found : IsSite (refused faults.NotNormal) false (Err (errors.Io faults.NotNormal)) = inl (faults.NotNormal, refl, refl) in
+    let found : IsLook (refused faults.NotNormal) false (Err (errors.Io faults.NotNormal)) = inl (faults.NotNormal, refl, refl) in
     site_at (not_normal (bstr_bytes component)) check node unknown (Err (errors.Io faults.NotNormal)) same found
 site_odd (stacks.ThroughLink prefix) check node unknown (inl e) same = absurd (cc)
 site_odd (stacks.ThroughLink prefix) check node unknown (inr e) same = let f = e.1 in absurd (cc)

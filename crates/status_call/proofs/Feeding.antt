@@ -4,7 +4,7 @@ use Rattle.std.proofs.lemmas.List.{map-append, append-nil}
 use Rattle.std.proofs.lemmas.List.Elements.{All-append, All-nil, All-head, All-tail}
 use Rattle.std.proofs.Math.Seq.{take-append_seam}
 use Rattle.status_call.specs.declared.index_as_worktree.types.Finding.{Finding}
-use Rattle.status_call.specs.Fed.{Reports}
+use Rattle.status_call.specs.Reporting.{Reports}
 use Rattle.status_call.specs.Visits.{Visit, finding_of}
 
 module _ {T U : Type 0} (faithful : Visit T U → Type 0) where

@@ -22,7 +22,7 @@ use Rattle.status_base.specs.declared.fscache.Stat.{Stat as ListedStat}
 use Rattle.status_compare.specs.declared.error.Error.{Error}
 use Rattle.status_call.specs.declared.index_as_worktree.types.EntryStatus.{EntryStatus}
 use Rattle.status_call.specs.Considered.{has_flag, is_skipped, is_over, stages_from}
-use Rattle.status_call.specs.ListedStatus.{AreLive, IsFound, IsSameNode, IsSameStatus, ListingsLaw, with_listings, without_listings}
+use Rattle.status_call.specs.ListedStatus.{AreLive, FindsSame, IsSameNode, IsSameStatus, ListingsLaw, with_listings, without_listings}
 use Rattle.status_call.specs.Query.{Query}
 use Rattle.status_call.specs.Records.{conflict_status, record_by, fault_by, verdict, records_of, first_fault}
 use Rattle.status_call.specs.Status.{Found, nothing, refused, directory, present, Case, added, answer, case_of_content, case_of_change, case_of_stat, case_of_found, cached_or, found_by, found_kind, found_node, is_trusted, status_of}
@@ -142,19 +142,19 @@ module _ {T U : Type 0} (q : Query T U) (uncounted : q.executable_bit ≡ false)
     gid = (gid ∙ sym h.gid) i;
   }
 
-  same_known : (stat : ListedStat) (r : Result Metadata Fault) → IsFound (listed_node stat) r → case_of_found one e (found_node (Ok (listed_node stat))) ≡ case_of_found two e (found_node r)
+  same_known : (stat : ListedStat) (r : Result Metadata Fault) → FindsSame (listed_node stat) r → case_of_found one e (found_node (Ok (listed_node stat))) ≡ case_of_found two e (found_node r)
   same_known stat (Ok live) h =
       same_kind (listed_node stat) live.executable (listed_node stat).kind
       ∙ ap (λ (n : Metadata). case_of_found two e (found_node (Ok n))) (as_shown (listed_node stat) live h refl refl refl refl)
   same_known stat (Err f) h = absurd h
 
-  same_cached : (known : Option ListedStat) (r : Result Metadata Fault) → IfSome known (λ stat. IsFound (listed_node stat) r)
+  same_cached : (known : Option ListedStat) (r : Result Metadata Fault) → IfSome known (λ stat. FindsSame (listed_node stat) r)
       → case_of_found one e (found_node (cached_or (option_map listed_node known) r)) ≡ case_of_found two e (found_node r)
   same_cached (Some stat) r h = same_known stat r h
   same_cached None r h = same_node r
 
   same_found : (check : LinkCheck) (known : Option ListedStat) (r : Result Metadata Fault)
-      → (check ≡ accepted → IfSome known (λ stat. IsFound (listed_node stat) r))
+      → (check ≡ accepted → IfSome known (λ stat. FindsSame (listed_node stat) r))
       → case_of_found one e (found_by check (cached_or (option_map listed_node known) r)) ≡ case_of_found two e (found_by check r)
   same_found accepted known r h = same_cached known r (h refl)
   same_found (through_link p) known r h = refl

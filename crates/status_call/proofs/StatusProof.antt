@@ -24,7 +24,7 @@ use Rattle.status_call.specs.Records.{records_in, records_of, faults_in, first_f
 use Rattle.status_call.specs.StatusOf.{IsUnspawned}
 use Rattle.status_call.specs.StatusTheorem.{IsBeginning, IsComplete, IsMet, IsStatusOf, IsFirstFault, NeverSpawns, considered_entries, start_of}
 use Rattle.status_call.specs.Visits.{Visit, finding_of, IsFaithful}
-use Rattle.status_call.specs.Worked.{IsShortage, IsStopped, IsReportedWork}
+use Rattle.status_call.specs.WorkInOrder.{IsShortage, IsStopped, IsReportedWork}
 use Rattle.status_call.specs.Workers.{most_workers}
 use Rattle.status_call.proofs.Groups.{records-append}
 use Rattle.status_call.proofs.LawRecords.{fault_law}

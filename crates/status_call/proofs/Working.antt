@@ -12,13 +12,13 @@ use Rattle.status_call.specs.declared.index_as_worktree.types.Finding.{Finding}
 use Rattle.status_call.specs.declared.index_as_worktree.counts.Progress.{Progress}
 use Rattle.status_call.specs.declared.index_as_worktree.counts.Totals.{Totals}
 use Rattle.status_call.specs.Counts.{IsWithin, no_totals, plus_counts, plus_totals}
-use Rattle.status_call.specs.Fed.{Reports, IsPlacedIn}
+use Rattle.status_call.specs.Reporting.{Reports, IsPlacedIn}
 use Rattle.status_call.specs.Pieces.{IsDone, IsFaultAt, IsPiece, IsThrough, IsUncut}
-use Rattle.status_call.specs.PieceFed.{IsCounted, IsPieceFed}
+use Rattle.status_call.specs.PieceReporting.{IsCounted, IsPieceFed}
 use Rattle.status_call.specs.Query.{Query}
 use Rattle.status_call.specs.Rounds.{AreInRow, IsInRow}
 use Rattle.status_call.specs.Visits.{Visit}
-use Rattle.status_call.specs.Worked.{IsShortage, IsUnderWay, IsReportedWork}
+use Rattle.status_call.specs.WorkInOrder.{IsShortage, IsUnderWay, IsReportedWork}
 use Rattle.status_call.proofs.Dones.{done_none, done_more, sums_fit}
 use Rattle.status_call.proofs.Feeding.{reports_none, reports_more}
 

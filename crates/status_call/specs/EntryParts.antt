@@ -11,9 +11,9 @@ use Rattle.status_compare.specs.declared.reads.Reads.{Reads}
 use Rattle.status_compare.specs.Errors.{error_of}
 use Rattle.status_compare.specs.Reads.{no_reads}
 use Rattle.status_call.specs.declared.index_as_worktree.decide.Decided.{Decided}
-use Rattle.status_call.specs.declared.index_as_worktree.site.Look.{Look}
-use Rattle.status_call.specs.declared.index_as_worktree.site.Site.{Site}
-use Rattle.status_call.specs.declared.index_as_worktree.site.Site.TheVariants as sites
+use Rattle.status_call.specs.declared.index_as_worktree.lookup.Look.{Look}
+use Rattle.status_call.specs.declared.index_as_worktree.lookup.AtPath.{AtPath}
+use Rattle.status_call.specs.declared.index_as_worktree.lookup.AtPath.TheVariants as presences
 use Rattle.status_compare.specs.declared.comparison.Comparison.{Comparison}
 use Rattle.status_compare.specs.Comparisons.{IsComparison}
 use Rattle.status_base.specs.LinkCheck.{link_check}
@@ -21,22 +21,22 @@ use Rattle.status_call.specs.Counts.{is_accepted, is_racy_case, is_compared_case
 use Rattle.status_call.specs.Query.{Query}
 use Rattle.status_call.specs.Status.{Found, nothing, refused, directory, present, Case, compared, answer, found_by, cached_or, case_of_found, case_of_content, is_trusted, meaning}
 
--- what a site shows
-abbrev pub found_site : Site → Found
-found_site sites.Nothing = nothing
-found_site sites.Directory = directory
-found_site (sites.Node n) = present n
+-- what stands at a path, as it is found
+abbrev pub found_presence : AtPath → Found
+found_presence presences.Nothing = nothing
+found_presence presences.Directory = directory
+found_presence (presences.Node n) = present n
 
 -- what is found, and whether `lstat` was called; the fault that is found, or want of memory
-abbrev pub IsSite : Found → Bool → Result Look Error → Type 0
-IsSite found called (Ok look) = (found ≡ found_site look.site) × (look.lstat_called ≡ called)
-IsSite found called (Err e) = ((f : Fault) × (found ≡ refused f) × (e ≡ error_of f)) ⊎ (e ≡ Memory)
+abbrev pub IsLook : Found → Bool → Result Look Error → Type 0
+IsLook found called (Ok look) = (found ≡ found_presence look.presence) × (look.lstat_called ≡ called)
+IsLook found called (Err e) = ((f : Fault) × (found ≡ refused f) × (e ≡ error_of f)) ⊎ (e ≡ Memory)
 
 -- what is found at a path, by lstat's answers and by what listings know of it
-abbrev pub IsSiteAt : (List ℕ → Result Metadata Fault) → Option Metadata → List ℕ
+abbrev pub IsLookAt : (List ℕ → Result Metadata Fault) → Option Metadata → List ℕ
     → Result Look Error → Type 0
-IsSiteAt lstat known path result =
-    IsSite (found_by (link_check lstat path) (cached_or known (lstat path)))
+IsLookAt lstat known path result =
+    IsLook (found_by (link_check lstat path) (cached_or known (lstat path)))
     (is_accepted (link_check lstat path) && not (is_some known)) result
 
 -- the answer of a case, and what that took: whether `lstat` was called, and what the comparer reads where it is called
@@ -62,7 +62,7 @@ IsDecisionOf c stat executable_changed trusted racy d =
 
 -- what was found at a path is what a query says
 abbrev pub IsLooked : {T U : Type 0} → Query T U → List ℕ → Result Look Error → Type 0
-IsLooked q path result = IsTrue q.modelled → IsSiteAt q.lstat (q.cached path) path result
+IsLooked q path result = IsTrue q.modelled → IsLookAt q.lstat (q.cached path) path result
 
 module _ {T U : Type 0} (q : Query T U) (e : IndexEntry) (n : Metadata) where
   -- what the comparer reads of an entry and its node

@@ -20,14 +20,14 @@ pub record IsSameNode (known live : Metadata) : Type 0 where
   pub gid : live.gid ≡ 0
 
 -- lstat finds such a node
-abbrev pub IsFound : Metadata → Result Metadata Fault → Type 0
-IsFound known (Ok live) = IsSameNode known live
-IsFound known (Err f) = ⊥
+abbrev pub FindsSame : Metadata → Result Metadata Fault → Type 0
+FindsSame known (Ok live) = IsSameNode known live
+FindsSame known (Err f) = ⊥
 
 -- so it is at each path that the listings know, where the link check accepts it: only there are they asked
 abbrev pub AreLive : (List ℕ → Listing) → (List ℕ → Result Metadata Fault) → Type 0
 AreLive listing lstat = (path : List ℕ) → link_check lstat path ≡ accepted
-    → IfSome (listed listing path) (λ stat. IsFound (listed_node stat) (lstat path))
+    → IfSome (listed listing path) (λ stat. FindsSame (listed_node stat) (lstat path))
 
 module _ {T U : Type 0} where
   -- the same status with listings, and without

@@ -8,7 +8,7 @@ use Rattle.status_call.specs.declared.index_as_worktree.considered.Considered.{C
 use Rattle.status_call.specs.declared.index_as_worktree.workers.Workers.{Workers}
 use Rattle.status_call.specs.Query.{Query}
 use Rattle.status_call.specs.Visits.{Visit, IsFaithful}
-use Rattle.status_call.specs.Worked.{IsReportedWork}
+use Rattle.status_call.specs.WorkInOrder.{IsReportedWork}
 
 -- what the index says of the considered entries
 abbrev pub part_entries : Considered → List IndexEntry

@@ -11,7 +11,7 @@ use Rattle.status_rewrites.specs.declared.tracker.Pair.{Pair}
 use Rattle.status_joined.specs.declared.index_as_worktree_with_renames.error.Error.{Error}
 use Rattle.status_joined.specs.declared.index_as_worktree_with_renames.types.Options.{Options}
 use Rattle.status_joined.specs.declared.index_as_worktree_with_renames.types.Outcome.{Outcome}
-use Rattle.status_joined.specs.Identified.{Identifying}
+use Rattle.status_joined.specs.NodeIds.{Identifying}
 use Rattle.status_joined.specs.Items.{Reported}
 use Rattle.status_joined.specs.JoinedTheorem.{IsWhole}
 

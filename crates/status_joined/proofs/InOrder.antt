@@ -20,7 +20,7 @@ use Rattle.status_rewrites.specs.Parts.{goes}
 use Rattle.status_rewrites.specs.declared.tracker.Pair.{Pair}
 use Rattle.status_rewrites.proofs.Lists.{IsSortedBy-map}
 use Rattle.status_joined.specs.Feeding.{AreReported}
-use Rattle.status_joined.specs.Identified.{forget}
+use Rattle.status_joined.specs.NodeIds.{forget}
 use Rattle.status_joined.specs.Items.{Item, Reported, IsReported, tracked, walked, path_of, side_of}
 use Rattle.status_joined.specs.Lists.{list_cmp}
 use Rattle.status_joined.specs.Summaries.{destination_path, reported_cmp, reported_side}

@@ -19,7 +19,7 @@ use Rattle.status_joined.specs.declared.index_as_worktree_with_renames.error.Err
 use Rattle.status_joined.specs.declared.index_as_worktree_with_renames.rewrites.Outcome.{Outcome as RewritesOutcome}
 use Rattle.status_joined.specs.declared.index_as_worktree_with_renames.types.Options.{Options}
 use Rattle.status_joined.specs.Feeding.{AreReported, IsFed}
-use Rattle.status_joined.specs.Identified.{Identifying}
+use Rattle.status_joined.specs.NodeIds.{Identifying}
 use Rattle.status_joined.specs.Items.{Item, Reported}
 use Rattle.status_joined.specs.Joined.{IsRewriting, IsRewritingFault}
 use Rattle.status_joined.specs.JoinedTheorem.{HasJoinedList, IsFault, IsJoined, IsReportedOf, IsWhole}

@@ -13,7 +13,7 @@ use Rattle.status_index.specs.declared.stat.Time.{Time}
 use Rattle.status_call.specs.declared.index_as_worktree.types.EntryStatus.TheVariants.{IntentToAdd}
 use Rattle.status_rewrites.proofs.Lists.{filter-map, IsSortedBy-map}
 use Rattle.status_joined.specs.Items.{path_of}
-use Rattle.status_joined.specs.Listed.{item_of}
+use Rattle.status_joined.specs.ListItems.{item_of}
 use Rattle.status_joined.specs.Lists.{list_cmp, IsSortedList}
 use Rattle.status_joined.specs.declared.item.ModificationOrDirwalkEntry.{ModificationOrDirwalkEntry}
 use Rattle.status_joined.specs.declared.item.ModificationOrDirwalkEntry.TheVariants.{Modification}

@@ -4,7 +4,7 @@ use Rattle.status_index.specs.Entries.{IndexEntry}
 use Rattle.status_index.specs.declared.id.HashKind.{HashKind}
 use Rattle.status_call.specs.Query.{Query}
 use Rattle.status_call.specs.declared.index_as_worktree.inputs.Settings.{Settings}
-use Rattle.status_joined.specs.Identified.{Identifying}
+use Rattle.status_joined.specs.NodeIds.{Identifying}
 use Rattle.status_joined.specs.Walkings.{Walking}
 
 -- T is what a comparer reports of a change, U what a submodule reports

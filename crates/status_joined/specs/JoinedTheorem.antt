@@ -22,7 +22,7 @@ use Rattle.status_joined.specs.declared.index_as_worktree_with_renames.rewrites.
 use Rattle.status_joined.specs.declared.index_as_worktree_with_renames.types.Options.{Options}
 use Rattle.status_joined.specs.declared.index_as_worktree_with_renames.types.Outcome.{Outcome}
 use Rattle.status_joined.specs.Feeding.{AreReported}
-use Rattle.status_joined.specs.Identified.{Identifying}
+use Rattle.status_joined.specs.NodeIds.{Identifying}
 use Rattle.status_joined.specs.Items.{Item, Reported}
 use Rattle.status_joined.specs.Joined.{IsRewriting, IsRewritingFault, tracked_options}
 use Rattle.status_joined.specs.Listing.{HasList, IsHalfFault}

@@ -21,7 +21,7 @@ use Rattle.status_joined.specs.declared.index_as_worktree_with_renames.error.Err
 use Rattle.status_joined.specs.declared.index_as_worktree_with_renames.listing.Listing.{Listing}
 use Rattle.status_joined.specs.Errors.{error_of_status, error_of_walk}
 use Rattle.status_joined.specs.Items.{Item}
-use Rattle.status_joined.specs.Listed.{item_of}
+use Rattle.status_joined.specs.ListItems.{item_of}
 use Rattle.status_joined.specs.Lists.{IsList, unsorted}
 
 -- of a half that failed

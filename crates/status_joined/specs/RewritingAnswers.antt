@@ -13,9 +13,9 @@ use Rattle.status_rewrites.specs.declared.rewritten.Rewritten.{Rewritten}
 use Rattle.status_joined.specs.Feeding.{IsFed}
 use Rattle.status_joined.specs.Items.{Item, Reported}
 use Rattle.status_joined.specs.declared.index_as_worktree_with_renames.rewriting.RewrittenList.{RewrittenList}
-use Rattle.status_joined.specs.Identified.{Identifying}
+use Rattle.status_joined.specs.NodeIds.{Identifying}
 use Rattle.status_joined.specs.Joined.{IsRewriting, IsRewritingFault}
-use Rattle.status_joined.specs.Listed.{item_of}
+use Rattle.status_joined.specs.ListItems.{item_of}
 use Rattle.status_joined.specs.declared.item.ModificationOrDirwalkEntry.{ModificationOrDirwalkEntry}
 
 -- the list with its renames and copies, or why it has none

@@ -1,8 +1,8 @@
 //! Ids of the list's nodes.
 
 ghost use Rattle.std.specs.Prelude.{◌≡◌, OnOk, map};
-ghost use Rattle.status_joined.specs.Identified.{identifying, forget, IsIdentifiedBy, AreIdentifiedBy};
-ghost use Rattle.status_joined.specs.Listed.{item_of};
+ghost use Rattle.status_joined.specs.NodeIds.{identifying, forget, HasIdBy, HaveIdsBy};
+ghost use Rattle.status_joined.specs.ListItems.{item_of};
 
 use crate::item::ModificationOrDirwalkEntry;
 use status_base::index::HashKind;
@@ -18,7 +18,7 @@ fn identify_item<W: Worktree, F: ToGit, T: Drop, U: Drop>(
     item: &mut ModificationOrDirwalkEntry<'_, T, U>,
     buffer: &mut Vec<u8>,
 ) -> Result<(), IdError>
-    ensures ids { IsIdentifiedBy
+    ensures ids { HasIdBy
         (identifying W.modelled W.lstat_of W.open_of W.target_of F.conversion kind worktree.now filter.now)
         (item_of item.old) result (item_of item.new) }
     ensures same { OnOk result (forget kind (item_of item.new) ≡ forget kind (item_of item.old)) }
@@ -49,7 +49,7 @@ pub fn identify<W: Worktree, F: ToGit, T: Drop, U: Drop>(
     filter: &F,
     items: &mut Vec<ModificationOrDirwalkEntry<'_, T, U>>,
 ) -> Result<(), IdError>
-    ensures ids { AreIdentifiedBy
+    ensures ids { HaveIdsBy
         (identifying W.modelled W.lstat_of W.open_of W.target_of F.conversion kind worktree.now filter.now)
         (map item_of items.old.items) result (map item_of items.new.items) }
     ensures same { OnOk result (map (forget kind) (map item_of items.new.items)

@@ -4,7 +4,7 @@ ghost use Rattle.std.specs.Prelude.{◌≡◌};
 ghost use Rattle.status_joined.specs.Changes.{changed_of, disk_entry_kind, mode_kind};
 ghost use Rattle.status_joined.specs.Copies.{IsCopy};
 ghost use Rattle.status_joined.specs.Items.{is_removal, is_removed, is_walked, path_of};
-ghost use Rattle.status_joined.specs.Listed.{item_of};
+ghost use Rattle.status_joined.specs.ListItems.{item_of};
 
 use bstr::BStr;
 use status_base::index::{EntryKind, Mode, ObjectId};

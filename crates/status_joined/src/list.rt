@@ -1,9 +1,9 @@
 //! The list of a status: its records and nodes.
 
 ghost use Rattle.std.specs.Prelude.{◌≡◌, IfOk, map};
-ghost use Rattle.status_call.specs.Recorded.{visit_of};
+ghost use Rattle.status_call.specs.RecorderVisits.{visit_of};
 ghost use Rattle.status_joined.specs.Keeping.{kept_walked};
-ghost use Rattle.status_joined.specs.Listed.{item_of};
+ghost use Rattle.status_joined.specs.ListItems.{item_of};
 ghost use Rattle.status_joined.specs.Lists.{unsorted, IsList};
 
 use crate::Kept;

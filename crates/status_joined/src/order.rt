@@ -5,7 +5,7 @@ ghost use Rattle.std.specs.Cmp.Lexicographic.{slice_cmp};
 ghost use Rattle.std.specs.List.Sorted.{IsPermutation, IsSorted, IsSortedByKey, IsStableByKey};
 ghost use Rattle.std.specs.Ordering.{nat_cmp};
 ghost use Rattle.status_joined.specs.Items.{path_of, side_of};
-ghost use Rattle.status_joined.specs.Listed.{item_of};
+ghost use Rattle.status_joined.specs.ListItems.{item_of};
 ghost use Rattle.status_joined.specs.Lists.{list_cmp};
 
 use crate::item::ModificationOrDirwalkEntry;

@@ -13,7 +13,7 @@ use Rattle.status_call.specs.declared.index_as_worktree.recorder.Record.{Record}
 use Rattle.status_call.specs.declared.index_as_worktree.types.Outcome.{Outcome}
 use Rattle.status_call.specs.Considered.{considered}
 use Rattle.status_call.specs.Query.{Query}
-use Rattle.status_call.specs.Recorded.{visit_of}
+use Rattle.status_call.specs.RecorderVisits.{visit_of}
 use Rattle.status_call.specs.Records.{first_fault}
 use Rattle.status_call.specs.StatusTheorem.{IsMet, NeverSpawns}
 use Rattle.status_call.specs.Visits.{Visit}

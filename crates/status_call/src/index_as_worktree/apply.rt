@@ -4,7 +4,7 @@
 ghost use Rattle.std.specs.Prelude.{◌≡◌, ◌<◌, IfOk, length};
 ghost use Rattle.status_index.specs.States.{index_of, timestamp_of};
 ghost use Rattle.status_call.specs.IndexChanges.{AreInside, DifferInStats, applied, applied_one, change_of, changes_of, place_of};
-ghost use Rattle.status_call.specs.Recorded.{visits_of};
+ghost use Rattle.status_call.specs.RecorderVisits.{visits_of};
 
 use crate::index_as_worktree::recorder::Recorder;
 use crate::index_as_worktree::types::{Change, EntryStatus};

@@ -6,15 +6,15 @@ ghost use Rattle.bstr.specs.BStr.{bstr_bytes};
 ghost use Rattle.status_base.specs.CheckState.{IsClear};
 ghost use Rattle.status_index.specs.Entries.{entry_at};
 ghost use Rattle.status_compare.specs.Reading.{IsMeant};
-ghost use Rattle.status_call.specs.Known.{Keeps};
+ghost use Rattle.status_call.specs.LookUps.{Keeps};
 ghost use Rattle.status_call.specs.Status.{answer, in_submodule};
 
 use crate::index_as_worktree::content::{
     compare_node, decision_of, is_trusted, needs_comparison, unread,
 };
 use crate::index_as_worktree::decide::{Decide, Decided};
-use crate::index_as_worktree::inputs::{HasQuery, Inputs, Settings};
-use crate::index_as_worktree::site::{Look, Site, find};
+use crate::index_as_worktree::inputs::{Asks, Inputs, Settings};
+use crate::index_as_worktree::lookup::{AtPath, Look, look_up};
 use crate::index_as_worktree::types::{Change, EntryStatus, Error};
 use bitflags::Flags as _;
 use bstr::{BStr, BString};
@@ -64,7 +64,7 @@ where
         settings: Settings,
     ) -> Decider<'w, W, C, S, O, P, T, L>
         ensures { ⟦<Decider<'w, W, C, S, O, P, T, L> as Decide>⟧.query result
-            ≡ ⟦<Inputs<'w, W, C, S, O, P, T, L> as HasQuery>⟧.query inputs.entry settings }
+            ≡ ⟦<Inputs<'w, W, C, S, O, P, T, L> as Asks>⟧.query inputs.entry settings }
     {
         let root = BString::new(Vec::new(alloc));
         let check = SymlinkCheck::new(alloc, root);
@@ -101,12 +101,12 @@ where
     /// # Errors
     /// The path isn't normal, another fault than that nothing is there, or want of memory.
     fn look(&mut self, path: BStr<'_>) -> Result<Look, Error>
-        ensures site { IsLooked (⟦<Decider<'w, W, C, S, O, P, T, L> as Decide>⟧.query self.old)
+        ensures presence { IsLooked (⟦<Decider<'w, W, C, S, O, P, T, L> as Decide>⟧.query self.old)
             (bstr_bytes path.entry) result }
         ensures inputs { self.new.inputs ≡ self.old.inputs }
         ensures settings { self.new.settings ≡ self.old.settings }
     {
-        find(
+        look_up(
             self.inputs.worktree,
             &mut self.check,
             self.settings.fscache,
@@ -229,7 +229,7 @@ where
 
     type Submodule = S::Output;
 
-    ghost query = { λ d. ⟦<Inputs<'w, W, C, S, O, P, T, L> as HasQuery>⟧.query d.inputs d.settings };
+    ghost query = { λ d. ⟦<Inputs<'w, W, C, S, O, P, T, L> as Asks>⟧.query d.inputs d.settings };
 
     fn common_prefix(&self) -> BStr<'_> {
         self.inputs.pathspec.common_prefix()
@@ -245,16 +245,22 @@ where
         entry: &Entry,
         path: BStr<'_>,
     ) -> Result<Decided<C::Output, S::Output>, Error> {
-        let Look { site, lstat_called } = self.look(path)?;
-        match site {
-            Site::Nothing => Ok(unread(Some(EntryStatus::Change(Change::Removed)), lstat_called)),
-            Site::Directory if entry.mode.is_submodule() => {
+        let Look {
+            presence,
+            lstat_called,
+        } = self.look(path)?;
+        match presence {
+            AtPath::Nothing => Ok(unread(Some(EntryStatus::Change(Change::Removed)), lstat_called)),
+            AtPath::Directory if entry.mode.is_submodule() => {
                 let submodule = &mut self.inputs.submodule;
                 let status = submodule_status(self.alloc, submodule, entry, path)?;
                 Ok(unread(status, lstat_called))
             }
-            Site::Directory => Ok(unread(Some(EntryStatus::Change(Change::Removed)), lstat_called)),
-            Site::Node(node) => {
+            AtPath::Directory => Ok(unread(
+                Some(EntryStatus::Change(Change::Removed)),
+                lstat_called,
+            )),
+            AtPath::Node(node) => {
                 let decided = self.decide_node(entry, path, &node)?;
                 Ok(Decided {
                     lstat_called,

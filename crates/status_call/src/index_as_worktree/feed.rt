@@ -1,8 +1,8 @@
 //! Feeding of a collector.
 
 ghost use Rattle.std.specs.Prelude.{◌≡◌, ◌++◌, ◌<◌, length, All};
-ghost use Rattle.status_call.specs.Fed.{IsFed, IsFedOne, IsPlacedIn};
-ghost use Rattle.status_call.specs.PieceFed.{IsPieceFed};
+ghost use Rattle.status_call.specs.Reporting.{IsFed, IsFedOne, IsPlacedIn};
+ghost use Rattle.status_call.specs.PieceReporting.{IsPieceFed};
 ghost use Rattle.status_call.specs.Visits.{IsFaithful};
 
 use crate::index_as_worktree::counts::Progress;

@@ -11,15 +11,15 @@ mod feed;
 mod function;
 pub mod inputs;
 pub mod laws;
+mod lookup;
 pub mod piece;
 mod recorder;
-mod round;
-mod site;
+mod run_pieces;
+pub mod run_rounds;
 pub mod status_by;
 mod step;
 pub mod traits;
 mod types;
-pub mod work;
 pub mod workers;
 
 pub use apply::{ApplyChange, apply_changes};

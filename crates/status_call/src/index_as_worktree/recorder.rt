@@ -88,7 +88,7 @@ pub struct Recorder<'index, T, U> {
 
 impl<'index, T, U> Recorder<'index, T, U> {
     ghost use Rattle.std.specs.Prelude.{◌≡◌, []};
-    ghost use Rattle.status_call.specs.Recorded.{visits_of};
+    ghost use Rattle.status_call.specs.RecorderVisits.{visits_of};
 
     /// A recorder with no record.
     pub fn new(alloc: Global) -> Recorder<'index, T, U>
@@ -103,7 +103,7 @@ impl<'index, T, U> Recorder<'index, T, U> {
 impl<'index, T: Drop, U: Drop> VisitEntry<'index> for Recorder<'index, T, U> {
     ghost use Rattle.std.specs.Prelude.{◌≡◌, ◌++◌, ◌∷◌, [], Some, OnOk, OnErr, slice_get};
     ghost use Rattle.bstr.specs.BStr.{bstr_bytes};
-    ghost use Rattle.status_call.specs.Recorded.{visits_of};
+    ghost use Rattle.status_call.specs.RecorderVisits.{visits_of};
     ghost use Rattle.status_call.specs.Visits.{visit};
 
     type ContentChange = T;

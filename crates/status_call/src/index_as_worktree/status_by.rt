@@ -11,8 +11,8 @@ ghost use Rattle.status_call.specs.Workers.{chunk_size_of};
 
 use crate::index_as_worktree::considered::Considered;
 use crate::index_as_worktree::decide::Decide;
+use crate::index_as_worktree::run_rounds::run_rounds;
 use crate::index_as_worktree::types::{Error, Outcome, VisitEntry};
-use crate::index_as_worktree::work::run_rounds;
 use crate::index_as_worktree::workers::{Limits, Workers};
 use bstr::BStr;
 use status_base::index::State;

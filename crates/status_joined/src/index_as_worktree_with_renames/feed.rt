@@ -5,7 +5,7 @@ ghost use Rattle.status_rewrites.specs.Entries.{map_rewritten, IsLed};
 ghost use Rattle.status_rewrites.specs.declared.rewritten.Rewritten.TheVariants.{Alone, Rewrite};
 ghost use Rattle.status_joined.specs.Feeding.{IsFed, IsReportedOne};
 ghost use Rattle.status_joined.specs.Items.{is_walked, IsReported};
-ghost use Rattle.status_joined.specs.Listed.{item_of};
+ghost use Rattle.status_joined.specs.ListItems.{item_of};
 ghost use Rattle.status_joined.specs.Entries.{reported_entry, reported_source};
 
 use crate::ModificationOrDirwalkEntry;

@@ -8,7 +8,7 @@ ghost use Rattle.status_joined.specs.JoinedTheorem.{IsJoinedBy};
 use crate::index_as_worktree_with_renames::error::Error;
 use crate::index_as_worktree_with_renames::exact_clone::ExactClone;
 use crate::index_as_worktree_with_renames::feed::feed_items;
-use crate::index_as_worktree_with_renames::inputs::{HasJoinedQuery, JoinedInputs};
+use crate::index_as_worktree_with_renames::inputs::{AsksJoined, JoinedInputs};
 use crate::index_as_worktree_with_renames::listing::{Listing, list_halves};
 use crate::index_as_worktree_with_renames::recorder::VisitEntry;
 use crate::index_as_worktree_with_renames::rewriting::report_rewritten;
@@ -94,7 +94,7 @@ where
     W::File: Send,
     C::Output: Send + ExactClone + 'index,
     S::Output: Send + ExactClone + 'index,
-    ensures { IsJoinedBy (⟦<JoinedInputs<'w, W, C, S, O, P, T, L, K> as HasJoinedQuery>⟧.query
+    ensures { IsJoinedBy (⟦<JoinedInputs<'w, W, C, S, O, P, T, L, K> as AsksJoined>⟧.query
         (joined_inputs worktree.entry compare submodule objects context.entry))
         options index.now (is_some context.entry.should_interrupt) (X.means context.entry.tracker)
         (V.visits collector.old) result (V.visits collector.new) }

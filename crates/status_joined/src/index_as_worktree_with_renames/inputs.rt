@@ -4,7 +4,7 @@ ghost use Rattle.status_joined.specs.JoinedQuery.{JoinedQuery};
 
 use crate::walker::{FindBeside, Walker};
 use status_base::worktree::{Find, Lister, Pathspec, SubmoduleStatus, ToGit, Worktree};
-use status_call::index_as_worktree::inputs::{HasQuery, Inputs};
+use status_call::index_as_worktree::inputs::{Asks, Inputs};
 use status_compare::CompareBlobs;
 use status_walk::Walk;
 
@@ -18,7 +18,7 @@ pub struct JoinedInputs<'w, W, C, S, O, P, T, L, K> {
 }
 
 /// What a status with untracked files, renames and copies is computed from, whoever hands it in.
-pub trait HasJoinedQuery {
+pub trait AsksJoined {
     /// What a comparer reports of a change.
     type Content;
     /// What a submodule reports of a change.
@@ -38,8 +38,8 @@ impl<
     T: ToGit,
     L: Lister,
     K: Walk<W>,
-> HasJoinedQuery for JoinedInputs<'w, W, C, S, O, P, T, L, K> {
-    ghost use Rattle.status_joined.specs.Identified.{identifying};
+> AsksJoined for JoinedInputs<'w, W, C, S, O, P, T, L, K> {
+    ghost use Rattle.status_joined.specs.NodeIds.{identifying};
     ghost use Rattle.status_joined.specs.Walkings.{walker_of};
 
     type Content = C::Output;
@@ -47,7 +47,7 @@ impl<
     type Submodule = S::Output;
 
     ghost query = { λ j. record {
-      status = ⟦<Inputs<'w, W, C, S, O, P, T, L> as HasQuery>⟧.query j.inputs;
+      status = ⟦<Inputs<'w, W, C, S, O, P, T, L> as Asks>⟧.query j.inputs;
       walking = ⟦<Walker<'w, W, K, P> as FindBeside>⟧.walking (walker_of j.inputs.worktree j.walk j.inputs.pathspec);
       identifying = λ kind. identifying W.modelled W.lstat_of W.open_of W.target_of T.conversion kind j.inputs.worktree.now j.inputs.filter;
     } };

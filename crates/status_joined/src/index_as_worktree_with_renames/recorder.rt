@@ -38,7 +38,7 @@ pub struct Recorder<'index, T, U> {
 
 impl<'index, T, U> Recorder<'index, T, U> {
     ghost use Rattle.std.specs.Prelude.{◌≡◌, []};
-    ghost use Rattle.status_joined.specs.RecordedItems.{reported_of_recorder};
+    ghost use Rattle.status_joined.specs.RecorderItems.{reported_of_recorder};
 
     /// A recorder with no entry.
     pub fn new(alloc: Global) -> Recorder<'index, T, U>
@@ -52,7 +52,7 @@ impl<'index, T, U> Recorder<'index, T, U> {
 
 impl<'index, T: Drop, U: Drop> VisitEntry<'index> for Recorder<'index, T, U> {
     ghost use Rattle.std.specs.Prelude.{◌≡◌, ◌++◌, ◌∷◌, [], OnOk, OnErr};
-    ghost use Rattle.status_joined.specs.RecordedItems.{reported_of_recorder};
+    ghost use Rattle.status_joined.specs.RecorderItems.{reported_of_recorder};
     ghost use Rattle.status_joined.specs.Entries.{reported_entry};
 
     type ContentChange = T;

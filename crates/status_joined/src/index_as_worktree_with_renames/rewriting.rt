@@ -3,9 +3,9 @@
 ghost use Rattle.std.specs.Prelude.{◌≡◌, IfOk, map, not, All};
 ghost use Rattle.std.specs.List.{count_by};
 ghost use Rattle.status_rewrites.specs.Entries.{map_rewritten, IsLed};
-ghost use Rattle.status_joined.specs.Identified.{identifying};
+ghost use Rattle.status_joined.specs.NodeIds.{identifying};
 ghost use Rattle.status_joined.specs.Items.{is_walked};
-ghost use Rattle.status_joined.specs.Listed.{item_of};
+ghost use Rattle.status_joined.specs.ListItems.{item_of};
 ghost use Rattle.status_joined.specs.RewritingAnswers.{IsRewritingAnswer, IsRewritingReported};
 
 use crate::index_as_worktree_with_renames::error::{Error, id_error, refused_error};

@@ -1,5 +1,5 @@
 use Rattle.std.proofs.Common.{arith}
-use Rattle.status_joined.specs.Listed.{item_of}
+use Rattle.status_joined.specs.ListItems.{item_of}
 use Rattle.status_joined.proofs.Identifying.{one_more, first_fault}
 use Rattle.status_joined.proofs.ids.identify.Goals as goal
 

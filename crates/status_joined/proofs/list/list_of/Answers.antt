@@ -1,7 +1,7 @@
 use Rattle.std.proofs.Common.{map, subst}
-use Rattle.status_call.specs.Recorded.{visit_of}
+use Rattle.status_call.specs.RecorderVisits.{visit_of}
 use Rattle.status_joined.specs.Keeping.{kept_walked}
-use Rattle.status_joined.specs.Listed.{item_of}
+use Rattle.status_joined.specs.ListItems.{item_of}
 use Rattle.status_joined.specs.Lists.{IsSortedList}
 use Rattle.status_joined.proofs.Mapped.{sorted_images}
 use Rattle.status_joined.proofs.Sides.{records_first}

@@ -1,9 +1,9 @@
 use Rattle.std.proofs.Common.{◌≡◌, ap, sym, ◌∙◌, map, ◌++◌, [], refl, arith}
 use Rattle.std.specs.Vec.Iter.{into_iter_items}
 use Rattle.std.proofs.lemmas.List.{append-nil, nil_from_length}
-use Rattle.status_call.specs.Recorded.{visit_of}
+use Rattle.status_call.specs.RecorderVisits.{visit_of}
 use Rattle.status_joined.specs.Items.{tracked}
-use Rattle.status_joined.specs.Listed.{item_of}
+use Rattle.status_joined.specs.ListItems.{item_of}
 use Rattle.status_joined.proofs.list.unsorted.Goals as goal
 
 pub loop-node-init : goal.loop-node-init

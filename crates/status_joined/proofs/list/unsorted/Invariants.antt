@@ -1,10 +1,10 @@
 use Rattle.std.proofs.Common.{◌≡◌, ◌++◌, map}
 use Rattle.std.specs.Vec.Iter.{into_iter_items}
-use Rattle.status_call.specs.Recorded.{visit_of}
+use Rattle.status_call.specs.RecorderVisits.{visit_of}
 use Rattle.status_joined.specs.Keeping.{kept_walked}
 use Rattle.status_index.specs.BlobId.{null_id}
 use Rattle.status_joined.specs.Items.{tracked, walked}
-use Rattle.status_joined.specs.Listed.{item_of}
+use Rattle.status_joined.specs.ListItems.{item_of}
 use Rattle.status_joined.specs.Lists.{unsorted}
 use Rattle.status_joined.proofs.list.unsorted.Given as goal
 

@@ -1,7 +1,7 @@
 use Rattle.std.proofs.Common.{◌∷◌, [], sym, ◌∙◌, append_assoc, length, rules, refl}
 use Rattle.std.specs.Vec.Iter.{into_iter_items}
 use Rattle.status_call.specs.Visits.{IsFaithful}
-use Rattle.status_call.specs.Fed.{IsPlacedIn}
+use Rattle.status_call.specs.Reporting.{IsPlacedIn}
 use Rattle.status_call.proofs.Feeding.{reports_none, reports_more, all_middle, fed_all, fed_until}
 use Rattle.status_call.proofs.index_as_worktree.feed.feed.Goals as goal
 

@@ -1,7 +1,7 @@
 use Rattle.std.proofs.Common.{◌≡◌, ◌++◌}
 use Rattle.std.specs.Vec.Iter.{into_iter_items}
 use Rattle.status_call.specs.Visits.{IsFaithful}
-use Rattle.status_call.specs.Fed.{Reports}
+use Rattle.status_call.specs.Reporting.{Reports}
 use Rattle.status_call.proofs.index_as_worktree.feed.feed.Given as goal
 
 abbrev pub invariant-loop-finding : goal.invariant-loop-finding

@@ -5,7 +5,7 @@ use Rattle.status_rewrites.specs.declared.rewritten.Rewritten.{Rewritten}
 use Rattle.status_rewrites.specs.Entries.{IsLed, map_rewritten}
 use Rattle.status_joined.specs.declared.item.ModificationOrDirwalkEntry.{ModificationOrDirwalkEntry}
 use Rattle.status_joined.specs.Items.{is_walked}
-use Rattle.status_joined.specs.Listed.{item_of}
+use Rattle.status_joined.specs.ListItems.{item_of}
 use Rattle.status_joined.proofs.Feeding.{none_reported, one_more, holds_next, all_reported, reported_until}
 use Rattle.status_joined.proofs.index_as_worktree_with_renames.feed.feed_rewritten.Goals as goal
 

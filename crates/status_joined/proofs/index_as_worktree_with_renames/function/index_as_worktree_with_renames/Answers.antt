@@ -1,7 +1,7 @@
 use Rattle.std.proofs.Common.{ap, ◌∙◌}
 use Rattle.status_index.specs.States.{index_of}
 use Rattle.status_call.specs.declared.index_as_worktree.types.Options.{Options as StatusOptions}
-use Rattle.status_joined.specs.Identified.{ids_by}
+use Rattle.status_joined.specs.NodeIds.{ids_by}
 use Rattle.status_joined.proofs.Joining.{quietly, of_half_at, plain_all, plain_some, rewritten_all, unreported}
 use Rattle.status_joined.proofs.index_as_worktree_with_renames.function.index_as_worktree_with_renames.Goals as goal
 

@@ -1,6 +1,6 @@
 use Rattle.std.proofs.Common.{inr, refl, map}
 use Rattle.status_rewrites.specs.Entries.{map_rewritten}
-use Rattle.status_joined.specs.Listed.{item_of}
+use Rattle.status_joined.specs.ListItems.{item_of}
 use Rattle.status_joined.proofs.index_as_worktree_with_renames.rewriting.report_rewritten.Goals as goal
 
 -- src/index_as_worktree_with_renames/rewriting.rt:78:1

@@ -1,7 +1,7 @@
 use Rattle.std.proofs.Common.{map}
 use Rattle.status_joined.specs.Copies.{IsCopy}
-use Rattle.status_joined.specs.Identified.{identifying}
-use Rattle.status_joined.specs.Listed.{item_of}
+use Rattle.status_joined.specs.NodeIds.{identifying}
+use Rattle.status_joined.specs.ListItems.{item_of}
 use Rattle.status_joined.proofs.Copies.{same_copy}
 use Rattle.status_joined.proofs.Rewriting.{id_fault, tracker_fault, refused_fault, destinations_led, rewriting}
 use Rattle.status_joined.proofs.index_as_worktree_with_renames.rewriting.rewrite_list.Goals as goal

@@ -4,12 +4,12 @@ use Rattle.status_call.proofs.index_as_worktree.decider.Decider.look.Goals as go
 
 pub invariant_of-self : goal.invariant_of-self
 invariant_of-self g c = record {
-  clear = λ modelled. c.find.ensures.clear modelled (c.args.self.now.clear modelled);
-  kept = c.find.ensures.kept c.args.self.now.kept;
+  clear = λ modelled. c.look_up.ensures.clear modelled (c.args.self.now.clear modelled);
+  kept = c.look_up.ensures.kept c.args.self.now.kept;
 }
 
-pub returns-clause-site : goal.returns-clause-site
-returns-clause-site g c =
+pub returns-clause-presence : goal.returns-clause-presence
+returns-clause-presence g c =
     let i = c.args.self.now.inputs in
     let a = g.W.Worktree.modelled i.worktree.now in
     let b = g.O.Find.modelled i.objects in
@@ -17,4 +17,4 @@ returns-clause-site g c =
     let l = are_modelled c.args.self.now.settings.fscache (g.L.Lister.modelled i.lister) in
     λ modelled.
     let worktree = all_worktree a b d l modelled in
-    c.find.ensures.site worktree (all_listings a b d l modelled) (c.args.self.now.clear worktree) c.args.self.now.kept
+    c.look_up.ensures.presence worktree (all_listings a b d l modelled) (c.args.self.now.clear worktree) c.args.self.now.kept

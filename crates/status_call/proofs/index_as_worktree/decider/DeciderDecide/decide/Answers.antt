@@ -8,7 +8,7 @@ use Rattle.status_call.specs.Modelled.{all_modelled, are_modelled}
 use Rattle.status_call.specs.Query.{Query}
 use Rattle.status_call.specs.Status.{case_of_found, found, present}
 use Rattle.status_base.specs.Listed.{known_node}
-use Rattle.status_call.proofs.EntryCases.{counted_look, is_decided, site_node, reported_counts}
+use Rattle.status_call.proofs.EntryCases.{counted_look, is_decided, presence_node, reported_counts}
 use Rattle.status_call.proofs.index_as_worktree.decider.DeciderDecide.decide.Goals as goal
 
 pub returns-in_ok-decided-in-Node-clause-answer : goal.returns-in_ok-decided-in-Node-clause-answer
@@ -36,11 +36,11 @@ returns-in_ok-decided-in-Node-clause-answer g c =
     } in
     let e = entry_at (bstr_bytes c.args.path) c.args.entry.now in
     let n = c.in-Node.node in
-    let look = c.in_ok-site.field-0 in
+    let look = c.in_ok-presence.field-0 in
     let decided = rw (c.look.ensures.inputs, c.look.ensures.settings) at c.in_ok-decided-in-Node.ensures.decided in
     λ modelled.
-    let site = site_node (found q e) (calls_lstat q e) look n c.in-Node.is (c.in_ok-site.ensures.site modelled) in
-    is_decided q e (present n) look.lstat_called (counted_of q e n) (Ok (record c.in_ok-decided-in-Node.decided { lstat_called = look.lstat_called })) site.0 (sym site.1) (λ counts. reported_counts (counted_of q e n) (counts e n))
+    let presence = presence_node (found q e) (calls_lstat q e) look n c.in-Node.is (c.in_ok-presence.ensures.presence modelled) in
+    is_decided q e (present n) look.lstat_called (counted_of q e n) (Ok (record c.in_ok-decided-in-Node.decided { lstat_called = look.lstat_called })) presence.0 (sym presence.1) (λ counts. reported_counts (counted_of q e n) (counts e n))
     (counted_look e.path (case_of_found q e (present n)) look.lstat_called (counted_of q e n) c.in_ok-decided-in-Node.decided (decided modelled))
 
 pub returns-in_err-decided-in-Node-clause-answer : goal.returns-in_err-decided-in-Node-clause-answer
@@ -68,11 +68,11 @@ returns-in_err-decided-in-Node-clause-answer g c =
     } in
     let e = entry_at (bstr_bytes c.args.path) c.args.entry.now in
     let n = c.in-Node.node in
-    let look = c.in_ok-site.field-0 in
+    let look = c.in_ok-presence.field-0 in
     let decided = rw (c.look.ensures.inputs, c.look.ensures.settings) at c.in_err-decided-in-Node.ensures.decided in
     λ modelled.
-    let site = site_node (found q e) (calls_lstat q e) look n c.in-Node.is (c.in_ok-site.ensures.site modelled) in
-    let meant = is_decided q e (present n) (calls_lstat q e) (counted_of q e n) (Err c.in_err-decided-in-Node.field-0.0) site.0 refl (λ counts. reported_counts (counted_of q e n) (counts e n)) (decided modelled) in
+    let presence = presence_node (found q e) (calls_lstat q e) look n c.in-Node.is (c.in_ok-presence.ensures.presence modelled) in
+    let meant = is_decided q e (present n) (calls_lstat q e) (counted_of q e n) (Err c.in_err-decided-in-Node.field-0.0) presence.0 refl (λ counts. reported_counts (counted_of q e n) (counts e n)) (decided modelled) in
     let p = err_from_is_err_and c.from_residual-in_err-decided-in-Node.result c.from_residual-in_err-decided-in-Node.ensures.1 in
     rw (p.1, p.2) meant
 

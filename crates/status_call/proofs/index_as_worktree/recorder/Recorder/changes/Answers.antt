@@ -2,7 +2,7 @@ use Rattle.std.proofs.Common.{rules, ◌≡◌, sym, ap, subst, ◌∙◌, ◌+�
 use Rattle.std.proofs.lemmas.List.{take_more, map_push}
 use Rattle.status_call.specs.declared.index_as_worktree.apply.ApplyChange.{ApplyChange}
 use Rattle.status_call.specs.IndexChanges.{changes_of}
-use Rattle.status_call.specs.Recorded.{visit_of}
+use Rattle.status_call.specs.RecorderVisits.{visit_of}
 use Rattle.status_call.proofs.IndexChanges.{asked, kept_some, kept_none}
 use Rattle.status_call.proofs.index_as_worktree.recorder.Recorder.changes.Goals as goal
 use Rattle.status_call.proofs.index_as_worktree.recorder.Recorder.changes.Goals.{in-Some+in_ok-push, in_default}

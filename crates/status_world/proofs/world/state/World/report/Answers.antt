@@ -1,6 +1,6 @@
 use Rattle.std.proofs.Common.{◌≡◌, None, Ok, Err, refl, sym, ap, subst, ◌∙◌, List}
 use Rattle.status_call.specs.Records.{first_fault}
-use Rattle.status_call.specs.Recorded.{visits_of}
+use Rattle.status_call.specs.RecorderVisits.{visits_of}
 use Rattle.status_call.specs.StatusTheorem.{IsMet}
 use Rattle.status_world.specs.declared.world.refusal.Refusal.TheVariants as refusals
 use Rattle.status_world.specs.Applied.{IsRunReport}

@@ -1,0 +1,32 @@
+use Rattle.status_base.specs.Listed.{known_node}
+use Rattle.status_call.specs.Modelled.{all_modelled, are_modelled}
+use Rattle.status_call.proofs.index_as_worktree.inputs.InputsAsks.another.Goals as goal
+
+pub returns : goal.returns
+returns g c =
+    let i = c.args.self.now in
+    let compare = c.in_ok-clone.ensures.cases in
+    let submodule = c.in_ok-clone-2.ensures.cases in
+    let objects = c.in_ok-clone-3.ensures.cases in
+    let pathspec = c.in_ok-clone-4.ensures.cases in
+    let filter = c.in_ok-clone-5.ensures.cases in
+    let lister = c.in_ok-clone-6.ensures.cases in
+    λ k settings. record {
+      modelled = all_modelled (g.W.Worktree.modelled i.worktree.now) (g.met.O.Find.clone_keeps_modelled i.objects c.in_ok-clone-3.field-0 objects k) (g.met.S.SubmoduleStatus.clone_keeps_modelled i.submodule c.in_ok-clone-2.field-0 submodule k)
+          (are_modelled settings.fscache (g.met.L.Lister.clone_keeps_modelled i.lister c.in_ok-clone-6.field-0 lister k));
+      stat_options = settings.stat;
+      symlink = settings.fs.symlink;
+      executable_bit = settings.fs.executable_bit;
+      timestamp = settings.timestamp;
+      lstat = g.W.Worktree.lstat_of i.worktree.now;
+      opened = g.W.Worktree.open_of i.worktree.now;
+      linked = g.W.Worktree.target_of i.worktree.now;
+      cached = known_node settings.fscache (g.met.L.Lister.clone_keeps_listing i.lister c.in_ok-clone-6.field-0 lister k);
+      prefix = g.met.P.Pathspec.clone_keeps_prefix i.pathspec c.in_ok-clone-4.field-0 pathspec k;
+      included = g.met.P.Pathspec.clone_keeps_included i.pathspec c.in_ok-clone-4.field-0 pathspec k;
+      conversion = λ content path. g.met.T.ToGit.clone_keeps_conversion i.filter c.in_ok-clone-5.field-0 filter k content path;
+      blob = g.met.O.Find.clone_keeps_found i.objects c.in_ok-clone-3.field-0 objects k;
+      submodule = g.met.S.SubmoduleStatus.clone_keeps_meaning i.submodule c.in_ok-clone-2.field-0 submodule k;
+      compared = g.met.C.CompareBlobs.clone_keeps_answer i.compare c.in_ok-clone.field-0 compare k;
+      counted = g.met.C.CompareBlobs.clone_keeps_counts i.compare c.in_ok-clone.field-0 compare k;
+    }

@@ -1,0 +1,12 @@
+use Rattle.std.proofs.Common.{is_some}
+use Rattle.std.specs.Vec.Iter.{into_iter_items}
+use Rattle.status_call.specs.Rounds.{bound, last_bound}
+use Rattle.status_call.specs.Runs.{part_entries, IsFaithfulTo}
+use Rattle.status_call.proofs.Working.{IsMidRound}
+use Rattle.status_call.proofs.index_as_worktree.run_rounds.run_round.Given as goal
+
+abbrev pub invariant-loop-piece : goal.invariant-loop-piece
+invariant-loop-piece g l =
+    let visits = g.V.VisitEntry.visits in
+    IsMidRound (g.D.Decide.query l.decide) (is_some l.workers.interrupt) l.considered.start (part_entries l.considered) (IsFaithfulTo l.considered)
+    (bound l.bounds 0) (last_bound l.bounds) l.totals (visits l.fn.collector) (visits l.collector) (into_iter_items l.piece-iterator)

@@ -1,0 +1,28 @@
+-- What is found at a path with the help of listings.
+use Rattle.std.specs.Prelude.{◌≡◌, ℕ, Bool, List, Option, IfOk, Result, IsTrue}
+use Rattle.std.specs.declared.alloc.AllocError.{AllocError}
+use Rattle.status_index.specs.declared.fault.Fault.{Fault}
+use Rattle.status_index.specs.declared.metadata.Metadata.{Metadata}
+use Rattle.status_compare.specs.declared.error.Error.{Error}
+use Rattle.status_base.specs.CheckState.{IsClear}
+use Rattle.status_base.specs.Listed.{Listing, known_node}
+use Rattle.status_base.specs.ListingTable.{Table, IsOf}
+use Rattle.status_call.specs.EntryParts.{IsLookAt}
+use Rattle.status_call.specs.Modelled.{are_modelled}
+use Rattle.status_call.specs.declared.index_as_worktree.lookup.Look.{Look}
+
+-- a table keeps what a lister lists, where the lister is modelled
+abbrev pub Keeps : Bool → (List ℕ → Listing) → Table → Type 0
+Keeps modelled listing table = IsTrue modelled → IsOf listing table
+
+module _ (asked modelled : Bool) (listing : List ℕ → Listing) (table : Table) (path : List ℕ) where
+  -- what listings know of a path, where they are asked
+  abbrev pub IsKnown : Result (Option Metadata) AllocError → Type 0
+  IsKnown result = IsTrue (are_modelled asked modelled) → Keeps modelled listing table
+      → IfOk result (λ node. node ≡ known_node asked listing path)
+
+  -- what stands at a path by them and by `lstat`, where the part of the check that was tested is clear
+  abbrev pub IsLookedUp : (List ℕ → Result Metadata Fault) → List ℕ → Result Look Error → Type 0
+  IsLookedUp lstat tested result =
+      IsTrue (are_modelled asked modelled) → IsClear lstat tested → Keeps modelled listing table
+      → IsLookAt lstat (known_node asked listing path) path result

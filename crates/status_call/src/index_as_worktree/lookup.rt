@@ -1,0 +1,151 @@
+//! What stands at an entry's path.
+
+ghost use Rattle.std.specs.Prelude.{◌≡◌, ◌&&◌, Bool, IsTrue, Ok, Result};
+ghost use Rattle.bstr.specs.BStr.{bstr_bytes};
+ghost use Rattle.status_base.specs.CheckState.{IsClear};
+ghost use Rattle.status_base.specs.LinkCheck.{LinkCheck};
+ghost use Rattle.status_base.specs.Verified.{IsRefused};
+ghost use Rattle.status_index.specs.declared.metadata.Metadata.{Metadata as NodeMetadata};
+ghost use Rattle.status_index.specs.declared.fault.Fault.{Fault as WorktreeFault};
+ghost use Rattle.status_call.specs.EntryParts.{IsLook};
+ghost use Rattle.status_call.specs.Counts.{is_accepted};
+ghost use Rattle.status_call.specs.LookUps.{IsLookedUp, IsKnown, Keeps};
+ghost use Rattle.status_call.specs.Status.{found_by, found_fault, found_node};
+
+use crate::index_as_worktree::types::Error;
+use bstr::BStr;
+use status_base::fscache::Listings;
+use status_base::stack::{StackError, SymlinkCheck};
+use status_base::worktree::{Fault, Lister, Metadata, NodeKind, Worktree};
+use std::alloc::AllocError;
+
+/// What stands at an entry's path.
+#[derive(Clone, Copy)]
+pub(crate) enum AtPath {
+    /// Nothing: it, or a directory above it, is missing, or it leads through a link.
+    Nothing,
+    /// A directory.
+    Directory,
+    /// Anything else.
+    Node(Metadata),
+}
+
+/// What was found at an entry's path.
+#[derive(Clone, Copy)]
+pub(crate) struct Look {
+    /// What stands there.
+    pub(crate) presence: AtPath,
+    /// Whether `lstat` was called on the path itself.
+    pub(crate) lstat_called: bool,
+}
+
+/// What stands at a path. The path itself is looked at only where each directory above it may be stepped through, and
+/// `lstat` is called on it only where no listing knows it.
+///
+/// # Errors
+/// The path isn't normal, another fault than that nothing is there, or want of memory.
+pub(crate) fn look_up<W: Worktree, L: Lister>(
+    worktree: &W,
+    check: &mut SymlinkCheck,
+    fscache: bool,
+    lister: &L,
+    listings: &mut Listings,
+    path: BStr<'_>,
+) -> Result<Look, Error>
+    ensures presence { IsTrue (W.modelled worktree.now)
+        → IsLookedUp fscache (L.modelled lister.now) (L.listing lister.now) listings.old
+        (bstr_bytes path.entry)
+        (W.lstat_of worktree.now) check.old.path result }
+    ensures clear { IsTrue (W.modelled worktree.now)
+        → IsClear (W.lstat_of worktree.now) check.old.path
+        → IsClear (W.lstat_of worktree.now) check.new.path }
+    ensures kept { Keeps (L.modelled lister.now) (L.listing lister.now) listings.old
+        → Keeps (L.modelled lister.now) (L.listing lister.now) listings.new }
+{
+    if let Err(error) = check.verified_path(worktree, path) {
+        return look_refused(error);
+    }
+    if let Some(node) = known_at(fscache, lister, listings, path)? {
+        return Ok(look_at(node, false));
+    }
+    match worktree.lstat(path) {
+        Ok(node) => Ok(look_at(node, true)),
+        Err(fault) => look_at_fault(fault, true),
+    }
+}
+
+/// What listings know of a path, where they are asked.
+///
+/// # Errors
+/// Want of memory.
+fn known_at<L: Lister>(
+    fscache: bool,
+    lister: &L,
+    listings: &mut Listings,
+    path: BStr<'_>,
+) -> Result<Option<Metadata>, AllocError>
+    ensures known { IsKnown fscache (L.modelled lister.now) (L.listing lister.now) listings.old
+        (bstr_bytes path.entry) result }
+    ensures kept { Keeps (L.modelled lister.now) (L.listing lister.now) listings.old
+        → Keeps (L.modelled lister.now) (L.listing lister.now) listings.new }
+{
+    if !fscache {
+        return Ok(None);
+    }
+    match listings.get(lister, path)? {
+        Some(stat) => Ok(Some(stat.to_metadata())),
+        None => Ok(None),
+    }
+}
+
+/// A node that was found.
+fn look_at(node: Metadata, lstat_called: bool) -> Look
+    ensures { IsLook (found_node (Ok node)) lstat_called (Ok result) }
+{
+    let presence = match node.kind {
+        NodeKind::Directory => AtPath::Directory,
+        NodeKind::File | NodeKind::Link | NodeKind::Other => AtPath::Node(node),
+    };
+    Look {
+        presence,
+        lstat_called,
+    }
+}
+
+/// What stands at a path that the check for links refuses.
+///
+/// # Errors
+/// The path isn't normal, or another fault than that nothing is there.
+fn look_refused(error: StackError<'_>) -> Result<Look, Error>
+    ensures { (check : LinkCheck) (node : Result NodeMetadata WorktreeFault) (unknown : Bool)
+        → IsRefused check error.entry
+        → IsLook (found_by check node) (is_accepted check && unknown) result }
+{
+    match error {
+        StackError::ThroughLink { prefix: _ } => Ok(Look {
+            presence: AtPath::Nothing,
+            lstat_called: false,
+        }),
+        StackError::Fault(fault) => look_at_fault(fault, false),
+        StackError::EmptyPath | StackError::NotNormal { component: _ } => {
+            Err(Error::Io(Fault::NotNormal))
+        }
+        StackError::Memory => Err(Error::Memory),
+    }
+}
+
+/// What stands at a path with a fault.
+///
+/// # Errors
+/// Another fault than that nothing is there.
+fn look_at_fault(fault: Fault, lstat_called: bool) -> Result<Look, Error>
+    ensures { IsLook (found_fault fault) lstat_called result }
+{
+    match fault {
+        Fault::NotFound | Fault::NotADirectory => Ok(Look {
+            presence: AtPath::Nothing,
+            lstat_called,
+        }),
+        other => Err(Error::from(other)),
+    }
+}

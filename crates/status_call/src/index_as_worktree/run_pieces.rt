@@ -1,0 +1,175 @@
+//! The pieces of one round, shared by workers.
+
+ghost use Rattle.std.specs.Prelude.{◌≡◌, ◌≢◌, ◌+◌, ◌-◌, ◌*◌, ◌^◌, ◌<◌, ◌≤◌, None, length, vec_len, All, IfOk, IfErr, is_some};
+ghost use Rattle.status_index.specs.Entries.{IsIndex, index_entries};
+ghost use Rattle.status_compare.specs.declared.error.Error.TheVariants.{Memory, SpawnThread as NoThread};
+ghost use Rattle.status_call.specs.Pieces.{IsCut};
+ghost use Rattle.status_call.specs.Rounds.{AreBounds, AreInRow, ArePieces, IsGiven, bound, last_bound, is_short};
+ghost use Rattle.status_call.specs.WorkInOrder.{IsShortage, shortage_of};
+
+use crate::index_as_worktree::decide::Decide;
+use crate::index_as_worktree::piece::{End, Piece, piece_end, walk_piece};
+use crate::index_as_worktree::types::Error;
+use crate::index_as_worktree::workers::Workers;
+use status_base::index::{Entry, PathStorage};
+use status_board::round::{Refused, work_round};
+use status_board::work::Work;
+use std::alloc::{AllocError, Global};
+use std::snapshot::Snapshot;
+use std::sync::Wait;
+use std::sync::atomic::AtomicBool;
+use std::thread::Threads;
+
+/// The bounds of at most `most` pieces from place `from` on: where the first begins, and where each ends. There are fewer
+/// only where the last ends with the entries.
+pub(crate) fn round_bounds(
+    alloc: Global,
+    entries: &[Entry],
+    backing: &PathStorage,
+    from: usize,
+    chunk: usize,
+    most: usize,
+) -> Result<Vec<usize>, AllocError>
+    requires index { IsIndex (index_entries backing.now entries.now) }
+    requires inside { from < length entries.now }
+    requires cut { IsCut (index_entries backing.now entries.now) from }
+    requires most { 0 < most }
+    ensures bounds { IfOk result (λ b. AreBounds (index_entries backing.now entries.now) b.items) }
+    ensures first { IfOk result (λ b. bound b.items 0 ≡ from) }
+    ensures few { IfOk result (λ b. vec_len b ≤ most + 1) }
+    ensures pieces { IfOk result
+        (λ b. ArePieces (index_entries backing.now entries.now) chunk b.items) }
+    ensures filled { IfOk result (λ b. vec_len b ≤ most → last_bound b.items ≡ length entries.now) }
+{
+    let mut bounds = Vec::new(alloc);
+    bounds.push(from)?;
+    let mut at = from;
+    while at < entries.len() && bounds.len() <= most {
+        at = piece_end(entries, backing, at, chunk);
+        bounds.push(at)?;
+    }
+    Ok(bounds)
+}
+
+/// The pieces of a round: the considered entries between each two bounds.
+#[derive(Drop)]
+struct Round<'a, D: Decide> {
+    alloc: Global,
+    entries: &'a [Entry],
+    backing: &'a PathStorage,
+    start: usize,
+    bounds: &'a [usize],
+    interrupt: Option<&'a AtomicBool>,
+    decide: Snapshot<D>,
+    ghost index: { IsIndex (index_entries backing.now entries.now) },
+    ghost room: { start + length entries.now < 2 ^ 64 },
+    ghost are_bounds: { AreBounds (index_entries backing.now entries.now) bounds.now },
+}
+
+impl<'a, D: Decide> Work for Round<'a, D> {
+    type State = D;
+
+    type Out = Piece<D::Content, D::Submodule>;
+
+    ghost count = { λ r. length r.bounds.now - 1 };
+
+    ghost fits = { λ r d. D.query d ≡ D.query r.decide.value };
+
+    ghost gives = { λ r n p. IsGiven (D.query r.decide.value) (is_some r.interrupt) r.start
+        (index_entries r.backing.now r.entries.now)
+        (bound r.bounds.now n) (bound r.bounds.now (n + 1)) p };
+
+    ghost short = { λ p. is_short p.end };
+
+    fn piece(&self, state: &mut D, number: usize) -> Piece<D::Content, D::Submodule> {
+        walk_piece(
+            self.alloc,
+            self.entries,
+            self.backing,
+            self.start,
+            self.bounds[number],
+            self.bounds[number + 1],
+            self.interrupt,
+            state,
+        )
+    }
+
+    fn is_short(out: &Piece<D::Content, D::Submodule>) -> bool
+        ensures { result ≡ is_short out.now.end }
+    {
+        !matches!(out.end, End::Whole)
+    }
+}
+
+/// As many deciders of one query as there are workers.
+fn crew_of<D: Decide + Drop>(
+    alloc: Global,
+    decide: &D,
+    workers: usize,
+) -> Result<Vec<D>, AllocError>
+    ensures count { IfOk result (λ v. vec_len v ≡ workers) }
+    ensures same { IfOk result (λ v. All (λ d. D.query d ≡ D.query decide.now) v.items) }
+{
+    let mut crew = Vec::new(alloc);
+    for _ in 0..workers {
+        crew.push(decide.another()?)?;
+    }
+    Ok(crew)
+}
+
+/// Works through the entries between the bounds with as many workers as `workers` has at most: what the pieces give in
+/// order, up to the first that didn't come to its end.
+///
+/// # Errors
+/// A refused thread, or else want of memory.
+pub(crate) fn run_pieces<R: Threads + Wait, D: Decide + Send + Drop>(
+    rt: &R,
+    alloc: Global,
+    entries: &[Entry],
+    backing: &PathStorage,
+    start: usize,
+    bounds: &[usize],
+    workers: &Workers<'_>,
+    decide: &D,
+) -> Result<Vec<Piece<D::Content, D::Submodule>>, Error>
+where
+    D::Content: Send,
+    D::Submodule: Send,
+    requires index { IsIndex (index_entries backing.now entries.now) }
+    requires room { start + length entries.now < 2 ^ 64 }
+    requires bounds { AreBounds (index_entries backing.now entries.now) bounds.now }
+    requires few { length bounds.now ≤ 2 ^ 20 }
+    ensures pieces { IfOk result
+        (λ v. AreInRow (D.query decide.now) (is_some workers.now.interrupt) start
+        (index_entries backing.now entries.now) (last_bound bounds.now) (bound bounds.now 0)
+        v.items) }
+    ensures refused { IfErr result (λ e. IsShortage workers.entry.now.most e) }
+{
+    let Ok(crew) = crew_of(alloc, decide, workers.most) else {
+        return Err(Error::Memory);
+    };
+    let round = Round {
+        alloc,
+        entries,
+        backing,
+        start,
+        bounds,
+        interrupt: workers.interrupt,
+        decide: Snapshot::of(decide),
+    };
+    let pieces = bounds.len() - 1;
+    match work_round(rt, alloc, workers.stack_size, &round, pieces, crew) {
+        Ok(pieces) => Ok(pieces),
+        Err(refused) => Err(shortage(refused)),
+    }
+}
+
+/// The error of a round that could not be worked through.
+fn shortage(refused: Refused) -> Error
+    ensures { result ≡ shortage_of refused }
+{
+    match refused {
+        Refused::Thread => Error::SpawnThread,
+        Refused::Memory => Error::Memory,
+    }
+}

@@ -1,0 +1,136 @@
+//! The considered entries, worked through in rounds and reported in order.
+
+ghost use Rattle.std.specs.Prelude.{◌^◌, ◌≤◌, length};
+ghost use Rattle.status_call.specs.Rounds.{AreBounds, bound, last_bound};
+ghost use Rattle.status_call.specs.Runs.{IsRun, part_entries};
+
+use crate::index_as_worktree::considered::Considered;
+use crate::index_as_worktree::counts::{Progress, Totals};
+use crate::index_as_worktree::decide::Decide;
+use crate::index_as_worktree::feed::feed_piece;
+use crate::index_as_worktree::piece::is_set;
+use crate::index_as_worktree::run_pieces::{round_bounds, run_pieces};
+use crate::index_as_worktree::types::{Error, VisitEntry};
+use crate::index_as_worktree::workers::Workers;
+use std::alloc::Global;
+use std::sync::Wait;
+use std::thread::Threads;
+
+/// How many pieces a worker has in a round, at most.
+const PIECES_OF_A_WORKER: usize = 8;
+
+/// Works through the considered entries in rounds of pieces, and reports to the collector in the order of the index what
+/// the pieces find. Ends early where the interrupt flag is set.
+///
+/// # Errors
+/// The first fault, once what stands before it was reported. A refused thread; then nothing of its round was reported.
+/// Want of memory.
+pub fn run_rounds<
+    'index,
+    R: Threads + Wait,
+    D: Decide + Send + Drop,
+    V: VisitEntry<'index, ContentChange = D::Content, SubmoduleStatus = D::Submodule>,
+>(
+    rt: &R,
+    alloc: Global,
+    considered: &Considered<'index>,
+    chunk: usize,
+    workers: &Workers<'_>,
+    decide: &D,
+    collector: &mut V,
+) -> Result<Progress, Error>
+where
+    D::Content: Send,
+    D::Submodule: Send,
+    ensures { let c = considered.entry.now in
+        IsRun (D.query decide.now) c workers.entry.now 0 (length (part_entries c))
+        (V.visits collector.old) result (V.visits collector.new) }
+{
+    let part = &considered.entries[considered.start..considered.end];
+    let mut totals = Totals::none();
+    let mut at = 0;
+    while at < part.len() {
+        if is_set(workers.interrupt) {
+            return Ok(Progress {
+                totals,
+                interrupted: true,
+            });
+        }
+        let most_pieces = workers.most * PIECES_OF_A_WORKER;
+        let Ok(bounds) = round_bounds(alloc, part, considered.backing, at, chunk, most_pieces)
+        else {
+            return Err(Error::Memory);
+        };
+        let crew = workers.for_pieces(bounds.len() - 1);
+        let bounds = bounds.as_slice();
+        let round = match run_round(rt, alloc, considered, bounds, &crew, decide, collector) {
+            Ok(round) => round,
+            Err(error) => return Err(error),
+        };
+        totals.add(&round.totals);
+        if round.interrupted {
+            return Ok(Progress {
+                totals,
+                interrupted: true,
+            });
+        }
+        at = bounds[bounds.len() - 1];
+    }
+    Ok(Progress {
+        totals,
+        interrupted: false,
+    })
+}
+
+/// Works through the entries between the bounds, and reports to the collector what the pieces find.
+///
+/// # Errors
+/// As those of `run_rounds`.
+fn run_round<
+    'index,
+    R: Threads + Wait,
+    D: Decide + Send + Drop,
+    V: VisitEntry<'index, ContentChange = D::Content, SubmoduleStatus = D::Submodule>,
+>(
+    rt: &R,
+    alloc: Global,
+    considered: &Considered<'index>,
+    bounds: &[usize],
+    workers: &Workers<'_>,
+    decide: &D,
+    collector: &mut V,
+) -> Result<Progress, Error>
+where
+    D::Content: Send,
+    D::Submodule: Send,
+    requires bounds { AreBounds (part_entries considered.now) bounds.now }
+    requires few { length bounds.now ≤ 2 ^ 20 }
+    ensures { IsRun (D.query decide.now) considered.entry.now workers.entry.now (bound bounds.now 0)
+        (last_bound bounds.now)
+        (V.visits collector.old) result (V.visits collector.new) }
+{
+    let (start, backing) = (considered.start, considered.backing);
+    let part = &considered.entries[start..considered.end];
+    let pieces = match run_pieces(rt, alloc, part, backing, start, bounds, workers, decide) {
+        Ok(pieces) => pieces,
+        Err(error) => return Err(error),
+    };
+    let mut totals = Totals::none();
+    for piece in pieces {
+        let fed = match feed_piece(considered.entries, backing, piece, collector) {
+            Ok(fed) => fed,
+            Err(error) => return Err(error),
+        };
+        totals.add(&fed.totals);
+        if fed.interrupted {
+            return Ok(Progress {
+                totals,
+                interrupted: true,
+            });
+        }
+    }
+    Ok(Progress {
+        totals,
+        interrupted: false,
+    })
+}
