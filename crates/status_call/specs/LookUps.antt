@@ -22,7 +22,7 @@ module _ (asked modelled : Bool) (listing : List ℕ → Listing) (table : Table
       → IfOk result (λ node. node ≡ known_node asked listing path)
 
   -- what stands at a path by them and by `lstat`, where the part of the check that was tested is clear
-  abbrev pub IsLookedUp : (List ℕ → Result Metadata Fault) → List ℕ → Result Look Error → Type 0
-  IsLookedUp lstat tested result =
+  abbrev pub IsLookUp : (List ℕ → Result Metadata Fault) → List ℕ → Result Look Error → Type 0
+  IsLookUp lstat tested result =
       IsTrue (are_modelled asked modelled) → IsClear lstat tested → Keeps modelled listing table
       → IsLookAt lstat (known_node asked listing path) path result

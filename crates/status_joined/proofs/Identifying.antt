@@ -33,14 +33,14 @@ none_faulty ids (x ∷ xs) (y ∷ ys) h =
 
 module _ {X T U : Type 0} (said : X → Item T U) (kind : HashKind) (modelled : Bool) (ids : Walked → Result ObjectId IdError) where
   -- the first i of a list have their ids, and the others are as they were
-  pub record AreWithIds (old now : List X) (i : ℕ) : Type 0 where
+  pub record AreIdentifiedUpTo (old now : List X) (i : ℕ) : Type 0 where
     pub known : IsTrue modelled → map (identified ids) (map said (take i old)) ≡ map Ok (map said (take i now))
     pub same : map (forget kind) (map said (take i now)) ≡ map (forget kind) (map said (take i old))
     pub rest : drop i now ≡ drop i old
     pub long : length now ≡ length old
 
   -- the next has its id too
-  pub one_more : (old now : List X) (i : ℕ) (d y : X) → i < length now → AreWithIds old now i → (IsTrue modelled → identified ids (said (get_or now i d)) ≡ Ok (said y)) → forget kind (said y) ≡ forget kind (said (get_or now i d)) → AreWithIds old (set now i y) (i + 1)
+  pub one_more : (old now : List X) (i : ℕ) (d y : X) → i < length now → AreIdentifiedUpTo old now i → (IsTrue modelled → identified ids (said (get_or now i d)) ≡ Ok (said y)) → forget kind (said y) ≡ forget kind (said (get_or now i d)) → AreIdentifiedUpTo old (set now i y) (i + 1)
   one_more old now i d y within before is only =
       let x = get_or now i d in
       let there : get_or old i d ≡ x = sym (same_there now old i d within (omega (arith, before.long)) before.rest) in
@@ -66,7 +66,7 @@ module _ {X T U : Type 0} (said : X → Item T U) (kind : HashKind) (modelled : 
       }
 
   -- the next has a fault, which is the first
-  pub first_fault : (old now : List X) (i : ℕ) (d : X) (e : IdError) → i < length now → AreWithIds old now i → (IsTrue modelled → (identified ids (said (get_or now i d)) ≡ Err e) ⊎ (fault_of e ≡ Memory)) → IsTrue modelled → (slice_get (id_faults ids (map said old)) 0 ≡ Some e) ⊎ (fault_of e ≡ Memory)
+  pub first_fault : (old now : List X) (i : ℕ) (d : X) (e : IdError) → i < length now → AreIdentifiedUpTo old now i → (IsTrue modelled → (identified ids (said (get_or now i d)) ≡ Err e) ⊎ (fault_of e ≡ Memory)) → IsTrue modelled → (slice_get (id_faults ids (map said old)) 0 ≡ Some e) ⊎ (fault_of e ≡ Memory)
   first_fault old now i d e within before is m =
       let x = get_or now i d in
       let there : get_or old i d ≡ x = sym (same_there now old i d within (omega (arith, before.long)) before.rest) in

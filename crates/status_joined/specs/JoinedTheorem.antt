@@ -78,7 +78,7 @@ module _ {T U : Type 0} (query : Query T U) (options : Options) (index : State) 
     pub short : length reported < length whole
 
   -- what was reported over any worktree, and where all that was handed in is modelled
-  pub record IsJoined (old : List (Reported T U)) (result : Result Outcome Error) (new : List (Reported T U)) : Type 0 where
+  pub record IsJoinedMet (old : List (Reported T U)) (result : Result Outcome Error) (new : List (Reported T U)) : Type 0 where
     pub more : List (Reported T U)
     pub grew : new ≡ old ++ more
     -- Ok: all that there is to report
@@ -88,8 +88,12 @@ module _ {T U : Type 0} (query : Query T U) (options : Options) (index : State) 
     -- on an error nothing was reported; or the collector's memory ran out, behind a beginning
     pub quiet : IfErr result (λ e. (more ≡ []) ⊎ ((e ≡ Memory) × IsCutShort more))
 
--- the same by what was handed in: the status of the index by its options, the walk where one is wanted, and the ids by their kind
-abbrev pub IsJoinedBy : {T U : Type 0} → JoinedQuery T U → Options → State → Bool → (List Changed → Bool → Result (List Pair) TrackerFault → Type 0) → List (Reported T U) → Result Outcome Error → List (Reported T U) → Type 0
-IsJoinedBy q options index interruptible means =
-    IsJoined (q.status (settings (tracked_options options) index)) options index interruptible
-    (wanted_walk options.dirwalk (q.walking (index_of index))) (q.identifying options.object_hash) means
+-- the same of what was handed in: the status of the index by the options, the walk where one is wanted, and the ids by their kind
+abbrev pub IsMetBy : {T U : Type 0} → JoinedQuery T U → Options → State → List (Reported T U) → Result Outcome Error → List (Reported T U) → Type 0
+IsMetBy q options index old result new =
+    IsJoinedMet (q.status (settings (tracked_options options) index)) options index q.interruptible
+    (wanted_walk options.dirwalk (q.walking (index_of index))) (q.identifying options.object_hash) q.pairs old result new
+
+-- the same by the meaning of the collector
+abbrev pub IsJoined : {I T U V : Type 0} → (I → JoinedQuery T U) → I → Options → State → (V → List (Reported T U)) → V → Result Outcome Error → V → Type 0
+IsJoined query given options index visits old result new = IsMetBy (query given) options index (visits old) result (visits new)

@@ -6,9 +6,9 @@ pub mod DefaultOptions
 pub mod Entries
 pub mod Errors
 pub mod Feeding
+pub mod Given
 pub mod Items
 pub mod Joined
-pub mod JoinedInputs
 pub mod JoinedQuery
 pub mod JoinedTheorem
 pub mod Keeping

@@ -7,6 +7,7 @@
 
 mod beside;
 pub mod halves;
+pub mod identifier;
 pub mod ids;
 pub mod index_as_worktree_with_renames;
 pub mod item;
@@ -18,6 +19,7 @@ pub mod tracked;
 pub mod walker;
 
 pub use halves::{Failed, Halves, run_halves};
+pub use identifier::{Identifier, Identify};
 pub use ids::identify;
 pub use item::ModificationOrDirwalkEntry;
 pub use kept::Kept;

@@ -9,7 +9,7 @@ ghost use Rattle.status_call.specs.EntryParts.{IsContentCompared, IsDecisionOf};
 ghost use Rattle.status_call.specs.Status.{reads_link, same_bool};
 
 use crate::index_as_worktree::decide::Decided;
-use crate::index_as_worktree::inputs::{Asks, Inputs, Settings};
+use crate::index_as_worktree::inputs::{Ask, Inputs, Settings};
 use crate::index_as_worktree::types::{Change, EntryStatus, Error};
 use status_base::index::{Entry, Mode, Stat, stat};
 use status_base::worktree::{
@@ -41,11 +41,11 @@ pub(crate) fn compare_node<
     node: &Metadata,
 ) -> Result<Comparison<C::Output>, Error>
     ensures compared { IsContentCompared
-        (⟦<Inputs<'w, W, C, S, O, P, T, L> as Asks>⟧.query inputs.old settings)
+        (⟦<Inputs<'w, W, C, S, O, P, T, L> as Ask>⟧.query inputs.old settings)
         (entry_at path.now entry.now) node.now result }
     ensures only { inputs.new ≡ record inputs.old { compare = inputs.new.compare } }
-    ensures same { ⟦<Inputs<'w, W, C, S, O, P, T, L> as Asks>⟧.query inputs.new
-        ≡ ⟦<Inputs<'w, W, C, S, O, P, T, L> as Asks>⟧.query inputs.old }
+    ensures same { ⟦<Inputs<'w, W, C, S, O, P, T, L> as Ask>⟧.query inputs.new
+        ≡ ⟦<Inputs<'w, W, C, S, O, P, T, L> as Ask>⟧.query inputs.old }
 {
     let is_link = reads_link(entry.mode, node.kind, settings.fs.symlink);
     compare_entry(

@@ -13,7 +13,7 @@ use crate::index_as_worktree::content::{
     compare_node, decision_of, is_trusted, needs_comparison, unread,
 };
 use crate::index_as_worktree::decide::{Decide, Decided};
-use crate::index_as_worktree::inputs::{Asks, Inputs, Settings};
+use crate::index_as_worktree::inputs::{Ask, Inputs, Settings};
 use crate::index_as_worktree::lookup::{AtPath, Look, look_up};
 use crate::index_as_worktree::types::{Change, EntryStatus, Error};
 use bitflags::Flags as _;
@@ -64,7 +64,7 @@ where
         settings: Settings,
     ) -> Decider<'w, W, C, S, O, P, T, L>
         ensures { ⟦<Decider<'w, W, C, S, O, P, T, L> as Decide>⟧.query result
-            ≡ ⟦<Inputs<'w, W, C, S, O, P, T, L> as Asks>⟧.query inputs.entry settings }
+            ≡ ⟦<Inputs<'w, W, C, S, O, P, T, L> as Ask>⟧.query inputs.entry settings }
     {
         let root = BString::new(Vec::new(alloc));
         let check = SymlinkCheck::new(alloc, root);
@@ -101,7 +101,7 @@ where
     /// # Errors
     /// The path isn't normal, another fault than that nothing is there, or want of memory.
     fn look(&mut self, path: BStr<'_>) -> Result<Look, Error>
-        ensures presence { IsLooked (⟦<Decider<'w, W, C, S, O, P, T, L> as Decide>⟧.query self.old)
+        ensures look { IsLooked (⟦<Decider<'w, W, C, S, O, P, T, L> as Decide>⟧.query self.old)
             (bstr_bytes path.entry) result }
         ensures inputs { self.new.inputs ≡ self.old.inputs }
         ensures settings { self.new.settings ≡ self.old.settings }
@@ -229,7 +229,7 @@ where
 
     type Submodule = S::Output;
 
-    ghost query = { λ d. ⟦<Inputs<'w, W, C, S, O, P, T, L> as Asks>⟧.query d.inputs d.settings };
+    ghost query = { λ d. ⟦<Inputs<'w, W, C, S, O, P, T, L> as Ask>⟧.query d.inputs d.settings };
 
     fn common_prefix(&self) -> BStr<'_> {
         self.inputs.pathspec.common_prefix()

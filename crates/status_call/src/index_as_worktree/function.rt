@@ -5,7 +5,7 @@ ghost use Rattle.status_call.specs.Inputs.{given};
 ghost use Rattle.status_call.specs.StatusOf.{IsAlone, IsStatus};
 
 use crate::index_as_worktree::decider::Decider;
-use crate::index_as_worktree::inputs::{Asks, Inputs, Settings};
+use crate::index_as_worktree::inputs::{Ask, Inputs, Settings};
 use crate::index_as_worktree::status_by::status_by;
 use crate::index_as_worktree::types::{Context, Error, Options, Outcome, VisitEntry};
 use crate::index_as_worktree::workers::Limits;
@@ -59,12 +59,12 @@ where
     W::File: Send,
     C::Output: Send,
     S::Output: Send,
-    ensures all { IsStatus ⟦<Inputs<'w, W, C, S, O, P, T, L> as Asks>⟧.query
+    ensures all { IsStatus ⟦<Inputs<'w, W, C, S, O, P, T, L> as Ask>⟧.query
         (given worktree.entry compare submodule objects context.entry)
         options index.now V.visits collector.old result collector.new }
     ensures uninterrupted { context.entry.should_interrupt ≡ None
         → IfOk result (λ o. o.interrupted ≡ false) }
-    ensures alone { IsAlone ⟦<Inputs<'w, W, C, S, O, P, T, L> as Asks>⟧.query
+    ensures alone { IsAlone ⟦<Inputs<'w, W, C, S, O, P, T, L> as Ask>⟧.query
         (given worktree.entry compare submodule objects context.entry) options index.now result }
 {
     let Context {

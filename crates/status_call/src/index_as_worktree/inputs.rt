@@ -60,7 +60,7 @@ pub struct Inputs<'w, W, C, S, O, P, T, L> {
 }
 
 /// What a status is computed from, whoever hands it in.
-pub trait Asks {
+pub trait Ask {
     /// What a comparer reports of a change.
     type Content;
     /// What a submodule reports of a change.
@@ -86,7 +86,7 @@ impl<
     P: Pathspec,
     T: ToGit,
     L: Lister,
-> Asks for Inputs<'w, W, C, S, O, P, T, L> {
+> Ask for Inputs<'w, W, C, S, O, P, T, L> {
     type Content = C::Output;
 
     type Submodule = S::Output;

@@ -9,7 +9,7 @@ ghost use Rattle.status_index.specs.declared.metadata.Metadata.{Metadata as Node
 ghost use Rattle.status_index.specs.declared.fault.Fault.{Fault as WorktreeFault};
 ghost use Rattle.status_call.specs.EntryParts.{IsLook};
 ghost use Rattle.status_call.specs.Counts.{is_accepted};
-ghost use Rattle.status_call.specs.LookUps.{IsLookedUp, IsKnown, Keeps};
+ghost use Rattle.status_call.specs.LookUps.{IsLookUp, IsKnown, Keeps};
 ghost use Rattle.status_call.specs.Status.{found_by, found_fault, found_node};
 
 use crate::index_as_worktree::types::Error;
@@ -52,8 +52,8 @@ pub(crate) fn look_up<W: Worktree, L: Lister>(
     listings: &mut Listings,
     path: BStr<'_>,
 ) -> Result<Look, Error>
-    ensures presence { IsTrue (W.modelled worktree.now)
-        → IsLookedUp fscache (L.modelled lister.now) (L.listing lister.now) listings.old
+    ensures look { IsTrue (W.modelled worktree.now)
+        → IsLookUp fscache (L.modelled lister.now) (L.listing lister.now) listings.old
         (bstr_bytes path.entry)
         (W.lstat_of worktree.now) check.old.path result }
     ensures clear { IsTrue (W.modelled worktree.now)

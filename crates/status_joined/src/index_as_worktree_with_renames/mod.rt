@@ -6,6 +6,7 @@ mod exact_clone;
 mod feed;
 mod function;
 pub mod inputs;
+mod joined_by;
 mod listing;
 mod recorder;
 pub mod rewrites;

@@ -3,11 +3,11 @@
 ghost use Rattle.std.specs.Prelude.{◌≡◌, IfOk, map, not, All};
 ghost use Rattle.std.specs.List.{count_by};
 ghost use Rattle.status_rewrites.specs.Entries.{map_rewritten, IsLed};
-ghost use Rattle.status_joined.specs.NodeIds.{identifying};
 ghost use Rattle.status_joined.specs.Items.{is_walked};
 ghost use Rattle.status_joined.specs.ListItems.{item_of};
 ghost use Rattle.status_joined.specs.RewritingAnswers.{IsRewritingAnswer, IsRewritingReported};
 
+use crate::identifier::Identify;
 use crate::index_as_worktree_with_renames::error::{Error, id_error, refused_error};
 use crate::index_as_worktree_with_renames::exact_clone::ExactClone;
 use crate::index_as_worktree_with_renames::feed::feed_rewritten;
@@ -15,7 +15,6 @@ use crate::index_as_worktree_with_renames::recorder::VisitEntry;
 use crate::index_as_worktree_with_renames::rewrites::Outcome;
 use crate::{ModificationOrDirwalkEntry, identify};
 use status_base::index::HashKind;
-use status_base::worktree::{ToGit, Worktree};
 use status_rewrites::{Pair, Rewrites, Rewritten, Tracker, rewrite};
 use std::alloc::Global;
 
@@ -43,21 +42,18 @@ fn count(pairs: &[Pair]) -> Outcome
 /// # Errors
 /// The fault of the first node that has no id. The tracker's refusal, or the first of its pairs that breaks a rule. Want
 /// of memory.
-pub(crate) fn rewrite_list<'index, W: Worktree, F: ToGit, X: Tracker, T: ExactClone, U: ExactClone>(
+fn rewrite_list<'index, N: Identify, X: Tracker, T: ExactClone, U: ExactClone>(
     alloc: Global,
     kind: HashKind,
-    worktree: &W,
-    filter: &F,
+    ids: &N,
     tracker: &mut X,
     rewrites: Rewrites,
     mut items: Vec<ModificationOrDirwalkEntry<'index, T, U>>,
 ) -> Result<RewrittenList<'index, T, U>, Error>
-    ensures answer { IsRewritingAnswer
-        (identifying W.modelled W.lstat_of W.open_of W.target_of F.conversion kind worktree.now filter.now)
-        kind (X.means tracker.old) rewrites items.entry.items result }
+    ensures answer { IsRewritingAnswer (N.identifying ids.now) kind (X.means tracker.old) rewrites items.entry.items result }
     ensures led { IfOk result (λ r. All (IsLed is_walked) (map (map_rewritten item_of) r.entries.items)) }
 {
-    if let Err(error) = identify(alloc, kind, worktree, filter, &mut items) {
+    if let Err(error) = identify(alloc, kind, ids, &mut items) {
         return Err(id_error(error));
     }
     let pairs = match tracker.pairs(items.as_slice(), rewrites) {
@@ -75,11 +71,10 @@ pub(crate) fn rewrite_list<'index, W: Worktree, F: ToGit, X: Tracker, T: ExactCl
 ///
 /// # Errors
 /// Those of `rewrite_list`; then nothing was reported. Want of memory; then nothing was reported, or a beginning.
-pub(crate) fn report_rewritten<'index, W: Worktree, F: ToGit, X: Tracker, V: VisitEntry<'index>>(
+pub(crate) fn report_rewritten<'index, N: Identify, X: Tracker, V: VisitEntry<'index>>(
     alloc: Global,
     kind: HashKind,
-    worktree: &W,
-    filter: &F,
+    ids: &N,
     tracker: &mut X,
     rewrites: Rewrites,
     items: Vec<ModificationOrDirwalkEntry<'index, V::ContentChange, V::SubmoduleStatus>>,
@@ -88,12 +83,11 @@ pub(crate) fn report_rewritten<'index, W: Worktree, F: ToGit, X: Tracker, V: Vis
 where
     V::ContentChange: ExactClone + Drop,
     V::SubmoduleStatus: ExactClone + Drop,
-    ensures { IsRewritingReported
-        (identifying W.modelled W.lstat_of W.open_of W.target_of F.conversion kind worktree.now filter.now)
-        kind (X.means tracker.old) rewrites items.entry.items (V.visits collector.old) result (V.visits collector.new) }
+    ensures { IsRewritingReported (N.identifying ids.now) kind (X.means tracker.old) rewrites items.entry.items
+        (V.visits collector.old) result (V.visits collector.new) }
 {
     let RewrittenList { entries, outcome } = match rewrite_list(
-        alloc, kind, worktree, filter, tracker, rewrites, items,
+        alloc, kind, ids, tracker, rewrites, items,
     ) {
         Ok(list) => list,
         Err(error) => return Err(error),

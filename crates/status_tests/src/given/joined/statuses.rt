@@ -31,7 +31,7 @@ pub struct Request<'a, K, X> {
 }
 
 impl<'a, K, X> Request<'a, K, X> {
-    /// Asks for what the index and the walk have, sorted, with no renames or copies. Links count, and executability
+    /// Ask for what the index and the walk have, sorted, with no renames or copies. Links count, and executability
     /// doesn't.
     pub fn sorted(walk: K, tracker: X) -> Request<'a, K, X> {
         Request {
@@ -42,7 +42,7 @@ impl<'a, K, X> Request<'a, K, X> {
         }
     }
 
-    /// Asks for renames and copies as well, but not for those of files with no bytes.
+    /// Ask for renames and copies as well, but not for those of files with no bytes.
     pub fn rewritten(walk: K, tracker: X) -> Request<'a, K, X> {
         Request {
             walk,

@@ -1,6 +1,5 @@
 use Rattle.std.proofs.Common.{map}
 use Rattle.status_joined.specs.Copies.{IsCopy}
-use Rattle.status_joined.specs.NodeIds.{identifying}
 use Rattle.status_joined.specs.ListItems.{item_of}
 use Rattle.status_joined.proofs.Copies.{same_copy}
 use Rattle.status_joined.proofs.Rewriting.{id_fault, tracker_fault, refused_fault, destinations_led, rewriting}
@@ -8,7 +7,7 @@ use Rattle.status_joined.proofs.index_as_worktree_with_renames.rewriting.rewrite
 
 pub returns-in-Err-clause-answer : goal.returns-in-Err-clause-answer
 returns-in-Err-clause-answer g c =
-    let ids = identifying g.W.Worktree.modelled g.W.Worktree.lstat_of g.W.Worktree.open_of g.W.Worktree.target_of g.F.ToGit.conversion c.args.kind c.args.worktree.now c.args.filter.now in
+    let ids = g.N.Identify.identifying c.args.ids.now in
     rw c.id_error.ensures
     (id_fault ids c.args.kind (g.X.Tracker.means c.args.tracker.now) c.args.rewrites.track_empty (map item_of c.args.items.items) c.in-Err.error c.in-Err.ensures.ids)
 
@@ -28,7 +27,7 @@ returns-in-Ok-rewrite-clause-answer g c =
 
 pub returns-in-Ok-rewrite-clause-led : goal.returns-in-Ok-rewrite-clause-led
 returns-in-Ok-rewrite-clause-led g c =
-    let ids = identifying g.W.Worktree.modelled g.W.Worktree.lstat_of g.W.Worktree.open_of g.W.Worktree.target_of g.F.ToGit.conversion c.args.kind c.args.worktree.now c.args.filter.now in
+    let ids = g.N.Identify.identifying c.args.ids.now in
     destinations_led ids c.args.kind (g.X.Tracker.means c.args.tracker.now) c.args.rewrites.track_empty (map item_of c.args.items.items)
     c.identify.new.items.items c.as_slice.result.now c.as_slice.ensures.value
     (record { known = c.in_default.ensures.ids; same = c.in_default.ensures.same }) c.in-Ok.pairs.items c.in-Ok.ensures _

@@ -8,8 +8,8 @@ invariant_of-self g c = record {
   kept = c.look_up.ensures.kept c.args.self.now.kept;
 }
 
-pub returns-clause-presence : goal.returns-clause-presence
-returns-clause-presence g c =
+pub returns-clause-look : goal.returns-clause-look
+returns-clause-look g c =
     let i = c.args.self.now.inputs in
     let a = g.W.Worktree.modelled i.worktree.now in
     let b = g.O.Find.modelled i.objects in
@@ -17,4 +17,4 @@ returns-clause-presence g c =
     let l = are_modelled c.args.self.now.settings.fscache (g.L.Lister.modelled i.lister) in
     λ modelled.
     let worktree = all_worktree a b d l modelled in
-    c.look_up.ensures.presence worktree (all_listings a b d l modelled) (c.args.self.now.clear worktree) c.args.self.now.kept
+    c.look_up.ensures.look worktree (all_listings a b d l modelled) (c.args.self.now.clear worktree) c.args.self.now.kept

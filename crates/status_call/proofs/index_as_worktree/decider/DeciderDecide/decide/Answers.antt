@@ -39,7 +39,7 @@ returns-in_ok-decided-in-Node-clause-answer g c =
     let look = c.in_ok-presence.field-0 in
     let decided = rw (c.look.ensures.inputs, c.look.ensures.settings) at c.in_ok-decided-in-Node.ensures.decided in
     λ modelled.
-    let presence = presence_node (found q e) (calls_lstat q e) look n c.in-Node.is (c.in_ok-presence.ensures.presence modelled) in
+    let presence = presence_node (found q e) (calls_lstat q e) look n c.in-Node.is (c.in_ok-presence.ensures.look modelled) in
     is_decided q e (present n) look.lstat_called (counted_of q e n) (Ok (record c.in_ok-decided-in-Node.decided { lstat_called = look.lstat_called })) presence.0 (sym presence.1) (λ counts. reported_counts (counted_of q e n) (counts e n))
     (counted_look e.path (case_of_found q e (present n)) look.lstat_called (counted_of q e n) c.in_ok-decided-in-Node.decided (decided modelled))
 
@@ -71,7 +71,7 @@ returns-in_err-decided-in-Node-clause-answer g c =
     let look = c.in_ok-presence.field-0 in
     let decided = rw (c.look.ensures.inputs, c.look.ensures.settings) at c.in_err-decided-in-Node.ensures.decided in
     λ modelled.
-    let presence = presence_node (found q e) (calls_lstat q e) look n c.in-Node.is (c.in_ok-presence.ensures.presence modelled) in
+    let presence = presence_node (found q e) (calls_lstat q e) look n c.in-Node.is (c.in_ok-presence.ensures.look modelled) in
     let meant = is_decided q e (present n) (calls_lstat q e) (counted_of q e n) (Err c.in_err-decided-in-Node.field-0.0) presence.0 refl (λ counts. reported_counts (counted_of q e n) (counts e n)) (decided modelled) in
     let p = err_from_is_err_and c.from_residual-in_err-decided-in-Node.result c.from_residual-in_err-decided-in-Node.ensures.1 in
     rw (p.1, p.2) meant

@@ -3,7 +3,7 @@ use Rattle.status_index.specs.States.{index_of}
 use Rattle.status_call.specs.declared.index_as_worktree.types.Options.{Options as StatusOptions}
 use Rattle.status_joined.specs.NodeIds.{ids_by}
 use Rattle.status_joined.proofs.Joining.{quietly, of_half_at, plain_all, plain_some, rewritten_all, unreported}
-use Rattle.status_joined.proofs.index_as_worktree_with_renames.function.index_as_worktree_with_renames.Goals as goal
+use Rattle.status_joined.proofs.index_as_worktree_with_renames.joined_by.joined_by.Goals as goal
 
 pub returns-in_default : goal.returns-in_default
 returns-in_default g c = quietly _ _ _ _ _ _ _ _ _ tt
@@ -38,11 +38,11 @@ returns-in-Ok-reported g c =
     let limited = c.of-limits.ensures.thread_limit ∙ ap (λ (o : StatusOptions). o.thread_limit) c.tracked_options-status_options.ensures in
     let walks = c.in-Ok-wanted_walker.ensures (index_of c.args.index.now) in
     let reported = c.in-Ok-reported.ensures in
-    rewritten_all _ _ _ _ _ _ _ _ same _ limited _ walks _ c.is_some-sorted.ensures _ _ _ c.in-Ok-listing.ensures _ c.in-Some.is _ (λ k. record { modelled = g.W.Worktree.modelled c.args.worktree.now; ids = ids_by c.args.options.object_hash (g.W.Worktree.lstat_of c.args.worktree.now) (g.W.Worktree.open_of c.args.worktree.now) (g.W.Worktree.target_of c.args.worktree.now) (c.in-Ok.ensures k) }) reported.0 _ reported.1.0 _ _ reported.1.1
+    rewritten_all _ _ _ _ _ _ _ _ same _ limited _ walks _ c.is_some-sorted.ensures _ _ _ c.in-Ok-listing.ensures _ c.in-Some.is _ (λ k. record { modelled = g.W.Worktree.modelled c.args.inputs.status.worktree.now; ids = ids_by c.args.options.object_hash (g.W.Worktree.lstat_of c.args.inputs.status.worktree.now) (g.W.Worktree.open_of c.args.inputs.status.worktree.now) (g.W.Worktree.target_of c.args.inputs.status.worktree.now) (c.in-Ok.ensures k) }) reported.0 _ reported.1.0 _ _ reported.1.1
 
 pub returns : goal.returns
 returns g c =
     let same = rw (c.of-settings.ensures, c.tracked_options-status_options.ensures) at c.new-decider.ensures in
     let limited = c.of-limits.ensures.thread_limit ∙ ap (λ (o : StatusOptions). o.thread_limit) c.tracked_options-status_options.ensures in
     let walks = c.in-Ok-wanted_walker.ensures (index_of c.args.index.now) in
-    unreported _ _ _ _ _ _ _ _ same _ limited _ walks _ c.is_some-sorted.ensures _ _ _ c.in-Ok-listing.ensures _ c.in-Some.is _ (λ k. record { modelled = g.W.Worktree.modelled c.args.worktree.now; ids = ids_by c.args.options.object_hash (g.W.Worktree.lstat_of c.args.worktree.now) (g.W.Worktree.open_of c.args.worktree.now) (g.W.Worktree.target_of c.args.worktree.now) (c.in-Ok.ensures k) }) _ _ _ c.in-Err-reported.ensures
+    unreported _ _ _ _ _ _ _ _ same _ limited _ walks _ c.is_some-sorted.ensures _ _ _ c.in-Ok-listing.ensures _ c.in-Some.is _ (λ k. record { modelled = g.W.Worktree.modelled c.args.inputs.status.worktree.now; ids = ids_by c.args.options.object_hash (g.W.Worktree.lstat_of c.args.inputs.status.worktree.now) (g.W.Worktree.open_of c.args.inputs.status.worktree.now) (g.W.Worktree.target_of c.args.inputs.status.worktree.now) (c.in-Ok.ensures k) }) _ _ _ c.in-Err-reported.ensures

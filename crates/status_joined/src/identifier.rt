@@ -1,0 +1,53 @@
+//! Who gives nodes their ids.
+
+ghost use Rattle.std.specs.Prelude.{IsTrue};
+ghost use Rattle.status_walk.specs.Walked.{walked_of};
+ghost use Rattle.status_walk.specs.WorktreeIds.{IsId};
+ghost use Rattle.status_joined.specs.NodeIds.{Identifying};
+
+use status_base::index::{HashKind, ObjectId};
+use status_base::worktree::{ToGit, Worktree};
+use status_walk::{DirEntry, IdError, worktree_id};
+
+/// Who gives nodes their ids.
+pub trait Identify {
+    /// The ids of nodes.
+    ghost identifying: { Self → Identifying };
+
+    /// The id of a node's content. `buffer` is written over.
+    ///
+    /// # Errors
+    /// The node's fault, which may be want of memory.
+    fn id_of(&self, entry: &DirEntry, buffer: &mut Vec<u8>) -> Result<ObjectId, IdError>
+        ensures { (collapsed : _) → IsTrue (identifying self.now).modelled
+            → IsId ((identifying self.now).ids (walked_of entry.now collapsed)) result };
+}
+
+/// Gives the nodes of a worktree the ids of what a filter makes of their content.
+#[derive(Drop)]
+pub struct Identifier<'w, W, F> {
+    /// How the ids are made.
+    pub kind: HashKind,
+    /// The worktree.
+    pub worktree: &'w W,
+    /// Converts a file to what git would store.
+    pub filter: F,
+}
+
+impl<'w, W: Worktree, F: ToGit> Identify for Identifier<'w, W, F> {
+    ghost use Rattle.status_joined.specs.NodeIds.{identifying};
+
+    ghost identifying = { λ i. identifying W.modelled W.lstat_of W.open_of W.target_of F.conversion i.kind i.worktree.now i.filter };
+
+    fn id_of(&self, entry: &DirEntry, buffer: &mut Vec<u8>) -> Result<ObjectId, IdError> {
+        let path = entry.rela_path.as_bstr();
+        worktree_id(
+            self.kind,
+            self.worktree,
+            &self.filter,
+            path,
+            entry.disk_kind,
+            buffer,
+        )
+    }
+}
