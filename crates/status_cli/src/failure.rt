@@ -1,4 +1,4 @@
-//! Why a run of the program fails, and the line that says so.
+//! Why a command fails, in one line.
 
 use crate::lines::path_value;
 use bstr::BStr;
@@ -12,16 +12,16 @@ use status_profile::ProfileError;
 use std::alloc::{AllocError, Global};
 use std::io;
 
-/// Why a run fails.
+/// Why a command fails.
 #[derive(Debug, Drop)]
 pub enum Failure {
     /// The profile's file can't be read.
     Unreadable,
-    /// The profile isn't one.
+    /// The text isn't a profile.
     Profile(ProfileError),
     /// A node of the profile can't be put into the worktree.
     Worktree {
-        /// Why it can't.
+        /// The error.
         error: TreeError,
         /// The node's place in the profile.
         at: usize,
@@ -30,11 +30,11 @@ pub enum Failure {
     Status(Error),
     /// The status with untracked files, renames or sorted lines fails.
     Joined(JoinedError),
-    /// The beginning of a world is refused.
+    /// The start of a world is refused.
     Start(Refusal),
     /// An event is refused.
     Event {
-        /// Why it is.
+        /// The reason.
         refusal: Refusal,
         /// The event's place in the profile.
         at: usize,
@@ -48,7 +48,7 @@ pub enum Failure {
 }
 
 impl Failure {
-    /// The failure of opening or reading the profile's file.
+    /// Returns the failure to open or read the profile's file.
     pub fn of_reading(error: io::Error) -> Failure {
         match error.kind() {
             io::ErrorKind::OutOfMemory => Failure::Memory,
@@ -56,7 +56,7 @@ impl Failure {
         }
     }
 
-    /// The failure of putting the node at this place of the profile into the worktree.
+    /// Returns the failure to put the profile's node at this place into the worktree.
     pub fn of_node(error: TreeError, at: usize) -> Failure {
         match error {
             TreeError::Memory => Failure::Memory,
@@ -64,7 +64,7 @@ impl Failure {
         }
     }
 
-    /// The failure of a world's beginning.
+    /// Returns the failure of a world's start.
     pub fn of_start(refusal: Refusal) -> Failure {
         if is_refused_memory(&refusal) {
             return Failure::Memory;
@@ -72,7 +72,7 @@ impl Failure {
         Failure::Start(refusal)
     }
 
-    /// The failure of the event at this place of the profile.
+    /// Returns the failure of the profile's event at this place.
     pub fn of_event(refusal: Refusal, at: usize) -> Failure {
         if is_refused_memory(&refusal) {
             return Failure::Memory;
@@ -80,15 +80,14 @@ impl Failure {
         Failure::Event { refusal, at }
     }
 
-    /// Writes the failure in one line, and gives the exit status. `name` is the name of the file
-    /// that is read or written.
+    /// Writes the failure in one line, and returns the exit status 1. `name` names the file that is read or written.
     pub fn report<E: io::Write>(&self, alloc: Global, name: &str, faults: &mut E) -> u8 {
-        // Where the line can't be written there is nowhere left to say that.
+        // If the line can't be written, there is nowhere left to report that.
         let _ = self.write_line(alloc, name, faults);
         1
     }
 
-    /// Writes the failure in one line. Where the output can't be written nothing more is.
+    /// Writes the failure in one line. If the output can't be written, nothing is.
     fn write_line<E: io::Write>(
         &self,
         alloc: Global,
@@ -127,7 +126,7 @@ fn write_status_line<E: io::Write>(
     }
 }
 
-/// The words for a status that failed.
+/// Returns the words for a status that failed.
 fn status_words(alloc: Global, error: &Error) -> Result<String, AllocError> {
     match error {
         Error::IllformedUtf8 => String::from_str(alloc, "ill-formed UTF-8"),
@@ -143,7 +142,7 @@ fn status_words(alloc: Global, error: &Error) -> Result<String, AllocError> {
     }
 }
 
-/// The words for a status with untracked files, renames or sorted lines that failed.
+/// Returns the words for a status with untracked files, renames or sorted lines that failed.
 fn joined_words(alloc: Global, error: &JoinedError) -> Result<String, AllocError> {
     match error {
         JoinedError::TrackedFileModifications(error) => status_words(alloc, error),
@@ -159,7 +158,7 @@ fn joined_words(alloc: Global, error: &JoinedError) -> Result<String, AllocError
     }
 }
 
-/// The words for a refusal.
+/// Returns the words for a refusal.
 fn refusal_words(refusal: &Refusal) -> &'static str {
     match refusal {
         Refusal::ClockEnd => "clock end",
@@ -176,7 +175,7 @@ fn refusal_words(refusal: &Refusal) -> &'static str {
     }
 }
 
-/// Whether a refusal is want of memory, within a run too.
+/// Whether a refusal is a failed allocation, also within a run.
 fn is_refused_memory(refusal: &Refusal) -> bool {
     match refusal {
         Refusal::Memory => true,
@@ -185,7 +184,7 @@ fn is_refused_memory(refusal: &Refusal) -> bool {
     }
 }
 
-/// Whether a status fails for want of memory, wherever it is met.
+/// Whether a status fails because of a failed allocation anywhere.
 fn is_memory(error: &Error) -> bool {
     matches!(
         error,
@@ -193,7 +192,7 @@ fn is_memory(error: &Error) -> bool {
     )
 }
 
-/// Whether a status with untracked files, renames or sorted lines fails for want of memory, wherever it is met.
+/// Whether a status with untracked files, renames or sorted lines fails because of a failed allocation anywhere.
 fn is_joined_memory(error: &JoinedError) -> bool {
     match error {
         JoinedError::TrackedFileModifications(error) => is_memory(error),

@@ -4,13 +4,13 @@
 //! writes it, and `failure`, why a command fails and the line that says so. `input` reads the file of a profile.
 #![tactic(auto)]
 
-pub mod failure;
+mod failure;
 mod input;
 pub mod lines;
 mod output;
-pub mod refresh;
-pub mod replay;
-pub mod status;
+mod refresh;
+mod replay;
+mod status;
 
 pub use failure::Failure;
 pub use refresh::run_refresh;

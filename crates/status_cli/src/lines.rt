@@ -10,7 +10,7 @@ use serde_json::Value;
 use std::alloc::{AllocError, Global};
 use std::fmt;
 
-/// The line of a record of the entry at a place of the index, with its line feed.
+/// Returns the line of a record of the entry at this index position, with its line feed.
 pub fn status_line<T: Drop, U: Drop>(
     alloc: Global,
     entry_index: usize,
@@ -22,8 +22,8 @@ pub fn status_line<T: Drop, U: Drop>(
     format!(in alloc; "{entry_index} {words} {path}\n")
 }
 
-/// The line of an entry of a status with untracked files, renames or sorted lines, with its line feed. A node that isn't
-/// the index's is taken to be untracked, and a rewrite to be a rename: the program asks for no others.
+/// Returns the line of an entry of a status with untracked files, renames or sorted lines, with its line feed. A node that
+/// isn't in the index is untracked, and a rewrite is a rename: the program asks for no others.
 pub fn entry_line<T: Drop, U: Drop>(
     alloc: Global,
     entry: &Entry<'_, T, U>,
@@ -47,12 +47,12 @@ pub fn entry_line<T: Drop, U: Drop>(
     }
 }
 
-/// The line that a run of a replay begins with, with its line feed. Runs are counted from 1.
+/// Returns the first line of a run of a replay, with its line feed. Runs are counted from 1.
 pub fn run_line(alloc: Global, run: usize) -> Result<String, AllocError> {
     format!(in alloc; "run {run}\n")
 }
 
-/// The line of what a status took, with its line feed.
+/// Returns the line of totals of a status, with its line feed.
 pub fn total_line(alloc: Global, outcome: &Outcome) -> Result<String, AllocError>
     requires { skipped_of outcome.now < 2 ^ 64 }
 {
@@ -72,13 +72,13 @@ pub fn total_line(alloc: Global, outcome: &Outcome) -> Result<String, AllocError
     )
 }
 
-/// A path as a JSON string, which is displayed as its compact text. Bytes that aren't UTF-8 are replaced.
+/// Returns a path as a JSON string, which is displayed as its compact text. Bytes that aren't UTF-8 are replaced.
 pub fn path_value(alloc: Global, path: BStr<'_>) -> Result<Value, AllocError> {
     let text = String::from_utf8_lossy(alloc, path.as_bytes())?;
     Ok(Value::String(text))
 }
 
-/// The words for a status, as they stand between an entry's place and its path.
+/// The words for a status, between an entry's position and its path.
 #[derive(Drop)]
 struct Words<'a, T, U>(&'a EntryStatus<T, U>);
 
@@ -118,7 +118,7 @@ fn write_change<T, U, W: fmt::Write>(
     }
 }
 
-/// The letter, or a dash in its place.
+/// Returns the letter, or a dash if it isn't set.
 fn letter(is_set: bool, letter: char) -> char {
     if is_set { letter } else { '-' }
 }
@@ -135,7 +135,7 @@ fn conflict_name(summary: Conflict) -> &'static str {
     }
 }
 
-/// The stages of a conflict, as the digits of those that are there.
+/// The stages of a conflict, displayed as the digits of those that are present.
 #[derive(Clone, Copy)]
 struct Stages<'a>(&'a [Option<ConflictIndexEntry>; 3]);
 

@@ -11,14 +11,14 @@ use gix_status::index_as_worktree_with_renames::Entry;
 use std::alloc::Global;
 use std::io;
 
-/// Writes a line that has its line feed.
+/// Writes a line, which has its line feed.
 pub fn print<O: io::Write>(line: &str, output: &mut O) -> Result<(), Failure> {
     output
         .write_all(line.as_bytes())
         .map_err(|_| Failure::Output)
 }
 
-/// Writes the line of a record of the entry at a place of the index.
+/// Writes the line of a record of the entry at this index position.
 pub fn print_record<T: Drop, U: Drop, O: io::Write>(
     alloc: Global,
     entry_index: usize,
@@ -40,7 +40,7 @@ pub fn print_entry<T: Drop, U: Drop, O: io::Write>(
     print(line.as_str(), output)
 }
 
-/// Writes the line of totals where the profile wants it.
+/// Writes the line of totals if the profile has the option `counts`.
 pub fn print_totals<O: io::Write>(
     alloc: Global,
     outcome: &Outcome,
@@ -55,7 +55,7 @@ pub fn print_totals<O: io::Write>(
     Ok(())
 }
 
-/// Sees to it that all lines are out.
+/// Flushes the lines that were written.
 pub fn flush<O: io::Write>(output: &mut O) -> Result<(), Failure> {
     output.flush().map_err(|_| Failure::Output)
 }

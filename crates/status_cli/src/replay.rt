@@ -15,11 +15,11 @@ use std::io;
 use std::sync::Wait;
 use std::thread::Threads;
 
-/// Reads a profile, lets its events happen, and prints for each run to `output` its number, a line a record, and with
-/// `counts` a line of totals. `name` is the name of the profile's file.
+/// Reads a profile, replays its events, and prints for each run to `output` its number and a line for each record. With
+/// the option `counts` a line of totals follows. `name` is the name of the profile's file.
 ///
-/// Gives the exit status: 0, or 1 after a failure, which is one line on `faults`. What was printed before stays. Where
-/// `output` can't be written nothing more is.
+/// Returns the exit status: 0, or 1 after a failure, which is one line on `faults`. Lines that were printed before it
+/// stay. If `output` can't be written, nothing more is printed.
 pub fn run_replay<R: AllocGlobal + Threads + Wait, I: io::Read, O: io::Write, E: io::Write>(
     rt: &R,
     name: &str,
@@ -54,7 +54,7 @@ fn print_replay<R: AllocGlobal + Threads + Wait, I: io::Read, O: io::Write>(
     }
 }
 
-/// Why a replay was stopped, with a place in the profile's list of events.
+/// Returns why a replay stopped, with a place in the profile's list of events.
 fn failure_of(stop: Stop, stretches: &[Vec<Event>]) -> Failure {
     match stop {
         Stop::Event {
@@ -69,7 +69,7 @@ fn failure_of(stop: Stop, stretches: &[Vec<Event>]) -> Failure {
     }
 }
 
-/// The place of a stretch's first event in the profile's list, where each reopening before it is an event too.
+/// Returns the place of a stretch's first event in the profile's list, in which each reopening is an event too.
 fn first_place(stretches: &[Vec<Event>], stretch: usize) -> usize {
     let mut place: usize = 0;
     for events in stretches.iter().take(stretch) {
@@ -78,7 +78,7 @@ fn first_place(stretches: &[Vec<Event>], stretch: usize) -> usize {
     place
 }
 
-/// The world that a history begins with.
+/// Makes the world that a history starts with.
 fn begin(alloc: Global, history: &History) -> Result<World, Failure> {
     let options = history.options;
     World::new(
@@ -92,7 +92,7 @@ fn begin(alloc: Global, history: &History) -> Result<World, Failure> {
     .map_err(Failure::of_start)
 }
 
-/// Prints what the runs report, whose numbers begin with 1.
+/// Prints the reports of the runs, numbered from 1.
 fn print_reports<O: io::Write>(
     alloc: Global,
     reports: &[Report],
@@ -108,7 +108,7 @@ fn print_reports<O: io::Write>(
     flush(output)
 }
 
-/// Prints what a run reports.
+/// Prints the report of a run.
 fn print_report<O: io::Write>(
     alloc: Global,
     report: &Report,

@@ -1,4 +1,4 @@
-//! A field's value that a reader stands before, and that is never a JSON value in memory.
+//! A field's value that is read from the text, and is never a JSON value in memory.
 
 use crate::error::FieldError;
 use crate::value::{FieldValue, Word};
@@ -8,7 +8,7 @@ use serde_json::Value;
 use std::alloc::Global;
 use std::borrow::CowStr;
 
-// After any error the reader is of no more use, whatever the error was.
+// After any error the reader can't be used any more.
 impl<'de, F: Format> FieldValue for Deserializer<'de, '_, F> {
     fn text(&mut self, alloc: Global) -> Result<String, FieldError> {
         or_form(self.string(alloc))
@@ -21,7 +21,7 @@ impl<'de, F: Format> FieldValue for Deserializer<'de, '_, F> {
         Ok(())
     }
 
-    // A word with an escape is left to the slower way.
+    // A word with an escape is an error here: the careful way reads it.
     fn word<T: Word>(&mut self) -> Result<T, FieldError> {
         T::of_word(or_form(self.borrowed_str())?).ok_or(FieldError::Form)
     }
@@ -56,14 +56,14 @@ impl<'de, F: Format> FieldValue for Deserializer<'de, '_, F> {
         Ok(flags)
     }
 
-    // By way of a JSON value, since a reader passes numbers that are out of range.
+    // Through a JSON value, since the reader skips numbers that are out of range.
     fn pass(&mut self, alloc: Global) -> Result<(), FieldError> {
         drop(or_form(Value::deserialize_owned(alloc, self))?);
         Ok(())
     }
 }
 
-/// What was read. Any error is one of the form.
+/// Returns what was read. Any error is an error of the form.
 pub fn or_form<T, E: Drop>(read: Result<T, E>) -> Result<T, FieldError> {
     match read {
         Ok(value) => Ok(value),

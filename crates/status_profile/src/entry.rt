@@ -11,19 +11,19 @@ use status_stored::words::{flag_of_word, id_of_word, mode_of_word};
 use std::alloc::Global;
 use std::mem;
 
-/// The entries of a profile, put into an index one by one.
+/// The entries of a profile, pushed to an index one by one.
 #[derive(Drop)]
 pub struct Entries {
-    /// The entries up to the first that can't stand there.
+    /// The entries before the first one that the index refuses.
     index: State,
     fault: Option<IndexError>,
-    /// The path of the entry that is read, in a buffer that all of them use.
+    /// The path of the entry that is being read, in a buffer for all entries.
     path: Vec<u8>,
     /// Its other fields.
     fields: EntryFields,
 }
 
-/// What is known of an entry beside its path.
+/// The fields of an entry without its path, as far as they are read.
 #[derive(Clone, Copy)]
 struct EntryFields {
     has_path: bool,
@@ -36,7 +36,7 @@ struct EntryFields {
 }
 
 impl EntryFields {
-    /// An entry of which no field is known.
+    /// No field is read.
     fn none() -> EntryFields {
         EntryFields {
             has_path: false,
@@ -51,10 +51,10 @@ impl EntryFields {
 }
 
 impl Entries {
-    /// The index of these entries, which was written at this moment.
+    /// Returns the index of these entries, with this timestamp.
     ///
     /// # Errors
-    /// The first entry that can't stand where it is.
+    /// The first entry that can't be at its index position.
     pub fn into_index(self, timestamp: Moment) -> Result<State, IndexError> {
         let Entries {
             mut index,
@@ -100,7 +100,7 @@ impl Items for Entries {
         Ok(())
     }
 
-    /// Behind an entry that can't stand where it is the others are only read.
+    /// After an entry that the index refuses, entries are only read.
     fn end(&mut self, _alloc: Global) -> Result<(), FieldError> {
         let fields = mem::replace(&mut self.fields, EntryFields::none());
         let id = fields.id.ok_or(FieldError::Form)?;
@@ -131,7 +131,7 @@ fn stage_of(number: u32) -> Result<u32, FieldError> {
     Ok(number)
 }
 
-/// The number of hexadecimal digits says how the id was made.
+/// The number of hexadecimal digits gives the id's kind.
 impl Word for ObjectId {
     fn of_word(digits: &str) -> Option<ObjectId> {
         id_of_word(digits)

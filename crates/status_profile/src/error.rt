@@ -6,14 +6,14 @@ use std::alloc::{AllocError, AllocFailed};
 use std::fmt;
 use thiserror::Error;
 
-/// A key of a profile, in the order in which they are read.
+/// A key of a profile. Keys are in the order in which they are read.
 #[derive(Clone, Copy, Debug, PartialEq, Eq)]
 pub enum Key {
-    /// How ids are made. A profile that is no object is reported as this key.
+    /// How ids are made. A profile that isn't an object is reported with this key.
     Hash,
-    /// What a world's clock shows first.
+    /// The first time on a world's clock.
     Clock,
-    /// When the index was written.
+    /// The timestamp of the index.
     Timestamp,
     /// How the status is computed.
     Options,
@@ -21,7 +21,7 @@ pub enum Key {
     Index,
     /// The nodes of the worktree.
     Worktree,
-    /// What happens in a world.
+    /// The events of a history.
     Events,
 }
 
@@ -45,15 +45,21 @@ pub enum ProfileError {
     /// The text isn't JSON, or isn't UTF-8.
     #[error("not JSON")]
     NotJson,
-    /// The key is missing or has a wrong form, and those before it are as they should be.
+    /// The key is missing or has a wrong form. The keys before it are correct.
     #[error("bad profile: {0}")]
     Bad(Key),
-    /// The profile's entries are no index.
+    /// The profile's entries aren't an index.
     #[error("bad index: {0}")]
     Index(IndexError),
     /// Memory ran out.
     #[error("out of memory")]
     Memory,
+}
+
+impl From<AllocError> for ProfileError {
+    fn from(_error: AllocError) -> ProfileError {
+        ProfileError::Memory
+    }
 }
 
 impl From<serde_json::Error> for ProfileError {
@@ -78,14 +84,14 @@ impl From<IndexError> for ProfileError {
 /// Why a field of a profile isn't read.
 #[derive(Clone, Copy, Debug, PartialEq, Eq)]
 pub enum FieldError {
-    /// It is missing, has a wrong form, or wants what isn't supported.
+    /// It is missing, has a wrong form, or asks for something that isn't supported.
     Form,
     /// Memory ran out.
     Memory,
 }
 
 impl FieldError {
-    /// The error of the profile, where the field stands under `key`.
+    /// Returns the error of a profile with this field under `key`.
     pub fn under(self, key: Key) -> ProfileError {
         match self {
             FieldError::Form => ProfileError::Bad(key),

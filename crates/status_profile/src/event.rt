@@ -1,4 +1,4 @@
-//! The events of a history: lists of a word and of what belongs to it.
+//! The events of a history: each is a list of a word and the event's values.
 
 use crate::error::FieldError;
 use crate::field::{
@@ -10,7 +10,7 @@ use serde_json::Value;
 use std::alloc::Global;
 use std::mem;
 
-/// Reads the events, in stretches between which the index is opened again.
+/// Reads the events, in stretches: between two of them the index is opened again.
 pub fn read_stretches(alloc: Global, profile: Fields<'_>) -> Result<Vec<Vec<Event>>, FieldError> {
     let mut stretches = Vec::new(alloc);
     let mut events = Vec::new(alloc);
@@ -33,7 +33,7 @@ fn is_reopening(items: &[Value]) -> bool {
     }
 }
 
-/// Reads the event that a list is: it has just the items of the event's form.
+/// Reads the event of a list, which has exactly the items of the event's form.
 fn read_event(alloc: Global, items: &[Value]) -> Result<Event, FieldError> {
     let (word, items) = items.split_first().ok_or(FieldError::Form)?;
     match (text_of(word)?, items) {

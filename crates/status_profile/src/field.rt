@@ -1,5 +1,5 @@
-//! The fields of a profile and of its options, by their forms. A field with a default may be
-//! missing, but not have a wrong form.
+//! The fields of a profile and of its options, by their forms. A field with a default may be missing, but may not have a
+//! wrong form.
 
 use crate::error::FieldError;
 use crate::value::Word;
@@ -9,19 +9,19 @@ use serde_json::{Map, Value};
 /// The fields of an object. Of equal keys the last counts.
 #[derive(Clone, Copy)]
 pub struct Fields<'a> {
-    /// None stands for no members.
+    /// None means no members.
     members: Option<&'a Map<String, Value>>,
 }
 
 impl<'a> Fields<'a> {
-    /// The fields of an object with these members.
+    /// Returns the fields of an object with these members.
     pub fn new(members: &'a Map<String, Value>) -> Fields<'a> {
         Fields {
             members: Some(members),
         }
     }
 
-    /// The fields of a value that has to be an object.
+    /// Returns the fields of a value that has to be an object.
     pub fn of(value: &'a Value) -> Result<Fields<'a>, FieldError> {
         match value.as_object() {
             Some(members) => Ok(Fields::new(members)),
@@ -29,28 +29,28 @@ impl<'a> Fields<'a> {
         }
     }
 
-    /// The value of a field. None where it is missing.
+    /// Returns the value of a field. None if it is missing.
     pub fn get(self, key: &str) -> Option<&'a Value> {
         self.members?.get(key)
     }
 
-    /// The value of a field that has no default.
+    /// Returns the value of a field that has no default.
     pub fn required(self, key: &str) -> Result<&'a Value, FieldError> {
         self.get(key).ok_or(FieldError::Form)
     }
 
-    /// The fields of an object, or none where it is missing.
+    /// Returns the fields of an object, or no fields if it is missing.
     pub fn object(self, key: &str) -> Result<Fields<'a>, FieldError> {
         self.get(key)
             .map_or(Ok(Fields { members: None }), Fields::of)
     }
 
-    /// A text, or `default` where it is missing.
+    /// Returns a text, or `default` if it is missing.
     pub fn text_or(self, key: &str, default: &'a str) -> Result<&'a str, FieldError> {
         self.get(key).map_or(Ok(default), text_of)
     }
 
-    /// A text that names something, or `default` where it is missing.
+    /// Returns the value that a text names, or `default` if it is missing.
     pub fn word_or<T: Word + Copy>(self, key: &str, default: T) -> Result<T, FieldError> {
         match self.get(key) {
             Some(value) => word_of(value),
@@ -58,39 +58,39 @@ impl<'a> Fields<'a> {
         }
     }
 
-    /// A truth value, or `default` where it is missing.
+    /// Returns a truth value, or `default` if it is missing.
     pub fn bool_or(self, key: &str, default: bool) -> Result<bool, FieldError> {
         self.get(key).map_or(Ok(default), truth_of)
     }
 
-    /// A whole number below 2^32, or 0 where it is missing.
+    /// Returns a whole number below 2^32, or 0 if it is missing.
     pub fn number(self, key: &str) -> Result<u32, FieldError> {
         self.get(key).map_or(Ok(0), number_of)
     }
 }
 
-/// A text.
+/// Reads a text.
 pub fn text_of(value: &Value) -> Result<&str, FieldError> {
     value.as_str().ok_or(FieldError::Form)
 }
 
-/// A text that names something.
+/// Reads a text that names a value.
 pub fn word_of<T: Word>(value: &Value) -> Result<T, FieldError> {
     T::of_word(text_of(value)?).ok_or(FieldError::Form)
 }
 
-/// A whole number below 2^32: one with a point, an exponent or a sign isn't.
+/// Reads a whole number below 2^32, without a point, an exponent or a sign.
 pub fn number_of(value: &Value) -> Result<u32, FieldError> {
     let number = value.as_u64().ok_or(FieldError::Form)?;
     u32::try_from(number).map_err(|_| FieldError::Form)
 }
 
-/// A truth value.
+/// Reads a truth value.
 pub fn truth_of(value: &Value) -> Result<bool, FieldError> {
     value.as_bool().ok_or(FieldError::Form)
 }
 
-/// A list.
+/// Reads a list.
 pub fn list_of(value: &Value) -> Result<&[Value], FieldError> {
     match value.as_array() {
         Some(items) => Ok(items.as_slice()),
@@ -98,7 +98,7 @@ pub fn list_of(value: &Value) -> Result<&[Value], FieldError> {
     }
 }
 
-/// A list of seconds and nanoseconds.
+/// Reads a list of seconds and nanoseconds.
 pub fn stamp_of(value: &Value) -> Result<Time, FieldError> {
     let [secs, nsecs] = list_of(value)? else {
         return Err(FieldError::Form);
@@ -109,13 +109,13 @@ pub fn stamp_of(value: &Value) -> Result<Time, FieldError> {
     })
 }
 
-/// A moment as a list of seconds and nanoseconds.
+/// Reads a moment from such a list.
 pub fn stamped_moment_of(value: &Value) -> Result<Moment, FieldError> {
     let Time { secs, nsecs } = stamp_of(value)?;
     Ok(Moment { secs, nsecs })
 }
 
-/// A moment as such a list, or as a number of seconds.
+/// Reads a moment from such a list, or from a number of seconds.
 pub fn moment_of(value: &Value) -> Result<Moment, FieldError> {
     match number_of(value) {
         Ok(secs) => Ok(Moment { secs, nsecs: 0 }),
@@ -123,7 +123,7 @@ pub fn moment_of(value: &Value) -> Result<Moment, FieldError> {
     }
 }
 
-/// The most workers that there may be. Null leaves their number open.
+/// Reads the greatest number of workers. Null sets none.
 pub fn thread_limit_of(value: &Value) -> Result<Option<usize>, FieldError> {
     match value {
         Value::Null => Ok(None),

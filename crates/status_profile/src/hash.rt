@@ -5,7 +5,7 @@ use crate::field::Fields;
 use crate::value::Word;
 use gix_status::index::HashKind;
 
-/// Reads how ids are made: by SHA-1 where nothing is said.
+/// Reads how ids are made. The default is SHA-1.
 pub fn read_hash(profile: Fields<'_>) -> Result<HashKind, FieldError> {
     profile.word_or("hash", HashKind::Sha1)
 }

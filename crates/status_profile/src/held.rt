@@ -1,4 +1,4 @@
-//! A field's value that stands in memory as a JSON value.
+//! A field's value that is a JSON value in memory.
 
 use crate::error::FieldError;
 use crate::field::{list_of, number_of, stamp_of, text_of, truth_of, word_of};

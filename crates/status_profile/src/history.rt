@@ -10,18 +10,18 @@ use gix_status::world::Event;
 use serde_json::Value;
 use std::alloc::Global;
 
-/// How a world begins, and what happens in it.
+/// A world's start, and the events in it.
 #[derive(Drop)]
 pub struct History {
     /// How ids are made.
     pub hash: HashKind,
-    /// What the clock shows first.
+    /// The first time on the clock.
     pub clock: Moment,
-    /// When the empty index was written.
+    /// The timestamp of the empty index.
     pub timestamp: Moment,
-    /// What counts in a run, and what is printed of it.
+    /// How runs are computed, and what is printed of them.
     pub options: HistoryOptions,
-    /// What happens, in order: stretches of events, between which the index is opened again.
+    /// The events, in order, in stretches: between two of them the index is opened again.
     pub stretches: Vec<Vec<Event>>,
 }
 
@@ -29,7 +29,7 @@ impl History {
     /// Reads the profile of a replay from JSON text.
     ///
     /// # Errors
-    /// Text that isn't JSON, else the first key that is missing or has a wrong form. Or want of memory.
+    /// The text isn't JSON; or a key is missing or has a wrong form: the first such key. Or memory ran out.
     pub fn from_json(alloc: Global, text: &[u8]) -> Result<History, ProfileError> {
         let profile = Value::from_slice(alloc, text)?;
         let fields = Fields::of(&profile).map_err(|error| error.under(Key::Hash))?;

@@ -5,19 +5,19 @@ use serde::{Case, Name, NameKind};
 /// A key of an entry or of a node.
 #[derive(Clone, Copy, Debug, PartialEq, Eq)]
 pub enum ItemKey {
-    /// Where it is.
+    /// The path.
     Path,
     /// The id of an entry's content.
     Id,
-    /// What kind of thing an entry is.
+    /// The kind of an entry.
     Mode,
     /// The stage of an entry.
     Stage,
-    /// What the index says beside an entry's content.
+    /// The flags of an entry.
     Flags,
     /// The size of an entry's file.
     Size,
-    /// What kind of thing a node is.
+    /// The kind of a node.
     Kind,
     /// A node's bytes, as hexadecimal digits.
     Hex,
@@ -41,7 +41,7 @@ pub enum ItemKey {
     Other,
 }
 
-/// Keys with their names, at the same places.
+/// Keys, and their names in the same order.
 #[derive(Clone, Copy)]
 struct Keys {
     names: &'static [Name<'static>],
@@ -83,13 +83,13 @@ static KEYS: Keys = keys! {
 };
 
 impl ItemKey {
-    /// The names of the keys.
+    /// Returns the names of the keys.
     #[inline(always)]
     pub fn names() -> &'static [Name<'static>] {
         KEYS.names
     }
 
-    /// The key whose name is at this place of the names.
+    /// Returns the key whose name has this place among the names.
     pub fn at(place: usize) -> ItemKey {
         match KEYS.keys.get(place) {
             Some(key) => *key,
@@ -97,7 +97,7 @@ impl ItemKey {
         }
     }
 
-    /// The key of this name.
+    /// Returns the key of this name.
     pub fn of_name(name: &str) -> ItemKey {
         ItemKey::at(serde::find(ItemKey::names(), name))
     }

@@ -3,7 +3,7 @@
 //! Read `Profile` below and `history` first, then `options`, `entry`, `node` and `event`, what they are made of. `key`
 //! has the keys of entries and nodes, and `error` those of a profile. `members` reads the text: `list` in two ways,
 //! straight from the text (`ahead`) or through a JSON value (`held`), both as a `value`. `field` reads options and
-//! events, and `texts` keeps all keys as text.
+//! events, and `texts` writes a profile again with another index.
 #![tactic(auto)]
 
 mod ahead;
@@ -23,11 +23,12 @@ mod stat;
 mod texts;
 mod value;
 
+use crate::error::FieldError;
 use crate::field::{Fields, stamped_moment_of};
 use crate::hash::read_hash;
 use crate::node::read_place;
 use crate::options::read_options;
-pub use error::{FieldError, Key, ProfileError};
+pub use error::{Key, ProfileError};
 use gix_status::index::{HashKind, Moment, State};
 pub use history::History;
 pub use list::Way;
@@ -35,12 +36,12 @@ pub use members::Members;
 pub use node::Place;
 pub use options::{HistoryOptions, ProfileOptions};
 use std::alloc::Global;
-pub use texts::{Texts, put_value};
+pub use texts::text_with_index;
 
-/// What the profile of a status says.
+/// The profile of a status.
 #[derive(Drop)]
 pub struct Profile {
-    /// How ids of untracked files are made. An entry's id says itself of which kind it is.
+    /// How the ids of untracked files are made. An entry's id has its own kind.
     pub hash: HashKind,
     /// How the status is computed, and what is printed.
     pub options: ProfileOptions,
@@ -54,13 +55,13 @@ impl Profile {
     /// Reads a profile from JSON text.
     ///
     /// # Errors
-    /// Text that isn't JSON, else the first key that is missing or has a wrong form, else the first
-    /// entry that can't stand where it is. Or want of memory.
+    /// The text isn't JSON; or a key is missing or has a wrong form: the first such key; or an entry can't be at its index
+    /// position: the first such entry. Or memory ran out.
     pub fn from_json(alloc: Global, text: &[u8]) -> Result<Profile, ProfileError> {
         Profile::read(alloc, text, Kind::Any)
     }
 
-    /// Reads a profile whose status has neither untracked files nor renames nor sorted lines.
+    /// Reads a profile whose status has no untracked files, no renames and no sorted lines.
     ///
     /// # Errors
     /// The same. Options that ask for one of these have a wrong form.
@@ -68,10 +69,10 @@ impl Profile {
         Profile::read(alloc, text, Kind::Plain)
     }
 
-    /// The profile that these members are.
+    /// Makes a profile of its members.
     ///
     /// # Errors
-    /// As those of `from_json`, but that its text is JSON.
+    /// Those of `from_json`, except that the text isn't JSON.
     pub fn from_members(alloc: Global, members: Members) -> Result<Profile, ProfileError> {
         profile_of(alloc, members, Kind::Any)
     }
@@ -87,9 +88,9 @@ impl Profile {
 /// The statuses that a profile may ask for.
 #[derive(Clone, Copy, Debug, PartialEq, Eq)]
 enum Kind {
-    /// Each that there is.
+    /// Any status.
     Any,
-    /// One without untracked files, renames and sorted lines.
+    /// A status without untracked files, renames and sorted lines.
     Plain,
 }
 

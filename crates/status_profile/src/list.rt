@@ -9,13 +9,12 @@ use serde::{DeserializeOwned, Deserializer, Format, Kind};
 use serde_json::Value;
 use std::alloc::Global;
 
-/// The items of a list, each of which is taken field by field. After an error they are of no more
-/// use.
+/// The items of a list, each of which is taken field by field. After an error they can't be used any more.
 pub trait Items: Sized + Drop {
-    /// No items.
+    /// Returns no items.
     fn none(alloc: Global) -> Self;
 
-    /// Takes a field of the next item. Of equal keys the last counts.
+    /// Takes a field of the next item. If a key is repeated, its last field counts.
     fn set<V: FieldValue>(
         &mut self,
         alloc: Global,
@@ -27,15 +26,15 @@ pub trait Items: Sized + Drop {
     fn end(&mut self, alloc: Global) -> Result<(), FieldError>;
 }
 
-/// A list of a profile, or why it isn't one.
+/// A list of a profile, or its error.
 pub type List<T> = Result<T, FieldError>;
 
 /// How a list is read.
 #[derive(Clone, Copy, Debug, PartialEq, Eq)]
 pub enum Way {
-    /// Straight into the items. Any error ends the reading, and doesn't say why.
+    /// Each field is read from the text into the items. Any error ends the reading, without a reason.
     Quick,
-    /// By way of a JSON value an item. Only text that isn't JSON and want of memory end the reading.
+    /// Each item becomes a JSON value first. Only text that isn't JSON and a failed allocation end the reading.
     Careful,
 }
 
@@ -86,8 +85,8 @@ fn read_item<T: Items, F: Format>(
     items.end(alloc)
 }
 
-/// Reads a list to its end, since all of the text has to be JSON, also behind an item that isn't as
-/// it should be. No more than one value stands in memory.
+/// Reads a list to its end, since all of the text has to be JSON, also after an item with an error. At most one value is in
+/// memory.
 fn read_values<T: Items, F: Format>(
     alloc: Global,
     from: &mut Deserializer<'_, '_, F>,
@@ -111,7 +110,7 @@ fn read_values<T: Items, F: Format>(
     Ok(list)
 }
 
-/// The list with one more item.
+/// Returns the list with one more item.
 fn with_item<T: Items>(alloc: Global, list: List<T>, value: &Value) -> List<T> {
     let mut items = list?;
     let members = value.as_object().ok_or(FieldError::Form)?;

@@ -1,4 +1,4 @@
-//! The members of a profile, as its text gives them.
+//! The members of a profile, read from its text.
 
 use crate::entry::Entries;
 use crate::error::FieldError;
@@ -8,33 +8,32 @@ use serde::{Deserialize, DeserializeOwned, Deserializer, Format, Kind};
 use serde_json::{Map, Value};
 use std::alloc::Global;
 
-/// The members of a profile. Of equal keys the last counts. A list that is missing has a wrong
-/// form.
+/// The members of a profile. If a key is repeated, its last member counts. A list that is missing has a wrong form.
 #[derive(Drop)]
 pub struct Members {
     /// The entries of the index.
-    pub entries: List<Entries>,
+    pub(crate) entries: List<Entries>,
     /// The nodes of the worktree with their paths.
-    pub nodes: List<Nodes>,
+    pub(crate) nodes: List<Nodes>,
     /// All other members.
-    pub others: Map<String, Value>,
+    pub(crate) others: Map<String, Value>,
 }
 
 impl Members {
-    /// Reads the members of the profile that a JSON text is. No more than one entry or node stands
-    /// in memory as a JSON value. None where the text is no object.
+    /// Reads the members of a profile from JSON text, with at most one entry or node in memory as a JSON value. None if the
+    /// text isn't an object.
     ///
     /// # Errors
-    /// Text that isn't JSON, or want of memory.
+    /// The text isn't JSON, or memory ran out.
     pub fn from_json(alloc: Global, text: &[u8]) -> Result<Option<Members>, serde_json::Error> {
         match Members::quickly(alloc, text) {
             Ok(members) => Ok(Some(members)),
-            // Only the careful way says what is wrong.
+            // Only the careful way has the reason.
             Err(_) => Members::carefully(alloc, text),
         }
     }
 
-    /// The same in the quick way alone. Where the text is no profile there are no members.
+    /// The same in the quick way alone, which returns an error if the text isn't a profile.
     pub fn quickly(alloc: Global, text: &[u8]) -> Result<Members, serde_json::Error> {
         let Quick(members) = serde_json::from_slice(alloc, text)?;
         Ok(members)
@@ -47,7 +46,7 @@ impl Members {
     }
 }
 
-/// The members of a profile, to be read in the quick way.
+/// The members of a profile, read in the quick way.
 #[derive(Drop)]
 struct Quick(Members);
 
@@ -60,7 +59,7 @@ impl<'de> Deserialize<'de> for Quick {
     }
 }
 
-/// The same, to be read in the careful way. None where the text is no object.
+/// The members of a profile, read in the careful way. None if the text isn't an object.
 #[derive(Drop)]
 struct Careful(Option<Members>);
 

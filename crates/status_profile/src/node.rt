@@ -14,13 +14,13 @@ use std::mem;
 /// Where a profile's worktree is.
 #[derive(Debug, Drop)]
 pub enum Place {
-    /// In the profile: nodes with their paths, in its order.
+    /// In the profile: nodes with their paths, in the profile's order.
     Nodes(Vec<(BString, Node)>),
-    /// In the folder at a path, from the working folder on.
+    /// In the folder at this path, relative to the working folder.
     Folder(String),
 }
 
-/// Reads where the worktree is. With a folder no nodes are looked at.
+/// Reads where the worktree is. If the profile has a folder, the nodes are ignored.
 pub fn read_place(
     alloc: Global,
     profile: Fields<'_>,
@@ -36,11 +36,11 @@ pub fn read_place(
 #[derive(Drop)]
 pub struct Nodes {
     nodes: Vec<(BString, Node)>,
-    /// The node that is read.
+    /// The node that is being read.
     fields: NodeFields,
 }
 
-/// What is known of a node.
+/// The fields of a node, as far as they are read.
 #[derive(Drop)]
 struct NodeFields {
     path: Option<BString>,
@@ -52,7 +52,7 @@ struct NodeFields {
 }
 
 impl NodeFields {
-    /// A node of which no field is known.
+    /// No field is read.
     fn none(alloc: Global) -> NodeFields {
         NodeFields {
             path: None,
@@ -64,7 +64,7 @@ impl NodeFields {
         }
     }
 
-    /// The node with its path.
+    /// Returns the node with its path.
     fn into_node(self) -> Result<(BString, Node), FieldError> {
         let path = self.path.ok_or(FieldError::Form)?;
         let stat = self.stat.of_size(0);
@@ -106,7 +106,7 @@ impl Items for Nodes {
                 fields.bytes = hex::decode(alloc, value.text(alloc)?)?;
                 fields.has_hex = true;
             }
-            // With digits a text isn't looked at. Of a JSON value's members they come first.
+            // A text after digits is ignored. Among a JSON value's members the digits come first.
             ItemKey::Text if fields.has_hex => value.pass(alloc)?,
             ItemKey::Text => fields.bytes = value.text(alloc)?.into_bytes(),
             ItemKey::Executable => fields.executable = value.truth()?,

@@ -16,7 +16,7 @@ pub struct HistoryOptions {
     pub stat: stat::Options,
     /// Whether executability counts.
     pub executable_bit: bool,
-    /// Whether the counts are printed in a last line.
+    /// Whether a last line with the counts is printed.
     pub counts: bool,
 }
 
@@ -27,7 +27,7 @@ pub struct ProfileOptions {
     pub status: Options,
     /// How files are compared.
     pub comparer: Comparer,
-    /// What the paths that are looked at begin with.
+    /// The common prefix of the paths that are checked.
     pub prefix: BString,
     /// Whether untracked files are reported.
     pub untracked: bool,
@@ -35,7 +35,7 @@ pub struct ProfileOptions {
     pub renames: bool,
     /// Whether the lines are sorted by path.
     pub sort: bool,
-    /// Whether the counts are printed in a last line.
+    /// Whether a last line with the counts is printed.
     pub counts: bool,
 }
 
@@ -45,7 +45,7 @@ impl ProfileOptions {
         self.untracked || self.renames || self.sort
     }
 
-    /// The options over a folder, in which no file is executable, so that the executable bit doesn't count.
+    /// Returns the options for a folder. No file in it is executable, so the executable bit doesn't count.
     ///
     /// # Errors
     /// Untracked files or renames: a folder isn't walked.
@@ -58,7 +58,7 @@ impl ProfileOptions {
     }
 }
 
-/// Reads the options, which may be missing as a whole.
+/// Reads the options of a status. All of them may be missing.
 pub fn read_options(alloc: Global, profile: Fields<'_>) -> Result<ProfileOptions, FieldError> {
     let fields = profile.object("options")?;
     let common = read_history_options(fields)?;
@@ -77,7 +77,7 @@ pub fn read_options(alloc: Global, profile: Fields<'_>) -> Result<ProfileOptions
     }
 }
 
-/// Reads the options of a history, each of which may be missing.
+/// Reads the options of a history. Each of them may be missing.
 pub fn read_history_options(fields: Fields<'_>) -> Result<HistoryOptions, FieldError> {
     Ok(HistoryOptions {
         stat: read_stat_options(fields)?,

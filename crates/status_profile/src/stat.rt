@@ -6,7 +6,7 @@ use crate::value::FieldValue;
 use gix_status::index::{Stat, Time};
 use std::alloc::Global;
 
-/// What is known of a stat.
+/// The fields of a stat, as far as they are read.
 #[derive(Clone, Copy, Default)]
 pub struct StatFields {
     /// All but the ctime.
@@ -15,7 +15,7 @@ pub struct StatFields {
 }
 
 impl StatFields {
-    /// Takes a field. One of another key is ignored.
+    /// Takes a field. A field with another key is ignored.
     pub fn set<V: FieldValue>(
         &mut self,
         alloc: Global,
@@ -34,7 +34,7 @@ impl StatFields {
         Ok(())
     }
 
-    /// The stat of a file of this size. A ctime that is missing is the mtime.
+    /// Returns the stat of a file of this size. If the ctime is missing, it is the mtime.
     pub fn of_size(self, size: u32) -> Stat {
         Stat {
             ctime: self.ctime.unwrap_or(self.stat.mtime),

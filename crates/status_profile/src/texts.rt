@@ -1,13 +1,27 @@
-//! The members of a profile as texts, for a profile that is written with the most of them as they were.
+//! The members of a profile as texts, to write the profile again with another index.
 
+use crate::error::{Key, ProfileError};
+use gix_status::index::{Moment, State};
 use serde::{Deserialize, DeserializeOwned, Deserializer, Format, Kind};
 use serde_json::Value;
+use status_stored::{StoreError, store_one};
 use std::alloc::{AllocError, Global};
 use std::collections::BTreeMap;
 
-/// The compact texts of an object's members, by their keys. Of equal keys the last counts.
+/// Returns the text of a profile with another index, and with all other keys unchanged. At most one entry or node is in
+/// memory as a JSON value.
+pub fn text_with_index(alloc: Global, text: &[u8], index: &State) -> Result<String, ProfileError> {
+    let Texts(mut members) = serde_json::from_slice(alloc, text)?;
+    let Moment { secs, nsecs } = index.timestamp();
+    let timestamp = format!(in alloc; "[{secs},{nsecs}]")?;
+    put_member(alloc, &mut members, "index", String::new(alloc))?;
+    put_member(alloc, &mut members, "timestamp", timestamp)?;
+    object_with_index(alloc, members, index)
+}
+
+/// The compact texts of an object's members, by key. If a key is repeated, its last member counts.
 #[derive(Drop)]
-pub struct Texts(pub BTreeMap<String, String>);
+struct Texts(BTreeMap<String, String>);
 
 impl<'de> Deserialize<'de> for Texts {
     fn deserialize<F: Format>(
@@ -30,7 +44,7 @@ impl<'de> Deserialize<'de> for Texts {
     }
 }
 
-/// The compact text of a value. Of a list no more than one item stands in memory as a JSON value.
+/// Reads the compact text of a value, with at most one item of a list in memory as a JSON value.
 fn read_text<F: Format>(
     alloc: Global,
     from: &mut Deserializer<'_, '_, F>,
@@ -49,7 +63,7 @@ fn read_text<F: Format>(
         read_value(alloc, from, before, &mut text)?;
         before = ",";
     }
-    // An empty list has no item before which its bracket stands.
+    // An empty list has no item that comes with the bracket.
     let end = if text.as_str().is_empty() { "[]" } else { "]" };
     match text.push_str(end) {
         Ok(()) => Ok(text),
@@ -57,7 +71,7 @@ fn read_text<F: Format>(
     }
 }
 
-/// Puts a value's compact text behind a text, with a sign before it.
+/// Reads a value, and appends `before` and the value's compact text.
 fn read_value<F: Format>(
     alloc: Global,
     from: &mut Deserializer<'_, '_, F>,
@@ -71,8 +85,8 @@ fn read_value<F: Format>(
     }
 }
 
-/// Puts a value's compact text behind a text, with a sign before it.
-pub fn put_value(
+/// Appends `before` and a value's compact text.
+fn put_value(
     alloc: Global,
     value: &Value,
     before: &str,
@@ -80,4 +94,60 @@ pub fn put_value(
 ) -> Result<(), AllocError> {
     text.push_str(before)?;
     text.push_str(value.to_string(alloc)?.as_str())
+}
+
+/// Sets a member's text, and replaces the one that is there, if any.
+fn put_member(
+    alloc: Global,
+    members: &mut BTreeMap<String, String>,
+    key: &str,
+    text: String,
+) -> Result<(), ProfileError> {
+    let key = String::from_str(alloc, key)?;
+    match members.insert(key, text) {
+        Ok(_) => Ok(()),
+        Err(_) => Err(ProfileError::Memory),
+    }
+}
+
+/// Returns the text of an object with these members' texts, but with the index's entries, and a line feed.
+fn object_with_index(
+    alloc: Global,
+    members: BTreeMap<String, String>,
+    index: &State,
+) -> Result<String, ProfileError> {
+    let mut text = String::new(alloc);
+    for (at, (key, member)) in members.into_iter().enumerate() {
+        let is_index = key.as_str() == "index";
+        let before = if at == 0 { "{" } else { "," };
+        put_value(alloc, &Value::String(key), before, &mut text)?;
+        text.push(':')?;
+        if is_index {
+            put_entries(alloc, index, &mut text)?;
+        } else {
+            text.push_str(member.as_str())?;
+        }
+    }
+    text.push_str("}\n")?;
+    Ok(text)
+}
+
+/// Appends the list of an index's entries.
+fn put_entries(alloc: Global, index: &State, text: &mut String) -> Result<(), ProfileError> {
+    text.push('[')?;
+    let mut before = "";
+    for (at, entry) in index.entries().iter().enumerate() {
+        let value = match store_one(alloc, entry, index.path_backing(), at) {
+            Ok(value) => value,
+            Err(StoreError::Memory) => return Err(ProfileError::Memory),
+            // The paths of a profile's entries are UTF-8.
+            Err(StoreError::NotUtf8 { .. }) => {
+                return Err(ProfileError::Bad(Key::Index));
+            }
+        };
+        put_value(alloc, &value, before, text)?;
+        before = ",";
+    }
+    text.push(']')?;
+    Ok(())
 }

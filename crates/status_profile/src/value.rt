@@ -1,39 +1,39 @@
-//! The values of a profile's items, by their forms.
+//! The values of the fields of entries and nodes, by their forms.
 
 use crate::error::FieldError;
 use gix_status::index::{Flags, Time};
 use std::alloc::Global;
 
-/// What a text of a profile may name.
+/// A type whose values are named by words.
 pub trait Word: Sized {
-    /// What this word names, if anything.
+    /// Returns the value that this word names, if any.
     fn of_word(word: &str) -> Option<Self>;
 }
 
-/// The value of a field. One of the methods reads it, once. Where it has another form, or memory
-/// runs out, each of them says so.
+/// The value of a field. One of the methods reads it, once. Each returns an error if the value has another form, or if
+/// memory runs out.
 pub trait FieldValue {
-    /// A text.
+    /// Reads a text.
     fn text(&mut self, alloc: Global) -> Result<String, FieldError>;
 
-    /// A text, whose bytes are put in the place of those that the buffer held.
+    /// Reads a text. Its bytes replace those in the buffer.
     fn text_into(&mut self, alloc: Global, buffer: &mut Vec<u8>) -> Result<(), FieldError>;
 
-    /// A text that names something.
+    /// Reads a text that names a value.
     fn word<T: Word>(&mut self) -> Result<T, FieldError>;
 
-    /// A whole number below 2^32: one with a point, an exponent or a sign isn't.
+    /// Reads a whole number below 2^32, without a point, an exponent or a sign.
     fn number(&mut self) -> Result<u32, FieldError>;
 
-    /// A truth value.
+    /// Reads a truth value.
     fn truth(&mut self) -> Result<bool, FieldError>;
 
-    /// A list of seconds and nanoseconds.
+    /// Reads a list of seconds and nanoseconds.
     fn stamp(&mut self) -> Result<Time, FieldError>;
 
-    /// A list of words that name flags.
+    /// Reads a list of words that name flags.
     fn flags(&mut self) -> Result<Flags, FieldError>;
 
-    /// Any value, which is ignored.
+    /// Reads any value, and ignores it.
     fn pass(&mut self, alloc: Global) -> Result<(), FieldError>;
 }

@@ -1,9 +1,10 @@
-//! The program: its arguments, the files that it reads and writes, and how it is called.
+//! The program: its arguments, the files that it reads and writes, and its usage.
 #![tactic(auto)]
 
 mod whole;
 
 use crate::whole::write_whole;
+use gix_status::index::Moment;
 use status_cli::{Failure, run_refresh, run_replay, run_status};
 use std::convert::AsStr;
 use std::io::BufWriter;
@@ -15,25 +16,25 @@ use std::{env, fs, io};
 
 const USAGE: &str = "usage: status_program status FILE | replay FILE | refresh FILE OUT SECS NSECS";
 
-/// How many nanoseconds there are at most beside seconds.
+/// The greatest number of nanoseconds of a moment.
 const MAX_NANOSECONDS: u32 = 999_999_999;
 
-/// What is done with a profile.
-#[derive(Debug, PartialEq, Eq, Drop)]
+/// What to do with a profile.
+#[derive(Drop)]
 enum Command<W> {
-    /// Its status is printed.
+    /// Print its status.
     Status,
-    /// Its events happen.
+    /// Replay its events.
     Replay,
-    /// Its index is refreshed at this moment, and all of it written to the file of this name.
-    Refresh { out: W, secs: u32, nsecs: u32 },
+    /// Refresh its index, which gets this timestamp, and write the profile to the file `out`.
+    Refresh { out: W, timestamp: Moment },
 }
 
 fn main(rt: HostRuntime) -> ExitCode {
     ExitCode::from(run(&rt, &mut rt.stderr()))
 }
 
-/// Runs the command that the program's arguments name, and gives the exit status.
+/// Runs the command in the program's arguments, and returns the exit status.
 fn run<R: AllocGlobal + Env + Files + Print + Sync + Threads + Wait, E: io::Write>(
     rt: &R,
     faults: &mut E,
@@ -51,7 +52,7 @@ where
     }
 }
 
-/// Runs the command that these words name, and gives the exit status.
+/// Runs the command in these words, and returns the exit status.
 fn run_command<
     R: AllocGlobal + Files + Print + Sync + Threads + Wait,
     W: AsStr + Drop,
@@ -69,7 +70,7 @@ where
     }
 }
 
-/// The command that these words are, and the name of its profile's file. None where they are no command and its words.
+/// Returns the command in these words, and the name of its profile's file. None if they aren't a command's words.
 fn command_of<W: AsStr + Drop, I: Iterator<Item = W>>(mut words: I) -> Option<(Command<W>, W)>
     requires { I.can_next words }
 {
@@ -80,15 +81,17 @@ fn command_of<W: AsStr + Drop, I: Iterator<Item = W>>(mut words: I) -> Option<(C
         "replay" => Command::Replay,
         "refresh" => Command::Refresh {
             out: words.next()?,
-            secs: number_of(words.next()?.as_str(), u32::MAX)?,
-            nsecs: number_of(words.next()?.as_str(), MAX_NANOSECONDS)?,
+            timestamp: Moment {
+                secs: number_of(words.next()?.as_str(), u32::MAX)?,
+                nsecs: number_of(words.next()?.as_str(), MAX_NANOSECONDS)?,
+            },
         },
         _ => return None,
     };
     words.next().is_none().then_some((command, file))
 }
 
-/// The number that decimal digits are, where it is at most `max`.
+/// Returns the number in these decimal digits if it is at most `max`.
 fn number_of(digits: &str, max: u32) -> Option<u32> {
     if !digits.bytes().all(|digit| digit.is_ascii_digit()) {
         return None;
@@ -97,13 +100,14 @@ fn number_of(digits: &str, max: u32) -> Option<u32> {
     (number <= max).then_some(number)
 }
 
-/// Prints how the program is called, and gives the exit status.
+/// Prints the usage, and returns the exit status 2.
 fn print_usage<E: io::Write>(faults: &mut E) -> u8 {
-    // Where the line can't be written there is nowhere left to say that.
+    // If the line can't be written, there is nowhere left to report that.
     let _ = writeln!(faults, "{USAGE}");
     2
 }
 
+/// Runs a command on the profile in this file, and returns the exit status.
 fn run_on_file<
     R: AllocGlobal + Files + Print + Sync + Threads + Wait,
     W: AsStr + Drop,
@@ -121,21 +125,10 @@ where
         Ok(mut output) => match command {
             Command::Status => run_status(rt, file, &mut profile, &mut output, faults),
             Command::Replay => run_replay(rt, file, &mut profile, &mut output, faults),
-            Command::Refresh { out, secs, nsecs } => {
-                let mut refreshed = Vec::new(rt.alloc());
-                let status = run_refresh(
-                    rt,
-                    file,
-                    secs,
-                    nsecs,
-                    &mut profile,
-                    &mut output,
-                    faults,
-                    &mut refreshed,
-                );
-                match status {
-                    0 => finish_refresh(rt, out.as_str(), &refreshed, faults),
-                    failed => failed,
+            Command::Refresh { out, timestamp } => {
+                match run_refresh(rt, file, timestamp, &mut profile, &mut output, faults) {
+                    Ok(text) => write_refreshed(rt, out.as_str(), text.as_bytes(), faults),
+                    Err(status) => status,
                 }
             }
         },
@@ -143,14 +136,14 @@ where
     }
 }
 
-/// Writes what a refresh gave to the file of this name, and gives the exit status.
-fn finish_refresh<R: AllocGlobal + Files, E: io::Write>(
+/// Writes a refreshed profile to the file of this name, and returns the exit status.
+fn write_refreshed<R: AllocGlobal + Files, E: io::Write>(
     rt: &R,
     out: &str,
-    refreshed: &[u8],
+    text: &[u8],
     faults: &mut E,
 ) -> u8 {
-    match write_whole(rt, out, refreshed) {
+    match write_whole(rt, out, text) {
         Ok(()) => 0,
         Err(failure) => failure.report(rt.alloc(), out, faults),
     }

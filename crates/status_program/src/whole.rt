@@ -5,8 +5,8 @@ use std::fs::{self, File, OpenFile as _};
 use std::io::Write as _;
 use std::rt::Files;
 
-/// Writes a file whole, or leaves it as it was: the bytes go to a new file beside it, of its name and `.lock`, which then
-/// takes its place.
+/// Writes a file whole, or leaves it unchanged: the bytes go to a new file next to it, with its name and `.lock`, which then
+/// replaces it.
 pub fn write_whole<R: AllocGlobal + Files>(
     rt: &R,
     name: &str,
@@ -19,7 +19,7 @@ pub fn write_whole<R: AllocGlobal + Files>(
     if written.is_ok() && fs::rename(rt, lock.as_str(), name).is_ok() {
         return Ok(());
     }
-    // Where the new file can't be removed it stays, and there is nowhere left to say that.
+    // If the new file can't be removed it stays, and there is nowhere left to report that.
     let _ = fs::remove_file(rt, lock.as_str());
     Err(Failure::Unwritable)
 }

@@ -5,7 +5,7 @@ ghost use Rattle.status_call.specs.Outcomes.{skipped_of};
 
 use crate::failure::Failure;
 use crate::output::{flush, print_entry, print_totals};
-use crate::status::request::Request;
+use crate::status::profile_status::ProfileStatus;
 use gix_status::index::HashKind;
 use gix_status::index_as_worktree::traits::CompareBlobs;
 use gix_status::index_as_worktree_with_renames::{
@@ -21,7 +21,7 @@ use std::io;
 use std::sync::Wait;
 use std::thread::Threads;
 
-/// Prints the status of these paths by this comparer. A status that fails has no lines.
+/// Prints a status of these paths by this comparer. If the status fails, no record is printed.
 pub fn print_joined<
     'a,
     R: AllocGlobal + Threads + Wait,
@@ -32,7 +32,7 @@ pub fn print_joined<
     O: io::Write,
 >(
     rt: &R,
-    request: Request<'a, W, K>,
+    status: ProfileStatus<'a, W, K>,
     pathspec: P,
     compare: C,
     output: &mut O,
@@ -42,15 +42,15 @@ where
     C::Output: Send + ExactClone + 'a,
 {
     let alloc = rt.alloc();
-    let counts = request.options.counts;
+    let counts = status.options.counts;
     let mut recorder = Recorder::new(alloc);
-    let outcome = report_joined(rt, alloc, request, &mut recorder, pathspec, compare)?;
+    let outcome = report_joined(rt, alloc, status, &mut recorder, pathspec, compare)?;
     print_entries(alloc, recorder.records.as_slice(), output)?;
     print_totals(alloc, &outcome.tracked_file_modification, counts, output)?;
     flush(output)
 }
 
-/// Reports the status to a collector, with no filter, listing, submodule or blob, and with renames by equal content.
+/// Reports a status to a collector, with no filter, listing, submodule or blob, and with renames by equal content.
 fn report_joined<
     'a,
     R: Threads + Wait,
@@ -62,7 +62,7 @@ fn report_joined<
 >(
     rt: &R,
     alloc: Global,
-    request: Request<'a, W, K>,
+    status: ProfileStatus<'a, W, K>,
     collector: &mut V,
     pathspec: P,
     compare: C,
@@ -72,13 +72,14 @@ where
     C::Output: Send + ExactClone + 'a,
     ensures { IfOk result (λ o. skipped_of o.tracked_file_modification < 2 ^ 64) }
 {
-    let Request {
+    let ProfileStatus {
         index,
         worktree,
         walk,
         hash,
         options,
-    } = request;
+        ..
+    } = status;
     let context = Context {
         pathspec,
         filter: NoFilter,
@@ -102,7 +103,7 @@ where
     )
 }
 
-/// How such a status is computed, with untracked ids of this kind. Empty files are never renamed.
+/// Returns the options of such a status, with untracked ids of this kind. Empty files are never renamed.
 fn joined_options(options: ProfileOptions, hash: HashKind) -> Options {
     Options {
         sorting: options.sort.then_some(Sorting::ByPathCaseSensitive),
@@ -114,7 +115,7 @@ fn joined_options(options: ProfileOptions, hash: HashKind) -> Options {
     }
 }
 
-/// Prints a line an entry.
+/// Prints a line for each entry.
 fn print_entries<T: Drop, U: Drop, O: io::Write>(
     alloc: Global,
     entries: &[Entry<'_, T, U>],

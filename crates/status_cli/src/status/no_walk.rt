@@ -1,10 +1,10 @@
-//! The walk where nothing is to be found.
+//! A walk that finds nothing.
 
 use gix_status::index::State;
 use gix_status::walk::{Delegate, Outcome, Walk, WalkError};
 use gix_status::worktree::{Pathspec, Worktree};
 
-/// Finds nothing. It is handed in where no walk is asked for.
+/// Finds nothing. It is passed if no walk is asked for.
 #[derive(Clone, Copy)]
 pub struct NoWalk;
 

@@ -1,0 +1,139 @@
+//! The status of a profile without untracked files, renames and sorted lines.
+
+ghost use Rattle.std.specs.Prelude.{◌≡◌, ◌<◌, ◌^◌, [], IfOk};
+ghost use Rattle.status_index.specs.States.{index_of};
+ghost use Rattle.status_call.specs.IndexChanges.{AreInside, changes_of};
+ghost use Rattle.status_call.specs.Outcomes.{skipped_of};
+
+use crate::failure::Failure;
+use crate::output::{flush, print_record, print_totals};
+use crate::status::profile_status::{Changes, ProfileStatus};
+use gix_status::index::State;
+use gix_status::index_as_worktree::traits::CompareBlobs;
+use gix_status::index_as_worktree::{
+    ApplyChange, Context, Error, Options, Outcome, Record, Recorder, VisitEntry, index_as_worktree,
+};
+use gix_status::worktree::{MemoryObjects, NoFilter, NoLister, NoSubmodules, Pathspec, Worktree};
+use std::alloc::Global;
+use std::io;
+use std::sync::Wait;
+use std::thread::Threads;
+
+/// Prints a status of these paths by this comparer, and returns the changes that it asks for if they are wanted. If the
+/// status fails, the records before the fault are printed.
+pub fn print_plain<
+    R: AllocGlobal + Threads + Wait,
+    W: Worktree + Sync,
+    K: Drop,
+    P: Pathspec + Send,
+    C: CompareBlobs + Send,
+    O: io::Write,
+>(
+    rt: &R,
+    status: ProfileStatus<'_, W, K>,
+    pathspec: P,
+    compare: C,
+    output: &mut O,
+) -> Result<Vec<ApplyChange>, Failure>
+where
+    W::File: Send,
+    C::Output: Send,
+    ensures { IfOk result (λ changes. AreInside changes.items (index_of status.entry.index.now)) }
+{
+    let alloc = rt.alloc();
+    let ProfileStatus {
+        index,
+        worktree,
+        options,
+        changes,
+        ..
+    } = status;
+    let counts = options.counts;
+    let mut recorder = Recorder::new(alloc);
+    let answer = report_status(
+        rt,
+        alloc,
+        index,
+        worktree,
+        &mut recorder,
+        compare,
+        pathspec,
+        options.status,
+    );
+    print_records(alloc, recorder.records.as_slice(), output)?;
+    match answer {
+        Ok(outcome) => {
+            print_totals(alloc, &outcome, counts, output)?;
+            flush(output)?;
+        }
+        Err(error) => return Err(Failure::from(error)),
+    }
+    match changes {
+        Changes::Returned => Ok(recorder.changes()?),
+        Changes::Dropped => Ok(Vec::new(alloc)),
+    }
+}
+
+/// Reports a status to a collector, with no filter, listing, submodule or blob.
+fn report_status<
+    'index,
+    R: Threads + Wait,
+    W: Worktree + Sync,
+    V: VisitEntry<'index, ContentChange = C::Output, SubmoduleStatus = ()>,
+    C: CompareBlobs + Send,
+    P: Pathspec + Send,
+>(
+    rt: &R,
+    alloc: Global,
+    index: &'index State,
+    worktree: &W,
+    collector: &mut V,
+    compare: C,
+    pathspec: P,
+    options: Options,
+) -> Result<Outcome, Error>
+where
+    W::File: Send,
+    C::Output: Send,
+    ensures fits { IfOk result (λ o. skipped_of o < 2 ^ 64) }
+    ensures inside { V.visits collector.old ≡ []
+        → AreInside (changes_of (V.visits collector.new)) (index_of index.now) }
+{
+    let context = Context {
+        pathspec,
+        filter: NoFilter,
+        lister: NoLister,
+        should_interrupt: None,
+    };
+    let objects = MemoryObjects::new(alloc);
+    index_as_worktree(
+        rt,
+        alloc,
+        index,
+        worktree,
+        collector,
+        compare,
+        NoSubmodules,
+        objects,
+        context,
+        options,
+    )
+}
+
+/// Prints a line for each record.
+fn print_records<T: Drop, U: Drop, O: io::Write>(
+    alloc: Global,
+    records: &[Record<'_, T, U>],
+    output: &mut O,
+) -> Result<(), Failure> {
+    for record in records {
+        print_record(
+            alloc,
+            record.entry_index,
+            record.relative_path,
+            &record.status,
+            output,
+        )?;
+    }
+    flush(output)
+}

@@ -1,0 +1,40 @@
+//! A profile's status, before it is computed.
+
+use gix_status::index::{HashKind, State};
+use gix_status::index_as_worktree::ApplyChange;
+use status_profile::ProfileOptions;
+
+/// What a profile's status is computed from.
+#[derive(Drop)]
+pub struct ProfileStatus<'a, W, K> {
+    /// The index.
+    pub index: &'a State,
+    /// The worktree.
+    pub worktree: &'a W,
+    /// Finds the untracked files, if the options have `untracked`.
+    pub walk: K,
+    /// How the ids of untracked files are made.
+    pub hash: HashKind,
+    /// How the status is computed, and what is printed.
+    pub options: ProfileOptions,
+    /// Whether the changes to the index are returned.
+    pub changes: Changes,
+}
+
+/// What happens with the changes to the index that a plain status asks for.
+#[derive(Clone, Copy, Debug, PartialEq, Eq)]
+pub enum Changes {
+    /// They are returned.
+    Returned,
+    /// They are dropped.
+    Dropped,
+}
+
+/// An index, with the changes that its status asks for.
+#[derive(Drop)]
+pub struct IndexChanges {
+    /// The index, unchanged.
+    pub index: State,
+    /// The changes.
+    pub changes: Vec<ApplyChange>,
+}
