@@ -1,12 +1,14 @@
 -- What workers finished accounts for what their seats drew.
-use Rattle.std.proofs.Common.{inl, inr, ◌≡◌, refl, sym, ap, subst, ◌∙◌, ℕ, ◌+◌, ◌-◌, ◌<◌, ◌==◌, Bool, true, false, if◌then◌else◌, List, [], ◌∷◌, ◌++◌, length, All, arith}
+use Rattle.std.proofs.Common.{inl, inr, ◌≡◌, refl, sym, ap, subst, ◌∙◌, ℕ, ◌+◌, ◌-◌, ◌<◌, ◌==◌, Bool, true, false, if◌then◌else◌, List, [], ◌∷◌, ◌++◌, length, All, Result, Ok, Err, IfOk, arith}
 use Rattle.std.proofs.lemmas.List.{length-append, append-nil, append_assoc}
 use Rattle.std.proofs.lemmas.List.Elements.{All-nil, All-append, All-push}
 use Rattle.std.proofs.lemmas.Bool.{cases_Bool}
 use Rattle.status_board.specs.Numbers.{times, after_last}
 use Rattle.status_board.specs.Seats.{BoardId, SeatState, fresh, drawn_of, barred_of, reported_of}
 use Rattle.status_board.specs.declared.worker.Finished.{Finished}
-use Rattle.status_board.specs.Accounts.{Accounts, IsGathered, IsWorked}
+use Rattle.status_board.specs.declared.crew.Gathered.{Gathered}
+use Rattle.status_board.specs.declared.worker.Worked.{Worked}
+use Rattle.status_board.specs.Accounts.{Accounts, AreAccounted, IsBoth, IsBrought, IsNothing, IsWorked}
 use Rattle.status_board.specs.Finished.{outs_at, shorts_of}
 use Rattle.status_board.proofs.Counts.{times-append}
 use Rattle.status_board.proofs.Lasts.{after_last-snoc, after_last-le}
@@ -57,11 +59,11 @@ module _ {O : Type 0} where
     pub accounts_same : (s t : SeatState) (pending : List ℕ) (fs : List (Finished O)) → t ≡ s → Accounts gives short pending s fs → Accounts gives short pending t fs
     accounts_same s t pending fs is a = subst (λ (u : SeatState). Accounts gives short pending u fs) (sym is) a
 
-    pub worked_end : (board : BoardId) (s t : SeatState) (fs : List (Finished O)) → t ≡ record s { done = true } → s.board ≡ board → Accounts gives short [] s fs → IsWorked gives short board t fs
-    worked_end board s t fs is of_board a = record {
+    pub worked_end : (board : BoardId) (s : SeatState) (worked : Worked O) → worked.seat ≡ record s { done = true } → s.board ≡ board → Accounts gives short [] s worked.finished.items → IsWorked gives short board worked
+    worked_end board s worked is of_board a = record {
       board_is = ap (λ (u : SeatState). u.board) is ∙ of_board;
       done = ap (λ (u : SeatState). u.done) is;
-      accounts = subst (λ (u : SeatState). Accounts gives short [] u fs) (sym is) (record { drawn = a.drawn; reported = a.reported; each = a.each });
+      accounts = subst (λ (u : SeatState). Accounts gives short [] u worked.finished.items) (sym is) (record { drawn = a.drawn; reported = a.reported; each = a.each });
     }
 
     pub accounts_drawn : (s t : SeatState) (n : ℕ) (fs : List (Finished O)) → t ≡ record s { drawn = s.drawn ++ n ∷ [] } → Accounts gives short [] s fs → Accounts gives short (n ∷ []) t fs
@@ -98,20 +100,41 @@ module _ {O : Type 0} where
       accounts_finished is = kept_by (short f.out) refl is
 
     module _ (board : BoardId) where
-      pub gathered_none : (ss : List SeatState) (fs : List (Finished O)) → ss ≡ [] → fs ≡ [] → IsGathered gives short board ss fs
-      gathered_none ss fs none nil = record {
+      accounted_none : (ss : List SeatState) (fs : List (Finished O)) → ss ≡ [] → fs ≡ [] → AreAccounted short board ss fs
+      accounted_none ss fs none nil = record {
         boards = subst (λ (us : List SeatState). All (λ s. s.board ≡ board) us) (sym none) (All-nil (λ (s : SeatState). s.board ≡ board));
         done = subst (λ (us : List SeatState). All (λ s. s.done ≡ true) us) (sym none) (All-nil (λ (s : SeatState). s.done ≡ true));
         drawn = λ n. let d : times n (drawn_of ss) ≡ 0 = ap (λ (us : List SeatState). times n (drawn_of us)) none in let b : times n (barred_of ss) ≡ 0 = ap (λ (us : List SeatState). times n (barred_of us)) none in let o : length (outs_at n fs) ≡ 0 = ap (λ (gs : List (Finished O)). length (outs_at n gs)) nil in omega arith;
         reported = ap reported_of none ∙ sym (ap (shorts_of short) nil);
-        each = subst (λ (gs : List (Finished O)). All Given gs) (sym nil) (All-nil Given);
       }
 
-      pub gathered_more : (ss : List SeatState) (s : SeatState) (fs gs : List (Finished O)) → IsGathered gives short board ss fs → IsWorked gives short board s gs → IsGathered gives short board (ss ++ s ∷ []) (fs ++ gs)
-      gathered_more ss s fs gs all one = record {
+      accounted_more : (ss : List SeatState) (fs : List (Finished O)) (w : Worked O) → AreAccounted short board ss fs → IsWorked gives short board w → AreAccounted short board (ss ++ w.seat ∷ []) (fs ++ w.finished.items)
+      accounted_more ss fs w all one = let s = w.seat in let gs = w.finished.items in record {
         boards = All-push (λ (u : SeatState). u.board ≡ board) ss s all.boards one.board_is;
         done = All-push (λ (u : SeatState). u.done ≡ true) ss s all.done one.done;
         drawn = λ n. let a = all.drawn n in let b = one.accounts.drawn n in omega (arith, times-drawn_of n ss s, times-barred_of n ss s, outs_more n fs gs);
         reported = reported_of-push ss s ∙ ap (λ (ks : List ℕ). ks ++ s.reported) all.reported ∙ ap (λ (ks : List ℕ). shorts_of short fs ++ ks) one.accounts.reported ∙ sym (shorts_of-append short fs gs);
-        each = All-append Given fs gs all.each one.accounts.each;
       }
+
+      brought_none : (a : Gathered O) → IsNothing a → IsBrought gives short board 0 a
+      brought_none a none = record {
+        accounted = accounted_none a.seats.items a.finished.items none.0 none.1;
+        each = subst (λ (gs : List (Finished O)). All Given gs) (sym none.1) (All-nil Given);
+        all = none.2;
+      }
+
+      -- before the first worker came back
+      pub brought_start : {E : Type 0} (r : Result (Gathered O) E) → IfOk r IsNothing → IfOk r (IsBrought gives short board 0)
+      brought_start (Ok a) none = brought_none a none
+      brought_start (Err e) none = tt
+
+      -- one more worker came back
+      pub brought_more : {E : Type 0} (n : ℕ) (r : Result (Gathered O) E) (w : Result (Worked O) E) (t : Result (Gathered O) E) → IsBoth r w t → IfOk r (IsBrought gives short board n) → IfOk w (IsWorked gives short board) → IfOk t (IsBrought gives short board (n + 1))
+      brought_more n (Ok a) (Ok w) (Ok b) both all one = record {
+        accounted = rw (both.0, both.1) (accounted_more a.seats.items a.finished.items w all.accounted one);
+        each = rw both.1 (All-append Given a.finished.items w.finished.items all.each one.accounts.each);
+        all = both.2 ∙ ap (λ (k : ℕ). k + 1) all.all;
+      }
+      brought_more n (Ok a) (Err e) (Ok b) both all one = absurd both
+      brought_more n (Err e) w (Ok b) both all one = absurd both
+      brought_more n r w (Err e) both all one = tt

@@ -7,8 +7,8 @@ use Rattle.std.proofs.lemmas.Bool.{cases_Bool, eqb-true, eq-eqb, lt-ltb, ltb-tru
 use Rattle.status_board.specs.Numbers.{times, HasEachBelow, IsLeast, LiesBelow}
 use Rattle.status_board.specs.Seats.{BoardId, SeatState, drawn_of, barred_of, reported_of}
 use Rattle.status_board.specs.declared.worker.Finished.{Finished}
-use Rattle.status_board.specs.Accounts.{IsGathered, end_of}
-use Rattle.status_board.specs.Finished.{outs_at, shorts_of, IsInOrder}
+use Rattle.status_board.specs.Accounts.{AreAccounted, end_of}
+use Rattle.status_board.specs.Finished.{outs_at, shorts_of, IsInOrder, IsOutOf}
 use Rattle.status_board.specs.Round.{EndsShort, IsRound}
 use Rattle.status_board.proofs.Lists.{outs_at-here, outs_at-other, outs_at-each, shorts_of-here, shorts_of-other}
 
@@ -52,7 +52,7 @@ least_le : (least : Option ℕ) (xs : List ℕ) (n drawn : ℕ) → IsLeast leas
 least_le None xs n drawn nil has = let l : length xs ≡ 0 = ap length nil in let k = has.1 in absurd (omega arith)
 least_le (Some m) xs n drawn is has = let l : m ≤ n = All-contains (λ x. m ≤ x) xs n is.1 has in omega arith
 
-module _ {O : Type 0} (gives : ℕ → O → Type 0) (short : O → Bool) where
+module _ {O : Type 0} (short : O → Bool) where
   how_short : List O → ℕ
   how_short [] = 0
   how_short (o ∷ os) = cond {A = ℕ} (short o) 1 0 + how_short os
@@ -89,7 +89,7 @@ module _ {O : Type 0} (gives : ℕ → O → Type 0) (short : O → Bool) where
   unfolding how_short
   one_short n fs out is = let a = shorts_count n fs in let b : how_short (outs_at n fs) ≡ cond {A = ℕ} (short out) 1 0 + 0 = ap how_short is in omega arith
 
-  module _ (board : BoardId) (seats : List SeatState) (fs : List (Finished O)) (all : IsGathered gives short board seats fs) (drawn : ℕ) (below : HasEachBelow drawn (drawn_of seats)) where
+  module _ (board : BoardId) (seats : List SeatState) (fs : List (Finished O)) (all : AreAccounted short board seats fs) (drawn : ℕ) (below : HasEachBelow drawn (drawn_of seats)) where
     -- a reported piece was drawn
     reported_inside : (n : ℕ) → Contains (reported_of seats) n → n < drawn
     reported_inside n has =
@@ -120,9 +120,6 @@ module _ {O : Type 0} (gives : ℕ → O → Type 0) (short : O → Bool) where
           omega arith
 
       module _ (outs : List O) (ordered : IsInOrder fs (end_of least drawn) outs) where
-        given_each : (n : ℕ) (out : O) → slice_get outs n ≡ Some out → gives n out
-        given_each n out at = All-head (gives n) out [] (subst (λ (os : List O). All (gives n) os) (ordered.each n out at) (outs_at-each gives n fs all.each))
-
         whole_before : (n : ℕ) (out : O) → slice_get outs n ≡ Some out → n + 1 < length outs → short out ≡ false
         whole_before n out at l = elim (cases_Bool (short out)) [
           | inl e ↦ (let count = one_short n fs out (ordered.each n out at) in
@@ -155,17 +152,28 @@ module _ {O : Type 0} (gives : ℕ → O → Type 0) (short : O → Bool) where
         through_by None is nil l = let e : end_of None drawn ≡ end_of least drawn = ap (λ (o : Option ℕ). end_of o drawn) is in absurd (omega (arith, ordered.all))
         through_by (Some m) is least_is l = let e : end_of (Some m) drawn ≡ end_of least drawn = ap (λ (o : Option ℕ). end_of o drawn) is in ends_short m (omega (arith, ordered.all)) least_is.0
 
-        pub is_round : IsRound gives short drawn outs
+        pub is_round : IsRound (IsOutOf fs) short drawn outs
         is_round = record {
           few = (let inside = end_inside least is_least in omega (arith, ordered.all));
-          each = given_each;
+          each = ordered.each;
           before = whole_before;
           through = through_by least refl is_least;
         }
 
-      pub round_of : {E : Type 0} {A : Type 0} (pieces : ℕ) (r : Result (Vec O A) E) → drawn ≡ pieces → IfOk r (λ outs. IsInOrder fs (end_of least drawn) outs.items) → IfOk r (λ outs. IsRound gives short pieces outs.items)
-      round_of pieces (Ok outs) all_drawn ordered = subst (λ (k : ℕ). IsRound gives short k outs.items) all_drawn (is_round outs.items ordered)
+      pub round_of : {E : Type 0} {A : Type 0} (pieces : ℕ) (r : Result (Vec O A) E) → drawn ≡ pieces → IfOk r (λ outs. IsInOrder fs (end_of least drawn) outs.items) → IfOk r (λ outs. IsRound (IsOutOf fs) short pieces outs.items)
+      round_of pieces (Ok outs) all_drawn ordered = subst (λ (k : ℕ). IsRound (IsOutOf fs) short k outs.items) all_drawn (is_round outs.items ordered)
       round_of pieces (Err e) all_drawn ordered = tt
+
+-- what each finished piece gave, the outs of a round are
+module _ {O : Type 0} (gives : ℕ → O → Type 0) (short : O → Bool) (pieces : ℕ) (fs : List (Finished O)) (each : All (λ f. gives f.number f.out) fs) where
+  pub round_given : {E A : Type 0} (r : Result (Vec O A) E) → IfOk r (λ outs. IsRound (IsOutOf fs) short pieces outs.items) → IfOk r (λ outs. IsRound gives short pieces outs.items)
+  round_given (Ok outs) round = record {
+    few = round.few;
+    each = λ n out at. All-head (gives n) out [] (subst (λ (os : List O). All (gives n) os) (round.each n out at) (outs_at-each gives n fs each));
+    before = round.before;
+    through = round.through;
+  }
+  round_given (Err e) round = tt
 
 -- a seat that is done is among them
 pub some_done : (ss : List SeatState) → 0 < length ss → All (λ s. s.done ≡ true) ss → Any (λ s. IsTrue s.done) ss

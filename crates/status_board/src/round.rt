@@ -1,11 +1,12 @@
 //! A round of numbered pieces on a crew of workers.
 
 ghost use Rattle.std.specs.Prelude.{◌≡◌, ◌≢◌, ◌≤◌, ◌^◌, All, IfOk, Err, vec_len};
-ghost use Rattle.status_board.specs.Accounts.{IsGathered, end_of};
+ghost use Rattle.status_board.specs.Accounts.{AreAccounted, end_of};
+ghost use Rattle.status_board.specs.Finished.{IsOutOf};
 ghost use Rattle.status_board.specs.Round.{IsRound};
 
 use crate::board::{Board, Tally};
-use crate::crew::{Gathered, or_refused, work_together};
+use crate::crew::{Crew, Gathered, or_refused};
 use crate::order::in_order;
 use crate::work::Work;
 use std::alloc::{AllocError, Global};
@@ -50,8 +51,14 @@ where
         Ok(made) => made,
         Err(_) => return Err(Refused::Memory),
     };
-    match work_together(rt, alloc, stack_size, work, &board, seats, crew) {
-        Ok(gathered) => or_refused(finish(alloc, work, board, gathered)),
+    let shared = Crew {
+        alloc,
+        stack_size,
+        work,
+        board: &board,
+    };
+    match shared.work_together(rt, seats, crew) {
+        Ok(gathered) => or_refused(finish::<K>(alloc, board, gathered)),
         Err(refused) => Err(refused),
     }
 }
@@ -59,16 +66,16 @@ where
 // What the pieces gave, once all workers came back.
 fn finish<K: Work>(
     alloc: Global,
-    _work: &K,
     board: Board,
     gathered: Gathered<K::Out>,
 ) -> Result<Vec<K::Out>, AllocError>
 where
     K::Out: Drop,
-    requires all { (vec_len gathered.seats ≡ board.seats) × (1 ≤ board.seats) }
+    requires some { 1 ≤ board.seats }
     requires small { board.id.pieces ≤ 2 ^ 20 }
-    requires gathered { IsGathered (K.gives _work.now) K.short board.id gathered.seats.items gathered.finished.items }
-    ensures { IfOk result (λ outs. IsRound (K.gives _work.now) K.short board.id.pieces outs.items) }
+    requires all { vec_len gathered.seats ≡ board.seats }
+    requires accounted { AreAccounted K.short board.id gathered.seats.items gathered.finished.items }
+    ensures { IfOk result (λ outs. IsRound (IsOutOf gathered.finished.items) K.short board.id.pieces outs.items) }
 {
     let Gathered { finished, seats } = gathered;
     let Some(tally) = board.close(seats) else {

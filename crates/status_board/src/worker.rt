@@ -40,7 +40,7 @@ where
     requires seat { seat ≡ fresh board.now.id }
     requires count { board.now.id.pieces ≡ K.count work.now }
     requires fits { K.fits work.now state }
-    ensures { IfOk result (λ w. IsWorked (K.gives work.now) K.short board.now.id w.seat w.finished.items) }
+    ensures { IfOk result (IsWorked (K.gives work.now) K.short board.now.id) }
 {
     let mut worked = Worked {
         finished: Vec::new(alloc),

@@ -1,5 +1,5 @@
 -- Putting an entry into an index, and taking a path out.
-use Rattle.std.specs.Prelude.{◌≡◌, ◌≢◌, ℕ, Bool, List, [], ◌++◌, length, Option, None, filter, ⊤}
+use Rattle.std.specs.Prelude.{◌≡◌, ◌≢◌, ℕ, Bool, List, [], ◌++◌, length, Option, Some, None, filter, ⊤}
 use Rattle.std.specs.List.{Any}
 use Rattle.std.specs.Option.{option_to_list}
 use Rattle.std.specs.Ordering.{nat_cmp, is_lt}
@@ -17,6 +17,10 @@ is_above path e = is_lt (slice_cmp nat_cmp path e.path)
 -- an index in which a path has this entry, or none: the entries of lower paths, this one, and those of higher paths
 abbrev pub with_entry : List IndexEntry → List ℕ → Option IndexEntry → List IndexEntry
 with_entry es path new = filter (is_below path) es ++ option_to_list new ++ filter (is_above path) es
+
+-- an index in which an entry is the only one of its path
+abbrev pub with_put : List IndexEntry → IndexEntry → List IndexEntry
+with_put es e = with_entry es e.path (Some e)
 
 -- how many entries have lower paths: the place of a path's first entry
 abbrev pub place_of : List IndexEntry → List ℕ → ℕ
