@@ -5,6 +5,7 @@
 //! check, and `fscache`, which remembers listings of folders. `index` gives the index by the name that callers know.
 #![tactic(auto)]
 
+mod components;
 pub mod fscache;
 pub mod index;
 pub mod stack;

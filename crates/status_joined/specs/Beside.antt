@@ -4,7 +4,7 @@ use Rattle.bstr.specs.Owned.{bstring_bytes}
 use Rattle.status_walk.specs.declared.walk.Outcome.{Outcome}
 use Rattle.status_walk.specs.declared.walk.WalkError.{WalkError}
 use Rattle.status_walk.specs.declared.walk.WalkError.TheVariants.{Fault, Memory}
-use Rattle.status_walk.specs.Walked.{Walked}
+use Rattle.status_walk.specs.WalkedNodes.{Walked}
 use Rattle.status_walk.specs.Walks.{WalkMeaning, IsWalked}
 use Rattle.status_joined.specs.declared.beside.Beside.{Beside}
 use Rattle.status_joined.specs.Keeping.{is_kept, kept_walked}

@@ -9,7 +9,7 @@ use Rattle.status_call.specs.declared.index_as_worktree.types.Options.{Options}
 use Rattle.status_walk.specs.declared.walk.Outcome.{Outcome}
 use Rattle.status_walk.specs.declared.walk.WalkError.{WalkError}
 use Rattle.status_walk.specs.declared.walk.WalkError.TheVariants.{Fault, Memory}
-use Rattle.status_walk.specs.Walked.{Walked}
+use Rattle.status_walk.specs.WalkedNodes.{Walked}
 use Rattle.status_walk.specs.Walks.{WalkMeaning}
 use Rattle.status_joined.specs.declared.halves.Failed.{Failed}
 use Rattle.status_joined.specs.declared.halves.Failed.TheVariants as failures

@@ -21,7 +21,7 @@ use Rattle.status_index.specs.Mode.{new_mode}
 use Rattle.status_index.specs.NodeStat.{stat_of}
 use Rattle.status_index.specs.Staging.{with_entry}
 use Rattle.status_index.specs.States.{with_stat, smudged}
-use Rattle.status_base.specs.Converted.{same}
+use Rattle.status_base.specs.Conversions.{same}
 use Rattle.status_base.specs.MemoryTree.{Placed, PathMap, Tree, lstat_in, open_in, target_in}
 use Rattle.status_base.specs.Trees.{empty_tree}
 use Rattle.status_base.specs.Objects.{Contents, found_in}
