@@ -13,7 +13,7 @@ use Rattle.std.proofs.lemmas.Slice.Eq.{starts_is}
 use Rattle.status_index.specs.declared.fault.Fault.{Fault}
 use Rattle.status_index.specs.declared.metadata.Metadata.{Metadata}
 use Rattle.status_base.specs.Common.{IsCommon}
-use Rattle.status_base.specs.Paths.{is_slash, is_odd, components, odd_component, directories_below, joined, lies_above}
+use Rattle.status_base.specs.Paths.{is_slash, is_abnormal, components, abnormal_component, directories_below, joined, lies_above}
 use Rattle.status_base.specs.LinkCheck.{barrier_of}
 use Rattle.status_base.specs.CheckState.{IsClear, IsClearBelow}
 use Rattle.status_base.proofs.LinkLemmas.{length-directories}
@@ -73,35 +73,35 @@ components_split path at within slash =
     ap components (sym (take-append-drop at path) ∙ ap (λ (v : List ℕ). take at path ++ v) (drop_more path at 0 within))
     ∙ split_at_slash (take at path) (drop (at + 1) path) (slice_index path at) slash
 
-odd_split : (path : List ℕ) (at : ℕ) → at < length path → IsTrue (is_slash (slice_index path at)) → odd_component path ≡ option_or (odd_component (take at path)) (odd_component (drop (at + 1) path))
-odd_split path at within slash =
-    ap (find is_odd) (components_split path at within slash)
-    ∙ find-append is_odd (components (take at path)) (components (drop (at + 1) path))
+abnormal_split : (path : List ℕ) (at : ℕ) → at < length path → IsTrue (is_slash (slice_index path at)) → abnormal_component path ≡ option_or (abnormal_component (take at path)) (abnormal_component (drop (at + 1) path))
+abnormal_split path at within slash =
+    ap (find is_abnormal) (components_split path at within slash)
+    ∙ find-append is_abnormal (components (take at path)) (components (drop (at + 1) path))
 
 none_first : (a b : Option (List ℕ)) → option_or a b ≡ None → a ≡ None
 none_first None b h = refl
 none_first (Some x) b h = h
 
--- where no component is odd, none is before a slash
-pub even_front : (path : List ℕ) (at : ℕ) → at < length path → IsTrue (is_slash (slice_index path at)) → odd_component path ≡ None → odd_component (take at path) ≡ None
-even_front path at within slash even =
-    none_first (odd_component (take at path)) (odd_component (drop (at + 1) path)) (sym (odd_split path at within slash) ∙ even)
+-- where no component is abnormal, none is before a slash
+pub normal_front : (path : List ℕ) (at : ℕ) → at < length path → IsTrue (is_slash (slice_index path at)) → abnormal_component path ≡ None → abnormal_component (take at path) ≡ None
+normal_front path at within slash normal =
+    none_first (abnormal_component (take at path)) (abnormal_component (drop (at + 1) path)) (sym (abnormal_split path at within slash) ∙ normal)
 
--- where the one path has no odd component, the other has its first behind the last slash in common
-pub odd_behind : (tested path : List ℕ) (n first : ℕ) → IsCommon tested path n → (0 < n → odd_component tested ≡ None) → first ≤ n → (0 < first → IsTrue (is_slash (slice_index (take n path) (first - 1)))) → odd_component path ≡ odd_component (drop first path)
-odd_behind tested path n zero common even within slash = refl
-odd_behind tested path n (suc k) common even within slash =
+-- where the one path has no abnormal component, the other has its first behind the last slash in common
+pub abnormal_behind : (tested path : List ℕ) (n first : ℕ) → IsCommon tested path n → (0 < n → abnormal_component tested ≡ None) → first ≤ n → (0 < first → IsTrue (is_slash (slice_index (take n path) (first - 1)))) → abnormal_component path ≡ abnormal_component (drop first path)
+abnormal_behind tested path n zero common normal within slash = refl
+abnormal_behind tested path n (suc k) common normal within slash =
     let P : ℕ → Type 0 = λ b. IsTrue (is_slash b) in
     let less : k < n = omega arith in
     let before : suc k - 1 ≡ k = omega arith in
     let here : IsTrue (is_slash (slice_index path k)) = subst P (ap (slice_index (take n path)) before ∙ get_or-take n path k 0 less) (slash (omega arith)) in
     let there : IsTrue (is_slash (slice_index tested k)) = subst P (sym (byte_same n k tested path common.same less)) here in
-    let front : odd_component (take k path) ≡ None =
-    ap odd_component (sym (front_same n k tested path common.same (omega arith)))
-    ∙ even_front tested k (omega (arith, common.within_one)) there (even (omega arith)) in
-    odd_split path k (omega (arith, common.within)) here
-    ∙ ap (λ (v : Option (List ℕ)). option_or v (odd_component (drop (k + 1) path))) front
-    ∙ ap (λ (m : ℕ). odd_component (drop m path)) (add-one k)
+    let front : abnormal_component (take k path) ≡ None =
+    ap abnormal_component (sym (front_same n k tested path common.same (omega arith)))
+    ∙ normal_front tested k (omega (arith, common.within_one)) there (normal (omega arith)) in
+    abnormal_split path k (omega (arith, common.within)) here
+    ∙ ap (λ (v : Option (List ℕ)). option_or v (abnormal_component (drop (k + 1) path))) front
+    ∙ ap (λ (m : ℕ). abnormal_component (drop m path)) (add-one k)
 
 false_unless : (b : Bool) → (b ≡ true → ⊥) → b ≡ false
 false_unless true h = absurd (h refl)
@@ -142,18 +142,18 @@ new_counted tested path n (suc m) common within =
           omega (arith, new_counted tested path n m common (omega arith), length-append (directories_below path m) last))
     ]
 
--- the odd component of a path by what stands behind the last slash in common
-pub odd_first : (path items : List ℕ) (start tested n first : ℕ) → IsCommon (take tested (drop start items)) path n → (0 < tested → odd_component (take tested (drop start items)) ≡ None) → first ≤ length (take n path) → (0 < first → IsTrue (is_slash (slice_index (take n path) (first - 1)))) → odd_component path ≡ odd_component (take (length path - first) (drop first path))
-odd_first path items start tested n first common even within slash =
-    odd_behind (take tested (drop start items)) path n first common (λ some. even (omega (arith, common.within_one, length-take tested (drop start items)))) (omega (arith, length-take n path)) slash
-    ∙ ap odd_component (sym (take_rest path first))
+-- the abnormal component of a path by what stands behind the last slash in common
+pub abnormal_first : (path items : List ℕ) (start tested n first : ℕ) → IsCommon (take tested (drop start items)) path n → (0 < tested → abnormal_component (take tested (drop start items)) ≡ None) → first ≤ length (take n path) → (0 < first → IsTrue (is_slash (slice_index (take n path) (first - 1)))) → abnormal_component path ≡ abnormal_component (take (length path - first) (drop first path))
+abnormal_first path items start tested n first common normal within slash =
+    abnormal_behind (take tested (drop start items)) path n first common (λ some. normal (omega (arith, common.within_one, length-take tested (drop start items)))) (omega (arith, length-take n path)) slash
+    ∙ ap abnormal_component (sym (take_rest path first))
 
 -- of a path that is all that stands behind a place
 pub whole_behind : (path items : List ℕ) (start : ℕ) → drop start items ≡ path → take (length path) (drop start items) ≡ path
 whole_behind path items start is = ap (take (length path)) is ∙ take_all (length path) path (omega arith)
 
-pub even_behind : (path items : List ℕ) (start at : ℕ) → drop start items ≡ path → odd_component (take at path) ≡ None → odd_component (take at (drop start items)) ≡ None
-even_behind path items start at is even = ap (λ (v : List ℕ). odd_component (take at v)) is ∙ even
+pub normal_behind : (path items : List ℕ) (start at : ℕ) → drop start items ≡ path → abnormal_component (take at path) ≡ None → abnormal_component (take at (drop start items)) ≡ None
+normal_behind path items start at is normal = ap (λ (v : List ℕ). abnormal_component (take at v)) is ∙ normal
 
 pub clear_none : (lstat : List ℕ → Result Metadata Fault) (items : List ℕ) (start tested : ℕ) → tested ≡ 0 → IsClear lstat (take tested (drop start items))
 clear_none lstat items start tested none k below slash = absurd (omega (arith, length-take tested (drop start items)))

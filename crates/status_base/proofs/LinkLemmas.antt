@@ -15,11 +15,11 @@ use Rattle.status_base.specs.declared.stack.Stop.{Stop}
 use Rattle.status_base.specs.declared.stack.error.StackError.{StackError}
 use Rattle.status_base.specs.declared.stack.error.StackError.TheVariants.{EmptyPath, NotNormal, ThroughLink, Memory}
 use Rattle.status_base.specs.declared.stack.error.StackError.TheVariants as errors
-use Rattle.status_base.specs.Paths.{is_slash, components, directories, directories_below, odd_component}
+use Rattle.status_base.specs.Paths.{is_slash, components, directories, directories_below, abnormal_component}
 use Rattle.status_base.specs.LinkCheck.{LinkCheck, Barrier, accepted, not_normal, faulty, decided, barrier_of, leftmost_barrier, check_of_normal, link_check}
 use Rattle.status_base.specs.CheckState.{CheckState, IsClear, IsClearBelow}
-use Rattle.status_base.specs.Verified.{IsRefused, IsNamed, IsChecked, IsAfterQuery, OnBarred, HasLooked, accepting_absent}
-use Rattle.status_base.specs.Stopped.{IsOfDirectory, IsStop, IsBarredAt, OnReached, on_the_way}
+use Rattle.status_base.specs.CheckAnswers.{IsRefused, IsNamed, IsChecked, IsAfterQuery, OnBarred, HasLooked, accepting_absent}
+use Rattle.status_base.specs.Barriers.{IsOfDirectory, IsStop, IsBarredAt, OnReached, on_the_way}
 
 one_open : (lstat : List ℕ → Result Metadata Fault) (directory : List ℕ) (slash : Bool) (others : List (List ℕ)) → (IsTrue slash → barrier_of (lstat directory) ≡ None) → leftmost_barrier lstat ((if slash then directory ∷ [] else []) ++ others) ≡ leftmost_barrier lstat others
 one_open lstat directory true others clear = ap (λ (v : Option Barrier). decided directory v (leftmost_barrier lstat others)) (clear refl)
@@ -79,23 +79,23 @@ pub refused_decided : (directory : List ℕ) (barrier : Option Barrier) (rest : 
 refused_decided directory (Some barrier) rest e h = h
 refused_decided directory None rest e h = refused_accepted rest e h
 
--- of a path that isn't empty and has no odd component the directories above decide
-pub link_check_normal : (lstat : List ℕ → Result Metadata Fault) (path : List ℕ) → 0 < length path → odd_component path ≡ None → link_check lstat path ≡ leftmost_barrier lstat (directories path)
-link_check_normal lstat [] full even = absurd (omega arith)
-link_check_normal lstat (b ∷ path) full even = ap (check_of_normal lstat (b ∷ path)) even
+-- of a path that isn't empty and has no abnormal component the directories above decide
+pub link_check_normal : (lstat : List ℕ → Result Metadata Fault) (path : List ℕ) → 0 < length path → abnormal_component path ≡ None → link_check lstat path ≡ leftmost_barrier lstat (directories path)
+link_check_normal lstat [] full normal = absurd (omega arith)
+link_check_normal lstat (b ∷ path) full normal = ap (check_of_normal lstat (b ∷ path)) normal
 
-pub link_check_odd : (lstat : List ℕ → Result Metadata Fault) (path component : List ℕ) → 0 < length path → odd_component path ≡ Some component → link_check lstat path ≡ not_normal component
-link_check_odd lstat [] component full odd = absurd (omega arith)
-link_check_odd lstat (b ∷ path) component full odd = ap (check_of_normal lstat (b ∷ path)) odd
+pub link_check_abnormal : (lstat : List ℕ → Result Metadata Fault) (path component : List ℕ) → 0 < length path → abnormal_component path ≡ Some component → link_check lstat path ≡ not_normal component
+link_check_abnormal lstat [] component full abnormal = absurd (omega arith)
+link_check_abnormal lstat (b ∷ path) component full abnormal = ap (check_of_normal lstat (b ∷ path)) abnormal
 
-pub link_check_clear : (lstat : List ℕ → Result Metadata Fault) (path : List ℕ) → 0 < length path → odd_component path ≡ None → IsClear lstat path → link_check lstat path ≡ accepted
-link_check_clear lstat path full even clear = link_check_normal lstat path full even ∙ leftmost_clear lstat path clear
+pub link_check_clear : (lstat : List ℕ → Result Metadata Fault) (path : List ℕ) → 0 < length path → abnormal_component path ≡ None → IsClear lstat path → link_check lstat path ≡ accepted
+link_check_clear lstat path full normal clear = link_check_normal lstat path full normal ∙ leftmost_clear lstat path clear
 
-pub link_check_barred : (lstat : List ℕ → Result Metadata Fault) (path : List ℕ) (stop : Stop) → 0 < length path → odd_component path ≡ None → IsStop path stop → IsBarredAt lstat path stop → IsRefused (link_check lstat path) stop.error
-link_check_barred lstat path stop full even is_stop barred =
+pub link_check_barred : (lstat : List ℕ → Result Metadata Fault) (path : List ℕ) (stop : Stop) → 0 < length path → abnormal_component path ≡ None → IsStop path stop → IsBarredAt lstat path stop → IsRefused (link_check lstat path) stop.error
+link_check_barred lstat path stop full normal is_stop barred =
     let decides = leftmost_at lstat path stop.at is_stop.within is_stop.slash barred.open_below in
     let P : LinkCheck → Type 0 = λ check. IsRefused check stop.error in
-    subst P (sym (link_check_normal lstat path full even ∙ decides.1)) (refused_decided (take stop.at path) (barrier_of (lstat (take stop.at path))) decides.0 stop.error barred.barred)
+    subst P (sym (link_check_normal lstat path full normal ∙ decides.1)) (refused_decided (take stop.at path) (barrier_of (lstat (take stop.at path))) decides.0 stop.error barred.barred)
 
 named_directory : (path directory : List ℕ) (e : StackError) → Contains (directories path) directory → IsOfDirectory directory e → IsNamed path e
 named_directory path directory EmptyPath above h = absurd h

@@ -18,7 +18,7 @@ use Rattle.std.proofs.lemmas.Bool.Decides.{same_from_decides, Decides-eqb}
 use Rattle.std.proofs.lemmas.List.Sums.{suffix_len_is}
 use Rattle.std.proofs.lemmas.Slice.Eq.{bytes_eq-Decides}
 use Rattle.status_base.specs.Paths.{is_slash}
-use Rattle.status_base.specs.Listed.{Listing, directory_of, file_name_of, later_or, stat_named, named_in}
+use Rattle.status_base.specs.ListedNodes.{Listing, directory_of, file_name_of, later_or, stat_named, named_in}
 use Rattle.status_base.specs.ListingTable.{Names, Table, named, known, is_empty, needs_none, IsPutUnless, IsGrown, AreNamesOf, IsOf}
 use Rattle.status_base.specs.MemoryTree.{PathMap}
 use Rattle.status_base.specs.PathTables.{keyed, map_of}

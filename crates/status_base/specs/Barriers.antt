@@ -10,7 +10,7 @@ use Rattle.status_base.specs.declared.stack.error.StackError.TheVariants as erro
 use Rattle.status_base.specs.Paths.{is_slash, directories, directories_below}
 use Rattle.status_base.specs.LinkCheck.{Barrier, accepted, decided, barrier_of}
 use Rattle.status_base.specs.CheckState.{IsClear, IsClearBelow}
-use Rattle.status_base.specs.Verified.{IsRefused}
+use Rattle.status_base.specs.CheckAnswers.{IsRefused}
 
 -- a directory's barrier, or want of memory
 abbrev pub IsBarrier : List ℕ → Option Barrier → Option StackError → Type 0

@@ -10,7 +10,7 @@ use Rattle.status_index.specs.Content.{saturate}
 use Rattle.status_base.specs.declared.stack.error.StackError.{StackError}
 use Rattle.status_base.specs.declared.stack.error.StackError.TheVariants.{EmptyPath, NotNormal, ThroughLink, Memory}
 use Rattle.status_base.specs.declared.stack.error.StackError.TheVariants as errors
-use Rattle.status_base.specs.Paths.{odd_component, directories, new_directories}
+use Rattle.status_base.specs.Paths.{abnormal_component, directories, joined, new_directories}
 use Rattle.status_base.specs.LinkCheck.{LinkCheck, accepted, empty_path, not_normal, through_link, faulty, link_check}
 use Rattle.status_base.specs.CheckState.{CheckState, IsClear}
 
@@ -26,6 +26,10 @@ IsRefused check Memory = Unit {0}
 abbrev pub IsVerified : LinkCheck → List ℕ → Result BStr StackError → Type 0
 IsVerified check path (Ok answer) = (check ≡ accepted) × (bstr_bytes answer ≡ path)
 IsVerified check path (Err e) = IsRefused check e
+
+-- the answer that is meant, where the directories above the tested path are open, as the check found them
+abbrev pub IsVerifiedBy : (List ℕ → Result Metadata Fault) → CheckState → List ℕ → Result BStr StackError → Type 0
+IsVerifiedBy lstat old path result = IsClear lstat old.path → IsVerified (link_check lstat path) (joined old.root path) result
 
 -- accepted, the error that is meant, or want of memory
 abbrev pub IsChecked : {A : Type 0} → LinkCheck → Result A StackError → Type 0
@@ -44,18 +48,22 @@ accepting_absent (not_normal component) = not_normal component
 accepting_absent (through_link prefix) = through_link prefix
 accepting_absent (faulty f) = unless_absent f
 
--- an error names what a path has: nothing, its leftmost odd component, one of its proper directory prefixes
+-- the answer that is meant where a path is accepted too at which nothing is there
+abbrev pub IsLenientBy : (List ℕ → Result Metadata Fault) → CheckState → List ℕ → Result BStr StackError → Type 0
+IsLenientBy lstat old path result = IsClear lstat old.path → IsVerified (accepting_absent (link_check lstat path)) (joined old.root path) result
+
+-- an error names what a path has: nothing, its leftmost abnormal component, one of its proper directory prefixes
 abbrev pub IsNamed : List ℕ → StackError → Type 0
 IsNamed path EmptyPath = path ≡ []
-IsNamed path (NotNormal component) = odd_component path ≡ Some (bstr_bytes component)
+IsNamed path (NotNormal component) = abnormal_component path ≡ Some (bstr_bytes component)
 IsNamed path (ThroughLink prefix) = Contains (directories path) (bstr_bytes prefix)
 IsNamed path (errors.Fault f) = Unit {0}
 IsNamed path Memory = Unit {0}
 
--- a path that isn't empty, and none of whose components is odd
+-- a path that isn't empty, and each of whose components is normal
 pub record IsNormal (path : List ℕ) : Type 0 where
   pub nonempty : 0 < length path
-  pub even : odd_component path ≡ None
+  pub normal : abnormal_component path ≡ None
 
 -- a fact where a link or a fault bars the way to a path
 abbrev pub OnBarred : Option StackError → Type 0 → Type 0

@@ -3,7 +3,7 @@ use Rattle.std.specs.Prelude.{ℕ, List}
 use Rattle.status_index.specs.declared.fault.Fault.{Fault}
 
 -- a fault, the file as it is, or other bytes
-pub data Converted : Type 0 where
-  refused : Fault → Converted
-  same : Converted
-  other : List ℕ → Converted
+pub data Conversion : Type 0 where
+  refused : Fault → Conversion
+  same : Conversion
+  other : List ℕ → Conversion

@@ -1,11 +1,13 @@
+pub mod Barriers
+pub mod CheckAnswers
+pub mod CheckParts
 pub mod CheckState
 pub mod Common
-pub mod Converted
-pub mod Found
-pub mod Kept
+pub mod Conversions
+pub mod FindAnswers
 pub mod Lawful
 pub mod LinkCheck
-pub mod Listed
+pub mod ListedNodes
 pub mod Listing
 pub mod ListingTable
 pub mod Looks
@@ -16,8 +18,6 @@ pub mod Outcomes
 pub mod PathTables
 pub mod Paths
 pub mod Points
-pub mod Stopped
 pub mod Submodules
 pub mod Trees
-pub mod Verified
 pub mod Windows

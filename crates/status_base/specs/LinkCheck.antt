@@ -4,7 +4,7 @@ use Rattle.status_index.specs.declared.fault.Fault.{Fault}
 use Rattle.status_index.specs.declared.metadata.Metadata.{Metadata}
 use Rattle.status_index.specs.declared.metadata.NodeKind.{NodeKind}
 use Rattle.status_index.specs.declared.metadata.NodeKind.TheVariants.{File, Link, Directory, Other}
-use Rattle.status_base.specs.Paths.{odd_component, directories}
+use Rattle.status_base.specs.Paths.{abnormal_component, directories}
 
 -- what a check of a path answers
 pub data LinkCheck : Type 0 where
@@ -50,4 +50,4 @@ check_of_normal lstat path None = leftmost_barrier lstat (directories path)
 -- directory prefix that is a fault or a link, or accepted
 abbrev pub link_check : (List ℕ → Result Metadata Fault) → List ℕ → LinkCheck
 link_check lstat [] = empty_path
-link_check lstat (b ∷ path) = check_of_normal lstat (b ∷ path) (odd_component (b ∷ path))
+link_check lstat (b ∷ path) = check_of_normal lstat (b ∷ path) (abnormal_component (b ∷ path))

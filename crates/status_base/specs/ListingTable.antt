@@ -1,7 +1,7 @@
 -- A table of the directories that were listed.
 use Rattle.std.specs.Prelude.{◌≡◌, ℕ, Bool, true, false, ◌||◌, List, [], ◌∷◌, Option, Some, None, IfSome, is_some}
 use Rattle.std.specs.FinMap as paths
-use Rattle.status_base.specs.Listed.{Listing, directory_of, file_name_of, named_in}
+use Rattle.status_base.specs.ListedNodes.{Listing, directory_of, file_name_of, named_in}
 use Rattle.status_base.specs.MemoryTree.{PathMap}
 use Rattle.status_base.specs.declared.fscache.Stat.{Stat}
 

@@ -9,7 +9,7 @@ use Rattle.status_index.specs.declared.fault.Fault.{Fault}
 use Rattle.status_index.specs.declared.metadata.Metadata.{Metadata}
 use Rattle.status_base.specs.Paths.{directories, lies_above}
 use Rattle.status_base.specs.CheckState.{CheckState}
-use Rattle.status_base.specs.Verified.{IsAfterVerified}
+use Rattle.status_base.specs.CheckAnswers.{IsAfterVerified}
 
 -- a row of queries to one check, each answered by its path
 abbrev pub AreVerified : Bool → (List ℕ → Result Metadata Fault) → CheckState → List (List ℕ) → CheckState → Type 0

@@ -3,7 +3,7 @@ use Rattle.std.specs.Prelude.{◌≡◌, ◌⊎◌, ℕ, Bool, ◌==◌, ◌&&�
 use Rattle.std.specs.FinMap as paths
 use Rattle.std.specs.Global.{Vec}
 use Rattle.status_index.specs.declared.metadata.NodeKind.{NodeKind}
-use Rattle.status_base.specs.Paths.{odd_component}
+use Rattle.status_base.specs.Paths.{abnormal_component}
 use Rattle.status_base.specs.MemoryTree.{Placed, Planted, PathMap, Tree, has_below, has_file_above, is_no_directory_kind}
 use Rattle.status_base.specs.PathTables.{map_of}
 use Rattle.status_base.specs.declared.worktree.memory.Node.{Node}
@@ -41,7 +41,7 @@ tree_of nodes planted = record { nodes = placed_nodes nodes; planted = map_of pl
 
 -- whether nothing can be put at a path: it is empty, or a component is empty, `.` or `..`
 abbrev pub is_bad_path : List ℕ → Bool
-is_bad_path path = length path == 0 || is_some (odd_component path)
+is_bad_path path = length path == 0 || is_some (abnormal_component path)
 
 -- whether a node can't be put at a path: one above it isn't a directory, or one lies below it and it isn't a directory
 abbrev pub is_in_the_way : Tree → List ℕ → NodeKind → Bool

@@ -5,10 +5,10 @@ use Rattle.status_index.specs.declared.fault.Fault.{Fault}
 use Rattle.status_index.specs.declared.fault.Fault.TheVariants.{Memory}
 use Rattle.status_base.specs.declared.worktree.filter.ToGitOutcome.{ToGitOutcome}
 use Rattle.status_base.specs.declared.worktree.filter.ToGitOutcome.TheVariants.{Unchanged, Buffer}
-use Rattle.status_base.specs.Converted.{Converted, refused, same, other}
+use Rattle.status_base.specs.Conversions.{Conversion, refused, same, other}
 
 -- by what is meant, for a file that had this left: the file unread, the other bytes, the fault, or want of memory
-abbrev pub IsConverted : {F : Type 0} → (F → Option Content) → Converted → Option Content → Result (ToGitOutcome F) Fault → Type 0
+abbrev pub IsConverted : {F : Type 0} → (F → Option Content) → Conversion → Option Content → Result (ToGitOutcome F) Fault → Type 0
 IsConverted left same was (Ok (Unchanged file)) = left file ≡ was
 IsConverted left (other bytes) was (Ok (Buffer buffer)) = buffer.now ≡ bytes
 IsConverted left (refused f) was (Err e) = (e ≡ f) ⊎ (e ≡ Memory)

@@ -9,16 +9,16 @@ is_slash b = b == 47
 abbrev pub components : List ℕ → List (List ℕ)
 components path = slice_split is_slash path
 
--- whether a component is empty, `.` or `..`
-abbrev pub is_odd : List ℕ → Bool
-is_odd [] = true
-is_odd (a ∷ []) = a == 46
-is_odd (a ∷ b ∷ []) = a == 46 && b == 46
-is_odd (a ∷ b ∷ c ∷ rest) = false
+-- whether a component isn't normal: it is empty, `.` or `..`
+abbrev pub is_abnormal : List ℕ → Bool
+is_abnormal [] = true
+is_abnormal (a ∷ []) = a == 46
+is_abnormal (a ∷ b ∷ []) = a == 46 && b == 46
+is_abnormal (a ∷ b ∷ c ∷ rest) = false
 
--- the leftmost component that is empty, `.` or `..`
-abbrev pub odd_component : List ℕ → Option (List ℕ)
-odd_component path = find is_odd (components path)
+-- the leftmost component that isn't normal
+abbrev pub abnormal_component : List ℕ → Option (List ℕ)
+abnormal_component path = find is_abnormal (components path)
 
 -- the fronts of at most n bytes that a slash follows, the shortest first
 abbrev pub directories_below : List ℕ → ℕ → List (List ℕ)

@@ -1,7 +1,7 @@
 //! Listings of directories, kept so that files needn't be looked at one by one.
 
 ghost use Rattle.std.specs.Prelude.{◌≡◌, Some};
-ghost use Rattle.status_base.specs.Listed.{listed_kind, listed_node};
+ghost use Rattle.status_base.specs.ListedNodes.{listed_kind, listed_node};
 ghost use Rattle.status_index.specs.NodeStat.{stat_of};
 
 mod cache;

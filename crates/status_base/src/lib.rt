@@ -6,6 +6,7 @@
 //! below, by the names that callers know.
 #![tactic(auto)]
 
+mod components;
 pub mod fscache;
 pub mod index;
 pub mod stack;

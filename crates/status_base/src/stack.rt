@@ -1,19 +1,19 @@
 //! Whether a path leads through a symbolic link.
 
 ghost use Rattle.std.specs.Prelude.{◌≡◌, ◌≤◌, ◌<◌, ◌+◌, None, IsTrue, List, [], ◌∷◌, length, take, drop, option_map, IfOk, OnOk, IfErr, IfSome, vec_len, position};
-ghost use Rattle.std.specs.Option.{option_map_or};
 ghost use Rattle.bstr.specs.BStr.{bstr_bytes};
-ghost use Rattle.status_base.specs.Paths.{is_slash, components, is_odd, odd_component, joined};
+ghost use Rattle.status_base.specs.Paths.{abnormal_component, joined};
 ghost use Rattle.status_base.specs.LinkCheck.{link_check, barrier_of};
 ghost use Rattle.bstr.specs.Owned.{bstring_bytes};
 ghost use Rattle.status_base.specs.CheckState.{IsClear, IsClearBelow};
 ghost use Rattle.status_index.specs.Content.{saturate};
-ghost use Rattle.status_base.specs.Stopped.{IsWay, IsStop, IsBarrier, IsOfDirectory, looked_at};
+ghost use Rattle.status_base.specs.Barriers.{IsWay, IsStop, IsBarrier, IsOfDirectory, looked_at};
 
 mod error;
 mod front;
 pub mod laws;
 
+use crate::components::abnormal_component;
 use crate::worktree::{Fault, NodeKind, Worktree};
 use bstr::{BStr, BString};
 pub use error::StackError;
@@ -33,7 +33,7 @@ impl Model for SymlinkCheck {
 
     ghost Value = { CheckState };
 
-    ghost use Rattle.status_base.specs.Kept.{state_of};
+    ghost use Rattle.status_base.specs.CheckParts.{state_of};
 
     ghost view = { λ a. state_of a.parts };
 }
@@ -45,7 +45,7 @@ impl SymlinkCheck {
     ghost use Rattle.status_index.specs.declared.fault.Fault.TheVariants.{NotFound};
     ghost use Rattle.status_base.specs.declared.stack.error.StackError.TheVariants as errors;
     ghost use Rattle.status_base.specs.contracts.stack.SymlinkCheck.{the_row};
-    ghost use Rattle.status_base.specs.Verified.{IsVerified, IsNamed, IsNormal, IsAfterVerified, IsAfterLenient, accepting_absent};
+    ghost use Rattle.status_base.specs.CheckAnswers.{IsVerifiedBy, IsLenientBy, IsNamed, IsNormal, IsAfterVerified, IsAfterLenient};
 
     /// A check of paths below a root. An empty root stands before no path.
     pub fn new(alloc: Global, root: BString) -> SymlinkCheck
@@ -86,8 +86,7 @@ impl SymlinkCheck {
         worktree: &W,
         path: BStr<'p>,
     ) -> Result<BStr<'s>, StackError<'p>>
-        ensures answer { IsTrue (W.modelled worktree.now) → IsClear (W.lstat_of worktree.now) self.old.path
-            → IsVerified (link_check (W.lstat_of worktree.now) (bstr_bytes path.entry)) (joined self.old.root (bstr_bytes path.entry)) result }
+        ensures answer { IsTrue (W.modelled worktree.now) → IsVerifiedBy (W.lstat_of worktree.now) self.old (bstr_bytes path.entry) result }
         ensures named { IfErr result (IsNamed (bstr_bytes path.entry)) }
         ensures normal { OnOk result (IsNormal (bstr_bytes path.entry)) }
         ensures joined { IfOk result (λ answer. bstr_bytes answer ≡ joined self.old.root (bstr_bytes path.entry)) }
@@ -109,9 +108,7 @@ impl SymlinkCheck {
         worktree: &W,
         path: BStr<'p>,
     ) -> Result<BStr<'s>, StackError<'p>>
-        ensures answer { IsTrue (W.modelled worktree.now) → IsClear (W.lstat_of worktree.now) self.old.path
-            → IsVerified (accepting_absent (link_check (W.lstat_of worktree.now) (bstr_bytes path.entry)))
-            (joined self.old.root (bstr_bytes path.entry)) result }
+        ensures answer { IsTrue (W.modelled worktree.now) → IsLenientBy (W.lstat_of worktree.now) self.old (bstr_bytes path.entry) result }
         ensures named { IfErr result (IsNamed (bstr_bytes path.entry)) }
         ensures normal { OnOk result (IsNormal (bstr_bytes path.entry)) }
         ensures joined { IfOk result (λ answer. bstr_bytes answer ≡ joined self.old.root (bstr_bytes path.entry)) }
@@ -144,15 +141,15 @@ struct Parts {
     looks: u64,
     ghost within: { start + tested ≤ vec_len buffer },
     ghost below: { 0 < tested → take start buffer.items ≡ joined (bstring_bytes root) [] },
-    ghost even: { 0 < tested → odd_component (take tested (drop start buffer.items)) ≡ None },
+    ghost normal: { 0 < tested → abnormal_component (take tested (drop start buffer.items)) ≡ None },
 }
 
 impl Parts {
     ghost use Rattle.std.specs.Result.{result_err};
     ghost use Rattle.status_base.specs.Common.{IsCommon};
-    ghost use Rattle.status_base.specs.Verified.{IsRefused, IsNamed, IsNormal, IsAfterQuery, IsChecked};
-    ghost use Rattle.status_base.specs.Stopped.{OnReached};
-    ghost use Rattle.status_base.specs.Kept.{state_of};
+    ghost use Rattle.status_base.specs.CheckAnswers.{IsRefused, IsNamed, IsNormal, IsAfterQuery, IsChecked};
+    ghost use Rattle.status_base.specs.Barriers.{OnReached};
+    ghost use Rattle.status_base.specs.CheckParts.{state_of};
 
     /// Tests a path, and leaves it below the root in the buffer. Of the directories above it those are tested that don't
     /// stand above the tested path.
@@ -175,9 +172,9 @@ impl Parts {
             return Err(StackError::EmptyPath);
         }
         let common = self.common_with(path);
-        // The tested path has no odd component, so the first that may be one begins behind the last slash in common.
+        // Each component of the tested path is normal, so the first that may not be begins behind the last slash in common.
         let first = component_start(&path[..common]);
-        if let Some(component) = leftmost_odd(&path[first..]) {
+        if let Some(component) = abnormal_component(&path[first..]) {
             let component = BStr::new(component);
             return Err(StackError::NotNormal { component });
         }
@@ -293,46 +290,4 @@ fn barrier<'p, W: Worktree>(worktree: &W, directory: &'p [u8]) -> Option<StackEr
         Ok(_) => None,
         Err(fault) => Some(StackError::Fault(fault)),
     }
-}
-
-/// The leftmost component of a path that is empty, `.` or `..`.
-fn leftmost_odd(path: &[u8]) -> Option<&[u8]>
-    ensures { option_map (λ component. component.now) result ≡ odd_component path.now }
-{
-    let mut rest = path;
-    'components: loop {
-        let (component, others) = first_component(rest);
-        if is_odd(component) {
-            return Some(component);
-        }
-        match others {
-            Some(others) => rest = others,
-            None => return None,
-        }
-    }
-}
-
-/// A path's first component, and the path behind it.
-fn first_component(path: &[u8]) -> (&[u8], Option<&[u8]>)
-    ensures parts { components path.now ≡ result.0.now ∷ option_map_or (λ others. components others.now) result.1 [] }
-    ensures shorter { IfSome result.1 (λ others. length others.now < length path.now) }
-{
-    match first_slash(path) {
-        Some(at) => (&path[..at], Some(&path[at + 1..])),
-        None => (path, None),
-    }
-}
-
-/// Where the first slash stands.
-fn first_slash(path: &[u8]) -> Option<usize>
-    ensures { result ≡ position is_slash path.now }
-{
-    path.iter().position(|byte| *byte == b'/')
-}
-
-/// Whether a component is empty, `.` or `..`.
-fn is_odd(component: &[u8]) -> bool
-    ensures { result ≡ is_odd component.now }
-{
-    matches!(component, [] | [b'.'] | [b'.', b'.'])
 }

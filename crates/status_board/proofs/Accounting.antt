@@ -9,7 +9,7 @@ use Rattle.status_board.specs.declared.worker.Finished.{Finished}
 use Rattle.status_board.specs.declared.crew.Gathered.{Gathered}
 use Rattle.status_board.specs.declared.worker.Worked.{Worked}
 use Rattle.status_board.specs.Accounts.{Accounts, AreAccounted, IsBoth, IsBrought, IsNothing, IsWorked}
-use Rattle.status_board.specs.Finished.{outs_at, shorts_of}
+use Rattle.status_board.specs.FinishedPieces.{outs_at, shorts_of}
 use Rattle.status_board.proofs.Counts.{times-append}
 use Rattle.status_board.proofs.Lasts.{after_last-snoc, after_last-le}
 use Rattle.status_board.proofs.Lists.{outs_at-append, shorts_of-append, shorts_of-here, shorts_of-other}

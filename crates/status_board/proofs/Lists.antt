@@ -5,7 +5,7 @@ use Rattle.std.proofs.lemmas.List.{map-append}
 use Rattle.std.proofs.lemmas.List.Elements.{filter-append, All-nil, All-cons, All-head, All-tail}
 use Rattle.std.proofs.lemmas.Bool.{eqb-true}
 use Rattle.status_board.specs.declared.worker.Finished.{Finished}
-use Rattle.status_board.specs.Finished.{outs_at, shorts_of}
+use Rattle.status_board.specs.FinishedPieces.{outs_at, shorts_of}
 
 module _ {O : Type 0} where
   pub outs_at-append : (n : ℕ) (fs gs : List (Finished O)) → outs_at n (fs ++ gs) ≡ outs_at n fs ++ outs_at n gs

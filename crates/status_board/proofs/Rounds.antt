@@ -8,7 +8,7 @@ use Rattle.status_board.specs.Numbers.{times, HasEachBelow, IsLeast, LiesBelow}
 use Rattle.status_board.specs.Seats.{BoardId, SeatState, drawn_of, barred_of, reported_of}
 use Rattle.status_board.specs.declared.worker.Finished.{Finished}
 use Rattle.status_board.specs.Accounts.{AreAccounted, end_of}
-use Rattle.status_board.specs.Finished.{outs_at, shorts_of, IsInOrder, IsOutOf}
+use Rattle.status_board.specs.FinishedPieces.{outs_at, shorts_of, IsInOrder, IsOutOf}
 use Rattle.status_board.specs.Round.{EndsShort, IsRound}
 use Rattle.status_board.proofs.Lists.{outs_at-here, outs_at-other, outs_at-each, shorts_of-here, shorts_of-other}
 

@@ -6,7 +6,7 @@ use Rattle.std.proofs.lemmas.List.{length-set, length-map, length-replicate, get
 use Rattle.std.proofs.lemmas.Option.{slice_get_within, slice_get-map, get_or_from_slice_get}
 use Rattle.std.proofs.lemmas.Bool.{eqb-true, eqb-false, cases_Bool}
 use Rattle.status_board.specs.declared.worker.Finished.{Finished}
-use Rattle.status_board.specs.Finished.{outs_at, IsInOrder, IsPlaced}
+use Rattle.status_board.specs.FinishedPieces.{outs_at, IsInOrder, IsPlaced}
 use Rattle.status_board.proofs.Lists.{outs_at-here, outs_at-other}
 
 module _ {O : Type 0} where

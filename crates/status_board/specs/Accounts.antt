@@ -5,7 +5,7 @@ use Rattle.status_board.specs.Seats.{BoardId, SeatState, fresh, drawn_of, barred
 use Rattle.status_board.specs.declared.crew.Gathered.{Gathered}
 use Rattle.status_board.specs.declared.worker.Finished.{Finished}
 use Rattle.status_board.specs.declared.worker.Worked.{Worked}
-use Rattle.status_board.specs.Finished.{outs_at, shorts_of}
+use Rattle.status_board.specs.FinishedPieces.{outs_at, shorts_of}
 
 -- a call leaves the seat's board and what it drew
 pub record StaysDrawn (old new : SeatState) : Type 0 where

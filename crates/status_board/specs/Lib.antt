@@ -1,5 +1,5 @@
 pub mod Accounts
-pub mod Finished
+pub mod FinishedPieces
 pub mod Numbers
 pub mod Round
 pub mod Seats

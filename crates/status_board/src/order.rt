@@ -1,7 +1,7 @@
 //! What finished pieces gave, in order.
 
 ghost use Rattle.std.specs.Prelude.{◌≡◌, ◌<◌, ℕ, length, IfOk, All, IsSome, map, Some, None, replicate, set};
-ghost use Rattle.status_board.specs.Finished.{outs_at, IsInOrder, IsPlaced};
+ghost use Rattle.status_board.specs.FinishedPieces.{outs_at, IsInOrder, IsPlaced};
 
 use crate::worker::Finished;
 use std::alloc::{AllocError, Global};

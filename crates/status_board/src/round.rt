@@ -2,7 +2,7 @@
 
 ghost use Rattle.std.specs.Prelude.{◌≡◌, ◌≢◌, ◌≤◌, ◌^◌, All, IfOk, Err, vec_len};
 ghost use Rattle.status_board.specs.Accounts.{AreAccounted, end_of};
-ghost use Rattle.status_board.specs.Finished.{IsOutOf};
+ghost use Rattle.status_board.specs.FinishedPieces.{IsOutOf};
 ghost use Rattle.status_board.specs.Round.{IsRound};
 
 use crate::board::{Board, Tally};

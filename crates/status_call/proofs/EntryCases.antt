@@ -12,7 +12,7 @@ use Rattle.bstr.specs.BStr.{bstr_bytes}
 use Rattle.status_base.specs.declared.stack.error.StackError.{StackError}
 use Rattle.status_base.specs.declared.stack.error.StackError.TheVariants as stacks
 use Rattle.status_base.specs.LinkCheck.{LinkCheck, accepted, empty_path, not_normal}
-use Rattle.status_base.specs.Verified.{IsRefused}
+use Rattle.status_base.specs.CheckAnswers.{IsRefused}
 use Rattle.status_compare.specs.declared.error.Error.{Error}
 use Rattle.status_compare.specs.declared.error.Error.TheVariants as errors
 use Rattle.status_compare.specs.EntryMeaning.{both_modelled}

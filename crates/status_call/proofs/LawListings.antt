@@ -17,7 +17,7 @@ use Rattle.status_index.specs.declared.mode.Mode.{Mode}
 use Rattle.status_index.specs.declared.mode.Mode.TheVariants as modes
 use Rattle.status_index.specs.declared.stat.Stat.{Stat}
 use Rattle.status_base.specs.LinkCheck.{LinkCheck, accepted, empty_path, not_normal, through_link, faulty, link_check}
-use Rattle.status_base.specs.Listed.{Listing, known_node, listed, listed_node}
+use Rattle.status_base.specs.ListedNodes.{Listing, known_node, listed, listed_node}
 use Rattle.status_base.specs.declared.fscache.Stat.{Stat as ListedStat}
 use Rattle.status_compare.specs.declared.error.Error.{Error}
 use Rattle.status_call.specs.declared.index_as_worktree.types.EntryStatus.{EntryStatus}

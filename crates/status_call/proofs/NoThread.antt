@@ -9,7 +9,7 @@ use Rattle.status_index.specs.declared.id.ObjectId.{ObjectId}
 use Rattle.status_index.specs.declared.metadata.Metadata.{Metadata}
 use Rattle.status_index.specs.Entries.{IndexEntry, stage_of}
 use Rattle.status_index.specs.StreamId.{first_bytes_id}
-use Rattle.status_base.specs.Converted.{Converted, refused as turned_down, same, other}
+use Rattle.status_base.specs.Conversions.{Conversion, refused as turned_down, same, other}
 use Rattle.status_compare.specs.Comparers.{worktree_result, reading_id, changed_result, hash_answer, size_decides, answer_without_id}
 use Rattle.status_compare.specs.Reading.{converted_reading, node_reading}
 use Rattle.status_compare.specs.declared.error.Error.{Error}
@@ -85,12 +85,12 @@ no_result : {A : Type 0} (r : Result A Fault) → worktree_result r ≡ Err Spaw
 no_result (Ok x) h = cc
 no_result {A} (Err f) h = other_error f (same_fault {A = A} (error_of f) SpawnThread h)
 
-no_converted : (kind : HashKind) (len : ℕ) (content : Content) (c : Converted) → reading_id kind (converted_reading len content c) ≡ Err SpawnThread → ⊥
+no_converted : (kind : HashKind) (len : ℕ) (content : Content) (c : Conversion) → reading_id kind (converted_reading len content c) ≡ Err SpawnThread → ⊥
 no_converted kind len content same h = no_result (first_bytes_id kind content len) h
 no_converted kind len content (other bytes) h = cc
 no_converted kind len content (turned_down f) h = other_error f (same_fault {A = ObjectId} (error_of f) SpawnThread h)
 
-no_reading : (kind : HashKind) (is_link : Bool) (conversion : Content → Converted) (len : ℕ) (opened : Result Content Fault) (linked : Result (List ℕ) Fault)
+no_reading : (kind : HashKind) (is_link : Bool) (conversion : Content → Conversion) (len : ℕ) (opened : Result Content Fault) (linked : Result (List ℕ) Fault)
     → reading_id kind (node_reading is_link conversion len opened linked) ≡ Err SpawnThread → ⊥
 no_reading kind true conversion len opened (Ok bytes) h = cc
 no_reading kind true conversion len opened (Err f) h = other_error f (same_fault {A = ObjectId} (error_of f) SpawnThread h)

@@ -4,7 +4,7 @@ use Rattle.status_index.specs.Entries.{IndexEntry}
 use Rattle.status_index.specs.declared.fault.Fault.{Fault}
 use Rattle.status_index.specs.declared.metadata.Metadata.{Metadata}
 use Rattle.status_base.specs.LinkCheck.{accepted, link_check}
-use Rattle.status_base.specs.Listed.{Listing, known_node, listed, listed_node}
+use Rattle.status_base.specs.ListedNodes.{Listing, known_node, listed, listed_node}
 use Rattle.status_call.specs.Query.{Query}
 use Rattle.status_call.specs.Records.{records_of, first_fault}
 

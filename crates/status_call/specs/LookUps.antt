@@ -5,7 +5,7 @@ use Rattle.status_index.specs.declared.fault.Fault.{Fault}
 use Rattle.status_index.specs.declared.metadata.Metadata.{Metadata}
 use Rattle.status_compare.specs.declared.error.Error.{Error}
 use Rattle.status_base.specs.CheckState.{IsClear}
-use Rattle.status_base.specs.Listed.{Listing, known_node}
+use Rattle.status_base.specs.ListedNodes.{Listing, known_node}
 use Rattle.status_base.specs.ListingTable.{Table, IsOf}
 use Rattle.status_call.specs.EntryParts.{IsLookAt}
 use Rattle.status_call.specs.Modelled.{are_modelled}

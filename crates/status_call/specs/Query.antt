@@ -7,7 +7,7 @@ use Rattle.status_index.specs.declared.id.ObjectId.{ObjectId}
 use Rattle.status_index.specs.declared.metadata.Metadata.{Metadata}
 use Rattle.status_index.specs.declared.stat.Moment.{Moment}
 use Rattle.status_index.specs.declared.stat.Options.{Options}
-use Rattle.status_base.specs.Converted.{Converted}
+use Rattle.status_base.specs.Conversions.{Conversion}
 use Rattle.status_base.specs.declared.worktree.objects.FindError.{FindError}
 use Rattle.status_compare.specs.declared.error.Error.{Error}
 use Rattle.status_compare.specs.Reading.{Meaning}
@@ -33,7 +33,7 @@ pub record Query (T U : Type 0) : Type 0 where
   pub prefix : List ℕ
   pub included : List ℕ → Bool → Bool
   -- the filter, the object database, the submodules
-  pub conversion : Content → List ℕ → Converted
+  pub conversion : Content → List ℕ → Conversion
   pub blob : ObjectId → Result (List ℕ) FindError
   pub submodule : IndexEntry → Result (Option U) (List ℕ)
   -- the comparer: its answer, and what it reads

@@ -5,7 +5,7 @@ use Rattle.status_call.specs.Outcomes.{skipped_of}
 use Rattle.status_call.specs.Query.{Query}
 use Rattle.status_call.specs.declared.index_as_worktree.inputs.Settings.{Settings}
 use Rattle.status_joined.specs.BothHalves.{Walking}
-use Rattle.status_rewrites.specs.Changed.{Changed}
+use Rattle.status_rewrites.specs.TrackedChanges.{Changed}
 use Rattle.status_rewrites.specs.Trackers.{TrackerFault}
 use Rattle.status_rewrites.specs.declared.tracker.Pair.{Pair}
 use Rattle.status_joined.specs.declared.index_as_worktree_with_renames.error.Error.{Error}

@@ -2,7 +2,7 @@
 use Rattle.std.specs.Prelude.{◌≡◌, ◌⊎◌, ℕ, ◌+◌, Bool, true, false, List, length, Option, Some, None, Result, Ok, Err}
 use Rattle.status_index.specs.Content.{Content}
 use Rattle.status_index.specs.declared.fault.Fault.{Fault}
-use Rattle.status_base.specs.Converted.{Converted, refused, same, other}
+use Rattle.status_base.specs.Conversions.{Conversion, refused, same, other}
 use Rattle.status_base.specs.declared.worktree.objects.FindError.{FindError}
 use Rattle.status_compare.specs.declared.error.Error.{Error}
 use Rattle.status_compare.specs.declared.error.Error.TheVariants.{Memory}
@@ -48,17 +48,21 @@ target_reading (Ok bytes) = target bytes
 target_reading (Err f) = fails (error_of f)
 
 -- an unchanged file's size is known, as the node's length
-abbrev pub converted_reading : ℕ → Content → Converted → Reading
+abbrev pub converted_reading : ℕ → Content → Conversion → Reading
 converted_reading len content same = streams content (Some len)
 converted_reading len content (other bytes) = streams (whole bytes) None
 converted_reading len content (refused f) = fails (error_of f)
 
-abbrev pub file_reading : (Content → Converted) → ℕ → Result Content Fault → Reading
+abbrev pub file_reading : (Content → Conversion) → ℕ → Result Content Fault → Reading
 file_reading conversion len (Ok content) = converted_reading len content (conversion content)
 file_reading conversion len (Err f) = fails (error_of f)
 
+-- the reading of the file at a path
+abbrev pub file_at : (Content → List ℕ → Conversion) → (List ℕ → Result Content Fault) → ℕ → List ℕ → Reading
+file_at conversion opened len path = file_reading (λ c. conversion c path) len (opened path)
+
 -- the reading of a node: a link's target where links count, else the file, converted
-abbrev pub node_reading : Bool → (Content → Converted) → ℕ → Result Content Fault → Result (List ℕ) Fault → Reading
+abbrev pub node_reading : Bool → (Content → Conversion) → ℕ → Result Content Fault → Result (List ℕ) Fault → Reading
 node_reading true conversion len opened linked = target_reading linked
 node_reading false conversion len opened linked = file_reading conversion len opened
 

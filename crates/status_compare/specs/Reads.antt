@@ -1,5 +1,5 @@
 -- How much was read: sums that stop at the greatest number of 64 bits.
-use Rattle.std.specs.Prelude.{ℕ, ◌+◌}
+use Rattle.std.specs.Prelude.{◌≡◌, ℕ, ◌+◌, Option, IfSome}
 use Rattle.status_index.specs.Content.{saturate}
 use Rattle.status_compare.specs.declared.reads.Reads.{Reads}
 
@@ -23,3 +23,7 @@ with_file k = record k { files = saturate (k.files + 1) }
 
 abbrev pub with_object : Reads → ℕ → Reads
 with_object k n = record k { object_bytes = saturate (k.object_bytes + n); objects = saturate (k.objects + 1) }
+
+-- so much was read, where that is modelled
+abbrev pub HasRead : Option Reads → Reads → Type 0
+HasRead counted reads = IfSome counted (λ k. reads ≡ k)

@@ -4,6 +4,7 @@ ghost use Rattle.std.specs.Prelude.{◌≡◌, ℕ, List, Option, None, Result, 
 ghost use Rattle.status_index.specs.Entries.{IndexEntry, entry_at};
 ghost use Rattle.status_compare.specs.declared.error.Error.{Error as StatusError};
 ghost use Rattle.status_compare.specs.Reading.{Meaning, IsMeant};
+ghost use Rattle.status_compare.specs.Reads.{HasRead};
 ghost use Rattle.status_compare.specs.declared.reads.Reads.{Reads};
 ghost use Rattle.status_base.specs.Lawful.{CloneKeeps};
 
@@ -39,7 +40,7 @@ pub trait CompareBlobs: Clone {
         ensures same_answer { answer self.new ≡ answer self.old }
         ensures same_counts { counts_after self.new ≡ counts_after self.old }
         ensures counts { (path : List ℕ) → OnOk result (IfSome (R.means «data».old) (λ m.
-            IfSome (counts_after self.old (entry_at path entry.now) size m (R.counts «data».old)) (λ k. R.counts «data».new ≡ k))) };
+            HasRead (counts_after self.old (entry_at path entry.now) size m (R.counts «data».old)) (R.counts «data».new))) };
 
     /// A clone answers the same.
     ghost clone_keeps_answer: { CloneKeeps Self.is_clone answer };

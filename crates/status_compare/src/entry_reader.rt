@@ -4,7 +4,7 @@ ghost use Rattle.std.specs.Prelude.{◌≡◌, ◌∷◌, IsTrue, Some, None, le
 ghost use Rattle.bstr.specs.BStr.{bstr_bytes};
 ghost use Rattle.status_compare.specs.EntryMeaning.{entry_meaning, if_modelled};
 ghost use Rattle.status_compare.specs.Reads.{no_reads, with_file};
-ghost use Rattle.status_compare.specs.Reading.{IsReading, target_reading, file_reading, counts_at_stream};
+ghost use Rattle.status_compare.specs.Reading.{IsReading, target_reading, file_at, counts_at_stream};
 
 use crate::error::Error;
 use crate::read_data::ReadData;
@@ -68,9 +68,11 @@ impl<'r, W: Worktree, T: ToGit, O: Find> EntryReader<'r, W, T, O> {
 
     // The target of the link, which is counted at once.
     fn stream_target<'a>(&mut self, buffer: &'a mut Vec<u8>) -> Result<Stream<'a, W::File>, Error>
-        ensures stream { IsTrue (W.modelled self.old.worktree.now) → IsReading W.File.left (target_reading (W.target_of self.old.worktree.now (bstr_bytes self.old.path))) result }
+        ensures stream { let r = self.old in IsTrue (W.modelled r.worktree.now)
+            → IsReading W.File.left (target_reading (W.target_of r.worktree.now (bstr_bytes r.path))) result }
         ensures same { self.new ≡ record self.old { reads = self.new.reads } }
-        ensures counts { OnOk result (IsTrue (W.modelled self.old.worktree.now) → self.new.reads ≡ counts_at_stream (target_reading (W.target_of self.old.worktree.now (bstr_bytes self.old.path))) (self.old.reads)) }
+        ensures counts { let r = self.old in OnOk result (IsTrue (W.modelled r.worktree.now)
+            → self.new.reads ≡ counts_at_stream (target_reading (W.target_of r.worktree.now (bstr_bytes r.path))) r.reads) }
         ensures uncounted { OnErr result (self.new.reads ≡ self.old.reads) }
     {
         self.worktree.read_link(self.path, buffer)?;
@@ -86,7 +88,8 @@ impl<'r, W: Worktree, T: ToGit, O: Find> EntryReader<'r, W, T, O> {
 
     // The file, converted. Its length is its size only where it is stored as it is.
     fn stream_file<'a>(&mut self, buffer: &'a mut Vec<u8>) -> Result<Stream<'a, W::File>, Error>
-        ensures stream { IsTrue (W.modelled self.old.worktree.now) → IsReading W.File.left (file_reading (λ c. T.conversion self.old.filter.now c (bstr_bytes self.old.path)) self.old.len (W.open_of self.old.worktree.now (bstr_bytes self.old.path))) result }
+        ensures stream { let r = self.old in IsTrue (W.modelled r.worktree.now) → IsReading W.File.left
+            (file_at (T.conversion r.filter.now) (W.open_of r.worktree.now) r.len (bstr_bytes r.path)) result }
         ensures same { self.new ≡ record self.old { reads = self.new.reads } }
         ensures counts { OnOk result (self.new.reads ≡ with_file (self.old.reads)) }
         ensures uncounted { OnErr result (self.new.reads ≡ self.old.reads) }

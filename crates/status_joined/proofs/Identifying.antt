@@ -7,7 +7,7 @@ use Rattle.std.proofs.lemmas.Grind.{drop_more_same}
 use Rattle.status_index.specs.declared.fault.Fault.TheVariants.{Memory}
 use Rattle.status_index.specs.declared.id.HashKind.{HashKind}
 use Rattle.status_index.specs.declared.id.ObjectId.{ObjectId}
-use Rattle.status_walk.specs.Walked.{Walked}
+use Rattle.status_walk.specs.WalkedNodes.{Walked}
 use Rattle.status_walk.specs.WorktreeIds.{fault_of}
 use Rattle.status_walk.specs.declared.id.IdError.{IdError}
 use Rattle.status_joined.specs.NodeIds.{identified, id_faults, forget}

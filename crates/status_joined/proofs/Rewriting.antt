@@ -14,7 +14,7 @@ use Rattle.status_rewrites.specs.declared.refused.Refused.TheVariants as refusal
 use Rattle.status_rewrites.specs.declared.rewritten.Rewritten.{Rewritten}
 use Rattle.status_rewrites.proofs.Led.{destinations_walked}
 use Rattle.status_rewrites.proofs.Mapped.{bad_pair_mapped, rewritten_mapped}
-use Rattle.status_rewrites.specs.Changed.{Changed}
+use Rattle.status_rewrites.specs.TrackedChanges.{Changed}
 use Rattle.status_rewrites.specs.Trackers.{TrackerFault, IsMeantAnswer}
 use Rattle.status_rewrites.specs.declared.tracker.Pair.{Pair}
 use Rattle.status_rewrites.specs.declared.tracker.TrackerError.{TrackerError}

@@ -9,7 +9,7 @@ use Rattle.std.proofs.lemmas.Bool.Decides.{nat_tests}
 use Rattle.status_index.specs.BlobId.{null_id}
 use Rattle.status_index.specs.declared.id.HashKind.{HashKind}
 use Rattle.status_call.specs.Visits.{Visit}
-use Rattle.status_walk.specs.Walked.{Walked}
+use Rattle.status_walk.specs.WalkedNodes.{Walked}
 use Rattle.status_joined.specs.Items.{Item, tracked, walked, side_of}
 use Rattle.status_joined.specs.Lists.{unsorted}
 

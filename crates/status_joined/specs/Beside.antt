@@ -1,11 +1,9 @@
 -- What of a walk was kept.
-use Rattle.std.specs.Prelude.{◌≡◌, Bool, IsTrue, List, false, [], map, Some, Result, Ok, Err, ⊤}
-use Rattle.bstr.specs.Owned.{bstring_bytes}
+use Rattle.std.specs.Prelude.{◌≡◌, Bool, IsTrue, List, false, [], map, Result, Ok, Err}
 use Rattle.status_walk.specs.declared.walk.Outcome.{Outcome}
 use Rattle.status_walk.specs.declared.walk.WalkError.{WalkError}
-use Rattle.status_walk.specs.declared.walk.WalkError.TheVariants.{Fault, Memory}
-use Rattle.status_walk.specs.Walked.{Walked}
-use Rattle.status_walk.specs.Walks.{WalkMeaning, IsWalked}
+use Rattle.status_walk.specs.WalkedNodes.{Walked}
+use Rattle.status_walk.specs.Walks.{WalkMeaning, IsWalked, IsWalkFault}
 use Rattle.status_joined.specs.declared.beside.Beside.{Beside}
 use Rattle.status_joined.specs.Keeping.{is_kept, kept_walked}
 use Rattle.status_joined.specs.Walkings.{Walking}
@@ -19,8 +17,7 @@ pub record IsKeptOf (m : WalkMeaning) (interruptible : Bool) (kept : List Walked
 -- so it ended, or with the fault that is meant, or memory ran out
 abbrev pub IsBeside : WalkMeaning → Bool → Result Beside WalkError → Type 0
 IsBeside m interruptible (Ok b) = IsKeptOf m interruptible (map kept_walked b.kept.items) b.outcome
-IsBeside m interruptible (Err (Fault path fault)) = m.fault ≡ Some (record { path = bstring_bytes path; fault = fault })
-IsBeside m interruptible (Err Memory) = ⊤
+IsBeside m interruptible (Err e) = IsWalkFault m.fault e
 
 -- the same where what there is to walk is modelled
 abbrev pub IsBesideOf : Walking → Bool → Result Beside WalkError → Type 0

@@ -1,13 +1,12 @@
 -- The two halves of a status: what the index's entries give, and what the walk found beside them.
-use Rattle.std.specs.Prelude.{◌≡◌, ℕ, Bool, true, false, IsTrue, List, [], map, Option, Some, None, Result, Ok, Err, ⊤}
-use Rattle.bstr.specs.Owned.{bstring_bytes}
+use Rattle.std.specs.Prelude.{◌≡◌, ℕ, Bool, true, false, IsTrue, List, [], map, Option, Some, None, Result, Ok, Err}
 use Rattle.status_index.specs.declared.state.State.{State}
 use Rattle.status_call.specs.Query.{Query}
 use Rattle.status_call.specs.RecorderVisits.{visits_of}
 use Rattle.status_walk.specs.declared.walk.Outcome.{Outcome}
 use Rattle.status_walk.specs.declared.walk.WalkError.{WalkError}
-use Rattle.status_walk.specs.declared.walk.WalkError.TheVariants.{Fault, Memory}
-use Rattle.status_walk.specs.Walked.{Walked}
+use Rattle.status_walk.specs.WalkedNodes.{Walked}
+use Rattle.status_walk.specs.Walks.{IsWalkFault}
 use Rattle.status_joined.specs.declared.halves.Failed.{Failed}
 use Rattle.status_joined.specs.declared.halves.Failed.TheVariants as failures
 use Rattle.status_joined.specs.declared.halves.Halves.{Halves}
@@ -30,9 +29,7 @@ HasWalked interruptible w = (kept : List Walked) × ((o : Option Outcome) × IsW
 -- the walk failed: it is meant to, or memory ran out
 abbrev pub IsWalkFailure : Option Walking → WalkError → Type 0
 IsWalkFailure None e = ⊥
-IsWalkFailure (Some w) (Fault path fault) =
-    IsTrue w.modelled → w.meaning.fault ≡ Some (record { path = bstring_bytes path; fault = fault })
-IsWalkFailure (Some w) Memory = ⊤
+IsWalkFailure (Some w) e = IsTrue w.modelled → IsWalkFault w.meaning.fault e
 
 module _ {T U : Type 0} (query : Query T U) (limit : Option ℕ) (index : State) (interruptible : Bool) (w : Option Walking) where
   -- both halves; or the walk's failure; or, where the walk came through, the status's

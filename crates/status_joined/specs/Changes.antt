@@ -4,7 +4,7 @@ use Rattle.status_index.specs.declared.mode.EntryKind.{EntryKind}
 use Rattle.status_index.specs.declared.mode.EntryKind.TheVariants.{Tree, Blob, BlobExecutable, Link, Commit}
 use Rattle.status_index.specs.declared.mode.Mode.{Mode}
 use Rattle.status_index.specs.declared.mode.Mode.TheVariants as modes
-use Rattle.status_rewrites.specs.Changed.{Changed}
+use Rattle.status_rewrites.specs.TrackedChanges.{Changed}
 use Rattle.status_rewrites.specs.declared.change.ChangeKind.{ChangeKind}
 use Rattle.status_rewrites.specs.declared.change.ChangeKind.TheVariants.{Deletion, Modification, Addition}
 use Rattle.status_walk.specs.declared.entry.Kind.{Kind}

@@ -1,7 +1,7 @@
 -- What an entry reports to a collector.
 use Rattle.bstr.specs.BStr.{bstr_bytes}
 use Rattle.status_call.specs.Visits.{visit}
-use Rattle.status_walk.specs.Walked.{walked_of}
+use Rattle.status_walk.specs.WalkedNodes.{walked_of}
 use Rattle.status_joined.specs.declared.index_as_worktree_with_renames.entry.Entry.{Entry}
 use Rattle.status_joined.specs.declared.index_as_worktree_with_renames.entry.Entry.TheVariants as entries
 use Rattle.status_joined.specs.declared.index_as_worktree_with_renames.entry.RewriteSource.{RewriteSource}

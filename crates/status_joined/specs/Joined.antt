@@ -7,7 +7,7 @@ use Rattle.status_call.specs.declared.index_as_worktree.types.Options.{Options a
 use Rattle.status_rewrites.specs.AfterRewrites.{IsRewritten}
 use Rattle.status_rewrites.specs.Lawful.{AreLawful, IsBadPair}
 use Rattle.status_rewrites.specs.declared.rewritten.Rewritten.{Rewritten}
-use Rattle.status_rewrites.specs.Changed.{Changed}
+use Rattle.status_rewrites.specs.TrackedChanges.{Changed}
 use Rattle.status_rewrites.specs.Trackers.{TrackerFault, bad_pair, refused}
 use Rattle.status_rewrites.specs.declared.tracker.Pair.{Pair}
 use Rattle.status_rewrites.specs.declared.tracker.TrackerError.TheVariants as tracker_errors

@@ -4,7 +4,7 @@ use Rattle.status_walk.specs.declared.entry.Kind.{Kind}
 use Rattle.status_walk.specs.declared.entry.Kind.TheVariants.{Untrackable}
 use Rattle.status_walk.specs.declared.entry.Status.{Status}
 use Rattle.status_walk.specs.declared.entry.Status.TheVariants.{Tracked}
-use Rattle.status_walk.specs.Walked.{Walked, walked_of}
+use Rattle.status_walk.specs.WalkedNodes.{Walked, walked_of}
 use Rattle.status_joined.specs.declared.kept.Kept.{Kept}
 
 abbrev pub is_untrackable : Option Kind → Bool

@@ -1,6 +1,6 @@
 -- What of the list's items there is.
 use Rattle.status_call.specs.RecorderVisits.{visit_of}
-use Rattle.status_walk.specs.Walked.{walked_of}
+use Rattle.status_walk.specs.WalkedNodes.{walked_of}
 use Rattle.status_joined.specs.declared.item.ModificationOrDirwalkEntry.{ModificationOrDirwalkEntry}
 use Rattle.status_joined.specs.declared.item.ModificationOrDirwalkEntry.TheVariants.{Modification, DirwalkEntry}
 use Rattle.status_joined.specs.Items.{Item, tracked, walked}

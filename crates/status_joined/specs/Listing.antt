@@ -13,7 +13,7 @@ use Rattle.status_joined.specs.Walkings.{Walking}
 use Rattle.status_joined.specs.TrackedHalf.{IsTrackedHalf, IsTrackedFailure}
 use Rattle.status_joined.specs.declared.halves.Failed.{Failed}
 use Rattle.status_joined.specs.declared.halves.Failed.TheVariants as failures
-use Rattle.status_walk.specs.Walked.{Walked}
+use Rattle.status_walk.specs.WalkedNodes.{Walked}
 use Rattle.status_walk.specs.declared.walk.Outcome.{Outcome as WalkOutcome}
 use Rattle.status_walk.specs.declared.walk.WalkError.TheVariants as walks
 use Rattle.status_joined.specs.declared.index_as_worktree_with_renames.error.Error.{Error}

@@ -7,7 +7,7 @@ use Rattle.std.specs.declared.cmp.Ordering.{Ordering}
 use Rattle.status_index.specs.BlobId.{null_id}
 use Rattle.status_index.specs.declared.id.HashKind.{HashKind}
 use Rattle.status_call.specs.Visits.{Visit}
-use Rattle.status_walk.specs.Walked.{Walked}
+use Rattle.status_walk.specs.WalkedNodes.{Walked}
 use Rattle.status_joined.specs.Items.{Item, tracked, walked, path_of, side_of}
 
 -- the records in the order of the index, and behind them the kept nodes in the order of the walk. No id is known yet

@@ -9,14 +9,14 @@ use Rattle.status_index.specs.declared.fault.Fault.TheVariants.{Memory}
 use Rattle.status_index.specs.declared.id.HashKind.{HashKind}
 use Rattle.status_index.specs.declared.id.ObjectId.{ObjectId}
 use Rattle.status_index.specs.declared.metadata.Metadata.{Metadata}
-use Rattle.status_base.specs.Converted.{Converted}
-use Rattle.status_walk.specs.Walked.{Walked}
+use Rattle.status_base.specs.Conversions.{Conversion}
+use Rattle.status_walk.specs.WalkedNodes.{Walked}
 use Rattle.status_walk.specs.WorktreeIds.{worktree_id, fault_of}
 use Rattle.status_walk.specs.declared.id.IdError.{IdError}
 use Rattle.status_joined.specs.Items.{Item, tracked, walked}
 
 -- the id of a node's content, by what the worktree answers and by the filter
-abbrev pub ids_by : HashKind → (List ℕ → Result Metadata Fault) → (List ℕ → Result Content Fault) → (List ℕ → Result (List ℕ) Fault) → (Content → List ℕ → Converted) → Walked → Result ObjectId IdError
+abbrev pub ids_by : HashKind → (List ℕ → Result Metadata Fault) → (List ℕ → Result Content Fault) → (List ℕ → Result (List ℕ) Fault) → (Content → List ℕ → Conversion) → Walked → Result ObjectId IdError
 ids_by kind lstat opened target conversion w = worktree_id kind lstat opened target conversion w.path w.disk_kind
 
 -- the ids of nodes, and whether the worktree is modelled that has them
@@ -25,7 +25,7 @@ pub record Identifying : Type 0 where
   pub ids : Walked → Result ObjectId IdError
 
 -- the ids of nodes in a worktree and through a filter, by what these mean
-abbrev pub identifying : {W F : Type 0} → (W → Bool) → (W → List ℕ → Result Metadata Fault) → (W → List ℕ → Result Content Fault) → (W → List ℕ → Result (List ℕ) Fault) → (F → Content → List ℕ → Converted) → HashKind → W → F → Identifying
+abbrev pub identifying : {W F : Type 0} → (W → Bool) → (W → List ℕ → Result Metadata Fault) → (W → List ℕ → Result Content Fault) → (W → List ℕ → Result (List ℕ) Fault) → (F → Content → List ℕ → Conversion) → HashKind → W → F → Identifying
 identifying modelled lstat opened target conversion kind worktree filter = record {
   modelled = modelled worktree;
   ids = ids_by kind (lstat worktree) (opened worktree) (target worktree) (conversion filter);

@@ -2,7 +2,7 @@
 use Rattle.std.specs.Prelude.{◌≡◌, ◌⊎◌, Bool, List, map, Result, Ok, Err}
 use Rattle.status_index.specs.declared.id.HashKind.{HashKind}
 use Rattle.status_rewrites.specs.Entries.{map_rewritten}
-use Rattle.status_rewrites.specs.Changed.{Changed}
+use Rattle.status_rewrites.specs.TrackedChanges.{Changed}
 use Rattle.status_rewrites.specs.Trackers.{TrackerFault}
 use Rattle.status_rewrites.specs.declared.tracker.Pair.{Pair}
 use Rattle.status_rewrites.specs.declared.tracker.Rewrites.{Rewrites}

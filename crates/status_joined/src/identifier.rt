@@ -1,7 +1,7 @@
 //! Who gives nodes their ids.
 
 ghost use Rattle.std.specs.Prelude.{IsTrue};
-ghost use Rattle.status_walk.specs.Walked.{walked_of};
+ghost use Rattle.status_walk.specs.WalkedNodes.{walked_of};
 ghost use Rattle.status_walk.specs.WorktreeIds.{IsId};
 ghost use Rattle.status_joined.specs.NodeIds.{Identifying};
 

@@ -1,7 +1,7 @@
 //! Who keeps what a walk finds.
 
 ghost use Rattle.std.specs.Prelude.{◌≡◌, ◌++◌, ◌∷◌, [], OnOk, filter, map};
-ghost use Rattle.status_walk.specs.Walked.{walked_of};
+ghost use Rattle.status_walk.specs.WalkedNodes.{walked_of};
 ghost use Rattle.status_joined.specs.Keeping.{is_kept, kept_walked};
 
 use crate::kept::Kept;

@@ -21,7 +21,7 @@ use Rattle.status_index.specs.declared.mode.EntryKind.TheVariants.{Tree, Blob, B
 use Rattle.status_rewrites.specs.declared.change.ChangeKind.{ChangeKind}
 use Rattle.status_rewrites.specs.declared.seen.Seen.{Seen}
 use Rattle.status_rewrites.specs.Buckets.{bucket_count, bucket_number, in_bucket, leading_bits, named_in, AreBuckets}
-use Rattle.status_rewrites.specs.Changed.{Changed}
+use Rattle.status_rewrites.specs.TrackedChanges.{Changed}
 use Rattle.status_rewrites.specs.IdentityPairs.{mode_number, key_cmp, may_stand}
 use Rattle.status_rewrites.specs.Joins.{side_of}
 use Rattle.status_rewrites.specs.SeenItems.{changed_of}

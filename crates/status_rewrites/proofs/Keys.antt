@@ -15,7 +15,7 @@ use Rattle.std.proofs.lemmas.List.Sorted.{ranks_by}
 use Rattle.std.proofs.lemmas.Result.{on_ok_weaker}
 use Rattle.status_index.specs.BlobId.{id_kind, id_bytes}
 use Rattle.status_index.specs.Orders.{kind_rank, id_cmp}
-use Rattle.status_rewrites.specs.Changed.{Changed}
+use Rattle.status_rewrites.specs.TrackedChanges.{Changed}
 use Rattle.status_rewrites.specs.IdentityPairs.{Placed, mode_number, key_cmp, path_cmp}
 
 id_total : IsTotalOrder id_cmp

@@ -13,9 +13,9 @@ use Rattle.std.proofs.lemmas.Option.{none-some, same_Some, slice_get-get_or}
 use Rattle.status_rewrites.specs.declared.change.ChangeKind.{ChangeKind}
 use Rattle.status_rewrites.specs.declared.change.ChangeKind.TheVariants.{Deletion, Addition}
 use Rattle.status_rewrites.specs.declared.tracker.Pair.{Pair}
-use Rattle.status_rewrites.specs.Changed.{Changed}
+use Rattle.status_rewrites.specs.TrackedChanges.{Changed}
 use Rattle.status_rewrites.specs.IdentityPairs.{Placed, key_cmp, are_alike, is_on, may_stand, row, rename, AreIdentityPairs}
-use Rattle.status_rewrites.specs.Renames.{StandsAt, AreLawful}
+use Rattle.status_rewrites.specs.Renames.{StandsAt, AreRenames}
 use Rattle.status_rewrites.proofs.Joining.{equal_from}
 use Rattle.status_rewrites.proofs.Keys.{key_total}
 use Rattle.status_rewrites.proofs.Lists.{filter-map, filter_none}
@@ -203,7 +203,7 @@ module _ (track_empty : Bool) (xs : List Changed) (pairs : List Pair) (p : AreId
       ∙ ap length (filter-map (λ q. number q == i) rename p.matched)
       ∙ length-map (filter (λ m. number (rename m) == i) p.matched) rename
 
-  pub identity_pairs_are_lawful : AreLawful xs pairs
+  pub identity_pairs_are_lawful : AreRenames xs pairs
   identity_pairs_are_lawful = record {
     removed = All-same (λ q. StandsAt xs Deletion q.source) pairs (map rename p.matched) p.are
         (All-map (λ q. StandsAt xs Deletion q.source) rename p.matched

@@ -10,7 +10,7 @@ use Rattle.status_rewrites.specs.declared.change.ChangeKind.{ChangeKind}
 use Rattle.status_rewrites.specs.declared.change.ChangeKind.TheVariants.{Deletion, Addition}
 use Rattle.status_rewrites.specs.declared.seen.Seen.{Seen}
 use Rattle.status_rewrites.specs.declared.tracker.Pair.{Pair}
-use Rattle.status_rewrites.specs.Changed.{Changed}
+use Rattle.status_rewrites.specs.TrackedChanges.{Changed}
 use Rattle.status_rewrites.specs.IdentityPairs.{Placed, key_cmp, are_alike, path_cmp, may_stand, row, rename, AreIdentityPairs}
 use Rattle.status_rewrites.specs.Joins.{alike_in, side_of, HasRows, IsJoin}
 use Rattle.status_rewrites.specs.SeenItems.{standing}

@@ -8,7 +8,7 @@ use Rattle.status_index.specs.Orders.{kind_rank}
 use Rattle.status_rewrites.specs.declared.change.ChangeKind.TheVariants.{Deletion, Addition}
 use Rattle.status_rewrites.specs.declared.seen.Seen.{Seen}
 use Rattle.status_rewrites.specs.declared.tracker.Pair.{Pair}
-use Rattle.status_rewrites.specs.Changed.{Changed}
+use Rattle.status_rewrites.specs.TrackedChanges.{Changed}
 use Rattle.status_rewrites.specs.IdentityPairs.{mode_number}
 use Rattle.status_rewrites.specs.Joins.{HasRows, IsJoin, side_of}
 use Rattle.status_rewrites.specs.SeenItems.{changed_of}

@@ -13,7 +13,7 @@ use Rattle.status_index.specs.declared.mode.EntryKind.TheVariants.{Tree, Blob, B
 use Rattle.status_rewrites.specs.declared.change.ChangeKind.{ChangeKind}
 use Rattle.status_rewrites.specs.declared.change.ChangeKind.TheVariants.{Deletion, Modification, Addition}
 use Rattle.status_rewrites.specs.declared.tracker.Pair.{Pair}
-use Rattle.status_rewrites.specs.Changed.{Changed}
+use Rattle.status_rewrites.specs.TrackedChanges.{Changed}
 
 -- files pair with files, executable or not, and links with links: 0 and 1. The rest, 2, doesn't pair
 abbrev pub mode_number : EntryKind → ℕ

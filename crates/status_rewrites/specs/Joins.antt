@@ -6,7 +6,7 @@ use Rattle.std.specs.Ordering.{is_lt}
 use Rattle.status_rewrites.specs.declared.change.ChangeKind.{ChangeKind}
 use Rattle.status_rewrites.specs.declared.seen.Seen.{Seen}
 use Rattle.status_rewrites.specs.declared.tracker.Pair.{Pair}
-use Rattle.status_rewrites.specs.Changed.{Changed}
+use Rattle.status_rewrites.specs.TrackedChanges.{Changed}
 use Rattle.status_rewrites.specs.IdentityPairs.{key_cmp, are_alike, may_stand}
 use Rattle.status_rewrites.specs.SeenItems.{changed_of}
 

@@ -1,6 +1,5 @@
 pub mod AfterRewrites
 pub mod Buckets
-pub mod Changed
 pub mod Entries
 pub mod IdentityPairs
 pub mod Joins
@@ -9,4 +8,5 @@ pub mod Parts
 pub mod Places
 pub mod Renames
 pub mod SeenItems
+pub mod TrackedChanges
 pub mod Trackers

@@ -1,6 +1,6 @@
 -- What is read once of a change.
 use Rattle.status_rewrites.specs.declared.seen.Seen.{Seen}
-use Rattle.status_rewrites.specs.Changed.{Changed}
+use Rattle.status_rewrites.specs.TrackedChanges.{Changed}
 use Rattle.status_rewrites.specs.IdentityPairs.{Placed}
 
 -- the change that was read

@@ -2,7 +2,7 @@
 
 ghost use Rattle.std.specs.Prelude.{◌≡◌};
 ghost use Rattle.bstr.specs.BStr.{bstr_bytes};
-ghost use Rattle.status_rewrites.specs.Changed.{Changed};
+ghost use Rattle.status_rewrites.specs.TrackedChanges.{Changed};
 
 use bstr::BStr;
 use status_index::{EntryKind, ObjectId};

@@ -3,7 +3,7 @@
 ghost use Rattle.std.specs.Prelude.{IfOk, map};
 ghost use Rattle.status_rewrites.specs.Buckets.{ArePairsOf};
 ghost use Rattle.status_rewrites.specs.IdentityPairs.{AreIdentityPairs};
-ghost use Rattle.status_rewrites.specs.Renames.{AreLawful, IsIdentityAnswer};
+ghost use Rattle.status_rewrites.specs.Renames.{AreRenames, IsIdentityAnswer};
 
 use crate::buckets::join_buckets;
 use crate::change::{Change, ChangeKind};
@@ -53,7 +53,7 @@ fn identity_pairs<C: Change>(
     track_empty: bool,
 ) -> Result<Vec<Pair>, AllocError>
     ensures pairs { IfOk result (λ pairs. AreIdentityPairs track_empty (map C.changed items.now) pairs.items) }
-    ensures lawful { IfOk result (λ pairs. AreLawful (map C.changed items.now) pairs.items) }
+    ensures lawful { IfOk result (λ pairs. AreRenames (map C.changed items.now) pairs.items) }
 {
     let mut seen = see_all(alloc, items)?;
     put_in_path_order(&mut seen)?;

@@ -13,7 +13,7 @@ use Rattle.status_base.specs.MemoryTree.{Placed, Tree}
 use Rattle.status_base.specs.Nodes.{placed_entries}
 use Rattle.status_base.specs.declared.worktree.memory.Node.{Node}
 use Rattle.status_walk.specs.Untracked.{untracked_at, untracked_walk}
-use Rattle.status_walk.specs.Walked.{Walked}
+use Rattle.status_walk.specs.WalkedNodes.{Walked}
 
 -- one more is taken of a list of which this is left
 module _ {A : Type 0} (xs : List A) (n : ℕ) (w : A) (rest : List A) (e : drop n xs ≡ w ∷ rest) where

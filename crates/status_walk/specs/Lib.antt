@@ -1,4 +1,4 @@
 pub mod Untracked
-pub mod Walked
+pub mod WalkedNodes
 pub mod Walks
 pub mod WorktreeIds

@@ -12,7 +12,7 @@ use Rattle.status_base.specs.Paths.{directories}
 use Rattle.status_walk.specs.declared.entry.Kind.{Kind}
 use Rattle.status_walk.specs.declared.entry.Kind.TheVariants as kinds
 use Rattle.status_walk.specs.declared.entry.Status.TheVariants as statuses
-use Rattle.status_walk.specs.Walked.{Walked}
+use Rattle.status_walk.specs.WalkedNodes.{Walked}
 use Rattle.status_walk.specs.Walks.{WalkMeaning}
 
 -- whether an entry has a path

@@ -5,7 +5,7 @@ use Rattle.status_index.specs.declared.fault.Fault.{Fault as WorktreeFault}
 use Rattle.status_walk.specs.declared.walk.Outcome.{Outcome}
 use Rattle.status_walk.specs.declared.walk.WalkError.{WalkError}
 use Rattle.status_walk.specs.declared.walk.WalkError.TheVariants.{Fault, Memory}
-use Rattle.status_walk.specs.Walked.{Walked}
+use Rattle.status_walk.specs.WalkedNodes.{Walked}
 
 -- a fault, and where it is met
 pub record WalkFault : Type 0 where
@@ -26,8 +26,12 @@ pub record IsWalked (m : WalkMeaning) (keeps : Walked → Bool) (old new : List 
   pub kept : new ≡ old ++ filter keeps (take o.emitted m.entries)
   pub whole : o.cancelled ≡ false → (o.emitted ≡ length m.entries) × (m.fault ≡ None)
 
--- what a walk answers by its meaning: so it ended; or with the fault that is meant; or memory ran out
+-- a walk fails with the fault that is meant, where it is met; or memory ran out
+abbrev pub IsWalkFault : Option WalkFault → WalkError → Type 0
+IsWalkFault meant (Fault path fault) = meant ≡ Some (record { path = bstring_bytes path; fault = fault })
+IsWalkFault meant Memory = ⊤
+
+-- what a walk answers by its meaning: so it ended, or so it failed
 abbrev pub IsWalk : WalkMeaning → (Walked → Bool) → List Walked → Bool → Result Outcome WalkError → List Walked → Type 0
 IsWalk m keeps old cancelled (Ok o) new = IsWalked m keeps old new cancelled o
-IsWalk m keeps old cancelled (Err (Fault path fault)) new = m.fault ≡ Some (record { path = bstring_bytes path; fault = fault })
-IsWalk m keeps old cancelled (Err Memory) new = ⊤
+IsWalk m keeps old cancelled (Err e) new = IsWalkFault m.fault e

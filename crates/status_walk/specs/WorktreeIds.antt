@@ -1,5 +1,5 @@
 -- The ids of what a walk found.
-use Rattle.std.specs.Prelude.{◌≡◌, ◌⊎◌, ℕ, Bool, true, false, List, Option, Some, None, Result, Ok, Err, if◌then◌else◌}
+use Rattle.std.specs.Prelude.{◌≡◌, ◌⊎◌, ℕ, Bool, true, false, IsTrue, List, Option, Some, None, Result, Ok, Err, if◌then◌else◌}
 use Rattle.status_index.specs.BlobId.{blob_id, null_id}
 use Rattle.status_index.specs.Content.{Content}
 use Rattle.status_index.specs.StreamId.{first_bytes_id}
@@ -8,7 +8,7 @@ use Rattle.status_index.specs.declared.fault.Fault.TheVariants.{NotFound, Permis
 use Rattle.status_index.specs.declared.id.HashKind.{HashKind}
 use Rattle.status_index.specs.declared.id.ObjectId.{ObjectId}
 use Rattle.status_index.specs.declared.metadata.Metadata.{Metadata}
-use Rattle.status_base.specs.Converted.{Converted, refused, same, other}
+use Rattle.status_base.specs.Conversions.{Conversion, refused, same, other}
 use Rattle.status_walk.specs.declared.entry.Kind.{Kind}
 use Rattle.status_walk.specs.declared.entry.Kind.TheVariants.{Untrackable, File, Symlink, Directory, Repository}
 use Rattle.status_walk.specs.declared.id.IdError.{IdError}
@@ -32,12 +32,12 @@ module _ (kind : HashKind) where
   stored_id content (Err f) = Err (Open f)
 
   -- of a file, what the filter makes of it
-  abbrev pub converted_id : Result Metadata Fault → Content → Converted → Result ObjectId IdError
+  abbrev pub converted_id : Result Metadata Fault → Content → Conversion → Result ObjectId IdError
   converted_id node content same = stored_id content node
   converted_id node content (other bytes) = Ok (blob_id kind bytes)
   converted_id node content (refused f) = Err (Convert f)
 
-  abbrev pub file_id : Result Metadata Fault → (Content → List ℕ → Converted) → List ℕ → Result Content Fault → Result ObjectId IdError
+  abbrev pub file_id : Result Metadata Fault → (Content → List ℕ → Conversion) → List ℕ → Result Content Fault → Result ObjectId IdError
   file_id node conversion path (Ok content) = converted_id node content (conversion content path)
   file_id node conversion path (Err f) = if is_passed_over f then Ok (null_id kind) else Err (Open f)
 
@@ -45,7 +45,7 @@ module _ (kind : HashKind) where
   link_id (Ok target) = Ok (blob_id kind target)
   link_id (Err f) = Err (ReadLink f)
 
-  module _ (lstat : List ℕ → Result Metadata Fault) (opened : List ℕ → Result Content Fault) (target : List ℕ → Result (List ℕ) Fault) (conversion : Content → List ℕ → Converted) (path : List ℕ) where
+  module _ (lstat : List ℕ → Result Metadata Fault) (opened : List ℕ → Result Content Fault) (target : List ℕ → Result (List ℕ) Fault) (conversion : Content → List ℕ → Conversion) (path : List ℕ) where
     -- the id of a node: of a file or a link by its content; whatever else it is, null
     abbrev pub worktree_id : Option Kind → Result ObjectId IdError
     worktree_id (Some File) = file_id (lstat path) conversion path (opened path)
@@ -66,3 +66,7 @@ fault_of (Convert f) = f
 abbrev pub IsId : Result ObjectId IdError → Result ObjectId IdError → Type 0
 IsId meant (Ok id) = meant ≡ Ok id
 IsId meant (Err e) = (meant ≡ Err e) ⊎ (fault_of e ≡ Memory)
+
+-- the id that is meant of a file with some content left, where the worktree is modelled
+abbrev pub IsIdOfFile : Bool → Option Content → (Content → Result ObjectId IdError) → Result ObjectId IdError → Type 0
+IsIdOfFile modelled left meant result = (content : Content) → left ≡ Some content → IsTrue modelled → IsId (meant content) result

@@ -1,7 +1,7 @@
 //! To whom a walk hands what it finds.
 
 ghost use Rattle.std.specs.Prelude.{◌≡◌, ◌∷◌, [], ◌++◌, filter, Bool, List, false, IfOk, OnOk};
-ghost use Rattle.status_walk.specs.Walked.{Walked, walked_of, is_cancel};
+ghost use Rattle.status_walk.specs.WalkedNodes.{Walked, walked_of, is_cancel};
 
 use crate::entry::{DirEntry, Status};
 use std::alloc::AllocError;

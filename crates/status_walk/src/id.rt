@@ -1,9 +1,8 @@
 //! Ids of what a walk found.
 
-ghost use Rattle.std.specs.Prelude.{◌≡◌, IsTrue, Some};
+ghost use Rattle.std.specs.Prelude.{◌≡◌, IsTrue};
 ghost use Rattle.bstr.specs.BStr.{bstr_bytes};
-ghost use Rattle.status_index.specs.Content.{Content};
-ghost use Rattle.status_walk.specs.WorktreeIds.{IsId, converted_id, file_id, is_passed_over, link_id, stored_id, worktree_id};
+ghost use Rattle.status_walk.specs.WorktreeIds.{IsId, IsIdOfFile, converted_id, file_id, is_passed_over, link_id, stored_id, worktree_id};
 
 use crate::entry::Kind;
 use bstr::BStr;
@@ -42,8 +41,8 @@ pub fn worktree_id<W: Worktree, T: ToGit>(
     disk_kind: Option<Kind>,
     buffer: &mut Vec<u8>,
 ) -> Result<ObjectId, IdError>
-    ensures { IsTrue (W.modelled worktree.now) → IsId (worktree_id kind (W.lstat_of worktree.now) (W.open_of worktree.now)
-        (W.target_of worktree.now) (T.conversion filter.now) (bstr_bytes path.entry) disk_kind) result }
+    ensures { let w = worktree.now in IsTrue (W.modelled w) → IsId (worktree_id kind (W.lstat_of w) (W.open_of w)
+        (W.target_of w) (T.conversion filter.now) (bstr_bytes path.entry) disk_kind) result }
 {
     match disk_kind {
         Some(Kind::File) => file_id(kind, worktree, filter, path, buffer),
@@ -62,8 +61,8 @@ fn file_id<W: Worktree, T: ToGit>(
     path: BStr<'_>,
     buffer: &mut Vec<u8>,
 ) -> Result<ObjectId, IdError>
-    ensures { IsTrue (W.modelled worktree.now) → IsId (file_id kind (W.lstat_of worktree.now (bstr_bytes path.entry))
-        (T.conversion filter.now) (bstr_bytes path.entry) (W.open_of worktree.now (bstr_bytes path.entry))) result }
+    ensures { let w = worktree.now in let at = bstr_bytes path.entry in
+        IsTrue (W.modelled w) → IsId (file_id kind (W.lstat_of w at) (T.conversion filter.now) at (W.open_of w at)) result }
 {
     match worktree.open(path) {
         Ok(file) => converted_id(kind, worktree, filter, path, file, buffer),
@@ -91,9 +90,8 @@ fn converted_id<W: Worktree, T: ToGit>(
     file: W::File,
     buffer: &mut Vec<u8>,
 ) -> Result<ObjectId, IdError>
-    ensures { (content : Content) → W.File.left file ≡ Some content → IsTrue (W.modelled worktree.now)
-        → IsId (converted_id kind (W.lstat_of worktree.now (bstr_bytes path.entry)) content
-        (T.conversion filter.now content (bstr_bytes path.entry))) result }
+    ensures { let at = bstr_bytes path.entry in IsIdOfFile (W.modelled worktree.now) (W.File.left file)
+        (λ c. converted_id kind (W.lstat_of worktree.now at) c (T.conversion filter.now c at)) result }
 {
     match filter.convert(file, path, buffer) {
         Ok(ToGitOutcome::Unchanged(file)) => stored_id(kind, worktree, path, file),
@@ -109,8 +107,8 @@ fn stored_id<W: Worktree>(
     path: BStr<'_>,
     mut file: W::File,
 ) -> Result<ObjectId, IdError>
-    ensures { (content : Content) → W.File.left file ≡ Some content → IsTrue (W.modelled worktree.now)
-        → IsId (stored_id kind content (W.lstat_of worktree.now (bstr_bytes path.entry))) result }
+    ensures { let at = bstr_bytes path.entry in IsIdOfFile (W.modelled worktree.now) (W.File.left file)
+        (λ c. stored_id kind c (W.lstat_of worktree.now at)) result }
 {
     match worktree.lstat(path) {
         Ok(node) => match compute_stream_hash(kind, &mut file, node.len) {

@@ -1,13 +1,13 @@
 //! The walk that finds what isn't tracked.
 
-ghost use Rattle.std.specs.Prelude.{◌≡◌, ◌++◌, filter, is_some, None, IfOk, OnOk, IsTrue, true, false};
+ghost use Rattle.std.specs.Prelude.{◌≡◌, is_some, None, IfOk, OnOk, IsTrue, true, false};
 ghost use Rattle.std.specs.List.{list_any};
-ghost use Rattle.std.specs.Option.{option_map, option_to_list};
+ghost use Rattle.std.specs.Option.{option_map};
 ghost use Rattle.bstr.specs.BStr.{bstr_bytes};
 ghost use Rattle.status_index.specs.Mode.{is_submodule};
 ghost use Rattle.status_index.specs.States.{index_of};
 ghost use Rattle.status_walk.specs.Untracked.{emitted_kind, is_below_submodule, is_submodule_at, is_tracked, is_untracked, untracked_at, untracked_walk};
-ghost use Rattle.status_walk.specs.Walked.{walked_of, is_cancelling};
+ghost use Rattle.status_walk.specs.WalkedNodes.{walked_of, is_cancelling, kept_more};
 ghost use Rattle.status_walk.specs.Walks.{IsWalk};
 
 use crate::delegate::{Action, Delegate};
@@ -82,8 +82,8 @@ fn hand_out<P: Pathspec, D: Delegate>(
     ensures keeps { D.keeps delegate.new ≡ D.keeps delegate.old }
     ensures handed { IfOk result (λ action. is_some action
         ≡ is_some (untracked_at (index_of index.now) (P.included pathspec.now) (bstr_bytes path.entry) kind)) }
-    ensures kept { OnOk result (D.kept delegate.new ≡ D.kept delegate.old ++ filter (D.keeps delegate.old)
-        (option_to_list (untracked_at (index_of index.now) (P.included pathspec.now) (bstr_bytes path.entry) kind))) }
+    ensures kept { OnOk result (D.kept delegate.new ≡ kept_more (D.keeps delegate.old) (D.kept delegate.old)
+        (untracked_at (index_of index.now) (P.included pathspec.now) (bstr_bytes path.entry) kind)) }
     ensures cancelled { IfOk result (λ action. D.cancelled delegate.new ≡ is_cancelling action) }
 {
     match untracked_at(alloc, index, pathspec, path, kind)? {

@@ -9,7 +9,7 @@ use Rattle.status_index.specs.Mode.{new_mode}
 use Rattle.status_index.specs.declared.fault.Fault.{Fault}
 use Rattle.status_index.specs.declared.metadata.NodeKind.{NodeKind}
 use Rattle.status_index.specs.declared.metadata.NodeKind.TheVariants.{File, Link, Directory, Other}
-use Rattle.status_base.specs.Converted.{Converted, same}
+use Rattle.status_base.specs.Conversions.{Conversion, same}
 use Rattle.status_base.specs.MemoryTree.{Tree, Placed, Planted, planted_or_none, or_planted, content_of, planted_content, open_of_kind, target_of_kind, fault_without_node, open_of_node, target_of_node, open_in, target_in}
 use Rattle.status_base.proofs.PlantedReads.{entries-empty}
 use Rattle.status_compare.specs.FastAgrees.{IsWholly}
@@ -49,7 +49,7 @@ pub linked_node : (tree : Tree) (path : List ℕ) (n : Placed) → tree.planted 
     → target_in tree path ≡ target_of_kind n.bytes n.metadata.kind
 linked_node tree path n unplanted there = target_is tree path (Some n) there ∙ ap (λ p. target_by tree path p (Some n)) (none_planted tree path unplanted)
 
-abbrev no_conversion : Content → Converted
+abbrev no_conversion : Content → Conversion
 no_conversion content = same
 
 -- where mode and node are of one kind, the reading is the whole node

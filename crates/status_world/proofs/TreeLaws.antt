@@ -20,7 +20,7 @@ use Rattle.status_index.specs.declared.metadata.NodeKind.TheVariants.{File, Link
 use Rattle.status_base.specs.LinkCheck.{LinkCheck, accepted, empty_path, not_normal, through_link, faulty, barrier_of_kind, barrier_of, decided, leftmost_barrier, link_check}
 use Rattle.status_base.specs.MemoryTree.{Tree, Placed, PathMap, Planted, planted_or_none, or_planted, lstat_of_node, lstat_in, has_below, has_file_above, absence, bare_directory}
 use Rattle.status_base.specs.Nodes.{is_bad_path}
-use Rattle.status_base.specs.Paths.{is_slash, directories, lies_above, odd_component}
+use Rattle.status_base.specs.Paths.{is_slash, directories, lies_above, abnormal_component}
 use Rattle.status_base.proofs.LinkLemmas.{directories_contain, link_check_normal}
 use Rattle.status_base.proofs.LooksLemmas.{all_above}
 use Rattle.status_world.specs.PlainWorld.{with_value}
@@ -59,12 +59,12 @@ is_none_of : {A : Type 0} (o : Option A) → is_some o ≡ false → o ≡ None
 is_none_of None h = refl
 is_none_of (Some x) h = cc
 
--- a path that isn't bad isn't empty and has no odd component
-pub good_path : (path : List ℕ) → is_bad_path path ≡ false → (0 < length path) × (odd_component path ≡ None)
+-- a path that isn't bad isn't empty and has no component that is empty, `.` or `..`
+pub good_path : (path : List ℕ) → is_bad_path path ≡ false → (0 < length path) × (abnormal_component path ≡ None)
 good_path path h =
-    let parts = or_parts (length path == 0) (is_some (odd_component path)) h in
+    let parts = or_parts (length path == 0) (is_some (abnormal_component path)) h in
     let full = eqb-false (length path) 0 parts.0 in
-    (omega (arith, full), is_none_of (odd_component path) parts.1)
+    (omega (arith, full), is_none_of (abnormal_component path) parts.1)
 
 -- ---- has_below
 

@@ -8,8 +8,8 @@ use Rattle.status_index.specs.declared.fault.Fault.{Fault}
 use Rattle.status_index.specs.declared.metadata.Metadata.{Metadata}
 use Rattle.status_index.specs.declared.stat.Moment.{Moment}
 use Rattle.status_index.specs.declared.state.State.{State}
-use Rattle.status_base.specs.Converted.{same}
-use Rattle.status_base.specs.Listed.{known_node}
+use Rattle.status_base.specs.Conversions.{same}
+use Rattle.status_base.specs.ListedNodes.{known_node}
 use Rattle.status_base.specs.Objects.{found_in}
 use Rattle.status_compare.specs.declared.error.Error.{Error}
 use Rattle.status_compare.specs.declared.error.Error.TheVariants.{SpawnThread}

@@ -4,7 +4,7 @@ ghost use Rattle.std.specs.Prelude.{◌≡◌, IfOk, OnOk, OnErr, IsTrue};
 ghost use Rattle.std.specs.FinMap as paths;
 ghost use Rattle.bstr.specs.BStr.{bstr_bytes};
 ghost use Rattle.std.proofs.Props.{props};
-ghost use Rattle.status_base.specs.Listed.{listed};
+ghost use Rattle.status_base.specs.ListedNodes.{listed};
 ghost use Rattle.status_base.specs.ListingTable.{known, IsGrown, IsOf};
 
 use crate::fscache::{Listings, Stat};

@@ -3,7 +3,7 @@
 ghost use Rattle.std.specs.Prelude.{◌≡◌, List, ℕ, Some, refl};
 ghost use Rattle.bstr.specs.BStr.{bstr_bytes};
 ghost use Rattle.status_index.specs.Content.{Content};
-ghost use Rattle.status_base.specs.Converted.{Converted, same};
+ghost use Rattle.status_base.specs.Conversions.{Conversion, same};
 ghost use Rattle.status_base.specs.Lawful.{CloneKeeps};
 
 use bstr::BStr;
@@ -23,9 +23,9 @@ pub trait ToGit: Clone {
     ghost use Rattle.status_base.specs.Outcomes.{IsConverted};
 
     /// What becomes of a file at a path.
-    ghost conversion: { Self → Content → List ℕ → Converted };
+    ghost conversion: { Self → Content → List ℕ → Conversion };
 
-    /// Converts a file. Converted bytes are in `buffer`.
+    /// Converts a file. Conversion bytes are in `buffer`.
     ///
     /// # Errors
     /// A fault of the filter or of reading the file.

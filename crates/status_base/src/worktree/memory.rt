@@ -1,18 +1,18 @@
 //! A worktree in memory.
 
-ghost use Rattle.std.specs.Prelude.{◌≡◌, ◌⊎◌, ℕ, ◌<◌, ◌^◌, [], length, None, Some, IfOk, IfErr, OnOk, MatchOption, is_some};
+ghost use Rattle.std.specs.Prelude.{◌≡◌, ◌⊎◌, ℕ, ◌<◌, ◌^◌, [], length, None, Some, IfOk, IfErr, OnOk, MatchOption};
 ghost use Rattle.std.specs.Global.{Vec as ByteVec};
 ghost use Rattle.std.specs.Map.Iter.{ShowsInOrder, deref_pair};
 ghost use Rattle.std.specs.Option.{option_map};
 ghost use Rattle.std.specs.FinMap as paths;
 ghost use Rattle.bstr.specs.BStr.{bstr_bytes};
-ghost use Rattle.status_base.specs.Paths.{is_odd, odd_component};
 ghost use Rattle.status_base.specs.MemoryTree.{is_no_directory, has_below, has_file_above, absence, bare_directory, planted_or_none, planted_at, planted_content, fault_without_node};
 ghost use Rattle.status_base.specs.Nodes.{placed_of, placed_entries, is_bad_path, put_fault, IsPut};
 ghost use Rattle.status_base.specs.Points.{IsPlanted};
 ghost use Rattle.status_base.specs.declared.worktree.memory.Node.{Node as NodeValue};
 ghost use Rattle.status_base.specs.Trees.{empty_tree};
 
+use crate::components::has_abnormal_component;
 use crate::worktree::Worktree;
 use crate::worktree::planted::{
     PlantedFaults, Point, first_read_fault, lstat_fault, open_fault, read_link_fault,
@@ -263,7 +263,7 @@ impl MemoryWorktree {
     fn fault_of_put(&self, path: &[u8], kind: NodeKind) -> Result<Option<TreeError>, AllocError>
         ensures { IfOk result (λ fault. fault ≡ put_fault self.now path.now kind) }
     {
-        if path.is_empty() || has_odd_component(path) {
+        if path.is_empty() || has_abnormal_component(path) {
             return Ok(Some(TreeError::BadPath));
         }
         if self.has_file_above(path) {
@@ -305,21 +305,7 @@ pub fn is_bad_path(path: BStr<'_>) -> bool
     ensures { result ≡ is_bad_path (bstr_bytes path.entry) }
 {
     let path = path.as_bytes();
-    path.is_empty() || has_odd_component(path)
-}
-
-/// Whether a component of a path is empty, `.` or `..`.
-fn has_odd_component(path: &[u8]) -> bool
-    ensures { result ≡ is_some (odd_component path.now) }
-{
-    path.split(|byte| *byte == b'/').any(is_odd)
-}
-
-/// Whether a component is empty, `.` or `..`.
-fn is_odd(component: &[u8]) -> bool
-    ensures { result ≡ is_odd component.now }
-{
-    matches!(component, b"" | b"." | b"..")
+    path.is_empty() || has_abnormal_component(path)
 }
 
 /// What `lstat` reports of a directory that was not put.

@@ -22,7 +22,7 @@ pub enum FindError {
 /// Blobs by their ids. They are either modelled, and then found by a function from ids, or not, as an object database on a
 /// disk.
 pub trait Find: Clone {
-    ghost use Rattle.status_base.specs.Found.{IsFound};
+    ghost use Rattle.status_base.specs.FindAnswers.{IsFindAnswer};
 
     /// Whether they are modelled.
     ghost modelled: { Self → Bool };
@@ -35,7 +35,7 @@ pub trait Find: Clone {
     /// # Errors
     /// Missing where there is no blob of that id. After an error what `buffer` holds is left open.
     fn find_blob(&self, id: &ObjectId, buffer: &mut Vec<u8>) -> Result<(), FindError>
-        ensures { IsTrue (modelled self.now) → IsFound (found self.now id.now) result buffer.new.items };
+        ensures { IsTrue (modelled self.now) → IsFindAnswer (found self.now id.now) result buffer.new.items };
 
     /// A clone is modelled where its original is.
     ghost clone_keeps_modelled: { CloneKeeps Self.is_clone modelled };

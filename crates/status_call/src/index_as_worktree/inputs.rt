@@ -1,7 +1,7 @@
 //! What a caller hands in, and what it means.
 
 ghost use Rattle.std.specs.Prelude.{◌≡◌, IfOk};
-ghost use Rattle.status_base.specs.Listed.{known_node};
+ghost use Rattle.status_base.specs.ListedNodes.{known_node};
 ghost use Rattle.status_call.specs.Inputs.{settings};
 ghost use Rattle.status_call.specs.Modelled.{all_modelled, are_modelled};
 ghost use Rattle.status_call.specs.Query.{Query};

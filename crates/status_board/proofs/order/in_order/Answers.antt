@@ -1,7 +1,7 @@
 use Rattle.std.proofs.Common.{◌∙◌, sym, subst, List, ◌∷◌}
 use Rattle.std.specs.Vec.Iter.{into_iter_items}
 use Rattle.status_board.specs.declared.worker.Finished.{Finished}
-use Rattle.status_board.specs.Finished.{IsPlaced}
+use Rattle.status_board.specs.FinishedPieces.{IsPlaced}
 use Rattle.status_board.proofs.Slots.{placed_none, placed_more, placed_end, all_full, placed_outs}
 use Rattle.status_board.proofs.order.in_order.Goals as goal
 

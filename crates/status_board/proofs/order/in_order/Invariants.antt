@@ -1,5 +1,5 @@
 use Rattle.std.specs.Vec.Iter.{into_iter_items}
-use Rattle.status_board.specs.Finished.{IsPlaced}
+use Rattle.status_board.specs.FinishedPieces.{IsPlaced}
 use Rattle.status_board.proofs.order.in_order.Given as goal
 
 abbrev pub invariant-loop-piece : goal.invariant-loop-piece

@@ -1,5 +1,5 @@
 use Rattle.std.proofs.Common.{◌≡◌, ◌<◌, subst, ℕ, IfOk, length, arith}
-use Rattle.status_board.specs.Finished.{IsInOrder}
+use Rattle.status_board.specs.FinishedPieces.{IsInOrder}
 use Rattle.status_board.proofs.Rounds.{end_inside, finished_once, round_of, some_done}
 use Rattle.status_board.proofs.round.finish.Goals as goal
 

@@ -3,7 +3,7 @@ use Rattle.std.specs.Prelude.{IfOk}
 use Rattle.std.proofs.lemmas.Result.{IfOk-weaker}
 use Rattle.status_rewrites.specs.Buckets.{ArePairsOf}
 use Rattle.status_rewrites.specs.IdentityPairs.{AreIdentityPairs}
-use Rattle.status_rewrites.specs.Renames.{AreLawful}
+use Rattle.status_rewrites.specs.Renames.{AreRenames}
 use Rattle.status_rewrites.proofs.LawfulPairs.{identity_pairs_are_lawful}
 use Rattle.status_rewrites.proofs.Rows.{pairs_from_join}
 use Rattle.status_rewrites.proofs.identity.identity_pairs.Goals as goal
@@ -20,6 +20,6 @@ returns-clause-pairs g c =
 pub returns-clause-lawful : goal.returns-clause-lawful
 returns-clause-lawful g c =
     let xs = map g.C.Change.changed c.args.items.now in
-    IfOk-weaker c.side_pairs.result (λ pairs. AreIdentityPairs c.args.track_empty xs pairs.items) (λ pairs. AreLawful xs pairs.items)
+    IfOk-weaker c.side_pairs.result (λ pairs. AreIdentityPairs c.args.track_empty xs pairs.items) (λ pairs. AreRenames xs pairs.items)
     (λ pairs p. identity_pairs_are_lawful c.args.track_empty xs pairs.items p)
     (returns-clause-pairs g c)

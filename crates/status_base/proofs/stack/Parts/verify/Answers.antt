@@ -2,11 +2,11 @@ use Rattle.std.proofs.Common.{◌≡◌, ℕ, ◌<◌, ◌≤◌, ◌+◌, ◌-�
 use Rattle.bstr.specs.BStr.{bstr_bytes}
 use Rattle.bstr.specs.Owned.{bstring_bytes}
 use Rattle.status_index.specs.Content.{saturate}
-use Rattle.status_base.specs.Paths.{odd_component}
+use Rattle.status_base.specs.Paths.{abnormal_component}
 use Rattle.status_base.specs.CheckState.{IsClear}
-use Rattle.status_base.specs.Verified.{IsNormal}
-use Rattle.status_base.proofs.CommonFronts.{clear_behind, clear_common, clear_front, clear_none, even_behind, even_front, new_counted, odd_first, whole_behind}
-use Rattle.status_base.proofs.LinkLemmas.{length-directories, length-directories-more, link_check_barred, link_check_clear, link_check_odd, named_stop, on_barred, on_reached, on_the_way-few}
+use Rattle.status_base.specs.CheckAnswers.{IsNormal}
+use Rattle.status_base.proofs.CommonFronts.{clear_behind, clear_common, clear_front, clear_none, normal_behind, normal_front, new_counted, abnormal_first, whole_behind}
+use Rattle.status_base.proofs.LinkLemmas.{length-directories, length-directories-more, link_check_barred, link_check_clear, link_check_abnormal, named_stop, on_barred, on_reached, on_the_way-few}
 use Rattle.status_base.proofs.stack.Parts.verify.Goals as goal
 
 pub returns-in-Some-clause-named : goal.returns-in-Some-clause-named
@@ -14,14 +14,14 @@ returns-in-Some-clause-named g c =
     let old = c.args.self.now in
     let path = c.args.path.now in
     let first = c.component_start-first.result in
-    let odd : odd_component path ≡ odd_component (take (length path - first) (drop first path)) = odd_first path old.buffer.items old.start old.tested c.common_with-common.result first c.common_with-common.ensures old.even c.component_start-first.ensures.within c.component_start-first.ensures.slash in
-    let found : odd_component (take (length path - first) (drop first path)) ≡ Some (bstr_bytes c.new-component.result) = search rules in
-    odd ∙ found
+    let abnormal : abnormal_component path ≡ abnormal_component (take (length path - first) (drop first path)) = abnormal_first path old.buffer.items old.start old.tested c.common_with-common.result first c.common_with-common.ensures old.normal c.component_start-first.ensures.within c.component_start-first.ensures.slash in
+    let found : abnormal_component (take (length path - first) (drop first path)) ≡ Some (bstr_bytes c.new-component.result) = search rules in
+    abnormal ∙ found
 
 pub returns-in-Some-clause-answer : goal.returns-in-Some-clause-answer
 returns-in-Some-clause-answer g c =
     let full : 0 < length c.args.path.now = search rules in
-    λ modelled clear. link_check_odd (g.W.Worktree.lstat_of c.args.worktree.now) c.args.path.now (bstr_bytes c.new-component.result) full (returns-in-Some-clause-named g c)
+    λ modelled clear. link_check_abnormal (g.W.Worktree.lstat_of c.args.worktree.now) c.args.path.now (bstr_bytes c.new-component.result) full (returns-in-Some-clause-named g c)
 
 pub returns-in_err-write-clause-after : goal.returns-in_err-write-clause-after
 returns-in_err-write-clause-after g c =
@@ -30,15 +30,15 @@ returns-in_err-write-clause-after g c =
     let new = c.write.new.self in
     let first = c.component_start-first.result in
     let full : 0 < length path = search rules in
-    let none : odd_component (take (length path - first) (drop first path)) ≡ None = search rules in
-    let even : odd_component path ≡ None = odd_first path old.buffer.items old.start old.tested c.common_with-common.result first c.common_with-common.ensures old.even c.component_start-first.ensures.within c.component_start-first.ensures.slash ∙ none in
+    let none : abnormal_component (take (length path - first) (drop first path)) ≡ None = search rules in
+    let normal : abnormal_component path ≡ None = abnormal_first path old.buffer.items old.start old.tested c.common_with-common.result first c.common_with-common.ensures old.normal c.component_start-first.ensures.within c.component_start-first.ensures.slash ∙ none in
     record {
       root = ap bstring_bytes c.write.ensures.kept.0;
       clear = λ modelled clear. clear_none (g.W.Worktree.lstat_of c.args.worktree.now) new.buffer.items new.start new.tested c.write.ensures.forgotten;
       looks = omega (arith, c.write.ensures.kept.1);
       few = omega (arith, c.write.ensures.kept.1);
       barred = search rules;
-      unchanged = λ odd. absurd (odd (record { nonempty = full; even = even }));
+      unchanged = λ abnormal. absurd (abnormal (record { nonempty = full; normal = normal }));
     }
 
 pub invariant_of-self : goal.invariant_of-self
@@ -47,12 +47,12 @@ invariant_of-self g c =
     let path = c.args.path.now in
     let new = c.write.new.self in
     let first = c.component_start-first.result in
-    let none : odd_component (take (length path - first) (drop first path)) ≡ None = search rules in
-    let even : odd_component path ≡ None = odd_first path old.buffer.items old.start old.tested c.common_with-common.result first c.common_with-common.ensures old.even c.component_start-first.ensures.within c.component_start-first.ensures.slash ∙ none in
+    let none : abnormal_component (take (length path - first) (drop first path)) ≡ None = search rules in
+    let normal : abnormal_component path ≡ None = abnormal_first path old.buffer.items old.start old.tested c.common_with-common.result first c.common_with-common.ensures old.normal c.component_start-first.ensures.within c.component_start-first.ensures.slash ∙ none in
     record {
       within = omega (arith, c.in_ok-write.ensures.length);
       below = λ _. c.in_ok-write.ensures.below;
-      even = λ _. ap odd_component (whole_behind path new.buffer.items new.start c.in_ok-write.ensures.path) ∙ even;
+      normal = λ _. ap abnormal_component (whole_behind path new.buffer.items new.start c.in_ok-write.ensures.path) ∙ normal;
     }
 
 pub invariant_of-self-in-Some-first_barrier : goal.invariant_of-self-in-Some-first_barrier
@@ -62,12 +62,12 @@ invariant_of-self-in-Some-first_barrier g c =
     let at = c.in-Some-first_barrier.stop.at in
     let is_stop = c.in-Some-first_barrier.ensures.stop in
     let first = c.component_start-first.result in
-    let none : odd_component (take (length path - first) (drop first path)) ≡ None = search rules in
-    let even : odd_component path ≡ None = odd_first path old.buffer.items old.start old.tested c.common_with-common.result first c.common_with-common.ensures old.even c.component_start-first.ensures.within c.component_start-first.ensures.slash ∙ none in
+    let none : abnormal_component (take (length path - first) (drop first path)) ≡ None = search rules in
+    let normal : abnormal_component path ≡ None = abnormal_first path old.buffer.items old.start old.tested c.common_with-common.result first c.common_with-common.ensures old.normal c.component_start-first.ensures.within c.component_start-first.ensures.slash ∙ none in
     record {
       within = omega (arith, c.in_ok-write.ensures.length, is_stop.within);
       below = λ _. c.in_ok-write.ensures.below;
-      even = λ _. even_behind path c.write.new.self.buffer.items c.write.new.self.start at c.in_ok-write.ensures.path (even_front path at is_stop.within is_stop.slash even);
+      normal = λ _. normal_behind path c.write.new.self.buffer.items c.write.new.self.start at c.in_ok-write.ensures.path (normal_front path at is_stop.within is_stop.slash normal);
     }
 
 pub returns-in-None-clause-answer : goal.returns-in-None-clause-answer
@@ -77,9 +77,9 @@ returns-in-None-clause-answer g c =
     let lstat = g.W.Worktree.lstat_of c.args.worktree.now in
     let first = c.component_start-first.result in
     let full : 0 < length path = search rules in
-    let none : odd_component (take (length path - first) (drop first path)) ≡ None = search rules in
-    let even : odd_component path ≡ None = odd_first path old.buffer.items old.start old.tested c.common_with-common.result first c.common_with-common.ensures old.even c.component_start-first.ensures.within c.component_start-first.ensures.slash ∙ none in
-    λ modelled clear. link_check_clear lstat path full even (c.in-None.ensures.way modelled (clear_common lstat (take old.tested (drop old.start old.buffer.items)) path c.common_with-common.result c.common_with-common.ensures clear))
+    let none : abnormal_component (take (length path - first) (drop first path)) ≡ None = search rules in
+    let normal : abnormal_component path ≡ None = abnormal_first path old.buffer.items old.start old.tested c.common_with-common.result first c.common_with-common.ensures old.normal c.component_start-first.ensures.within c.component_start-first.ensures.slash ∙ none in
+    λ modelled clear. link_check_clear lstat path full normal (c.in-None.ensures.way modelled (clear_common lstat (take old.tested (drop old.start old.buffer.items)) path c.common_with-common.result c.common_with-common.ensures clear))
 
 pub returns-in-None-clause-after : goal.returns-in-None-clause-after
 returns-in-None-clause-after g c =
@@ -91,8 +91,8 @@ returns-in-None-clause-after g c =
     let common = c.common_with-common.result in
     let first = c.component_start-first.result in
     let full : 0 < length path = search rules in
-    let none : odd_component (take (length path - first) (drop first path)) ≡ None = search rules in
-    let even : odd_component path ≡ None = odd_first path old.buffer.items old.start old.tested common first c.common_with-common.ensures old.even c.component_start-first.ensures.within c.component_start-first.ensures.slash ∙ none in
+    let none : abnormal_component (take (length path - first) (drop first path)) ≡ None = search rules in
+    let normal : abnormal_component path ≡ None = abnormal_first path old.buffer.items old.start old.tested common first c.common_with-common.ensures old.normal c.component_start-first.ensures.within c.component_start-first.ensures.slash ∙ none in
     let P : List ℕ → Type 0 = λ p. IsClear lstat p in
     record {
       root = ap bstring_bytes c.write.ensures.kept.0;
@@ -100,7 +100,7 @@ returns-in-None-clause-after g c =
       looks = omega (arith, c.write.ensures.kept.1, c.in-None.ensures.looks);
       few = omega (arith, c.write.ensures.kept.1, c.in-None.ensures.few, new_counted kept path common (length path) c.common_with-common.ensures (omega arith));
       barred = tt;
-      unchanged = λ odd. absurd (odd (record { nonempty = full; even = even }));
+      unchanged = λ abnormal. absurd (abnormal (record { nonempty = full; normal = normal }));
     }
 
 pub returns-in-Some-first_barrier-clause-answer : goal.returns-in-Some-first_barrier-clause-answer
@@ -110,9 +110,9 @@ returns-in-Some-first_barrier-clause-answer g c =
     let lstat = g.W.Worktree.lstat_of c.args.worktree.now in
     let first = c.component_start-first.result in
     let full : 0 < length path = search rules in
-    let none : odd_component (take (length path - first) (drop first path)) ≡ None = search rules in
-    let even : odd_component path ≡ None = odd_first path old.buffer.items old.start old.tested c.common_with-common.result first c.common_with-common.ensures old.even c.component_start-first.ensures.within c.component_start-first.ensures.slash ∙ none in
-    λ modelled clear. link_check_barred lstat path c.in-Some-first_barrier.stop full even c.in-Some-first_barrier.ensures.stop (c.in-Some-first_barrier.ensures.way modelled (clear_common lstat (take old.tested (drop old.start old.buffer.items)) path c.common_with-common.result c.common_with-common.ensures clear))
+    let none : abnormal_component (take (length path - first) (drop first path)) ≡ None = search rules in
+    let normal : abnormal_component path ≡ None = abnormal_first path old.buffer.items old.start old.tested c.common_with-common.result first c.common_with-common.ensures old.normal c.component_start-first.ensures.within c.component_start-first.ensures.slash ∙ none in
+    λ modelled clear. link_check_barred lstat path c.in-Some-first_barrier.stop full normal c.in-Some-first_barrier.ensures.stop (c.in-Some-first_barrier.ensures.way modelled (clear_common lstat (take old.tested (drop old.start old.buffer.items)) path c.common_with-common.result c.common_with-common.ensures clear))
 
 pub returns-in-Some-first_barrier-clause-named : goal.returns-in-Some-first_barrier-clause-named
 returns-in-Some-first_barrier-clause-named g c =
@@ -124,9 +124,9 @@ returns-in-Some-first_barrier-clause-normal g c =
     let path = c.args.path.now in
     let first = c.component_start-first.result in
     let full : 0 < length path = search rules in
-    let none : odd_component (take (length path - first) (drop first path)) ≡ None = search rules in
-    let even : odd_component path ≡ None = odd_first path old.buffer.items old.start old.tested c.common_with-common.result first c.common_with-common.ensures old.even c.component_start-first.ensures.within c.component_start-first.ensures.slash ∙ none in
-    on_reached (Unit {0}) c.in-Some-first_barrier.stop.error (IsNormal path) (record { nonempty = full; even = even })
+    let none : abnormal_component (take (length path - first) (drop first path)) ≡ None = search rules in
+    let normal : abnormal_component path ≡ None = abnormal_first path old.buffer.items old.start old.tested c.common_with-common.result first c.common_with-common.ensures old.normal c.component_start-first.ensures.within c.component_start-first.ensures.slash ∙ none in
+    on_reached (Unit {0}) c.in-Some-first_barrier.stop.error (IsNormal path) (record { nonempty = full; normal = normal })
 
 pub returns-in-Some-first_barrier-clause-after : goal.returns-in-Some-first_barrier-clause-after
 returns-in-Some-first_barrier-clause-after g c =
@@ -140,13 +140,13 @@ returns-in-Some-first_barrier-clause-after g c =
     let is_stop = c.in-Some-first_barrier.ensures.stop in
     let first = c.component_start-first.result in
     let full : 0 < length path = search rules in
-    let none : odd_component (take (length path - first) (drop first path)) ≡ None = search rules in
-    let even : odd_component path ≡ None = odd_first path old.buffer.items old.start old.tested common first c.common_with-common.ensures old.even c.component_start-first.ensures.within c.component_start-first.ensures.slash ∙ none in
+    let none : abnormal_component (take (length path - first) (drop first path)) ≡ None = search rules in
+    let normal : abnormal_component path ≡ None = abnormal_first path old.buffer.items old.start old.tested common first c.common_with-common.ensures old.normal c.component_start-first.ensures.within c.component_start-first.ensures.slash ∙ none in
     record {
       root = ap bstring_bytes c.write.ensures.kept.0;
       clear = λ modelled clear. clear_behind lstat path new.buffer.items new.start stop.at c.in_ok-write.ensures.path (clear_front lstat path stop.at (c.in-Some-first_barrier.ensures.way modelled (clear_common lstat kept path common c.common_with-common.ensures clear)).open_below);
       looks = omega (arith, c.write.ensures.kept.1, c.in-Some-first_barrier.ensures.looks);
       few = omega (arith, c.write.ensures.kept.1, c.in-Some-first_barrier.ensures.few, on_the_way-few path stop is_stop, new_counted kept path common (length path) c.common_with-common.ensures (omega arith));
       barred = on_barred stop.error (saturate (old.looks + 1) ≤ c.first_barrier.new.looks) (omega (arith, c.write.ensures.kept.1, c.in-Some-first_barrier.ensures.counted, length-directories-more path stop.at is_stop.slash, length-directories path common stop.at c.in-Some-first_barrier.ensures.behind));
-      unchanged = λ odd. absurd (odd (record { nonempty = full; even = even }));
+      unchanged = λ abnormal. absurd (abnormal (record { nonempty = full; normal = normal }));
     }

@@ -3,10 +3,10 @@ use Rattle.bstr.specs.BStr.{bstr_bytes}
 use Rattle.bstr.specs.Owned.{bstring_bytes}
 use Rattle.status_index.specs.declared.fault.Fault.TheVariants.{NotFound}
 use Rattle.status_base.specs.declared.stack.error.StackError.TheVariants.{Fault}
-use Rattle.status_base.specs.Kept.{state_of}
+use Rattle.status_base.specs.CheckParts.{state_of}
 use Rattle.status_base.specs.Paths.{joined}
 use Rattle.status_base.specs.LinkCheck.{link_check}
-use Rattle.status_base.specs.Verified.{IsNormal}
+use Rattle.status_base.specs.CheckAnswers.{IsNormal}
 use Rattle.status_base.proofs.LinkLemmas.{absent_accepted, accepted_present, after_absent, reached_at_absent, still_accepted}
 use Rattle.status_base.proofs.stack.SymlinkCheck.verified_path_allow_nonexisting.Goals as goal
 

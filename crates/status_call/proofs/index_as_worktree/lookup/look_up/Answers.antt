@@ -1,7 +1,7 @@
 use Rattle.std.proofs.Common.{not, is_some, sym, ◌∙◌}
 use Rattle.bstr.specs.BStr.{bstr_bytes}
 use Rattle.status_base.specs.LinkCheck.{link_check}
-use Rattle.status_base.specs.Listed.{known_node}
+use Rattle.status_base.specs.ListedNodes.{known_node}
 use Rattle.status_call.specs.Status.{cached_or}
 use Rattle.status_call.proofs.EntryCases.{site_known, site_live, live_answer}
 use Rattle.status_call.proofs.index_as_worktree.lookup.look_up.Goals as goal

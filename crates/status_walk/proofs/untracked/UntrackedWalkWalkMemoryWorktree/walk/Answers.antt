@@ -1,7 +1,7 @@
 use Rattle.std.proofs.Common.{refl, sym, ap, ◌∙◌, Some, is_some, arith}
 use Rattle.std.proofs.lemmas.Bool.{true≢false}
 use Rattle.status_index.specs.States.{index_of}
-use Rattle.status_walk.specs.Walked.{is_cancelling}
+use Rattle.status_walk.specs.WalkedNodes.{is_cancelling}
 use Rattle.status_walk.proofs.Walking.{begins, passed_over, handed, at_end}
 use Rattle.status_walk.proofs.untracked.UntrackedWalkWalkMemoryWorktree.walk.Goals as goal
 

@@ -1,6 +1,6 @@
 use Rattle.std.proofs.Common.{sym, ap, subst, ◌∙◌}
 use Rattle.bstr.specs.BStr.{bstr_bytes}
-use Rattle.status_base.specs.Listed.{Listing, directory_of, file_name_of}
+use Rattle.status_base.specs.ListedNodes.{Listing, directory_of, file_name_of}
 use Rattle.status_base.specs.ListingTable.{AreNamesOf, IsOf}
 use Rattle.status_base.proofs.ListingTables.{grown_listed, known_put, put-IsOf}
 use Rattle.status_base.proofs.fscache.listings.Listings.get.Goals as goal

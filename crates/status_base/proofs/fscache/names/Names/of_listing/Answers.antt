@@ -1,5 +1,5 @@
 use Rattle.std.proofs.Common.{None, sym, ap, subst}
-use Rattle.status_base.specs.Listed.{Listing}
+use Rattle.status_base.specs.ListedNodes.{Listing}
 use Rattle.status_base.specs.Listing.{listing_of}
 use Rattle.status_base.specs.ListingTable.{AreNamesOf}
 use Rattle.status_base.proofs.ListingTables.{unlisted}

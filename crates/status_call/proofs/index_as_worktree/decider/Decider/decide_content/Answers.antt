@@ -3,7 +3,7 @@ use Rattle.status_index.specs.Entries.{entry_at}
 use Rattle.status_call.specs.EntryParts.{counted_of}
 use Rattle.status_call.specs.Modelled.{all_modelled, are_modelled}
 use Rattle.status_call.specs.Query.{Query}
-use Rattle.status_base.specs.Listed.{known_node}
+use Rattle.status_base.specs.ListedNodes.{known_node}
 use Rattle.status_call.proofs.EntryCases.{compared_of_case}
 use Rattle.status_call.proofs.index_as_worktree.decider.Decider.decide_content.Goals as goal
 

@@ -7,7 +7,7 @@ use Rattle.status_call.specs.EntryParts.{counted_of}
 use Rattle.status_call.specs.Modelled.{all_modelled, are_modelled}
 use Rattle.status_call.specs.Query.{Query}
 use Rattle.status_call.specs.Status.{case_of_found, found, present}
-use Rattle.status_base.specs.Listed.{known_node}
+use Rattle.status_base.specs.ListedNodes.{known_node}
 use Rattle.status_call.proofs.EntryCases.{counted_look, is_decided, presence_node, reported_counts}
 use Rattle.status_call.proofs.index_as_worktree.decider.DeciderDecide.decide.Goals as goal
 

@@ -1,4 +1,4 @@
-use Rattle.status_base.specs.Listed.{known_node}
+use Rattle.status_base.specs.ListedNodes.{known_node}
 use Rattle.status_call.specs.Modelled.{all_modelled, are_modelled}
 use Rattle.status_call.proofs.index_as_worktree.inputs.InputsAsk.another.Goals as goal
 

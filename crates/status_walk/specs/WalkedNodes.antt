@@ -1,5 +1,6 @@
 -- What a walk hands out.
-use Rattle.std.specs.Prelude.{ℕ, Bool, true, false, List, Option, Some, None}
+use Rattle.std.specs.Prelude.{ℕ, Bool, true, false, List, ◌++◌, filter, Option, Some, None}
+use Rattle.std.specs.Option.{option_to_list}
 use Rattle.bstr.specs.Owned.{bstring_bytes}
 use Rattle.status_walk.specs.declared.delegate.Action.{Action}
 use Rattle.status_walk.specs.declared.delegate.Action.TheVariants.{Continue, Cancel}
@@ -16,6 +17,10 @@ pub record Walked : Type 0 where
 
 abbrev pub walked_of : DirEntry → Option Status → Walked
 walked_of e collapsed = record { path = bstring_bytes e.rela_path; status = e.status; disk_kind = e.disk_kind; collapsed = collapsed }
+
+-- what a delegate has kept, once at most one more node is handed to it
+abbrev pub kept_more : (Walked → Bool) → List Walked → Option Walked → List Walked
+kept_more keeps kept handed = kept ++ filter keeps (option_to_list handed)
 
 abbrev pub is_cancel : Action → Bool
 is_cancel Continue = false

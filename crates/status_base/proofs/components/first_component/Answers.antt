@@ -2,7 +2,7 @@ use Rattle.std.proofs.Common.{ℕ, ◌+◌, List, ◌∷◌, take, ap, ◌∙◌
 use Rattle.std.proofs.lemmas.List.{take_rest}
 use Rattle.status_base.specs.Paths.{components}
 use Rattle.status_base.proofs.LinkLemmas.{components_at, components_none}
-use Rattle.status_base.proofs.stack.first_component.Goals as goal
+use Rattle.status_base.proofs.components.first_component.Goals as goal
 
 pub returns-in-Some-clause-parts : goal.returns-in-Some-clause-parts
 returns-in-Some-clause-parts c =

@@ -1,0 +1,54 @@
+//! The components of a path, and which of them aren't normal.
+
+ghost use Rattle.std.specs.Prelude.{◌≡◌, ◌<◌, [], ◌∷◌, length, option_map, is_some, IfSome, position};
+ghost use Rattle.std.specs.Option.{option_map_or};
+ghost use Rattle.status_base.specs.Paths.{is_slash, components, is_abnormal, abnormal_component};
+
+/// Whether a component of a path isn't normal.
+pub(crate) fn has_abnormal_component(path: &[u8]) -> bool
+    ensures { result ≡ is_some (abnormal_component path.now) }
+{
+    abnormal_component(path).is_some()
+}
+
+/// The leftmost component of a path that isn't normal: it is empty, `.` or `..`.
+pub(crate) fn abnormal_component(path: &[u8]) -> Option<&[u8]>
+    ensures { option_map (λ component. component.now) result ≡ abnormal_component path.now }
+{
+    let mut rest = path;
+    'components: loop {
+        let (component, others) = first_component(rest);
+        if is_abnormal(component) {
+            return Some(component);
+        }
+        match others {
+            Some(others) => rest = others,
+            None => return None,
+        }
+    }
+}
+
+/// A path's first component, and the path behind it.
+fn first_component(path: &[u8]) -> (&[u8], Option<&[u8]>)
+    ensures parts { components path.now ≡ result.0.now ∷ option_map_or (λ others. components others.now) result.1 [] }
+    ensures shorter { IfSome result.1 (λ others. length others.now < length path.now) }
+{
+    match first_slash(path) {
+        Some(at) => (&path[..at], Some(&path[at + 1..])),
+        None => (path, None),
+    }
+}
+
+/// Where the first slash stands.
+fn first_slash(path: &[u8]) -> Option<usize>
+    ensures { result ≡ position is_slash path.now }
+{
+    path.iter().position(|byte| *byte == b'/')
+}
+
+/// Whether a component isn't normal.
+fn is_abnormal(component: &[u8]) -> bool
+    ensures { result ≡ is_abnormal component.now }
+{
+    matches!(component, [] | [b'.'] | [b'.', b'.'])
+}
