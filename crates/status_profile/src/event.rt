@@ -5,7 +5,7 @@ use crate::field::{
     Fields, list_of, moment_of, number_of, text_of, thread_limit_of, truth_of, word_of,
 };
 use bstr::BString;
-use gix_status::world::{Event, Run};
+use gix_status::world::Event;
 use serde_json::Value;
 use std::alloc::Global;
 use std::mem;
@@ -53,12 +53,12 @@ fn read_event(alloc: Global, items: &[Value]) -> Result<Event, FieldError> {
         )),
         ("remove", [path]) => Ok(Event::Remove(read_path(alloc, path)?)),
         ("stage", [path]) => Ok(Event::Stage(read_path(alloc, path)?)),
-        ("run", [comparer, chunk_size, thread_limit, stamp]) => Ok(Event::Run(Run {
+        ("run", [comparer, chunk_size, thread_limit, stamp]) => Ok(Event::Run {
             comparer: word_of(comparer)?,
             chunk_size: number_of(chunk_size)? as usize,
             thread_limit: thread_limit_of(thread_limit)?,
             stamp: moment_of(stamp)?,
-        })),
+        }),
         _ => Err(FieldError::Form),
     }
 }

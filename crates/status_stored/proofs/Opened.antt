@@ -6,12 +6,12 @@ use Rattle.status_index.specs.Entries.{IndexEntry}
 use Rattle.status_index.specs.FlagBits.{bits_of_stage}
 use Rattle.status_index.specs.States.{index_of, timestamp_of}
 use Rattle.status_stored.specs.declared.error.ReopenError.TheVariants as errors
-use Rattle.status_stored.specs.Reopened.{IsReopened, IsStateOf}
+use Rattle.status_stored.specs.RoundTrip.{IsRoundTrip, IsStateOf}
 use Rattle.status_stored.specs.Storable.{AreKnown, IsKnown, IsNotUtf8At}
 use Rattle.status_stored.specs.Reopening.{IsOpeningRefusal}
 use Rattle.status_world.specs.declared.world.refusal.Refusal.{Refusal}
 use Rattle.status_world.specs.declared.world.refusal.Refusal.TheVariants.{OtherIndex}
-use Rattle.status_world.specs.Reopened as opens
+use Rattle.status_world.specs.SameIndex as opens
 use Rattle.status_world.specs.Sound.{IsFormed}
 use Rattle.status_world.specs.StampedWorld.{StampedWorld}
 use Rattle.status_world.proofs.EntryVerdicts.{each_entry}
@@ -25,17 +25,17 @@ known_flags w formed k d inside = known _ (each_entry w formed k d inside).forme
 
 -- ---- what is answered
 
-pub not_text : (w : StampedWorld) (es : List IndexEntry) (t : Moment) (at : ℕ) → es ≡ w.entries → IsReopened es t (Err (errors.NotUtf8 at))
+pub not_text : (w : StampedWorld) (es : List IndexEntry) (t : Moment) (at : ℕ) → es ≡ w.entries → IsRoundTrip es t (Err (errors.NotUtf8 at))
     → IsOpeningRefusal w OtherIndex
 not_text w es t at own h = λ formed. (at, subst (λ l. IsNotUtf8At l at) own h)
 
-pub unread : (w : StampedWorld) (es : List IndexEntry) (t : Moment) → es ≡ w.entries → IsReopened es t (Err errors.Unreadable)
+pub unread : (w : StampedWorld) (es : List IndexEntry) (t : Moment) → es ≡ w.entries → IsRoundTrip es t (Err errors.Unreadable)
     → IsOpeningRefusal w OtherIndex
 unread w es t own h = λ formed. absurd (h (subst AreKnown (sym own) (known_flags w formed)))
 
 -- what was loaded isn't refused
 pub refused : (w : StampedWorld) (es : List IndexEntry) (t : Moment) (s : State) (r : Result (Unit {0}) Refusal) (new : StampedWorld) → es ≡ w.entries
-    → t ≡ w.timestamp → IsReopened es t (Ok s) → opens.IsReopened (index_of s) (timestamp_of s) w r new → IfErr r (IsOpeningRefusal w)
+    → t ≡ w.timestamp → IsRoundTrip es t (Ok s) → opens.IsIndexReplaced (index_of s) (timestamp_of s) w r new → IfErr r (IsOpeningRefusal w)
 refused w es t s (Ok _) new own own_time loaded opened = tt
 refused w es t s (Err r) new own own_time loaded opened =
     subst (IsOpeningRefusal w) (sym opened.0)

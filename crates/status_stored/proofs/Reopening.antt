@@ -8,13 +8,13 @@ use Rattle.status_stored.specs.declared.error.ReopenError.{ReopenError}
 use Rattle.status_stored.specs.declared.error.ReopenError.TheVariants.{NotUtf8, Unreadable, Memory}
 use Rattle.status_stored.specs.Loading.{IsRefusedIndex}
 use Rattle.status_stored.specs.Reading.{index_in}
-use Rattle.status_stored.specs.Reopened.{IsReadAgain, IsReopened}
+use Rattle.status_stored.specs.RoundTrip.{IsReadAgain, IsRoundTrip}
 use Rattle.status_stored.specs.Storable.{AreKnown, IsStorableIndex}
 use Rattle.status_stored.specs.StoredIndex.{stored_index}
 use Rattle.status_stored.proofs.Back.{index_back}
 
 -- what isn't parsed is refused for want of memory
-pub parse_refused : (es : List IndexEntry) (t : Moment) (d : Data) (e : ReopenError) → IsReadAgain d (Err e) → IsReopened es t (Err e)
+pub parse_refused : (es : List IndexEntry) (t : Moment) (d : Data) (e : ReopenError) → IsReadAgain d (Err e) → IsRoundTrip es t (Err e)
 parse_refused es t d (NotUtf8 at) h = absurd h
 parse_refused es t d Unreadable h = absurd h
 parse_refused es t d Memory h = tt

@@ -1,7 +1,7 @@
 pub mod Loading
 pub mod Reading
-pub mod Reopened
 pub mod Reopening
+pub mod RoundTrip
 pub mod Steps
 pub mod Storable
 pub mod StoredIndex

@@ -5,7 +5,7 @@ ghost use Rattle.serde_json.specs.Data.{depth};
 ghost use Rattle.serde_json.specs.Read.{max_depth};
 ghost use Rattle.serde_json.specs.View.{view};
 ghost use Rattle.status_index.specs.States.{index_of, timestamp_of};
-ghost use Rattle.status_stored.specs.Reopened.{IsReadAgain, IsReopened};
+ghost use Rattle.status_stored.specs.RoundTrip.{IsReadAgain, IsRoundTrip};
 
 use crate::error::{LoadError, ReopenError, StoreError};
 use crate::load::load_index;
@@ -21,7 +21,7 @@ use std::alloc::Global;
 /// Where a path isn't UTF-8: the first of these. Or where memory runs out. With other flags also
 /// [`ReopenError::Unreadable`].
 pub fn reopened(alloc: Global, state: &State) -> Result<State, ReopenError>
-    ensures { IsReopened (index_of state.now) (timestamp_of state.now) result }
+    ensures { IsRoundTrip (index_of state.now) (timestamp_of state.now) result }
 {
     let stored = match store_index(alloc, state) {
         Ok(stored) => stored,

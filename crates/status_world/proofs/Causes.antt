@@ -11,10 +11,10 @@ use Rattle.status_world.specs.declared.world.event.Run.{Run}
 use Rattle.status_world.specs.declared.world.refusal.Refusal.{Refusal}
 use Rattle.status_world.specs.declared.world.refusal.Refusal.TheVariants as refusals
 use Rattle.status_world.specs.declared.world.report.Report.{Report}
-use Rattle.status_world.specs.Applied.{IsApplied, IsExactEvent}
+use Rattle.status_world.specs.EventAnswers.{IsApplied, IsExactEvent}
 use Rattle.status_world.specs.History.{HaveDistinctIds, IsExact, IsStop, accepted_count, contents_at_hand, plain_world_of, reports_at, IsReplay}
 use Rattle.status_world.specs.Moments.{is_after, plus_seconds, plus_nanoseconds}
-use Rattle.status_world.specs.Refusals.{◌orelse◌, refuse_if, is_past_end, is_blocked, is_regular_file, stamp_refusal, refusal_of, HasOutsideCause, IsRefused}
+use Rattle.status_world.specs.Refusals.{◌orelse◌, refuse_if, is_past_end, is_blocked, is_regular_file, stamp_refusal, refusal_of, IsNoRunFault, IsRefused}
 use Rattle.status_world.specs.Reports.{RunReport, report_value}
 use Rattle.status_world.specs.Sound.{IsFormed, IsSound}
 use Rattle.status_world.specs.StampedWorld.{StampedWorld, after_event, node_at, report_of, stored_node}
@@ -26,9 +26,9 @@ use Rattle.status_world.proofs.Replays.{replay_formed}
 
 abbrev IsPlain : Option Refusal → Type 0
 IsPlain None = Unit {0}
-IsPlain (Some r) = HasOutsideCause r
+IsPlain (Some r) = IsNoRunFault r
 
-plain_if : (b : Bool) (r : Refusal) → HasOutsideCause r → IsPlain (refuse_if b r)
+plain_if : (b : Bool) (r : Refusal) → IsNoRunFault r → IsPlain (refuse_if b r)
 plain_if true r h = h
 plain_if false r h = tt
 
@@ -61,12 +61,14 @@ plain_refusal (events.Link path target) w f = plain_write w (bstring_bytes path)
 plain_refusal (events.SetExecutable path executable) w f = plain_node w (bstring_bytes path) [] (not (is_regular_file (node_at w (bstring_bytes path))))
 plain_refusal (events.Remove path) w f = plain_node w (bstring_bytes path) [] (not (is_some (stored_node (node_at w (bstring_bytes path)))))
 plain_refusal (events.Stage path) w f = plain_if (is_bad_path (bstring_bytes path)) refusals.BadPath tt
-plain_refusal (events.Run run) w f = subst IsPlain (sym (run_refusal w run f)) (plain_stamp w run)
+plain_refusal (events.Run comparer chunk_size thread_limit stamp) w f =
+    let run : Run = record { comparer = comparer; chunk_size = chunk_size; thread_limit = thread_limit; stamp = stamp } in
+    subst IsPlain (sym (run_refusal w run f)) (plain_stamp w run)
 
-due : (r : Refusal) (e : Event) (w : StampedWorld) → IsFormed w → refusal_of e w ≡ Some r → HasOutsideCause r
+due : (r : Refusal) (e : Event) (w : StampedWorld) → IsFormed w → refusal_of e w ≡ Some r → IsNoRunFault r
 due r e w f h = subst IsPlain h (plain_refusal e w f)
 
-pub outside : (r : Refusal) (e : Event) (w : StampedWorld) → IsFormed w → IsRefused r e w → HasOutsideCause r
+pub outside : (r : Refusal) (e : Event) (w : StampedWorld) → IsFormed w → IsRefused r e w → IsNoRunFault r
 outside refusals.ClockEnd e w f h = tt
 outside refusals.BadPath e w f h = tt
 outside refusals.InTheWay e w f h = tt
@@ -91,7 +93,7 @@ pub applied_formed : (e : Event) (old : StampedWorld) (r : Result (Option Report
 applied_formed e old (Ok report) new h f = subst IsFormed (sym h.2) (formed_kept e old h.0 f)
 applied_formed e old (Err r) new h f = subst IsFormed (sym h.1) f
 
-pub applied_causes : (e : Event) (old : StampedWorld) (r : Result (Option Report) Refusal) (new : StampedWorld) → IsApplied e old r new → IsFormed old → IfErr r HasOutsideCause
+pub applied_causes : (e : Event) (old : StampedWorld) (r : Result (Option Report) Refusal) (new : StampedWorld) → IsApplied e old r new → IsFormed old → IfErr r IsNoRunFault
 applied_causes e old (Ok report) new h f = tt
 applied_causes e old (Err r) new h f = outside r e old f h.0
 
@@ -100,9 +102,9 @@ module _ (old : StampedWorld) (f : IsFormed old) (sound : IsSound old) where
   sound_after e new distinct accepted same = subst IsSound (sym same) ((history (e ∷ []) old f sound distinct (accepted, tt)).1)
 
   exact_report : (e : Event) (report : RunReport) → HaveDistinctIds old.kind (contents_at_hand old (e ∷ [])) → report ∷ [] ≡ reports_at e old → IsExact old.executable_bit report (plain_world_of old)
-  exact_report (events.Run run) report distinct same =
-      subst (λ r. IsExact old.executable_bit r (plain_world_of old)) (sym (first_of report (report_of old run.comparer) same))
-      (report_exact old (events.Run run ∷ []) run.comparer f sound distinct)
+  exact_report (events.Run comparer chunk_size thread_limit stamp) report distinct same =
+      subst (λ r. IsExact old.executable_bit r (plain_world_of old)) (sym (first_of report (report_of old comparer) same))
+      (report_exact old (events.Run comparer chunk_size thread_limit stamp ∷ []) comparer f sound distinct)
     where
       first_or : RunReport → List RunReport → RunReport
       first_or d [] = d
@@ -126,12 +128,12 @@ module _ (old : StampedWorld) (f : IsFormed old) (sound : IsSound old) where
 
 -- ---- a replay
 
-stop_outside : (rest : List Event) (w : StampedWorld) (stopped : Option (ℕ × Refusal)) → IsFormed w → IsStop rest w stopped → IfSome stopped (λ stop. HasOutsideCause stop.1)
+stop_outside : (rest : List Event) (w : StampedWorld) (stopped : Option (ℕ × Refusal)) → IsFormed w → IsStop rest w stopped → IfSome stopped (λ stop. IsNoRunFault stop.1)
 stop_outside rest w None f h = tt
 stop_outside [] w (Some stop) f h = absurd h
 stop_outside (e ∷ rest) w (Some stop) f h = outside stop.1 e w f h
 
 pub replay_causes : (w : StampedWorld) (es : List Event) (final : StampedWorld) (reports : List RunReport) (stopped : Option (ℕ × Refusal)) → IsFormed w
-    → IsReplay w es final reports stopped → IfSome stopped (λ stop. HasOutsideCause stop.1)
+    → IsReplay w es final reports stopped → IfSome stopped (λ stop. IsNoRunFault stop.1)
 replay_causes w es final reports stopped f replay =
     stop_outside (drop (accepted_count es stopped) es) final stopped (replay_formed w es final reports stopped f replay) replay.stop

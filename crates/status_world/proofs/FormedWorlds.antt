@@ -26,6 +26,7 @@ use Rattle.status_world.specs.PlainWorld.{Plain, with_value}
 use Rattle.status_call.specs.Records.{first_fault}
 use Rattle.status_world.specs.Refusals.{◌orelse◌, refuse_if, refusal_of, start_refusal, stamp_refusal, fault_refusal, is_blocked, is_regular_file, write_refusal}
 use Rattle.status_world.specs.Sound.{IsFormed, IsFormedAt, IsFormedNode}
+use Rattle.status_world.specs.Events.{run_event}
 use Rattle.status_world.specs.StampedWorld.{StampedWorld, query_of, empty_world, node_at, entry_at, with_node, written, with_executability, stored_node, entry_of, plain_of, is_stored_kind, after_event, stored_verdict}
 use Rattle.status_world.proofs.EntryLists.{All-with, ascending-with, ascending-map, normal-map}
 use Rattle.status_world.proofs.EntryVerdicts.{node_of_at, verdict_by}
@@ -63,7 +64,7 @@ pub good_first : (b : Bool) (r : Refusal) (others : Option Refusal) → (refuse_
 good_first b r others h = refuse_none b r (orelse_none (refuse_if b r) others h).0
 
 -- a run's stamp isn't after the clock
-pub runnable : (w : StampedWorld) (run : Run) → refusal_of (events.Run run) w ≡ None → IsAtMost run.stamp w.clock
+pub runnable : (w : StampedWorld) (run : Run) → refusal_of (run_event run) w ≡ None → IsAtMost run.stamp w.clock
 runnable w run h =
     let stamped = (orelse_none (stamp_refusal w.clock run.stamp) (fault_refusal (first_fault (query_of w run.comparer) w.entries)) h).0 in
     let later = (orelse_none (refuse_if (nat_le 1000000000 run.stamp.nsecs) refusals.BadMoment) (refuse_if (is_after run.stamp w.clock) refusals.StampLater) stamped).1 in
@@ -193,7 +194,7 @@ formed_stage w path good f =
 
 module _ (w : StampedWorld) (run : Run) (f : IsFormed w) where
   abbrev after : StampedWorld
-  after = after_event (events.Run run) w
+  after = after_event (run_event run) w
 
   abbrev stays : Follows w after
   stays = record { kind = refl; executable_bit = refl; clock = at_most_refl w.clock }
@@ -228,4 +229,6 @@ formed_kept (events.Link path target) w h f = formed_put w (bstring_bytes path) 
 formed_kept (events.SetExecutable path executable) w h f = formed_set w (bstring_bytes path) executable f
 formed_kept (events.Remove path) w h f = formed_remove w (bstring_bytes path) f
 formed_kept (events.Stage path) w h f = formed_stage w path (refuse_none (is_bad_path (bstring_bytes path)) _ h) f
-formed_kept (events.Run run) w h f = formed_run w run f (runnable w run h)
+formed_kept (events.Run comparer chunk_size thread_limit stamp) w h f =
+    let run : Run = record { comparer = comparer; chunk_size = chunk_size; thread_limit = thread_limit; stamp = stamp } in
+    formed_run w run f (runnable w run h)

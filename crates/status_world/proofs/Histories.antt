@@ -12,7 +12,7 @@ use Rattle.status_world.specs.declared.world.event.Comparer.{Comparer}
 use Rattle.status_world.specs.declared.world.event.Run.{Run}
 use Rattle.status_world.specs.declared.world.refusal.Refusal.{Refusal}
 use Rattle.status_world.specs.declared.world.refusal.Refusal.TheVariants as refusals
-use Rattle.status_world.specs.Events.{contents_at, contents_of_events}
+use Rattle.status_world.specs.Events.{contents_at, contents_of_events, run_event}
 use Rattle.status_world.specs.History.{IsIn, AreAccepted, after_events, reports_at, reports_of, plain_at, plains_of, IsExact, AreExact, plain_world_of, contents_at_hand, HaveDistinctIds, accepted_count, IsReplay, IsExactReplay}
 use Rattle.status_world.specs.Moments.{is_after}
 use Rattle.status_world.specs.PlainWorld.{Plain, PlainWorld, plain_after}
@@ -38,7 +38,7 @@ kind_kept (events.Link path target) w = refl
 kind_kept (events.SetExecutable path executable) w = refl
 kind_kept (events.Remove path) w = refl
 kind_kept (events.Stage path) w = refl
-kind_kept (events.Run run) w = refl
+kind_kept (events.Run comparer chunk_size thread_limit stamp) w = refl
 
 bit_kept : (e : Event) (w : StampedWorld) → (after_event e w).executable_bit ≡ w.executable_bit
 bit_kept (events.Tick n) w = refl
@@ -48,12 +48,12 @@ bit_kept (events.Link path target) w = refl
 bit_kept (events.SetExecutable path executable) w = refl
 bit_kept (events.Remove path) w = refl
 bit_kept (events.Stage path) w = refl
-bit_kept (events.Run run) w = refl
+bit_kept (events.Run comparer chunk_size thread_limit stamp) w = refl
 
 -- an exact report in front, where the event is a run
 exact_more : (e : Event) (w : StampedWorld) (p : PlainWorld) (x : Bool) (rs : List RunReport) (ps : List PlainWorld) → ((c : Comparer) → IsExact x (report_of w c) p)
     → AreExact x rs ps → AreExact x (reports_at e w ++ rs) (plain_at e p ++ ps)
-exact_more (events.Run run) w p x rs ps now later = (now run.comparer, later)
+exact_more (events.Run comparer chunk_size thread_limit stamp) w p x rs ps now later = (now comparer, later)
 exact_more (events.Tick n) w p x rs ps now later = later
 exact_more (events.TickNanos n) w p x rs ps now later = later
 exact_more (events.Write path bytes) w p x rs ps now later = later
@@ -175,7 +175,7 @@ orelse_nothing : (o : Option Refusal) → (o orelse None) ≡ o
 orelse_nothing (Some r) = refl
 orelse_nothing None = refl
 
-pub run_refusal : (w : StampedWorld) (run : Run) → IsFormed w → refusal_of (events.Run run) w ≡ stamp_refusal w.clock run.stamp
+pub run_refusal : (w : StampedWorld) (run : Run) → IsFormed w → refusal_of (run_event run) w ≡ stamp_refusal w.clock run.stamp
 run_refusal w run f =
     ap (λ (o : Option Error). stamp_refusal w.clock run.stamp orelse fault_refusal o) (run_faultless w run.comparer f)
     ∙ orelse_nothing (stamp_refusal w.clock run.stamp)

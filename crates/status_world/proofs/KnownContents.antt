@@ -77,4 +77,4 @@ module _ (K : List ℕ → Type 0) where
         (known_staged (node_at w (bstring_bytes path)) (known.nodes (bstring_bytes path))) known.staged;
     empty = known.empty;
   }
-  known_after (events.Run run) w brings known = record { nodes = known.nodes; staged = known.staged; empty = known.empty }
+  known_after (events.Run comparer chunk_size thread_limit stamp) w brings known = record { nodes = known.nodes; staged = known.staged; empty = known.empty }

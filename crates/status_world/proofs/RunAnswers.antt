@@ -20,7 +20,7 @@ use Rattle.status_call.specs.Visits.{Visit}
 use Rattle.status_call.proofs.NoThread.{ids_law, sizes_law}
 use Rattle.status_world.specs.declared.world.event.Comparer.{Comparer}
 use Rattle.status_world.specs.declared.world.event.Run.{Run}
-use Rattle.status_world.specs.Applied.{IsRunReport}
+use Rattle.status_world.specs.EventAnswers.{IsRunReport}
 use Rattle.status_world.specs.declared.world.event.Comparer.TheVariants.{Hash, Fast}
 use Rattle.status_world.specs.declared.world.refusal.Refusal.TheVariants as refusals
 use Rattle.status_world.specs.Refusals.{fault_refusal}

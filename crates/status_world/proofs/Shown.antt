@@ -119,4 +119,4 @@ shows_after (events.Stage path) w p h f shows =
       files = shows.files;
       staged = ap (λ m. with_value m at (paths.get p.files at)) shows.staged ∙ ap (with_value w.staged at) same;
     }
-shows_after (events.Run run) w p h f shows = record { files = shows.files; staged = shows.staged }
+shows_after (events.Run comparer chunk_size thread_limit stamp) w p h f shows = record { files = shows.files; staged = shows.staged }

@@ -14,6 +14,7 @@ use Rattle.status_world.specs.declared.world.event.Run.{Run}
 use Rattle.status_world.specs.Moments.{plus_seconds, plus_nanoseconds}
 use Rattle.status_world.specs.PlainWorld.{Plain}
 use Rattle.status_world.specs.Sound.{IsFormed, IsSound, IsSoundAt}
+use Rattle.status_world.specs.Events.{run_event}
 use Rattle.status_world.specs.StampedWorld.{StampedWorld, empty_world, node_at, entry_at, with_node, written, is_executable_at, with_executability, stored_node, plain_of, stored_verdict, after_event}
 use Rattle.status_world.proofs.EntryVerdicts.{IsStagedEntry, verdict_by}
 use Rattle.status_world.proofs.ExactReports.{AllHaveOwnIds, met_at}
@@ -38,7 +39,7 @@ sound_with_node w p v sound here =
 
 module _ (w : StampedWorld) (run : Run) (f : IsFormed w) (sound : IsSound w) (own : AllHaveOwnIds w) where
   abbrev after : StampedWorld
-  after = after_event (events.Run run) w
+  after = after_event (run_event run) w
 
   run_by : (e : IndexEntry) (staged : IsStagedEntry w e) (n : Option Placed) → node_at w e.path ≡ n → IsSoundAt w n (Some e) (Some staged.was)
       → IsSoundAt after n (Some (stored_verdict e (verdict_by w run.comparer e n))) (Some staged.was)
@@ -82,4 +83,4 @@ sound_kept (events.Stage path) w f own sound =
     each_staged w.entries w.staged p (new_entry_at w p) v (λ q e s. IsSoundAt u (node_at w q) e s) (new_named w p)
     (at_over w u refl refl (node_at w p) (new_entry_at w p) v (at_staged w p (node_at w p) (entry_at p w.entries) (paths.get w.staged p) (f.at p)))
     (λ q. at_over w u refl refl (node_at w q) (entry_at q w.entries) (paths.get w.staged q) (sound q))
-sound_kept (events.Run run) w f own sound = sound_run w run f sound own
+sound_kept (events.Run comparer chunk_size thread_limit stamp) w f own sound = sound_run w (record { comparer = comparer; chunk_size = chunk_size; thread_limit = thread_limit; stamp = stamp }) f sound own

@@ -33,7 +33,7 @@ plain_after_events (e ∷ es) p = plain_after_events es (plain_after e p)
 
 -- the report of a run, and of no other event
 abbrev pub reports_at : Event → StampedWorld → List RunReport
-reports_at (events.Run run) w = report_of w run.comparer ∷ []
+reports_at (events.Run comparer chunk_size thread_limit stamp) w = report_of w comparer ∷ []
 reports_at _ w = []
 
 -- the reports of the runs, in order
@@ -42,7 +42,7 @@ reports_of [] w = []
 reports_of (e ∷ es) w = reports_at e w ++ reports_of es (after_event e w)
 
 abbrev pub plain_at : Event → PlainWorld → List PlainWorld
-plain_at (events.Run run) p = p ∷ []
+plain_at (events.Run comparer chunk_size thread_limit stamp) p = p ∷ []
 plain_at _ p = []
 
 -- the plain worlds that the runs met, in order
@@ -81,12 +81,20 @@ contents_at_hand w es =
 abbrev pub HaveDistinctIds : HashKind → List (List ℕ) → Type 0
 HaveDistinctIds kind contents = (a b : List ℕ) → IsIn a contents → IsIn b contents → blob_id kind a ≡ blob_id kind b → a ≡ b
 
+-- so it is of the contents at hand
+abbrev pub HasDistinctContents : StampedWorld → List Event → Type 0
+HasDistinctContents w es = HaveDistinctIds w.kind (contents_at_hand w es)
+
 -- ---- a replay
 
 -- how many events were accepted
 abbrev pub accepted_count : List Event → Option (ℕ × Refusal) → ℕ
 accepted_count es None = length es
 accepted_count es (Some stop) = stop.0
+
+-- the events that were accepted
+abbrev pub accepted_of : List Event → Option (ℕ × Refusal) → List Event
+accepted_of es stopped = take (accepted_count es stopped) es
 
 -- why the replay ended: there are no more events, or the next one was refused
 abbrev pub IsStop : List Event → StampedWorld → Option (ℕ × Refusal) → Type 0
@@ -96,12 +104,16 @@ IsStop (e ∷ rest) w (Some stop) = IsRefused stop.1 e w
 
 -- the first events are accepted, with their reports and the world after them, and the next one, if any, was refused
 pub record IsReplay (w : StampedWorld) (es : List Event) (final : StampedWorld) (reports : List RunReport) (stopped : Option (ℕ × Refusal)) : Type 0 where
-  pub accepted : AreAccepted (take (accepted_count es stopped) es) w
-  pub world : final ≡ after_events (take (accepted_count es stopped) es) w
-  pub reported : reports ≡ reports_of (take (accepted_count es stopped) es) w
+  pub accepted : AreAccepted (accepted_of es stopped) w
+  pub world : final ≡ after_events (accepted_of es stopped) w
+  pub reported : reports ≡ reports_of (accepted_of es stopped) w
   pub stop : IsStop (drop (accepted_count es stopped) es) final stopped
 
 -- no change is missed: each report is exact, and the world's index can be trusted again
 pub record IsExactReplay (w : StampedWorld) (es : List Event) (final : StampedWorld) (reports : List RunReport) (stopped : Option (ℕ × Refusal)) : Type 0 where
-  pub exact : AreExact w.executable_bit reports (plains_of (take (accepted_count es stopped) es) (plain_world_of w))
+  pub exact : AreExact w.executable_bit reports (plains_of (accepted_of es stopped) (plain_world_of w))
   pub sound : IsSound final
+
+-- so it is where the index could be trusted, and contents at hand that have one id are one
+abbrev pub IsExactIfSound : StampedWorld → List Event → StampedWorld → List RunReport → Option (ℕ × Refusal) → Type 0
+IsExactIfSound w es final reports stopped = IsSound w → HasDistinctContents w (accepted_of es stopped) → IsExactReplay w es final reports stopped

@@ -1,12 +1,12 @@
 -- A law of histories that begin with nothing.
-use Rattle.std.specs.Prelude.{ℕ, Bool, List, [], ◌∷◌, ◌++◌, take, Option}
+use Rattle.std.specs.Prelude.{ℕ, Bool, List, [], ◌∷◌, ◌++◌, Option}
 use Rattle.status_index.specs.declared.id.HashKind.{HashKind}
 use Rattle.status_index.specs.declared.stat.Moment.{Moment}
 use Rattle.status_index.specs.declared.stat.Options.{Options}
 use Rattle.status_world.specs.declared.world.event.Event.{Event}
 use Rattle.status_world.specs.declared.world.refusal.Refusal.{Refusal}
 use Rattle.status_world.specs.Events.{contents_of_events}
-use Rattle.status_world.specs.History.{plains_of, AreExact, HaveDistinctIds, accepted_count, IsReplay}
+use Rattle.status_world.specs.History.{plains_of, AreExact, HaveDistinctIds, accepted_of, IsReplay}
 use Rattle.status_world.specs.PlainWorld.{empty_plain}
 use Rattle.status_world.specs.Reports.{RunReport}
 use Rattle.status_world.specs.Sound.{IsFormed, IsSound}
@@ -25,5 +25,5 @@ abbrev pub ReplayLaw : HashKind → Options → Bool → Moment → Moment → T
 ReplayLaw kind options executable_bit clock timestamp =
     (es : List Event) (final : StampedWorld) (reports : List RunReport) (stopped : Option (ℕ × Refusal))
     → IsReplay (empty_world kind options executable_bit clock timestamp) es final reports stopped
-    → HaveDistinctIds kind (contents_of_events (take (accepted_count es stopped) es) ++ [] ∷ [])
-    → MissesNoChange executable_bit (take (accepted_count es stopped) es) reports final
+    → HaveDistinctIds kind (contents_of_events (accepted_of es stopped) ++ [] ∷ [])
+    → MissesNoChange executable_bit (accepted_of es stopped) reports final

@@ -1,13 +1,13 @@
-pub mod Applied
+pub mod EventAnswers
 pub mod Events
 pub mod History
 pub mod Laws
 pub mod Moments
 pub mod PlainWorld
 pub mod Refusals
-pub mod Reopened
 pub mod Reports
 pub mod RunStatus
+pub mod SameIndex
 pub mod Sound
 pub mod StagedPaths
 pub mod StampedWorld

@@ -61,7 +61,7 @@ plain_after (events.Stage path) w = record w {
 }
 plain_after (events.Tick n) w = w
 plain_after (events.TickNanos n) w = w
-plain_after (events.Run run) w = w
+plain_after (events.Run comparer chunk_size thread_limit stamp) w = w
 
 -- both are files, and one is executable and the other isn't
 abbrev pub IsExecutableChange : Plain → Plain → Type 0

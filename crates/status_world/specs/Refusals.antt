@@ -71,8 +71,8 @@ refusal_of (events.Remove path) w =
     refuse_if (is_bad_path (bstring_bytes path)) refusals.BadPath
     orelse refuse_if (not (is_some (stored_node (node_at w (bstring_bytes path))))) refusals.NotAFile
 refusal_of (events.Stage path) w = refuse_if (is_bad_path (bstring_bytes path)) refusals.BadPath
-refusal_of (events.Run run) w =
-    stamp_refusal w.clock run.stamp orelse fault_refusal (first_fault (query_of w run.comparer) w.entries)
+refusal_of (events.Run comparer chunk_size thread_limit stamp) w =
+    stamp_refusal w.clock stamp orelse fault_refusal (first_fault (query_of w comparer) w.entries)
 
 -- the refusal of a beginning
 abbrev pub start_refusal : Moment → Moment → Option Refusal
@@ -82,12 +82,12 @@ start_refusal clock timestamp =
 
 -- a run whose stamp isn't refused
 abbrev pub IsBegun : Event → StampedWorld → Type 0
-IsBegun (events.Run run) w = stamp_refusal w.clock run.stamp ≡ None
+IsBegun (events.Run comparer chunk_size thread_limit stamp) w = stamp_refusal w.clock stamp ≡ None
 IsBegun _ w = ⊥
 
 -- one that may have more than one worker
 abbrev pub IsShared : Event → Type 0
-IsShared (events.Run run) = run.thread_limit ≢ Some 1
+IsShared (events.Run comparer chunk_size thread_limit stamp) = thread_limit ≢ Some 1
 IsShared _ = ⊥
 
 -- an event that takes memory, where its path isn't refused before; room for a run's report is made before all else
@@ -99,7 +99,7 @@ TakesMemory (events.Link path target) = is_bad_path (bstring_bytes path) ≡ fal
 TakesMemory (events.SetExecutable path executable) = is_bad_path (bstring_bytes path) ≡ false
 TakesMemory (events.Remove path) = ⊥
 TakesMemory (events.Stage path) = is_bad_path (bstring_bytes path) ≡ false
-TakesMemory (events.Run run) = ⊤
+TakesMemory (events.Run comparer chunk_size thread_limit stamp) = ⊤
 
 -- why an event may be refused: an event that takes memory by want of it, a run that has begun also by a want of memory or
 -- of a thread in its status; else the refusal is the one that is due
@@ -110,9 +110,9 @@ IsRefused (refusals.Run errors.Memory) e w = IsBegun e w
 IsRefused (refusals.Run errors.SpawnThread) e w = IsBegun e w × IsShared e
 IsRefused r e w = refusal_of e w ≡ Some r
 
--- a run isn't refused for a fault of its own, only for want of memory or of a thread
-abbrev pub HasOutsideCause : Refusal → Type 0
-HasOutsideCause (refusals.Run errors.Memory) = ⊤
-HasOutsideCause (refusals.Run errors.SpawnThread) = ⊤
-HasOutsideCause (refusals.Run _) = ⊥
-HasOutsideCause _ = ⊤
+-- a refusal that is no fault of a run's status: of a run that is its stamp, or want of memory or of a thread
+abbrev pub IsNoRunFault : Refusal → Type 0
+IsNoRunFault (refusals.Run errors.Memory) = ⊤
+IsNoRunFault (refusals.Run errors.SpawnThread) = ⊤
+IsNoRunFault (refusals.Run _) = ⊥
+IsNoRunFault _ = ⊤

@@ -10,24 +10,24 @@ use Rattle.bstr.specs.Owned.{bstring_bytes}
 use Rattle.status_index.specs.declared.id.HashKind.{HashKind}
 use Rattle.status_index.specs.declared.id.ObjectId.{ObjectId}
 use Rattle.status_index.specs.declared.metadata.NodeKind.{NodeKind}
+use Rattle.status_index.specs.declared.mode.Mode.{Mode}
 use Rattle.status_index.specs.declared.metadata.NodeKind.TheVariants.{File, Link, Directory, Other}
 use Rattle.status_index.specs.declared.stat.Moment.{Moment}
-use Rattle.status_index.specs.declared.stat.Options.{Options}
+use Rattle.status_index.specs.declared.stat.Options.{Options as StatOptions}
 use Rattle.status_index.specs.declared.stat.Stat.{Stat}
 use Rattle.status_index.specs.BlobId.{blob_id}
-use Rattle.status_index.specs.Entries.{IndexEntry}
+use Rattle.status_index.specs.Entries.{IndexEntry, said_of}
 use Rattle.status_index.specs.FlagBits.{bits_of_stage}
 use Rattle.status_index.specs.Mode.{new_mode}
 use Rattle.status_index.specs.NodeStat.{stat_of}
 use Rattle.status_index.specs.Staging.{with_entry}
-use Rattle.status_base.specs.Converted.{same}
 use Rattle.status_base.specs.MemoryTree.{Placed, PathMap, Tree, lstat_in, open_in, target_in}
 use Rattle.status_base.specs.Trees.{empty_tree}
-use Rattle.status_base.specs.Objects.{Contents, found_in}
 use Rattle.status_compare.specs.declared.error.Error.{Error}
 use Rattle.status_compare.specs.declared.reads.Reads.{Reads}
 use Rattle.status_compare.specs.Comparers.{hash_answer, fast_answer, counts_after_hash, counts_after_fast}
 use Rattle.status_compare.specs.Reading.{Meaning}
+use Rattle.status_call.specs.declared.index_as_worktree.types.Options.{Options}
 use Rattle.status_call.specs.Counts.{counts_in, reads_in}
 use Rattle.status_call.specs.IndexChanges.{change_of, updated_entry}
 use Rattle.status_call.specs.Outcomes.{outcome_of}
@@ -40,11 +40,12 @@ use Rattle.status_world.specs.declared.world.event.Event.TheVariants as events
 use Rattle.status_world.specs.Moments.{stamp_of, plus_seconds, plus_nanoseconds}
 use Rattle.status_world.specs.PlainWorld.{Plain, executable_of_kind, with_value}
 use Rattle.status_world.specs.Reports.{RunStatus, Reported, RunReport}
+use Rattle.status_world.specs.RunStatus.{status_query}
 
 pub record StampedWorld : Type 0 where
   -- what ids are made by, which parts of stats have to be equal, and whether executability counts
   pub kind : HashKind
-  pub stat_options : Options
+  pub stat_options : StatOptions
   pub executable_bit : Bool
   pub clock : Moment
   pub tree : Tree
@@ -55,7 +56,7 @@ pub record StampedWorld : Type 0 where
   pub staged : PathMap Plain
 
 -- the world that nothing was done in
-abbrev pub empty_world : HashKind → Options → Bool → Moment → Moment → StampedWorld
+abbrev pub empty_world : HashKind → StatOptions → Bool → Moment → Moment → StampedWorld
 empty_world kind options executable_bit clock timestamp = record {
   kind = kind;
   stat_options = options;
@@ -135,15 +136,18 @@ zero_stat = record {
   size = 0;
 }
 
--- the entry of a node that is staged: of stage 0, without flags
+-- an entry of stage 0, without flags
+abbrev pub fresh_entry : List ℕ → Stat → ObjectId → Mode → IndexEntry
+fresh_entry path stat id mode = said_of path stat id (record { 0 = bits_of_stage 0 }) mode
+
+-- the entry of a node that is staged
 abbrev pub entry_of : StampedWorld → List ℕ → Placed → IndexEntry
-entry_of w path n = record {
-  path = path;
-  stat = unwrap_or (stat_of n.metadata) zero_stat;
-  id = blob_id w.kind n.bytes;
-  flags = record { 0 = bits_of_stage 0 };
-  mode = new_mode w.executable_bit n.metadata.kind n.metadata.executable;
-}
+entry_of w path n = fresh_entry path (unwrap_or (stat_of n.metadata) zero_stat) (blob_id w.kind n.bytes)
+    (new_mode w.executable_bit n.metadata.kind n.metadata.executable)
+
+-- a world where an entry was put into the index, and what was staged with it
+abbrev pub with_staged : StampedWorld → IndexEntry → Plain → StampedWorld
+with_staged w e s = record w { entries = with_entry w.entries e.path (Some e); staged = paths.insert w.staged e.path s }
 
 -- the entry of a path
 abbrev pub entry_at : List ℕ → List IndexEntry → Option IndexEntry
@@ -168,30 +172,20 @@ abbrev pub counted_by : Comparer → IndexEntry → ℕ → Meaning → Reads �
 counted_by Hash e len m k = Some (counts_after_hash m.file k)
 counted_by Fast e len m k = Some (counts_after_fast e len m.file k)
 
-abbrev pub no_blobs : Contents
-no_blobs = paths.empty
-
--- what a run is computed from: links count, all paths are included, nothing is converted, and there are no listings,
--- blobs or submodules
-abbrev pub query_of : StampedWorld → Comparer → Query (Option ObjectId) (Unit {0})
-query_of w comparer = record {
-  modelled = true;
-  stat_options = w.stat_options;
-  symlink = true;
-  executable_bit = w.executable_bit;
-  timestamp = w.timestamp;
-  lstat = lstat_in w.tree;
-  opened = open_in w.tree;
-  linked = target_in w.tree;
-  cached = λ _. None;
-  prefix = [];
-  included = λ _ _. true;
-  conversion = λ _ _. same;
-  blob = found_in no_blobs;
-  submodule = λ _. Ok None;
-  compared = compared_by comparer;
-  counted = counted_by comparer;
+-- how a run's status is computed: links count, and no listing is used; how many workers there are plays no part
+abbrev pub options_of : StampedWorld → Options
+options_of w = record {
+  fs = record { symlink = true; executable_bit = w.executable_bit };
+  thread_limit = None;
+  stat = w.stat_options;
+  fscache = false;
+  chunk_size = 0;
 }
+
+-- what it is computed from
+abbrev pub query_of : StampedWorld → Comparer → Query (Option ObjectId) (Unit {0})
+query_of w comparer = status_query (options_of w) w.timestamp true (lstat_in w.tree) (open_in w.tree) (target_in w.tree)
+    (compared_by comparer) (counted_by comparer)
 
 -- what an entry gives in a run
 abbrev pub verdict_in : StampedWorld → Comparer → IndexEntry → Result (Option RunStatus) Error
@@ -240,7 +234,7 @@ after_event (events.Stage path) w = record w {
   entries = with_entry w.entries (bstring_bytes path) (option_map (entry_of w (bstring_bytes path)) (stored_node (node_at w (bstring_bytes path))));
   staged = with_value w.staged (bstring_bytes path) (option_map plain_of (stored_node (node_at w (bstring_bytes path))));
 }
-after_event (events.Run run) w = record w {
-  entries = map (λ e. stored_verdict e (verdict_in w run.comparer e)) w.entries;
-  timestamp = run.stamp;
+after_event (events.Run comparer chunk_size thread_limit stamp) w = record w {
+  entries = map (λ e. stored_verdict e (verdict_in w comparer e)) w.entries;
+  timestamp = stamp;
 }

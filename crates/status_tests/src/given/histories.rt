@@ -3,10 +3,19 @@
 use bstr::BString;
 use gix_status::index::{HashKind, Moment, stat};
 use gix_status::index_as_worktree::Error;
-use gix_status::world::{Event, Refusal, Replay, Run, World, replay};
+use gix_status::world::{Comparer, Event, Refusal, Replay, World, replay};
 use std::alloc::{AllocError, Global};
 use std::sync::Wait;
 use std::thread::Threads;
+
+/// The event of a run, by its parts.
+#[derive(Clone, Copy, Debug)]
+pub struct Run {
+    pub comparer: Comparer,
+    pub chunk_size: usize,
+    pub thread_limit: Option<usize>,
+    pub stamp: Moment,
+}
 
 /// An event, before its paths and contents take memory.
 #[derive(Clone, Copy, Debug)]
@@ -34,7 +43,12 @@ impl Step {
             }
             Step::Remove(path) => Ok(Event::Remove(path_of(alloc, path)?)),
             Step::Stage(path) => Ok(Event::Stage(path_of(alloc, path)?)),
-            Step::Run(run) => Ok(Event::Run(run)),
+            Step::Run(run) => Ok(Event::Run {
+                comparer: run.comparer,
+                chunk_size: run.chunk_size,
+                thread_limit: run.thread_limit,
+                stamp: run.stamp,
+            }),
         }
     }
 }

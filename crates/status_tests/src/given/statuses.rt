@@ -22,7 +22,7 @@ use std::thread::Threads;
 
 /// What a status is computed by, beside an index, a worktree and a comparer.
 #[derive(Drop)]
-pub struct Request<S, O, P, T> {
+pub struct StatusRequest<S, O, P, T> {
     pub submodule: S,
     pub objects: O,
     pub pathspec: P,
@@ -31,9 +31,9 @@ pub struct Request<S, O, P, T> {
 }
 
 /// A request with no submodule and with blobs in memory.
-pub type FileRequest<P, T> = Request<NoSubmodules, MemoryObjects, P, T>;
+pub type FileRequest<P, T> = StatusRequest<NoSubmodules, MemoryObjects, P, T>;
 
-impl<S, O, P, T> Request<S, O, P, T> {
+impl<S, O, P, T> StatusRequest<S, O, P, T> {
     /// A request by these interfaces.
     pub fn new(
         submodule: S,
@@ -41,8 +41,8 @@ impl<S, O, P, T> Request<S, O, P, T> {
         pathspec: P,
         filter: T,
         options: Options,
-    ) -> Request<S, O, P, T> {
-        Request {
+    ) -> StatusRequest<S, O, P, T> {
+        StatusRequest {
             submodule,
             objects,
             pathspec,
@@ -60,7 +60,7 @@ pub fn plain_request(alloc: Global) -> FileRequest<AllPaths, NoFilter> {
 /// The same, with other options.
 pub fn request_with(alloc: Global, options: Options) -> FileRequest<AllPaths, NoFilter> {
     let objects = MemoryObjects::new(alloc);
-    Request::new(NoSubmodules, objects, AllPaths, NoFilter, options)
+    StatusRequest::new(NoSubmodules, objects, AllPaths, NoFilter, options)
 }
 
 /// Options with which links count and executability doesn't.
@@ -76,7 +76,7 @@ pub fn options() -> Options {
 
 /// What a status reported: the records, and what it took or why it failed.
 #[derive(Drop)]
-pub struct Report<'index, T, U> {
+pub struct StatusReport<'index, T, U> {
     pub records: Vec<Record<'index, T, U>>,
     pub answer: Result<Outcome, Error>,
 }
@@ -95,7 +95,7 @@ pub fn status_of<
     worktree: &W,
     compare: C,
     request: FileRequest<P, T>,
-) -> Report<'index, C::Output, ()>
+) -> StatusReport<'index, C::Output, ()>
 where
     W::File: Send,
     C::Output: Send + 'index,
@@ -118,9 +118,9 @@ pub fn status_with<
     index: &'index State,
     worktree: &W,
     compare: C,
-    request: Request<S, O, P, T>,
+    request: StatusRequest<S, O, P, T>,
     interrupt: Option<&AtomicBool>,
-) -> Report<'index, C::Output, S::Output>
+) -> StatusReport<'index, C::Output, S::Output>
 where
     W::File: Send,
     C::Output: Send + 'index,
@@ -138,7 +138,7 @@ where
         request,
         interrupt,
     );
-    Report {
+    StatusReport {
         records: recorder.records,
         answer,
     }
@@ -162,7 +162,7 @@ pub fn report_to<
     worktree: &W,
     collector: &mut V,
     compare: C,
-    request: Request<S, O, P, T>,
+    request: StatusRequest<S, O, P, T>,
     interrupt: Option<&AtomicBool>,
 ) -> Result<Outcome, Error>
 where
@@ -172,7 +172,7 @@ where
     ensures sum { IfOk result (λ o. skipped_of o < 2 ^ 64) }
     ensures inside { V.visits collector.old ≡ [] → AreInside (changes_of (V.visits collector.new)) (index_of index.now) }
 {
-    let Request {
+    let StatusRequest {
         submodule,
         objects,
         pathspec,
@@ -203,7 +203,16 @@ where
     let alloc = rt.alloc();
     let mut recorder = Recorder::new(alloc);
     let request = plain_request(alloc);
-    report_to(rt, alloc, index, worktree, &mut recorder, HashEq, request, None)?;
+    report_to(
+        rt,
+        alloc,
+        index,
+        worktree,
+        &mut recorder,
+        HashEq,
+        request,
+        None,
+    )?;
     Ok(recorder.changes()?)
 }
 

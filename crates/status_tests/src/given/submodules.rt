@@ -3,7 +3,7 @@
 ghost use Rattle.std.specs.Prelude.{◌≡◌, None, Ok, false, true, refl};
 ghost use Rattle.status_tests.specs.Texts.{answer_of};
 
-use crate::given::statuses::{Report, options, request_with, status_of};
+use crate::given::statuses::{StatusReport, options, request_with, status_of};
 use bstr::BStr;
 use gix_status::index::{Entry, ObjectId, State};
 use gix_status::index_as_worktree::traits::HashEq;
@@ -106,7 +106,7 @@ fn records_below<R: AllocGlobal + Threads + Wait>(
     let alloc = rt.alloc();
     let folder = format!(in alloc; "{root}/{path}")?;
     let worktree = DiskWorktree::new(system, Path::new(folder.as_str()))?;
-    let Report { records, answer } = status_by_one_worker(rt, index, &worktree);
+    let StatusReport { records, answer } = status_by_one_worker(rt, index, &worktree);
     match answer {
         Ok(_) if records.is_empty() => Ok(None),
         Ok(_) => Ok(Some(records.len())),
@@ -119,7 +119,7 @@ fn status_by_one_worker<'index, R: AllocGlobal + Threads + Wait, W: Worktree + S
     rt: &R,
     index: &'index State,
     worktree: &W,
-) -> Report<'index, ObjectId, ()>
+) -> StatusReport<'index, ObjectId, ()>
 where
     W::File: Send,
 {

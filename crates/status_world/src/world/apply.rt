@@ -1,13 +1,13 @@
 //! Applying an event.
 
 ghost use Rattle.std.specs.Prelude.{All, IfErr, IfOk, IfSome, [], ◌∷◌, map};
-ghost use Rattle.status_world.specs.Applied.{IsApplied, IsExactEvent, IsStep};
-ghost use Rattle.status_world.specs.History.{HaveDistinctIds, contents_at_hand};
-ghost use Rattle.status_world.specs.Refusals.{HasOutsideCause};
+ghost use Rattle.status_world.specs.EventAnswers.{IsApplied, IsExactEvent, IsStep};
+ghost use Rattle.status_world.specs.History.{HasDistinctContents};
+ghost use Rattle.status_world.specs.Refusals.{IsNoRunFault};
 ghost use Rattle.status_world.specs.Reports.{HasSum, report_value};
 ghost use Rattle.status_world.specs.Sound.{IsFormed, IsSound};
 
-use crate::world::event::Event;
+use crate::world::event::{Event, Run};
 use crate::world::refusal::Refusal;
 use crate::world::report::Report;
 use crate::world::state::World;
@@ -28,9 +28,9 @@ impl World {
         ensures applied { IsApplied event.now self.old result self.new }
         ensures sum { IfOk result (λ r. IfSome r HasSum) }
         ensures formed { IsFormed self.old → IsFormed self.new }
-        ensures causes { IsFormed self.old → IfErr result HasOutsideCause }
+        ensures causes { IsFormed self.old → IfErr result IsNoRunFault }
         ensures exact { IsFormed self.old → IsSound self.old
-            → HaveDistinctIds self.old.kind (contents_at_hand self.old (event.now ∷ [])) → IsExactEvent self.old result self.new }
+            → HasDistinctContents self.old (event.now ∷ []) → IsExactEvent self.old result self.new }
     {
         self.happen(rt, event)
     }
@@ -52,7 +52,20 @@ impl World {
             Event::SetExecutable(path, executable) => self.set_executable(path, *executable)?,
             Event::Remove(path) => self.remove(path)?,
             Event::Stage(path) => self.stage(path)?,
-            Event::Run(run) => return Ok(Some(self.run(rt, run)?)),
+            Event::Run {
+                comparer,
+                chunk_size,
+                thread_limit,
+                stamp,
+            } => {
+                let run = Run {
+                    comparer: *comparer,
+                    chunk_size: *chunk_size,
+                    thread_limit: *thread_limit,
+                    stamp: *stamp,
+                };
+                return Ok(Some(self.run(rt, &run)?));
+            }
         }
         Ok(None)
     }
@@ -67,9 +80,21 @@ impl World {
         ensures step { IsStep event.now self.old (map report_value reports.old.items) result self.new (map report_value reports.new.items) }
         ensures sums { All HasSum reports.old.items → All HasSum reports.new.items }
     {
-        if let Event::Run(run) = event {
+        if let Event::Run {
+            comparer,
+            chunk_size,
+            thread_limit,
+            stamp,
+        } = event
+        {
             reports.reserve(1)?;
-            let report = self.run(rt, run)?;
+            let run = Run {
+                comparer: *comparer,
+                chunk_size: *chunk_size,
+                thread_limit: *thread_limit,
+                stamp: *stamp,
+            };
+            let report = self.run(rt, &run)?;
             reports.push_reserved(report);
             return Ok(());
         }

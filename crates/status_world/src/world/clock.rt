@@ -1,6 +1,6 @@
 //! Events of the clock.
 
-ghost use Rattle.status_world.specs.Applied.{IsChanged};
+ghost use Rattle.status_world.specs.EventAnswers.{IsChanged};
 ghost use Rattle.status_world.specs.declared.world.event.Event.TheVariants.{Tick, TickNanos};
 
 use crate::world::refusal::Refusal;

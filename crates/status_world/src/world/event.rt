@@ -12,19 +12,6 @@ pub enum Comparer {
     Fast,
 }
 
-/// A status run whose answers are stored in the index.
-#[derive(Clone, Copy, Debug, PartialEq, Eq)]
-pub struct Run {
-    /// How files are compared.
-    pub comparer: Comparer,
-    /// How many entries a piece of work has, or 0 for the usual number.
-    pub chunk_size: usize,
-    /// How many workers there are at most; the usual number for None and 0.
-    pub thread_limit: Option<usize>,
-    /// The index's timestamp after the run.
-    pub stamp: Moment,
-}
-
 /// One event.
 #[derive(Debug, Drop)]
 pub enum Event {
@@ -42,6 +29,24 @@ pub enum Event {
     Remove(BString),
     /// What is at a path is put into the index, as `git add` does; where no file or link is, the path's entry goes.
     Stage(BString),
-    /// A status runs, and its answers are stored.
-    Run(Run),
+    /// A status runs, and what it asks is stored in the index.
+    Run {
+        /// How files are compared.
+        comparer: Comparer,
+        /// How many entries a piece of work has, or 0 for the usual number.
+        chunk_size: usize,
+        /// How many workers there are at most; the usual number for None and 0.
+        thread_limit: Option<usize>,
+        /// The index's timestamp after the run.
+        stamp: Moment,
+    },
+}
+
+/// The event of a run, by its parts.
+#[derive(Clone, Copy)]
+pub(crate) struct Run {
+    pub(crate) comparer: Comparer,
+    pub(crate) chunk_size: usize,
+    pub(crate) thread_limit: Option<usize>,
+    pub(crate) stamp: Moment,
 }

@@ -1,13 +1,13 @@
 //! Replaying a list of events.
 
-ghost use Rattle.std.specs.Prelude.{All, IfSome, map, take};
-ghost use Rattle.status_world.specs.History.{IsReplay, IsExactReplay, HaveDistinctIds, accepted_count, contents_at_hand};
-ghost use Rattle.status_world.specs.Refusals.{HasOutsideCause};
+ghost use Rattle.std.specs.Prelude.{All, IfSome, map};
+ghost use Rattle.status_world.specs.History.{IsReplay, IsExactIfSound};
+ghost use Rattle.status_world.specs.Refusals.{IsNoRunFault};
 ghost use Rattle.status_world.specs.Reports.{HasSum, report_value};
-ghost use Rattle.status_world.specs.Sound.{IsFormed, IsSound};
+ghost use Rattle.status_world.specs.Sound.{IsFormed};
 
 use crate::world::event::Event;
-use crate::world::outcome::Replay;
+use crate::world::replayed::Replay;
 use crate::world::state::World;
 use std::alloc::Global;
 use std::sync::Wait;
@@ -21,10 +21,8 @@ use std::thread::Threads;
 pub fn replay<R: Threads + Wait>(rt: &R, alloc: Global, world: World, events: &[Event]) -> Replay
     ensures replay { IsReplay world events.now result.world (map report_value result.reports.items) result.stopped }
     ensures formed { IsFormed world → IsFormed result.world }
-    ensures causes { IsFormed world → IfSome result.stopped (λ stop. HasOutsideCause stop.1) }
-    ensures exact { IsFormed world → IsSound world → HaveDistinctIds world.kind
-        (contents_at_hand world (take (accepted_count events.now result.stopped) events.now))
-        → IsExactReplay world events.now result.world (map report_value result.reports.items) result.stopped }
+    ensures causes { IsFormed world → IfSome result.stopped (λ stop. IsNoRunFault stop.1) }
+    ensures exact { IsFormed world → IsExactIfSound world events.now result.world (map report_value result.reports.items) result.stopped }
     ensures sums { All HasSum result.reports.items }
 {
     let mut world = world;

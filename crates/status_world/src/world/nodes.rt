@@ -4,7 +4,7 @@ ghost use Rattle.std.specs.Prelude.{◌≡◌, IfOk, true, is_some};
 ghost use Rattle.bstr.specs.BStr.{bstr_bytes};
 ghost use Rattle.status_base.specs.Nodes.{placed_of};
 ghost use Rattle.status_base.specs.MemoryTree.{is_no_directory_kind};
-ghost use Rattle.status_world.specs.Applied.{IsChanged, IsWritten, tree_refusal};
+ghost use Rattle.status_world.specs.EventAnswers.{IsChanged, IsWritten, tree_refusal};
 ghost use Rattle.status_world.specs.Moments.{stamp_of};
 ghost use Rattle.status_world.specs.StampedWorld.{written, is_executable_at, with_executability, node_at, stored_node};
 ghost use Rattle.status_world.specs.declared.world.event.Event.TheVariants as events;

@@ -3,7 +3,7 @@
 ghost use Rattle.std.specs.Prelude.{◌≡◌, Decides};
 ghost use Rattle.status_index.specs.Entries.{index_entry};
 ghost use Rattle.status_index.specs.States.{index_of, timestamp_of};
-ghost use Rattle.status_world.specs.Reopened.{IsReopened, IsSameIndex};
+ghost use Rattle.status_world.specs.SameIndex.{IsIndexReplaced, IsSameIndex};
 
 use crate::world::refusal::Refusal;
 use crate::world::state::World;
@@ -17,7 +17,7 @@ impl World {
     /// [`Refusal::OtherIndex`] where the two differ. The world is then as it was, and the index that was handed in is
     /// given up.
     pub fn reopen(&mut self, index: State) -> Result<(), Refusal>
-        ensures { IsReopened (index_of index) (timestamp_of index) self.old result self.new }
+        ensures { IsIndexReplaced (index_of index) (timestamp_of index) self.old result self.new }
     {
         if !is_same_index(&self.parts.index, &index) {
             return Err(Refusal::OtherIndex);

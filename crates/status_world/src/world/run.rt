@@ -1,14 +1,11 @@
 //! Status runs of a world.
 
-ghost use Rattle.std.specs.Prelude.{◌≡◌, ◌≢◌, ◌<◌, false, All, Err, IfOk, IsTrue, Some, length, map};
-ghost use Rattle.status_index.specs.States.{index_of, timestamp_of};
-ghost use Rattle.status_compare.specs.declared.error.Error.TheVariants.{SpawnThread};
-ghost use Rattle.status_call.specs.StatusTheorem.{IsMet, NeverSpawns};
-ghost use Rattle.status_world.specs.RunStatus.{status_query};
-ghost use Rattle.status_world.specs.Applied.{IsRunReport, IsRunApplied};
+ghost use Rattle.std.specs.Prelude.{◌≡◌, false, IfOk, map};
+ghost use Rattle.status_world.specs.RunStatus.{IsRecorded, IsRecordedAlone};
+ghost use Rattle.status_world.specs.Events.{run_event};
+ghost use Rattle.status_world.specs.EventAnswers.{IsRunReport, IsRunApplied};
 ghost use Rattle.status_world.specs.Reports.{HasSum, changes_in, reported_value, record_value};
 ghost use Rattle.status_world.specs.StampedWorld.{after_event, report_of};
-ghost use Rattle.status_world.specs.declared.world.event.Event.TheVariants as events;
 
 use crate::world::event::Run;
 use crate::world::refusal::Refusal;
@@ -47,7 +44,7 @@ impl World {
     /// Stores what a run asks of the index, and the index's new timestamp.
     fn store(&mut self, run: &Run, changes: &[ApplyChange])
         requires { changes.now ≡ changes_in (report_of self.old run.now.comparer).records }
-        ensures { self.new ≡ after_event (events.Run run.now) self.old }
+        ensures { self.new ≡ after_event (run_event run.now) self.old }
     {
         let index = &mut self.parts.index;
         apply_changes(index, changes);
@@ -112,14 +109,11 @@ fn record_status<
 where
     W::File: Send,
     C::Output: Send,
-    ensures met { IsMet (status_query options (timestamp_of index.now) (W.modelled worktree.now) (W.lstat_of worktree.now)
-        (W.open_of worktree.now) (W.target_of worktree.now) (C.answer compare) (C.counts_after compare))
-        index.now (V.visits collector.old) result (V.visits collector.new) }
+    ensures met { IsRecorded options index.now W.modelled W.lstat_of W.open_of W.target_of worktree.now
+        C.answer C.counts_after compare V.visits collector.old result collector.new }
     ensures uninterrupted { IfOk result (λ o. o.interrupted ≡ false) }
-    ensures alone { IsTrue (W.modelled worktree.now) → options.thread_limit ≡ Some 1
-        → NeverSpawns (status_query options (timestamp_of index.now) (W.modelled worktree.now) (W.lstat_of worktree.now)
-        (W.open_of worktree.now) (W.target_of worktree.now) (C.answer compare) (C.counts_after compare))
-        → result ≢ Err SpawnThread }
+    ensures alone { IsRecordedAlone options index.now W.modelled W.lstat_of W.open_of W.target_of worktree.now
+        C.answer C.counts_after compare result }
 {
     let context = Context {
         pathspec: AllPaths,

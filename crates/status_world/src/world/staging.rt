@@ -1,15 +1,11 @@
 //! Staging.
 
-ghost use Rattle.std.specs.Prelude.{◌≡◌, IfOk, IfErr, OnOk, OnErr, Some, unwrap_or};
-ghost use Rattle.std.specs.FinMap as paths;
+ghost use Rattle.std.specs.Prelude.{◌≡◌, IfOk, IfErr, OnOk, OnErr, unwrap_or};
 ghost use Rattle.bstr.specs.BStr.{bstr_bytes};
 ghost use Rattle.status_base.specs.Nodes.{placed_of};
-ghost use Rattle.status_index.specs.Entries.{said_of};
-ghost use Rattle.status_index.specs.FlagBits.{bits_of_stage};
 ghost use Rattle.status_index.specs.NodeStat.{stat_of};
-ghost use Rattle.status_index.specs.Staging.{with_entry};
-ghost use Rattle.status_world.specs.Applied.{IsChanged};
-ghost use Rattle.status_world.specs.StampedWorld.{plain_of, zero_stat};
+ghost use Rattle.status_world.specs.EventAnswers.{IsChanged};
+ghost use Rattle.status_world.specs.StampedWorld.{fresh_entry, plain_of, with_staged, zero_stat};
 ghost use Rattle.status_world.specs.StagedPaths.{plain_staged};
 ghost use Rattle.status_world.specs.declared.world.event.Event.TheVariants as events;
 
@@ -60,10 +56,7 @@ impl World {
         mode: Mode,
         staged: Staged,
     ) -> Result<(), Refusal>
-        ensures ok { OnOk result (self.new ≡ record self.old {
-          entries = with_entry self.old.entries (bstr_bytes path.entry) (Some (said_of (bstr_bytes path.entry) stat id (record { 0 = bits_of_stage 0 }) mode));
-          staged = paths.insert self.old.staged (bstr_bytes path.entry) (plain_staged staged);
-        }) }
+        ensures ok { OnOk result (self.new ≡ with_staged self.old (fresh_entry (bstr_bytes path.entry) stat id mode) (plain_staged staged)) }
         ensures err { IfErr result (λ r. r ≡ Refusal.Memory) }
         ensures unchanged { OnErr result (self.new ≡ self.old) }
     {

@@ -1,6 +1,6 @@
 //! Statuses in few words: what is asked for, and what is reported.
 //!
-//! Other options or an interrupt flag are set as fields: `Request { options: .., ..request }`. `report.answer` is what
+//! Other options or an interrupt flag are set as fields: `JoinedRequest { options: .., ..request }`. `report.answer` is what
 //! the status answered, and `report.records` are the entries themselves.
 
 use status_base::index::{ObjectId, State};
@@ -23,18 +23,18 @@ use std::thread::Threads;
 
 /// What is asked for, beside an index and a worktree: a walk, a tracker, options and an interrupt flag.
 #[derive(Drop)]
-pub struct Request<'a, K, X> {
+pub struct JoinedRequest<'a, K, X> {
     pub walk: K,
     pub tracker: X,
     pub options: Options,
     pub interrupt: Option<&'a AtomicBool>,
 }
 
-impl<'a, K, X> Request<'a, K, X> {
+impl<'a, K, X> JoinedRequest<'a, K, X> {
     /// Asks for what the index and the walk have, sorted, with no renames or copies. Links count, and executability
     /// doesn't.
-    pub fn sorted(walk: K, tracker: X) -> Request<'a, K, X> {
-        Request {
+    pub fn sorted(walk: K, tracker: X) -> JoinedRequest<'a, K, X> {
+        JoinedRequest {
             walk,
             tracker,
             options: options(None),
@@ -43,8 +43,8 @@ impl<'a, K, X> Request<'a, K, X> {
     }
 
     /// Asks for renames and copies as well, but not for those of files with no bytes.
-    pub fn rewritten(walk: K, tracker: X) -> Request<'a, K, X> {
-        Request {
+    pub fn rewritten(walk: K, tracker: X) -> JoinedRequest<'a, K, X> {
+        JoinedRequest {
             walk,
             tracker,
             options: options(Some(Rewrites { track_empty: false })),
@@ -72,7 +72,7 @@ pub fn options(rewrites: Option<Rewrites>) -> Options {
 
 /// What was reported: the entries, and what the status took or why it failed.
 #[derive(Drop)]
-pub struct Report<'index> {
+pub struct JoinedReport<'index> {
     pub records: Vec<Entry<'index, ObjectId, ()>>,
     pub answer: Result<Outcome, Error>,
 }
@@ -84,14 +84,19 @@ pub fn joined<
     W: Worktree + Sync,
     K: Walk<W> + Send + Drop,
     X: Tracker + Drop,
->(rt: &R, index: &'index State, worktree: &W, request: Request<'_, K, X>) -> Report<'index>
+>(
+    rt: &R,
+    index: &'index State,
+    worktree: &W,
+    request: JoinedRequest<'_, K, X>,
+) -> JoinedReport<'index>
 where
     W::File: Send,
 {
     let alloc = rt.alloc();
     let mut recorder = Recorder::new(alloc);
     let answer = tell(rt, alloc, index, worktree, &mut recorder, request);
-    Report {
+    JoinedReport {
         records: recorder.records,
         answer,
     }
@@ -111,7 +116,7 @@ pub fn tell<
     index: &'index State,
     worktree: &W,
     collector: &mut V,
-    request: Request<'_, K, X>,
+    request: JoinedRequest<'_, K, X>,
 ) -> Result<Outcome, Error>
 where
     W::File: Send,
@@ -149,13 +154,13 @@ pub fn tell_handed<
     submodule: S,
     filter: F,
     lister: L,
-    request: Request<'_, K, X>,
+    request: JoinedRequest<'_, K, X>,
 ) -> Result<Outcome, Error>
 where
     W::File: Send,
     S::Output: Send + ExactClone + 'index,
 {
-    let Request {
+    let JoinedRequest {
         walk,
         tracker,
         options,

@@ -19,15 +19,15 @@ loop-record-preserved c =
     ap (map reported_value) more ∙ map_push reported_value (take at items) item in
     elim c.match-apply_change.branch [
       | in-Some+in_ok-push w ↦
-        ap (λ v. v.items) w.changes-is
-        ∙ w.in_ok-push.ensures.items
-        ∙ ap (λ (l : List ApplyChange). l ++ w.in-Some.change ∷ []) c.loop-record.invariant
-        ∙ sym (kept_some asked_by (map reported_value (take at items)) (reported_value item) w.in-Some.change (sym c.apply_change.ensures ∙ w.in-Some.is))
-        ∙ ap changes_in (sym mapped)
+          ap (λ v. v.items) w.changes-is
+          ∙ w.in_ok-push.ensures.items
+          ∙ ap (λ (l : List ApplyChange). l ++ w.in-Some.change ∷ []) c.loop-record.invariant
+          ∙ sym (kept_some asked_by (map reported_value (take at items)) (reported_value item) w.in-Some.change (sym c.apply_change.ensures ∙ w.in-Some.is))
+          ∙ ap changes_in (sym mapped)
       | in_default w ↦
-        let none : asked_by (reported_value item) ≡ None = search rules in
-        ap (λ v. v.items) w.changes-is
-        ∙ c.loop-record.invariant
-        ∙ sym (kept_none asked_by (map reported_value (take at items)) (reported_value item) none)
-        ∙ ap changes_in (sym mapped)
+          let none : asked_by (reported_value item) ≡ None = search rules in
+          ap (λ v. v.items) w.changes-is
+          ∙ c.loop-record.invariant
+          ∙ sym (kept_none asked_by (map reported_value (take at items)) (reported_value item) none)
+          ∙ ap changes_in (sym mapped)
     ]

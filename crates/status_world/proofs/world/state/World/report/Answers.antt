@@ -3,7 +3,7 @@ use Rattle.status_call.specs.Records.{first_fault}
 use Rattle.status_call.specs.RecorderVisits.{visits_of}
 use Rattle.status_call.specs.StatusTheorem.{IsMet}
 use Rattle.status_world.specs.declared.world.refusal.Refusal.TheVariants as refusals
-use Rattle.status_world.specs.Applied.{IsRunReport}
+use Rattle.status_world.specs.EventAnswers.{IsRunReport}
 use Rattle.status_world.specs.Worlds.{world_of}
 use Rattle.status_world.specs.Reports.{Reported, RunReport, report_value}
 use Rattle.status_world.specs.StampedWorld.{StampedWorld, query_of, report_of}

@@ -8,11 +8,11 @@ use Rattle.status_base.specs.declared.worktree.memory.TreeError.TheVariants.{Bad
 use Rattle.status_compare.specs.declared.error.Error.TheVariants as errors
 use Rattle.status_call.specs.Records.{first_fault}
 use Rattle.status_world.specs.declared.world.event.Event.{Event}
-use Rattle.status_world.specs.declared.world.event.Event.TheVariants as events
 use Rattle.status_world.specs.declared.world.event.Run.{Run}
 use Rattle.status_world.specs.declared.world.refusal.Refusal.{Refusal}
 use Rattle.status_world.specs.declared.world.refusal.Refusal.TheVariants as refusals
 use Rattle.status_world.specs.declared.world.report.Report.{Report}
+use Rattle.status_world.specs.Events.{run_event}
 use Rattle.status_world.specs.History.{reports_at, IsExact, plain_world_of}
 use Rattle.status_world.specs.Refusals.{refusal_of, write_refusal, fault_refusal, IsRefused}
 use Rattle.status_world.specs.Reports.{RunReport, report_value}
@@ -63,8 +63,8 @@ IsRunReport run w (Err r) = fault_refusal (first_fault (query_of w run.comparer)
 -- a run that is applied gives the report of the world before it
 abbrev pub IsRunApplied : Run → StampedWorld → Result Report Refusal → StampedWorld → Type 0
 IsRunApplied run old (Ok report) new =
-    (refusal_of (events.Run run) old ≡ None) × (report_value report ≡ report_of old run.comparer) × (new ≡ after_event (events.Run run) old)
-IsRunApplied run old (Err r) new = IsRefused r (events.Run run) old × (new ≡ old)
+    (refusal_of (run_event run) old ≡ None) × (report_value report ≡ report_of old run.comparer) × (new ≡ after_event (run_event run) old)
+IsRunApplied run old (Err r) new = IsRefused r (run_event run) old × (new ≡ old)
 
 -- the same in a list of events: the reports grow by that of a run
 abbrev pub IsStep : Event → StampedWorld → List RunReport → Result (Unit {0}) Refusal → StampedWorld → List RunReport → Type 0

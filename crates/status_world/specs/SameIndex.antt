@@ -11,7 +11,7 @@ abbrev pub IsSameIndex : List IndexEntry → Moment → List IndexEntry → Mome
 IsSameIndex es t others u = (t ≡ u) × (es ≡ others)
 
 -- the index says what the world's own says; or it doesn't, and is refused. Either way the world says what it said
-abbrev pub IsReopened : {A : Type 0} → List IndexEntry → Moment → StampedWorld → Result A Refusal → StampedWorld → Type 0
-IsReopened es t old (Ok _) new = IsSameIndex old.entries old.timestamp es t × (new ≡ old)
-IsReopened es t old (Err r) new =
+abbrev pub IsIndexReplaced : {A : Type 0} → List IndexEntry → Moment → StampedWorld → Result A Refusal → StampedWorld → Type 0
+IsIndexReplaced es t old (Ok _) new = IsSameIndex old.entries old.timestamp es t × (new ≡ old)
+IsIndexReplaced es t old (Err r) new =
     (r ≡ OtherIndex) × (IsSameIndex old.entries old.timestamp es t → ⊥) × (new ≡ old)

@@ -16,11 +16,11 @@ abbrev pub IsStateOf : List IndexEntry → Moment → State → Type 0
 IsStateOf es t s = (index_of s ≡ es) × (timestamp_of s ≡ t)
 
 -- the same index, where all its flags are known; what was written is then never unreadable
-abbrev pub IsReopened : List IndexEntry → Moment → Result State ReopenError → Type 0
-IsReopened es t (Ok s) = IsStorableIndex es t × (AreKnown es → IsStateOf es t s)
-IsReopened es t (Err (NotUtf8 at)) = IsNotUtf8At es at
-IsReopened es t (Err Unreadable) = AreKnown es → ⊥
-IsReopened es t (Err Memory) = ⊤
+abbrev pub IsRoundTrip : List IndexEntry → Moment → Result State ReopenError → Type 0
+IsRoundTrip es t (Ok s) = IsStorableIndex es t × (AreKnown es → IsStateOf es t s)
+IsRoundTrip es t (Err (NotUtf8 at)) = IsNotUtf8At es at
+IsRoundTrip es t (Err Unreadable) = AreKnown es → ⊥
+IsRoundTrip es t (Err Memory) = ⊤
 
 -- a value that was written and parsed is the same
 abbrev pub IsReadAgain : Data → Result Value ReopenError → Type 0
