@@ -1,4 +1,4 @@
-//! The program: its arguments, the files that it reads and writes, and its usage.
+//! The program: its arguments, the files that it reads and writes, and how it is called.
 #![tactic(auto)]
 
 mod whole;
