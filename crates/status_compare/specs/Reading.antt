@@ -1,5 +1,5 @@
 -- What a comparer can learn of an entry's file and blob, and what it counts.
-use Rattle.std.specs.Prelude.{◌≡◌, ◌⊎◌, ℕ, ◌+◌, Bool, true, false, List, length, Option, Some, None, Result, Ok, Err}
+use Rattle.std.specs.Prelude.{◌≡◌, ◌⊎◌, ℕ, Bool, true, false, List, length, Option, Some, None, Result, Ok, Err}
 use Rattle.status_index.specs.Content.{Content}
 use Rattle.status_index.specs.declared.fault.Fault.{Fault}
 use Rattle.status_base.specs.Conversions.{Conversion, refused, same, other}
