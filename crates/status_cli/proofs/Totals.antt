@@ -3,8 +3,6 @@ use Rattle.std.proofs.Common.{◌<◌, ◌^◌, Bool, List, Option, Result, Ok, 
 use Rattle.status_index.specs.declared.state.State.{State}
 use Rattle.status_call.specs.Outcomes.{skipped_of}
 use Rattle.status_call.specs.Query.{Query}
-use Rattle.status_call.specs.declared.index_as_worktree.inputs.Settings.{Settings}
-use Rattle.status_joined.specs.BothHalves.{Walking}
 use Rattle.status_rewrites.specs.TrackedChanges.{Changed}
 use Rattle.status_rewrites.specs.Trackers.{TrackerFault}
 use Rattle.status_rewrites.specs.declared.tracker.Pair.{Pair}
@@ -13,10 +11,11 @@ use Rattle.status_joined.specs.declared.index_as_worktree_with_renames.types.Opt
 use Rattle.status_joined.specs.declared.index_as_worktree_with_renames.types.Outcome.{Outcome}
 use Rattle.status_joined.specs.NodeIds.{Identifying}
 use Rattle.status_joined.specs.Items.{Reported}
-use Rattle.status_joined.specs.JoinedTheorem.{IsWhole}
+use Rattle.status_joined.specs.JoinedTheorem.{IsJoinedMet}
+use Rattle.status_joined.specs.Walkings.{Walking}
 
-module _ (T U : Type 0) (query : Settings → Query T U) (options : Options) (index : State) (interruptible : Bool) (walking : Option Walking) (ids : Identifying) (means : List Changed → Bool → Result (List Pair) TrackerFault → Type 0) (reported : List (Reported T U)) where
+module _ {T U : Type 0} (query : Query T U) (options : Options) (index : State) (interruptible : Bool) (walking : Option Walking) (ids : Identifying) (means : List Changed → Bool → Result (List Pair) TrackerFault → Type 0) (old new : List (Reported T U)) where
   -- their skips have a sum
-  pub skips_fit : (r : Result Outcome Error) → IfOk r (IsWhole query options index interruptible walking ids means reported) → IfOk r (λ o. skipped_of o.tracked_file_modification < 2 ^ 64)
-  skips_fit (Ok o) whole = whole.has.tracked.fits
-  skips_fit (Err e) whole = tt
+  pub skips_fit : (r : Result Outcome Error) → IsJoinedMet query options index interruptible walking ids means old r new → IfOk r (λ o. skipped_of o.tracked_file_modification < 2 ^ 64)
+  skips_fit (Ok o) met = met.complete.has.tracked.fits
+  skips_fit (Err e) met = tt
