@@ -121,7 +121,7 @@ pub fn tell<
 where
     W::File: Send,
 {
-    tell_handed(
+    report_with(
         rt,
         alloc,
         index,
@@ -135,7 +135,7 @@ where
 }
 
 /// Tells a collector of an index and a worktree, by ids, with submodules, a filter and a lister.
-pub fn tell_handed<
+pub fn report_with<
     'index,
     R: Threads + Wait,
     W: Worktree + Sync,
