@@ -40,7 +40,7 @@ abbrev pub unless_absent : Fault → LinkCheck
 unless_absent faults.NotFound = accepted
 unless_absent f = faulty f
 
--- a path is accepted too where nothing is there
+-- a path is accepted too where a directory above it isn't there
 abbrev pub accepting_absent : LinkCheck → LinkCheck
 accepting_absent accepted = accepted
 accepting_absent empty_path = empty_path
@@ -48,7 +48,7 @@ accepting_absent (not_normal component) = not_normal component
 accepting_absent (through_link prefix) = through_link prefix
 accepting_absent (faulty f) = unless_absent f
 
--- the answer that is meant where a path is accepted too at which nothing is there
+-- the same, where a path is accepted too if a directory above it isn't there
 abbrev pub IsLenientBy : (List ℕ → Result Metadata Fault) → CheckState → List ℕ → Result BStr StackError → Type 0
 IsLenientBy lstat old path result = IsClear lstat old.path → IsVerified (accepting_absent (link_check lstat path)) (joined old.root path) result
 

@@ -25,6 +25,6 @@ module _ {I T U : Type 0} (query : I → Settings → Query T U) (given : I) (op
       → Type 0
   IsStatus visits old result new = IsMet query_of index (visits old) result (visits new)
 
-  -- the same of threads
+  -- with limit 1 no thread is refused, by what was handed in and the options
   abbrev pub IsAlone : Result Outcome Error → Type 0
   IsAlone result = IsUnspawned query_of options.thread_limit result

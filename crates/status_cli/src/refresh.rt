@@ -12,12 +12,10 @@ use std::sync::Wait;
 use std::thread::Threads;
 
 /// Reads a profile, prints its status as `run_status` does, applies to the index the changes that it asks for, and sets
-/// the index's timestamp. `name` is the name of the profile's file.
+/// the index's timestamp to these seconds and nanoseconds. Then it puts the profile with that index behind `refreshed`, as
+/// compact text and a line feed. All other keys are unchanged. `name` is the name of the profile's file.
 ///
-/// Returns the profile with that index, as compact text and a line feed. All other keys are unchanged.
-///
-/// # Errors
-/// The exit status 1 after a failure, which is one line on `faults`.
+/// Returns the exit status: 0, or 1 after a failure, which is one line on `faults`. Then `refreshed` is unchanged.
 pub fn run_refresh<
     R: AllocGlobal + Files + Sync + Threads + Wait,
     I: io::Read,
@@ -26,18 +24,23 @@ pub fn run_refresh<
 >(
     rt: &R,
     name: &str,
-    timestamp: Moment,
+    secs: u32,
+    nsecs: u32,
     profile: &mut I,
     output: &mut O,
     faults: &mut E,
-) -> Result<String, u8>
+    refreshed: &mut Vec<u8>,
+) -> u8
 where
     R::File: Send,
     R::Dir: Send,
 {
-    match refresh(rt, timestamp, profile, output) {
-        Ok(text) => Ok(text),
-        Err(failure) => Err(failure.report(rt.alloc(), name, faults)),
+    match refresh(rt, Moment { secs, nsecs }, profile, output) {
+        Ok(text) => match refreshed.extend_from_slice(text.as_bytes()) {
+            Ok(()) => 0,
+            Err(_) => Failure::Memory.report(rt.alloc(), name, faults),
+        },
+        Err(failure) => failure.report(rt.alloc(), name, faults),
     }
 }
 

@@ -22,7 +22,7 @@ use Rattle.status_joined.specs.Feeding.{AreReported, IsFed}
 use Rattle.status_joined.specs.NodeIds.{Identifying}
 use Rattle.status_joined.specs.Items.{Item, Reported}
 use Rattle.status_joined.specs.Joined.{IsRewriting, IsRewritingFault}
-use Rattle.status_joined.specs.JoinedTheorem.{HasJoinedList, IsFault, IsJoinedMet, IsReportedOf, IsWhole}
+use Rattle.status_joined.specs.JoinedTheorem.{HasJoinedList, IsFault, IsJoinedStatus, IsReportedOf, IsWhole}
 use Rattle.status_joined.specs.Listing.{HasList, IsHalfFault}
 use Rattle.status_joined.specs.Lists.{IsList, list_cmp, unsorted}
 use Rattle.status_joined.specs.Summaries.{reported_cmp}
@@ -30,7 +30,7 @@ use Rattle.status_joined.proofs.InOrder.{alone_in_order, rewritten_in_order}
 
 module _ {T U : Type 0} (query : Query T U) (options : Options) (index : State) (interruptible : Bool) (walking : Option Walking) (ids : Identifying) (means : List Changed → Bool → Result (List Pair) TrackerFault → Type 0) where
   -- an error before anything was reported
-  pub quietly : (old : List (Reported T U)) (e : Error) → IsFault query options index interruptible walking ids means e → IsJoinedMet query options index interruptible walking ids means old (Err e) old
+  pub quietly : (old : List (Reported T U)) (e : Error) → IsFault query options index interruptible walking ids means e → IsJoinedStatus query options index interruptible walking ids means old (Err e) old
   quietly old e fault = record { more = []; grew = sym (append-nil old); complete = tt; fault = fault; quiet = inl (λ i. []) }
 
   pub of_half : (e : Error) → IsHalfFault query options.tracked_file_modifications.thread_limit index interruptible walking options.object_hash (is_some options.sorting) e → IsFault query options index interruptible walking ids means e
@@ -106,12 +106,12 @@ module _ {T U : Type 0} (query : Query T U) (options : Options) (index : State) 
     of_list_at known same r wanted e fault = of_list r wanted e (subst (λ x. IsRewritingFault x options.object_hash means r.track_empty list e) same fault)
 
     -- all was reported
-    pub reported_all : (entries : List (Rewritten (Item T U))) (o : Option RewritesOutcome) → ((ts : List (Reported T U)) → AreReported entries ts → IsReportedOf query options index interruptible walking ids means options.rewrites list ts o) → (old new : List (Reported T U)) → (ts : List (Reported T U)) × AreReported entries ts × (new ≡ old ++ ts) → IsJoinedMet query options index interruptible walking ids means old (Ok (record { tracked_file_modification = tracked; dirwalk = walked; rewrites = o })) new
+    pub reported_all : (entries : List (Rewritten (Item T U))) (o : Option RewritesOutcome) → ((ts : List (Reported T U)) → AreReported entries ts → IsReportedOf query options index interruptible walking ids means options.rewrites list ts o) → (old new : List (Reported T U)) → (ts : List (Reported T U)) × AreReported entries ts × (new ≡ old ++ ts) → IsJoinedStatus query options index interruptible walking ids means old (Ok (record { tracked_file_modification = tracked; dirwalk = walked; rewrites = o })) new
     reported_all entries o meant old new fed =
         record { more = fed.0; grew = fed.2; complete = whole_of list fed.0 tracked walked o has (meant fed.0 fed.1); fault = tt; quiet = tt }
 
     -- memory ran out while the collector was fed
-    pub reported_some : (entries : List (Rewritten (Item T U))) (o : Option RewritesOutcome) → ((ts : List (Reported T U)) → AreReported entries ts → IsReportedOf query options index interruptible walking ids means options.rewrites list ts o) → (old new : List (Reported T U)) → (ts : List (Reported T U)) × AreReported entries ts × ((n : ℕ) × (n < length ts) × (new ≡ old ++ take n ts)) → IsJoinedMet query options index interruptible walking ids means old (Err errors.Memory) new
+    pub reported_some : (entries : List (Rewritten (Item T U))) (o : Option RewritesOutcome) → ((ts : List (Reported T U)) → AreReported entries ts → IsReportedOf query options index interruptible walking ids means options.rewrites list ts o) → (old new : List (Reported T U)) → (ts : List (Reported T U)) × AreReported entries ts × ((n : ℕ) × (n < length ts) × (new ≡ old ++ take n ts)) → IsJoinedStatus query options index interruptible walking ids means old (Err errors.Memory) new
     reported_some entries o meant old new fed =
         record {
           more = take fed.2.0 fed.0;
@@ -135,21 +135,21 @@ module _ {T U : Type 0} (query : Query T U) (options : Options) (index : State) 
     joined : HasJoinedList query options index interruptible walking ids means list tracked walked
     joined = list_at by same_query n same_limit w same_walk sorted same_order list tracked walked has
 
-    pub plain_all : options.rewrites ≡ None → (old new : List (Reported T U)) → (ts : List (Reported T U)) × AreReported (map Alone list) ts × (new ≡ old ++ ts) → IsJoinedMet query options index interruptible walking ids means old (Ok (record { tracked_file_modification = tracked; dirwalk = walked; rewrites = None })) new
+    pub plain_all : options.rewrites ≡ None → (old new : List (Reported T U)) → (ts : List (Reported T U)) × AreReported (map Alone list) ts × (new ≡ old ++ ts) → IsJoinedStatus query options index interruptible walking ids means old (Ok (record { tracked_file_modification = tracked; dirwalk = walked; rewrites = None })) new
     plain_all unwanted old new fed = reported_all list tracked walked joined (map Alone list) None (alone_reported unwanted list) old new fed
 
-    pub plain_some : options.rewrites ≡ None → (old new : List (Reported T U)) → (ts : List (Reported T U)) × AreReported (map Alone list) ts × ((n : ℕ) × (n < length ts) × (new ≡ old ++ take n ts)) → IsJoinedMet query options index interruptible walking ids means old (Err errors.Memory) new
+    pub plain_some : options.rewrites ≡ None → (old new : List (Reported T U)) → (ts : List (Reported T U)) × AreReported (map Alone list) ts × ((n : ℕ) × (n < length ts) × (new ≡ old ++ take n ts)) → IsJoinedStatus query options index interruptible walking ids means old (Err errors.Memory) new
     plain_some unwanted old new fed = reported_some list tracked walked joined (map Alone list) None (alone_reported unwanted list) old new fed
 
     module _ (r : Rewrites) (wanted : options.rewrites ≡ Some r) (known : Identifying) (same_ids : known ≡ ids) where
-      pub late : (old : List (Reported T U)) (e : Error) → IsRewritingFault known options.object_hash means r.track_empty list e → IsJoinedMet query options index interruptible walking ids means old (Err e) old
+      pub late : (old : List (Reported T U)) (e : Error) → IsRewritingFault known options.object_hash means r.track_empty list e → IsJoinedStatus query options index interruptible walking ids means old (Err e) old
       late old e fault = quietly old e (of_list_at list tracked walked joined known same_ids r wanted e fault)
 
-      pub rewritten_all : (entries : List (Rewritten (Item T U))) (o : RewritesOutcome) → IsRewriting known options.object_hash means r.track_empty list entries o → (old new : List (Reported T U)) → (ts : List (Reported T U)) × AreReported entries ts × (new ≡ old ++ ts) → IsJoinedMet query options index interruptible walking ids means old (Ok (record { tracked_file_modification = tracked; dirwalk = walked; rewrites = Some o })) new
+      pub rewritten_all : (entries : List (Rewritten (Item T U))) (o : RewritesOutcome) → IsRewriting known options.object_hash means r.track_empty list entries o → (old new : List (Reported T U)) → (ts : List (Reported T U)) × AreReported entries ts × (new ≡ old ++ ts) → IsJoinedStatus query options index interruptible walking ids means old (Ok (record { tracked_file_modification = tracked; dirwalk = walked; rewrites = Some o })) new
       rewritten_all entries o rewriting old new fed =
           reported_all list tracked walked joined entries (Some o) (rewritten_reported r wanted known same_ids list entries o rewriting) old new fed
 
-      rewritten_some : (entries : List (Rewritten (Item T U))) (o : RewritesOutcome) → IsRewriting known options.object_hash means r.track_empty list entries o → (old new : List (Reported T U)) → (ts : List (Reported T U)) × AreReported entries ts × ((n : ℕ) × (n < length ts) × (new ≡ old ++ take n ts)) → IsJoinedMet query options index interruptible walking ids means old (Err errors.Memory) new
+      rewritten_some : (entries : List (Rewritten (Item T U))) (o : RewritesOutcome) → IsRewriting known options.object_hash means r.track_empty list entries o → (old new : List (Reported T U)) → (ts : List (Reported T U)) × AreReported entries ts × ((n : ℕ) × (n < length ts) × (new ≡ old ++ take n ts)) → IsJoinedStatus query options index interruptible walking ids means old (Err errors.Memory) new
       rewritten_some entries o rewriting old new fed =
           reported_some list tracked walked joined entries (Some o) (rewritten_reported r wanted known same_ids list entries o rewriting) old new fed
 
@@ -158,7 +158,7 @@ module _ {T U : Type 0} (query : Query T U) (options : Options) (index : State) 
           → (IsRewritingFault known options.object_hash means r.track_empty list e × (new ≡ old))
           ⊎ ((e ≡ errors.Memory) × ((entries : List (Rewritten (Item T U))) × ((o : RewritesOutcome)
           × (IsRewriting known options.object_hash means r.track_empty list entries o × IsFed {A = RewritesOutcome} entries old (Err e) new))))
-          → IsJoinedMet query options index interruptible walking ids means old (Err e) new
-      unreported old new e (inl (fault, same)) = subst (λ x. IsJoinedMet query options index interruptible walking ids means old (Err e) x) (sym same) (late old e fault)
+          → IsJoinedStatus query options index interruptible walking ids means old (Err e) new
+      unreported old new e (inl (fault, same)) = subst (λ x. IsJoinedStatus query options index interruptible walking ids means old (Err e) x) (sym same) (late old e fault)
       unreported old new e (inr (memory, (entries, (o, (rewriting, fed))))) =
-          subst (λ x. IsJoinedMet query options index interruptible walking ids means old (Err x) new) (sym memory) (rewritten_some entries o rewriting old new fed)
+          subst (λ x. IsJoinedStatus query options index interruptible walking ids means old (Err x) new) (sym memory) (rewritten_some entries o rewriting old new fed)

@@ -25,7 +25,7 @@ use Rattle.status_joined.specs.Changes.{changed_of}
 use Rattle.status_joined.specs.Errors.{error_of_id, error_of_refused, error_of_tracker}
 use Rattle.status_joined.specs.NodeIds.{Identifying, id_faults}
 use Rattle.status_joined.specs.Items.{Item, is_removed, is_walked}
-use Rattle.status_joined.specs.Joined.{AreWithIds, IsRewriting, IsRewritingFault}
+use Rattle.status_joined.specs.Joined.{HaveTheirIds, IsRewriting, IsRewritingFault}
 use Rattle.status_joined.specs.ListItems.{item_of}
 use Rattle.status_joined.specs.declared.item.ModificationOrDirwalkEntry.{ModificationOrDirwalkEntry}
 use Rattle.status_joined.specs.declared.index_as_worktree_with_renames.rewrites.Outcome.{Outcome}
@@ -43,7 +43,7 @@ module _ {T U : Type 0} (ids : Identifying) (kind : HashKind) (means : List Chan
   pub id_fault : (e : IdError) → (IsTrue ids.modelled → (slice_get (id_faults ids.ids list) 0 ≡ Some e) ⊎ (fault_of e ≡ Memory)) → IsRewritingFault ids kind means track_empty list (error_of_id e)
   id_fault e h = search (rules, h)
 
-  module _ (xs slice : List (ModificationOrDirwalkEntry T U)) (same : slice ≡ xs) (identified : AreWithIds ids kind means list (map item_of xs)) where
+  module _ (xs slice : List (ModificationOrDirwalkEntry T U)) (same : slice ≡ xs) (identified : HaveTheirIds ids kind means list (map item_of xs)) where
     -- what a tracker sees of what stands in the list
     seen : map (λ (x : ModificationOrDirwalkEntry T U). changed_of (item_of x)) slice ≡ map changed_of (map item_of xs)
     seen = ap (map (λ (x : ModificationOrDirwalkEntry T U). changed_of (item_of x))) same ∙ sym (map-map changed_of item_of xs)

@@ -33,14 +33,14 @@ tracked_options o = record {
 
 module _ {T U : Type 0} (ids : Identifying) (kind : HashKind) (means : List Changed → Bool → Result (List Pair) TrackerFault → Type 0) where
   -- the list's items with the ids of their contents; nothing else of them changes
-  pub record AreWithIds (list items : List (Item T U)) : Type 0 where
+  pub record HaveTheirIds (list items : List (Item T U)) : Type 0 where
     pub known : IsTrue ids.modelled → map (identified ids.ids) list ≡ map Ok items
     pub same : map (forget kind) items ≡ map (forget kind) list
 
   -- the list with the tracker's renames and copies, each just once; and how many there are
   pub record IsRewriting (track_empty : Bool) (list : List (Item T U)) (entries : List (Rewritten (Item T U))) (o : RewritesOutcome) : Type 0 where
     pub items : List (Item T U)
-    pub identified : AreWithIds list items
+    pub identified : HaveTheirIds list items
     pub pairs : List Pair
     pub meant : means (map changed_of items) track_empty (Ok pairs)
     pub lawful : AreLawful is_removed is_walked items pairs
@@ -69,8 +69,8 @@ module _ {T U : Type 0} (ids : Identifying) (kind : HashKind) (means : List Chan
   IsRewritingFault track_empty list (errors.ReadLink f) = IsIdFault list (ReadLink f)
   IsRewritingFault track_empty list (errors.ConvertToGit f) = IsIdFault list (Convert f)
   IsRewritingFault track_empty list (errors.RewriteTracker (tracker_errors.BadPair at)) =
-      (items : List (Item T U)) × (AreWithIds list items × IsPairFault track_empty items at)
+      (items : List (Item T U)) × (HaveTheirIds list items × IsPairFault track_empty items at)
   IsRewritingFault track_empty list (errors.RewriteTracker (tracker_errors.Refused code)) =
-      (items : List (Item T U)) × (AreWithIds list items × means (map changed_of items) track_empty (Err (refused code)))
+      (items : List (Item T U)) × (HaveTheirIds list items × means (map changed_of items) track_empty (Err (refused code)))
   IsRewritingFault track_empty list errors.Memory = ⊤
   IsRewritingFault track_empty list _ = ⊥

@@ -78,7 +78,7 @@ module _ {T U : Type 0} (query : Query T U) (options : Options) (index : State) 
     pub short : length reported < length whole
 
   -- what was reported over any worktree, and where all that was handed in is modelled
-  pub record IsJoinedMet (old : List (Reported T U)) (result : Result Outcome Error) (new : List (Reported T U)) : Type 0 where
+  pub record IsJoinedStatus (old : List (Reported T U)) (result : Result Outcome Error) (new : List (Reported T U)) : Type 0 where
     pub more : List (Reported T U)
     pub grew : new ≡ old ++ more
     -- Ok: all that there is to report
@@ -91,7 +91,7 @@ module _ {T U : Type 0} (query : Query T U) (options : Options) (index : State) 
 -- the same of what was handed in: the status of the index by the options, the walk where one is wanted, and the ids by their kind
 abbrev pub IsMetBy : {T U : Type 0} → JoinedQuery T U → Options → State → List (Reported T U) → Result Outcome Error → List (Reported T U) → Type 0
 IsMetBy q options index old result new =
-    IsJoinedMet (q.status (settings (tracked_options options) index)) options index q.interruptible
+    IsJoinedStatus (q.status (settings (tracked_options options) index)) options index q.interruptible
     (wanted_walk options.dirwalk (q.walking (index_of index))) (q.identifying options.object_hash) q.pairs old result new
 
 -- the same by the meaning of the collector

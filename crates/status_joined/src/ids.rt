@@ -1,6 +1,7 @@
 //! Ids of the list's nodes.
 
 ghost use Rattle.std.specs.Prelude.{◌≡◌, OnOk, map};
+ghost use Rattle.status_index.specs.declared.id.HashKind.{HashKind as KindOfIds};
 ghost use Rattle.status_joined.specs.NodeIds.{forget, HasIdBy, HaveIdsBy};
 ghost use Rattle.status_joined.specs.ListItems.{item_of};
 
@@ -12,13 +13,12 @@ use std::alloc::Global;
 
 /// Gives an item its id, where it is a node: that of its content. `buffer` is written over.
 fn identify_item<N: Identify, T: Drop, U: Drop>(
-    _kind: HashKind,
     ids: &N,
     item: &mut ModificationOrDirwalkEntry<'_, T, U>,
     buffer: &mut Vec<u8>,
 ) -> Result<(), IdError>
     ensures ids { HasIdBy (N.identifying ids.now) (item_of item.old) result (item_of item.new) }
-    ensures same { OnOk result (forget _kind (item_of item.new) ≡ forget _kind (item_of item.old)) }
+    ensures same { (kind : KindOfIds) → OnOk result (forget kind (item_of item.new) ≡ forget kind (item_of item.old)) }
 {
     match item {
         ModificationOrDirwalkEntry::Modification(_) => Ok(()),
@@ -50,7 +50,7 @@ pub fn identify<N: Identify, T: Drop, U: Drop>(
 {
     let mut buffer = Vec::new(alloc);
     for item in items.iter_mut() {
-        match identify_item(kind, ids, item, &mut buffer) {
+        match identify_item(ids, item, &mut buffer) {
             Ok(()) => {}
             Err(error) => return Err(error),
         }

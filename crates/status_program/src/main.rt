@@ -4,7 +4,6 @@
 mod whole;
 
 use crate::whole::write_whole;
-use gix_status::index::Moment;
 use status_cli::{Failure, run_refresh, run_replay, run_status};
 use std::convert::AsStr;
 use std::io::BufWriter;
@@ -27,7 +26,7 @@ enum Command<W> {
     /// Replay its events.
     Replay,
     /// Refresh its index, which gets this timestamp, and write the profile to the file `out`.
-    Refresh { out: W, timestamp: Moment },
+    Refresh { out: W, secs: u32, nsecs: u32 },
 }
 
 fn main(rt: HostRuntime) -> ExitCode {
@@ -81,10 +80,8 @@ fn command_of<W: AsStr + Drop, I: Iterator<Item = W>>(mut words: I) -> Option<(C
         "replay" => Command::Replay,
         "refresh" => Command::Refresh {
             out: words.next()?,
-            timestamp: Moment {
-                secs: number_of(words.next()?.as_str(), u32::MAX)?,
-                nsecs: number_of(words.next()?.as_str(), MAX_NANOSECONDS)?,
-            },
+            secs: number_of(words.next()?.as_str(), u32::MAX)?,
+            nsecs: number_of(words.next()?.as_str(), MAX_NANOSECONDS)?,
         },
         _ => return None,
     };
@@ -125,10 +122,21 @@ where
         Ok(mut output) => match command {
             Command::Status => run_status(rt, file, &mut profile, &mut output, faults),
             Command::Replay => run_replay(rt, file, &mut profile, &mut output, faults),
-            Command::Refresh { out, timestamp } => {
-                match run_refresh(rt, file, timestamp, &mut profile, &mut output, faults) {
-                    Ok(text) => write_refreshed(rt, out.as_str(), text.as_bytes(), faults),
-                    Err(status) => status,
+            Command::Refresh { out, secs, nsecs } => {
+                let mut refreshed = Vec::new(rt.alloc());
+                let status = run_refresh(
+                    rt,
+                    file,
+                    secs,
+                    nsecs,
+                    &mut profile,
+                    &mut output,
+                    faults,
+                    &mut refreshed,
+                );
+                match status {
+                    0 => write_refreshed(rt, out.as_str(), &refreshed, faults),
+                    failed => failed,
                 }
             }
         },

@@ -20,7 +20,7 @@ use Rattle.status_index.specs.Entries.{IndexEntry, said_of}
 use Rattle.status_index.specs.FlagBits.{bits_of_stage}
 use Rattle.status_index.specs.Mode.{new_mode}
 use Rattle.status_index.specs.NodeStat.{stat_of}
-use Rattle.status_index.specs.Staging.{with_entry}
+use Rattle.status_index.specs.Staging.{with_entry, with_put}
 use Rattle.status_base.specs.MemoryTree.{Placed, PathMap, Tree, lstat_in, open_in, target_in}
 use Rattle.status_base.specs.Trees.{empty_tree}
 use Rattle.status_compare.specs.declared.error.Error.{Error}
@@ -147,7 +147,7 @@ entry_of w path n = fresh_entry path (unwrap_or (stat_of n.metadata) zero_stat) 
 
 -- a world where an entry was put into the index, and what was staged with it
 abbrev pub with_staged : StampedWorld → IndexEntry → Plain → StampedWorld
-with_staged w e s = record w { entries = with_entry w.entries e.path (Some e); staged = paths.insert w.staged e.path s }
+with_staged w e s = record w { entries = with_put w.entries e; staged = paths.insert w.staged e.path s }
 
 -- the entry of a path
 abbrev pub entry_at : List ℕ → List IndexEntry → Option IndexEntry

@@ -2,7 +2,7 @@
 //!
 //! Read `event` in `world` first, then `state`, what a world has, and `apply`, which lets an event happen: by `clock`,
 //! `nodes`, `staging` with `staged`, or `run`, unless `refusal` says why not. `history` replays a list of events, and
-//! `report` and `outcome` are what that returns. `reopening` replaces the index, and `laws` has the theorem.
+//! `report` and `replayed` are what that returns. `reopening` replaces the index, and `laws` has the theorem.
 #![tactic(auto)]
 
 pub mod world;

@@ -25,7 +25,7 @@ pub trait ToGit: Clone {
     /// What becomes of a file at a path.
     ghost conversion: { Self → Content → List ℕ → Conversion };
 
-    /// Converts a file. Conversion bytes are in `buffer`.
+    /// Converts a file. Converted bytes are in `buffer`.
     ///
     /// # Errors
     /// A fault of the filter or of reading the file.

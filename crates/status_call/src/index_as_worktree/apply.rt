@@ -2,7 +2,7 @@
 //! recorder, applies them, and then gives the index a later timestamp.
 
 ghost use Rattle.std.specs.Prelude.{◌≡◌, ◌<◌, IfOk, length};
-ghost use Rattle.status_index.specs.States.{index_of, timestamp_of};
+ghost use Rattle.status_index.specs.States.{backing_of, index_of, timestamp_of};
 ghost use Rattle.status_call.specs.IndexChanges.{AreInside, DifferInStats, applied, applied_one, change_of, changes_of, place_of};
 ghost use Rattle.status_call.specs.RecorderVisits.{visits_of};
 
@@ -57,11 +57,13 @@ impl<'index, T, U> Recorder<'index, T, U> {
 }
 
 /// Stores in an index what a status asked of it. Stats change, and nothing else: no other part of an entry, and not the
-/// timestamp. Until the index has a later timestamp the next status reads the same files again.
+/// timestamp. The caller then sets that to the time of the status, so that the next one needn't read the files whose stats
+/// changed within the old one's moment.
 pub fn apply_changes(index: &mut State, changes: &[ApplyChange])
     requires inside { AreInside changes.now (index_of index.old) }
     ensures index { index_of index.new ≡ applied changes.now (index_of index.old) }
     ensures stats { DifferInStats (index_of index.new) (index_of index.old) }
+    ensures storage { backing_of index.new ≡ backing_of index.old }
     ensures timestamp { timestamp_of index.new ≡ timestamp_of index.old }
 {
     for change in changes {
@@ -73,6 +75,7 @@ pub fn apply_changes(index: &mut State, changes: &[ApplyChange])
 fn apply_one(index: &mut State, change: &ApplyChange)
     requires { place_of change.now < length (index_of index.old) }
     ensures index { index_of index.new ≡ applied_one change.now (index_of index.old) }
+    ensures storage { backing_of index.new ≡ backing_of index.old }
     ensures timestamp { timestamp_of index.new ≡ timestamp_of index.old }
 {
     match change {

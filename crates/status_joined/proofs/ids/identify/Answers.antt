@@ -11,4 +11,4 @@ returns-in-Err-clause-ids g c =
 pub loop-item-preserved : goal.loop-item-preserved
 loop-item-preserved g c =
     one_more item_of c.args.kind _ _ c.args.items.now.items c.loop-item.item-items c.loop-item.item-index c.item-item.result c.identify_item.new.item
-    (omega (arith, c.loop-item-test.true, c.loop-item.auto.item-items)) c.loop-item.invariant c.in-Ok.ensures.ids c.in-Ok.ensures.same
+    (omega (arith, c.loop-item-test.true, c.loop-item.auto.item-items)) c.loop-item.invariant c.in-Ok.ensures.ids (c.in-Ok.ensures.same c.args.kind)

@@ -9,7 +9,7 @@ use Rattle.status_call.proofs.IndexChanges.{no_entry, applied-append, length-app
 use Rattle.status_call.proofs.index_as_worktree.apply.apply_changes.Goals as goal
 
 pub loop-change-init : goal.loop-change-init
-loop-change-init c = record { index = refl; timestamp = refl }
+loop-change-init c = record { index = refl; storage = refl; timestamp = refl }
 
 -- a change that says nothing, in place of what lies past the end
 abbrev blank : ApplyChange
@@ -34,6 +34,7 @@ loop-change-preserved c =
           ∙ ap (λ (l : List IndexEntry). applied_one item l) c.loop-change.invariant.index
           ∙ sym (applied-append (take at changes) (item ∷ []) es)
           ∙ ap (λ (l : List ApplyChange). applied l es) (sym (take_more changes at blank c.loop-change-test.true));
+      storage = c.apply_one.ensures.storage ∙ c.loop-change.invariant.storage;
       timestamp = c.apply_one.ensures.timestamp ∙ c.loop-change.invariant.timestamp;
     }
 
@@ -46,5 +47,6 @@ returns c =
     record {
       index = index;
       stats = subst (λ (l : List IndexEntry). DifferInStats l es) (sym index) (stats_alone changes es);
+      storage = c.loop-change.invariant.storage;
       timestamp = c.loop-change.invariant.timestamp;
     }
