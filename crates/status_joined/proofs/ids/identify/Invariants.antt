@@ -5,4 +5,4 @@ use Rattle.status_joined.proofs.ids.identify.Given as goal
 abbrev pub invariant-loop-item : goal.invariant-loop-item
 invariant-loop-item g l =
     let ids = g.N.Identify.identifying l.ids in
-    AreIdentifiedUpTo item_of l.kind ids.modelled ids.ids l.fn.items.items l.item-items l.item-index
+    AreIdentifiedUpTo item_of l.fn.kind ids.modelled ids.ids l.fn.items.items l.item-items l.item-index
