@@ -2,5 +2,6 @@
 
 pub use status_call::index_as_worktree::{
     ApplyChange, Capabilities, Change, Conflict, ConflictIndexEntry, Context, EntryStatus, Error,
-    Options, Outcome, Record, Recorder, VisitEntry, apply_changes, index_as_worktree, laws, traits,
+    Options, Outcome, Record, Recorder, VisitEntry, apply_changes, index_as_worktree,
+    index_as_worktree_with_defaults, laws, traits,
 };

@@ -15,7 +15,8 @@ use Rattle.status_base.specs.LinkCheck.{LinkCheck, accepted, empty_path, not_nor
 use Rattle.status_base.specs.CheckAnswers.{IsRefused}
 use Rattle.status_compare.specs.declared.error.Error.{Error}
 use Rattle.status_compare.specs.declared.error.Error.TheVariants as errors
-use Rattle.status_compare.specs.EntryMeaning.{both_modelled}
+use Rattle.status_compare.specs.EntryMeaning.{if_modelled}
+use Rattle.status_compare.specs.Reading.{Meaning}
 use Rattle.status_compare.specs.declared.reads.Reads.{Reads}
 use Rattle.status_compare.specs.Reads.{no_reads}
 use Rattle.status_call.specs.declared.index_as_worktree.lookup.Look.{Look}
@@ -33,10 +34,10 @@ pub all_worktree : (a b c d : Bool) → IsTrue (all_modelled a b c d) → IsTrue
 all_worktree true b c d t = refl
 all_worktree false b c d t = absurd (cc)
 
-pub all_both : (a b c d : Bool) → IsTrue (all_modelled a b c d) → IsTrue (both_modelled a b)
-all_both true true c d t = refl
-all_both true false c d t = absurd (cc)
-all_both false b c d t = absurd (cc)
+pub all_meant : (a b c d : Bool) (m : Meaning) → IsTrue (all_modelled a b c d) → if_modelled a b m ≡ Some m
+all_meant true true c d m t = refl
+all_meant true false c d m t = absurd (cc)
+all_meant false b c d m t = absurd (cc)
 
 pub all_submodule : (a b c d : Bool) → IsTrue (all_modelled a b c d) → IsTrue c
 all_submodule true true true d t = refl

@@ -16,7 +16,7 @@ use Rattle.status_call.specs.declared.index_as_worktree.types.Change.TheVariants
 use Rattle.status_call.specs.declared.index_as_worktree.types.EntryStatus.{EntryStatus}
 use Rattle.status_call.specs.declared.index_as_worktree.types.EntryStatus.TheVariants as statuses
 use Rattle.status_call.specs.declared.index_as_worktree.types.Outcome.{Outcome}
-use Rattle.status_call.specs.IndexChanges.{AreInside, DifferInStats, applied, applied_one, change_at, change_of, changed_entry, changes_of, place_of}
+use Rattle.status_call.specs.IndexChanges.{AreInside, DifferInStats, applied, applied_one, change_at, change_of, changed_entry, changes_of, entry_index_of}
 use Rattle.status_call.specs.Query.{Query}
 use Rattle.status_call.specs.StatusTheorem.{IsMet}
 use Rattle.status_call.specs.Visits.{Visit, IsFaithful}
@@ -64,7 +64,7 @@ change_behind f (x ∷ done) e es = ap (λ (l : List IndexEntry). x ∷ l) (chan
 -- what is stored changes no number of entries
 pub length-applied : (cs : List ApplyChange) (es : List IndexEntry) → length (applied cs es) ≡ length es
 length-applied [] es = refl
-length-applied (c ∷ cs) es = length-applied cs (applied_one c es) ∙ length-change_at (changed_entry c) (place_of c) es
+length-applied (c ∷ cs) es = length-applied cs (applied_one c es) ∙ length-change_at (changed_entry c) (entry_index_of c) es
 
 -- one more change, as at a step of a loop
 pub applied-append : (cs later : List ApplyChange) (es : List IndexEntry) → applied (cs ++ later) es ≡ applied later (applied cs es)
@@ -74,7 +74,7 @@ applied-append (c ∷ cs) later es = applied-append cs later (applied_one c es)
 -- nothing but stats changes
 pub stats_alone : (cs : List ApplyChange) (es : List IndexEntry) → DifferInStats (applied cs es) es
 stats_alone [] es s = refl
-stats_alone (c ∷ cs) es s = stats_alone cs (applied_one c es) s ∙ at_place (place_of c) es
+stats_alone (c ∷ cs) es s = stats_alone cs (applied_one c es) s ∙ at_place (entry_index_of c) es
   where
     kept : (d : ApplyChange) (e : IndexEntry) → with_stat s (changed_entry d e) ≡ with_stat s e
     kept (NewStat at stat) e = refl
@@ -100,7 +100,7 @@ module _ {T U : Type 0} where
   asked v = change_of v.entry_index v.status
 
   -- a status asks of the entry at its place
-  pub place_kept : (at : ℕ) (s : EntryStatus T U) (c : ApplyChange) → change_of at s ≡ Some c → place_of c ≡ at
+  pub place_kept : (at : ℕ) (s : EntryStatus T U) (c : ApplyChange) → change_of at s ≡ Some c → entry_index_of c ≡ at
   place_kept at (statuses.NeedsUpdate stat) c h = cc
   place_kept at (statuses.Change (changes.Modification x k true)) c h = cc
   place_kept at (statuses.Change (changes.Modification x k false)) c h = absurd (cc)
@@ -109,12 +109,12 @@ module _ {T U : Type 0} where
   pub one_inside : (at : ℕ) (s : EntryStatus T U) (o : Option ApplyChange) → change_of at s ≡ o → (cs : List ApplyChange) (es : List IndexEntry) → at < length es → AreInside cs es → AreInside (cons_option o cs) es
   one_inside at s None h cs es within later = later
   one_inside at s (Some c) h cs es within later =
-      let place : place_of c ≡ at = place_kept at s c h in
-      All-cons (λ (x : ApplyChange). place_of x < length es) c cs (omega (arith, place, within)) later
+      let place : entry_index_of c ≡ at = place_kept at s c h in
+      All-cons (λ (x : ApplyChange). entry_index_of x < length es) c cs (omega (arith, place, within)) later
 
   -- what is asked of entries that are the index's own is of places within it
   pub changes_inside : (index : State) (vs : List (Visit T U)) → All (IsFaithful (entries_of index) (backing_of index)) vs → AreInside (changes_of vs) (index_of index)
-  changes_inside index [] all = All-nil (λ (c : ApplyChange). place_of c < length (index_of index))
+  changes_inside index [] all = All-nil (λ (c : ApplyChange). entry_index_of c < length (index_of index))
   changes_inside index (v ∷ vs) all =
       let within : v.entry_index < length (entries_of index) = slice_get_within (entries_of index) v.entry_index v.entry (All-head (IsFaithful (entries_of index) (backing_of index)) v vs all).entry in
       let long : length (index_of index) ≡ length (entries_of index) = length-map (entries_of index) (index_entry (backing_of index)) in

@@ -9,13 +9,12 @@ use Rattle.status_compare.specs.declared.error.Error.{Error}
 use Rattle.status_compare.specs.declared.error.Error.TheVariants.{Memory}
 use Rattle.status_compare.specs.declared.reads.Reads.{Reads}
 use Rattle.status_compare.specs.Errors.{error_of}
-use Rattle.status_compare.specs.Reads.{no_reads}
+use Rattle.status_compare.specs.Reads.{HasRead, no_reads}
 use Rattle.status_call.specs.declared.index_as_worktree.decide.Decided.{Decided}
 use Rattle.status_call.specs.declared.index_as_worktree.lookup.Look.{Look}
 use Rattle.status_call.specs.declared.index_as_worktree.lookup.AtPath.{AtPath}
 use Rattle.status_call.specs.declared.index_as_worktree.lookup.AtPath.TheVariants as presences
-use Rattle.status_compare.specs.declared.comparison.Comparison.{Comparison}
-use Rattle.status_compare.specs.Comparisons.{IsComparison}
+use Rattle.status_call.specs.declared.index_as_worktree.content.Comparison.{Comparison}
 use Rattle.status_base.specs.LinkCheck.{link_check}
 use Rattle.status_call.specs.Counts.{is_accepted, is_racy_case, is_compared_case}
 use Rattle.status_call.specs.Query.{Query}
@@ -52,6 +51,11 @@ abbrev pub IsCaseDecided : {T U : Type 0} → List ℕ → Case T U → Bool →
     → Result (Decided T U) Error → Type 0
 IsCaseDecided path case called counted (Ok d) = IsOfCase path case called counted d
 IsCaseDecided path case called counted (Err x) = (answer path case ≡ Err x) ⊎ (x ≡ Memory)
+
+-- the comparer's answer, and what it read where that is modelled; its error, or want of memory
+abbrev pub IsComparison : {T : Type 0} → Result (Option T) Error → Option Reads → Result (Comparison T) Error → Type 0
+IsComparison meant counted (Ok c) = (meant ≡ Ok c.change) × HasRead counted c.reads
+IsComparison meant counted (Err x) = (meant ≡ Err x) ⊎ (x ≡ Memory)
 
 -- what a comparison decides of an entry whose node has this stat
 abbrev pub IsDecisionOf : {T U : Type 0} → Comparison T → Stat → Bool → Bool → Bool → Decided T U

@@ -14,13 +14,13 @@ use Rattle.status_call.specs.Visits.{Visit}
 -- ---- what is asked
 
 -- the place of the entry that a change is of
-abbrev pub place_of : ApplyChange → ℕ
-place_of (NewStat at stat) = at
-place_of (SetSizeToZero at) = at
+abbrev pub entry_index_of : ApplyChange → ℕ
+entry_index_of (NewStat at stat) = at
+entry_index_of (SetSizeToZero at) = at
 
 -- each change is of an entry of the list
 abbrev pub AreInside : List ApplyChange → List IndexEntry → Type 0
-AreInside changes es = All (λ c. place_of c < length es) changes
+AreInside changes es = All (λ c. entry_index_of c < length es) changes
 
 module _ {T U : Type 0} where
   -- what the status of the entry at a place asks, if anything: a new stat, or the size 0 where the status says so
@@ -48,7 +48,7 @@ change_at f (suc at) (e ∷ es) = e ∷ change_at f at es
 
 -- the entries after one change
 abbrev pub applied_one : ApplyChange → List IndexEntry → List IndexEntry
-applied_one c es = change_at (changed_entry c) (place_of c) es
+applied_one c es = change_at (changed_entry c) (entry_index_of c) es
 
 -- the entries after changes, one after the other
 abbrev pub applied : List ApplyChange → List IndexEntry → List IndexEntry

@@ -1,5 +1,10 @@
 -- What a caller hands in, put together.
 use Rattle.std.specs.Borrow.{Bor}
+use Rattle.std.specs.FinMap as ids
+use Rattle.status_base.specs.Objects.{Contents}
+use Rattle.status_base.specs.declared.worktree.filter.NoFilter.{NoFilter}
+use Rattle.status_base.specs.declared.worktree.lister.NoLister.{NoLister}
+use Rattle.status_base.specs.declared.worktree.submodule.NoSubmodules.{NoSubmodules}
 use Rattle.status_index.specs.declared.state.State.{State}
 use Rattle.status_index.specs.States.{timestamp_of}
 use Rattle.status_call.specs.declared.index_as_worktree.inputs.Inputs.{Inputs}
@@ -17,6 +22,20 @@ given worktree compare submodule objects context = record {
   pathspec = context.pathspec;
   filter = context.filter;
   lister = context.lister;
+}
+
+-- the usual interfaces beside a worktree, a comparer and a pathspec: no submodule, no blob, nothing is converted, and no
+-- listings
+abbrev pub usual : {W C P : Type 0} → Bor W → C → P
+    → Inputs W C NoSubmodules Contents P NoFilter NoLister
+usual worktree compare pathspec = record {
+  worktree = worktree;
+  compare = compare;
+  submodule = record {};
+  objects = ids.empty;
+  pathspec = pathspec;
+  filter = record {};
+  lister = record {};
 }
 
 -- the part of the options that decides entries, with the index's timestamp

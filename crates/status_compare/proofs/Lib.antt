@@ -1,2 +1,1 @@
 pub mod Agree
-pub mod Modelled

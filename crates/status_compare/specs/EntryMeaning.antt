@@ -16,9 +16,3 @@ abbrev pub if_modelled : Bool → Bool → Meaning → Option Meaning
 if_modelled true true m = Some m
 if_modelled true false m = None
 if_modelled false _ m = None
-
--- worktree and blobs are modelled
-abbrev pub both_modelled : Bool → Bool → Bool
-both_modelled true true = true
-both_modelled true false = false
-both_modelled false _ = false

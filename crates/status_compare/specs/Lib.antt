@@ -1,6 +1,5 @@
 pub mod Blobs
 pub mod Comparers
-pub mod Comparisons
 pub mod EntryMeaning
 pub mod Errors
 pub mod FastAgrees

@@ -16,36 +16,47 @@ use status_base::worktree::{Find, ToGit, ToGitOutcome, Worktree};
 
 /// Reads one entry's file, as git would store it, and its blob.
 #[derive(Drop)]
-pub struct EntryReader<'r, W, T, O> {
-    worktree: &'r W,
-    filter: &'r T,
-    objects: &'r O,
-    id: ObjectId,
-    path: BStr<'r>,
-    is_link: bool,
-    len: u64,
-    reads: Reads,
+pub struct EntryReader<'w, 'r, W, T, O> {
+    /// Has the file.
+    pub worktree: &'w W,
+    /// Converts the file to what git would store.
+    pub filter: &'r T,
+    /// Has the blob.
+    pub objects: &'r O,
+    /// The blob's id.
+    pub id: ObjectId,
+    /// The file's path.
+    pub path: BStr<'r>,
+    /// Whether the target of a link is to be read in place of a file.
+    pub is_link: bool,
+    /// The file's length.
+    pub len: u64,
+    /// How much was read.
+    pub reads: Reads,
 }
 
-impl<'r, W: Worktree, T: ToGit, O: Find> EntryReader<'r, W, T, O> {
-    /// A reader of the file at `path`, whose length is `len`, and of the blob `id`. `is_link` says whether the target of
-    /// a link is to be read in place of a file.
+impl<'w, 'r, W: Worktree, T: ToGit, O: Find> EntryReader<'w, 'r, W, T, O> {
+    /// Makes a reader that has read nothing.
     pub fn new(
-        worktree: &'r W,
+        worktree: &'w W,
         filter: &'r T,
         objects: &'r O,
         id: ObjectId,
         path: BStr<'r>,
         is_link: bool,
         len: u64,
-    ) -> EntryReader<'r, W, T, O>
-        ensures means { ⟦<EntryReader<'r, W, T, O> as ReadData>⟧.means result
-            ≡ if_modelled (W.modelled worktree.entry.now) (O.modelled objects.entry.now)
-            (entry_meaning is_link (λ c. T.conversion filter.entry.now c (bstr_bytes path.entry)) len
-            (W.open_of worktree.entry.now (bstr_bytes path.entry))
-            (W.target_of worktree.entry.now (bstr_bytes path.entry))
-            (O.found objects.entry.now id)) }
-        ensures counts { ⟦<EntryReader<'r, W, T, O> as ReadData>⟧.counts result ≡ no_reads }
+    ) -> EntryReader<'w, 'r, W, T, O>
+        ensures { result
+            ≡ record {
+              worktree = worktree.entry;
+              filter = filter.entry;
+              objects = objects.entry;
+              id = id;
+              path = path.entry;
+              is_link = is_link;
+              len = len;
+              reads = no_reads;
+            } }
     {
         EntryReader {
             worktree,
@@ -57,13 +68,6 @@ impl<'r, W: Worktree, T: ToGit, O: Find> EntryReader<'r, W, T, O> {
             len,
             reads: Reads::none(),
         }
-    }
-
-    /// How much was read.
-    pub fn reads(&self) -> Reads
-        ensures { result ≡ ⟦<EntryReader<'r, W, T, O> as ReadData>⟧.counts self.now }
-    {
-        self.reads
     }
 
     // The target of the link, which is counted at once.
@@ -105,7 +109,7 @@ impl<'r, W: Worktree, T: ToGit, O: Find> EntryReader<'r, W, T, O> {
     }
 }
 
-impl<'r, W: Worktree, T: ToGit, O: Find> ReadData for EntryReader<'r, W, T, O> {
+impl<'w, 'r, W: Worktree, T: ToGit, O: Find> ReadData for EntryReader<'w, 'r, W, T, O> {
     type File = W::File;
 
     ghost means = { λ r. if_modelled (W.modelled r.worktree.now) (O.modelled r.objects.now)

@@ -1,5 +1,9 @@
 //! Why a status failed.
 
+ghost use Rattle.std.specs.Prelude.{◌≡◌};
+ghost use Rattle.status_compare.specs.Errors.{error_of, find_error_of};
+ghost use Rattle.status_compare.specs.declared.error.Error.TheVariants.{Time, Memory};
+
 use status_base::worktree::{ByteText, Fault, FindError, TimeError};
 use std::alloc::{AllocError, AllocFailed};
 use thiserror::Error;
@@ -36,9 +40,6 @@ pub enum Error {
 }
 
 impl From<Fault> for Error {
-    ghost use Rattle.std.specs.Prelude.{◌≡◌};
-    ghost use Rattle.status_compare.specs.Errors.{error_of};
-
     ghost from_gives = { λ f e. e ≡ error_of f };
 
     fn from(fault: Fault) -> Error {
@@ -51,9 +52,6 @@ impl From<Fault> for Error {
 }
 
 impl From<FindError> for Error {
-    ghost use Rattle.std.specs.Prelude.{◌≡◌};
-    ghost use Rattle.status_compare.specs.Errors.{find_error_of};
-
     ghost from_gives = { λ f e. e ≡ find_error_of f };
 
     fn from(error: FindError) -> Error {
@@ -65,9 +63,6 @@ impl From<FindError> for Error {
 }
 
 impl From<TimeError> for Error {
-    ghost use Rattle.std.specs.Prelude.{◌≡◌};
-    ghost use Rattle.status_compare.specs.declared.error.Error.TheVariants.{Time};
-
     ghost from_gives = { λ _ e. e ≡ Time };
 
     fn from(_error: TimeError) -> Error {
@@ -76,9 +71,6 @@ impl From<TimeError> for Error {
 }
 
 impl From<AllocError> for Error {
-    ghost use Rattle.std.specs.Prelude.{◌≡◌};
-    ghost use Rattle.status_compare.specs.declared.error.Error.TheVariants.{Memory};
-
     ghost from_gives = { λ _ e. e ≡ Memory };
 
     fn from(_error: AllocError) -> Error {
@@ -87,9 +79,6 @@ impl From<AllocError> for Error {
 }
 
 impl<T: Drop> From<AllocFailed<T>> for Error {
-    ghost use Rattle.std.specs.Prelude.{◌≡◌};
-    ghost use Rattle.status_compare.specs.declared.error.Error.TheVariants.{Memory};
-
     ghost from_gives = { λ _ e. e ≡ Memory };
 
     fn from(_refused: AllocFailed<T>) -> Error {

@@ -2,11 +2,10 @@
 //!
 //! Read `compare` first, the interface of a comparer, and `read_data`, what it may read. `hash_eq` compares by ids and
 //! `fast_eq` by sizes first. `entry_reader` reads the file and the blob of one entry, through `stream`, and `reads`
-//! counts that. `comparison` calls a comparer, and `error` is why a status fails.
+//! counts that. `error` is why a status fails.
 #![tactic(auto)]
 
 pub mod compare;
-pub mod comparison;
 pub mod entry_reader;
 pub mod error;
 pub mod fast_eq;
@@ -16,7 +15,6 @@ pub mod reads;
 pub mod stream;
 
 pub use compare::CompareBlobs;
-pub use comparison::{Comparison, compare_entry};
 pub use entry_reader::EntryReader;
 pub use error::Error;
 pub use fast_eq::FastEq;

@@ -1,5 +1,8 @@
 //! Why a list can't be rewritten.
 
+ghost use Rattle.std.specs.Prelude.{◌≡◌};
+ghost use Rattle.status_rewrites.specs.declared.refused.Refused.TheVariants.{Memory};
+
 use std::alloc::AllocError;
 use thiserror::Error;
 
@@ -18,9 +21,6 @@ pub enum Refused {
 }
 
 impl From<AllocError> for Refused {
-    ghost use Rattle.std.specs.Prelude.{◌≡◌};
-    ghost use Rattle.status_rewrites.specs.declared.refused.Refused.TheVariants.{Memory};
-
     ghost from_gives = { λ _ e. e ≡ Memory };
 
     fn from(_error: AllocError) -> Refused {

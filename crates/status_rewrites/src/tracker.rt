@@ -1,5 +1,6 @@
 //! Trackers, and what they answer.
 
+ghost use Rattle.status_rewrites.specs.declared.tracker.TrackerError.TheVariants.{Memory};
 ghost use Rattle.std.specs.Prelude.{◌≡◌, Bool, List, Result, map};
 ghost use Rattle.status_rewrites.specs.TrackedChanges.{Changed};
 ghost use Rattle.status_rewrites.specs.Trackers.{TrackerFault, IsMeantAnswer};
@@ -45,9 +46,6 @@ pub enum TrackerError {
 }
 
 impl From<AllocError> for TrackerError {
-    ghost use Rattle.std.specs.Prelude.{◌≡◌};
-    ghost use Rattle.status_rewrites.specs.declared.tracker.TrackerError.TheVariants.{Memory};
-
     ghost from_gives = { λ _ e. e ≡ Memory };
 
     fn from(_error: AllocError) -> TrackerError {
@@ -56,9 +54,6 @@ impl From<AllocError> for TrackerError {
 }
 
 impl<T: Drop> From<AllocFailed<T>> for TrackerError {
-    ghost use Rattle.std.specs.Prelude.{◌≡◌};
-    ghost use Rattle.status_rewrites.specs.declared.tracker.TrackerError.TheVariants.{Memory};
-
     ghost from_gives = { λ _ e. e ≡ Memory };
 
     fn from(_refused: AllocFailed<T>) -> TrackerError {

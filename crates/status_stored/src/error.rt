@@ -1,5 +1,10 @@
 //! Why an index isn't stored, or isn't read.
 
+ghost use Rattle.std.specs.Prelude.{◌≡◌};
+ghost use Rattle.status_stored.specs.declared.error.StoreError.TheVariants as store_errors;
+ghost use Rattle.status_stored.specs.Loading.{error_of_index, error_of_field};
+ghost use Rattle.status_stored.specs.declared.error.FieldError.TheVariants as field_errors;
+
 use status_index::IndexError;
 use std::alloc::{AllocError, AllocFailed};
 use thiserror::Error;
@@ -19,10 +24,7 @@ pub enum StoreError {
 }
 
 impl From<AllocError> for StoreError {
-    ghost use Rattle.std.specs.Prelude.{◌≡◌};
-    ghost use Rattle.status_stored.specs.declared.error.StoreError.TheVariants.{Memory};
-
-    ghost from_gives = { λ _ e. e ≡ Memory };
+    ghost from_gives = { λ _ e. e ≡ store_errors.Memory };
 
     fn from(_error: AllocError) -> StoreError {
         StoreError::Memory
@@ -30,10 +32,7 @@ impl From<AllocError> for StoreError {
 }
 
 impl<T: Drop> From<AllocFailed<T>> for StoreError {
-    ghost use Rattle.std.specs.Prelude.{◌≡◌};
-    ghost use Rattle.status_stored.specs.declared.error.StoreError.TheVariants.{Memory};
-
-    ghost from_gives = { λ _ e. e ≡ Memory };
+    ghost from_gives = { λ _ e. e ≡ store_errors.Memory };
 
     fn from(_refused: AllocFailed<T>) -> StoreError {
         StoreError::Memory
@@ -55,9 +54,6 @@ pub enum LoadError {
 }
 
 impl From<IndexError> for LoadError {
-    ghost use Rattle.std.specs.Prelude.{◌≡◌};
-    ghost use Rattle.status_stored.specs.Loading.{error_of_index};
-
     ghost from_gives = { λ refused e. e ≡ error_of_index refused };
 
     fn from(refused: IndexError) -> LoadError {
@@ -69,9 +65,6 @@ impl From<IndexError> for LoadError {
 }
 
 impl From<FieldError> for LoadError {
-    ghost use Rattle.std.specs.Prelude.{◌≡◌};
-    ghost use Rattle.status_stored.specs.Loading.{error_of_field};
-
     ghost from_gives = { λ refused e. e ≡ error_of_field refused };
 
     fn from(refused: FieldError) -> LoadError {
@@ -109,10 +102,7 @@ pub(crate) enum FieldError {
 }
 
 impl From<AllocError> for FieldError {
-    ghost use Rattle.std.specs.Prelude.{◌≡◌};
-    ghost use Rattle.status_stored.specs.declared.error.FieldError.TheVariants.{Memory};
-
-    ghost from_gives = { λ _ e. e ≡ Memory };
+    ghost from_gives = { λ _ e. e ≡ field_errors.Memory };
 
     fn from(_error: AllocError) -> FieldError {
         FieldError::Memory
@@ -120,10 +110,7 @@ impl From<AllocError> for FieldError {
 }
 
 impl<T: Drop> From<AllocFailed<T>> for FieldError {
-    ghost use Rattle.std.specs.Prelude.{◌≡◌};
-    ghost use Rattle.status_stored.specs.declared.error.FieldError.TheVariants.{Memory};
-
-    ghost from_gives = { λ _ e. e ≡ Memory };
+    ghost from_gives = { λ _ e. e ≡ field_errors.Memory };
 
     fn from(_refused: AllocFailed<T>) -> FieldError {
         FieldError::Memory

@@ -5,46 +5,10 @@ use bstr::BStr;
 use gix_status::index::{Flags, HashKind, Mode, Moment, ObjectId, Stat, State, Time, compute_hash};
 use gix_status::index_as_worktree::traits::HashEq;
 use gix_status::index_as_worktree::{
-    Change, Context, EntryStatus, Error, Options, Outcome, Recorder, VisitEntry, index_as_worktree,
+    Change, EntryStatus, Options, Recorder, index_as_worktree_with_defaults,
 };
-use gix_status::worktree::{
-    AllPaths, MemoryObjects, MemoryWorktree, NoFilter, NoLister, NoSubmodules, Node, NodeKind,
-    Worktree,
-};
-use std::sync::Wait;
+use gix_status::worktree::{AllPaths, MemoryWorktree, Node, NodeKind};
 use std::test::Fail;
-use std::thread::Threads;
-
-/// The call: every path, compared by ids, over any worktree and for any collector.
-fn status<
-    'index,
-    R: AllocGlobal + Threads + Wait,
-    W: Worktree + Sync,
-    V: VisitEntry<'index, ContentChange = ObjectId, SubmoduleStatus = ()>,
->(rt: &R, index: &'index State, worktree: &W, collector: &mut V) -> Result<Outcome, Error>
-where
-    W::File: Send,
-{
-    let alloc = rt.alloc();
-    let context = Context {
-        pathspec: AllPaths,
-        filter: NoFilter,
-        lister: NoLister,
-        should_interrupt: None,
-    };
-    index_as_worktree(
-        rt,
-        alloc,
-        index,
-        worktree,
-        collector,
-        HashEq,
-        NoSubmodules,
-        MemoryObjects::new(alloc),
-        context,
-        Options::default(),
-    )
-}
 
 #[test]
 fn a_change_and_a_removal(rt: HostRuntime) -> Result<(), Fail> {
@@ -73,7 +37,16 @@ fn a_change_and_a_removal(rt: HostRuntime) -> Result<(), Fail> {
     worktree.put(BStr::from("a"), node)?;
     // What comes back: a record for each entry that differs, in the order of the index, and counts.
     let mut collector = Recorder::new(alloc);
-    let outcome = status(&rt, &index, &worktree, &mut collector)?;
+    let outcome = index_as_worktree_with_defaults(
+        &rt,
+        alloc,
+        &index,
+        &worktree,
+        &mut collector,
+        HashEq,
+        AllPaths,
+        Options::default(),
+    )?;
     let changed = EntryStatus::Change(Change::Modification {
         executable_bit_changed: false,
         content_change: Some(compute_hash(HashKind::Sha1, b"bar")),

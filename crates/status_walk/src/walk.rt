@@ -1,5 +1,6 @@
 //! Walks, and what they answer.
 
+ghost use Rattle.status_walk.specs.declared.walk.WalkError.TheVariants.{Memory};
 ghost use Rattle.std.specs.Prelude.{◌≡◌, IsTrue, Bool, List, ℕ, false};
 ghost use Rattle.status_index.specs.Entries.{IndexEntry};
 ghost use Rattle.status_index.specs.States.{index_of};
@@ -38,9 +39,6 @@ pub enum WalkError {
 }
 
 impl From<AllocError> for WalkError {
-    ghost use Rattle.std.specs.Prelude.{◌≡◌};
-    ghost use Rattle.status_walk.specs.declared.walk.WalkError.TheVariants.{Memory};
-
     ghost from_gives = { λ _ e. e ≡ Memory };
 
     fn from(_error: AllocError) -> WalkError {

@@ -8,7 +8,7 @@ use Rattle.status_call.specs.declared.index_as_worktree.apply.ApplyChange.{Apply
 use Rattle.status_call.specs.declared.index_as_worktree.apply.ApplyChange.TheVariants.{NewStat, SetSizeToZero}
 use Rattle.status_call.specs.declared.index_as_worktree.types.Change.TheVariants.{Modification}
 use Rattle.status_call.specs.declared.index_as_worktree.types.EntryStatus.TheVariants as statuses
-use Rattle.status_call.specs.IndexChanges.{AreInside, applied, change_of, changed_entry, place_of, updated_entry}
+use Rattle.status_call.specs.IndexChanges.{AreInside, applied, change_of, changed_entry, entry_index_of, updated_entry}
 use Rattle.status_call.proofs.IndexChanges.{applied-append, change_behind, one_inside}
 use Rattle.status_world.specs.declared.world.event.Comparer.{Comparer}
 use Rattle.status_world.specs.Reports.{RunStatus, Reported, changes_in}
@@ -68,7 +68,7 @@ reports_inside decide n (e ∷ es) long within =
     one (Err fault) = All-nil (λ (r : Reported). r.entry_index < long)
 
 asked_inside : (rs : List Reported) (es : List IndexEntry) → All (λ r. r.entry_index < length es) rs → AreInside (changes_in rs) es
-asked_inside [] es all = All-nil (λ (c : ApplyChange). place_of c < length es)
+asked_inside [] es all = All-nil (λ (c : ApplyChange). entry_index_of c < length es)
 asked_inside (r ∷ rs) es all =
     one_inside r.entry_index r.status (asked_by r) refl (changes_in rs) es (All-head (λ (x : Reported). x.entry_index < length es) r rs all)
     (asked_inside rs es (All-tail (λ (x : Reported). x.entry_index < length es) r rs all))

@@ -3,7 +3,7 @@
 
 ghost use Rattle.std.specs.Prelude.{◌≡◌, ◌<◌, IfOk, length};
 ghost use Rattle.status_index.specs.States.{backing_of, index_of, timestamp_of};
-ghost use Rattle.status_call.specs.IndexChanges.{AreInside, DifferInStats, applied, applied_one, change_of, changes_of, place_of};
+ghost use Rattle.status_call.specs.IndexChanges.{AreInside, DifferInStats, applied, applied_one, change_of, changes_of, entry_index_of};
 ghost use Rattle.status_call.specs.RecorderVisits.{visits_of};
 
 use crate::index_as_worktree::recorder::Recorder;
@@ -73,7 +73,7 @@ pub fn apply_changes(index: &mut State, changes: &[ApplyChange])
 
 /// Stores one change.
 fn apply_one(index: &mut State, change: &ApplyChange)
-    requires { place_of change.now < length (index_of index.old) }
+    requires { entry_index_of change.now < length (index_of index.old) }
     ensures index { index_of index.new ≡ applied_one change.now (index_of index.old) }
     ensures storage { backing_of index.new ≡ backing_of index.old }
     ensures timestamp { timestamp_of index.new ≡ timestamp_of index.old }

@@ -11,12 +11,21 @@ ghost use Rattle.status_call.specs.Status.{reads_link, same_bool};
 use crate::index_as_worktree::decide::Decided;
 use crate::index_as_worktree::inputs::{Ask, Inputs, Settings};
 use crate::index_as_worktree::types::{Change, EntryStatus, Error};
+use bstr::BStr;
 use status_base::index::{Entry, Mode, Stat, stat};
 use status_base::worktree::{
     Find, Lister, Metadata, NodeKind, Pathspec, SubmoduleStatus, ToGit, Worktree,
 };
-use status_compare::{CompareBlobs, Comparison, Reads, compare_entry};
+use status_compare::{CompareBlobs, EntryReader, Reads};
 use std::alloc::Global;
+
+/// What a comparer answered of an entry.
+pub struct Comparison<T> {
+    /// What it reported of a change.
+    pub change: Option<T>,
+    /// What it read.
+    pub reads: Reads,
+}
 
 /// Compares an entry's content with that of the node at its path.
 ///
@@ -47,19 +56,26 @@ pub(crate) fn compare_node<
     ensures same { ⟦<Inputs<'w, W, C, S, O, P, T, L> as Ask>⟧.query inputs.new
         ≡ ⟦<Inputs<'w, W, C, S, O, P, T, L> as Ask>⟧.query inputs.old }
 {
+    buffer.clear();
     let is_link = reads_link(entry.mode, node.kind, settings.fs.symlink);
-    compare_entry(
-        alloc,
+    let (filter, objects) = (&inputs.filter, &inputs.objects);
+    // Reborrowed, so that what the reader holds is of one lifetime.
+    let path = BStr::new(&*path);
+    let mut reader = EntryReader::new(
         inputs.worktree,
-        &inputs.filter,
-        &inputs.objects,
-        &mut inputs.compare,
-        buffer,
-        entry,
+        &*filter,
+        &*objects,
+        entry.id,
         path,
         is_link,
         node.len,
-    )
+    );
+    let compare = &mut inputs.compare;
+    let change = compare.compare_blobs(alloc, entry, node.len, &mut reader, buffer)?;
+    Ok(Comparison {
+        change,
+        reads: reader.reads,
+    })
 }
 
 /// Whether an entry is read as a link's target: it is a link, and so is the node, or the file system has links.

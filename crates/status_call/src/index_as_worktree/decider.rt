@@ -24,7 +24,7 @@ use status_base::stack::SymlinkCheck;
 use status_base::worktree::{
     ByteText, Find, Lister, Metadata, Pathspec, SubmoduleFault, SubmoduleStatus, ToGit, Worktree,
 };
-use status_compare::{CompareBlobs, Comparison};
+use status_compare::CompareBlobs;
 use std::alloc::{AllocError, Global};
 
 /// Decides entries over a worktree. It keeps the buffers and what was listed, so that an entry whose stat decides takes
@@ -57,6 +57,8 @@ where
     C::Output: Drop,
     S::Output: Drop,
 {
+    ghost use Rattle.status_call.specs.EntryParts.{IsNodeDecided, IsContentDecided, IsLooked};
+
     /// A decider by these settings.
     pub fn new(
         alloc: Global,
@@ -78,23 +80,6 @@ where
             buffer: Vec::new(alloc),
         }
     }
-}
-
-impl<
-    'w,
-    W: Worktree,
-    C: CompareBlobs,
-    S: SubmoduleStatus,
-    O: Find,
-    P: Pathspec,
-    T: ToGit,
-    L: Lister,
-> Decider<'w, W, C, S, O, P, T, L>
-where
-    C::Output: Drop,
-    S::Output: Drop,
-{
-    ghost use Rattle.status_call.specs.EntryParts.{IsNodeDecided, IsContentDecided, IsContentCompared, IsLooked};
 
     /// What stands at a path.
     ///
@@ -177,37 +162,18 @@ where
         if !compares {
             return Ok(unread(None, false));
         }
-        let comparison = self.compare(entry, path, node)?;
-        Ok(decision_of(comparison, stat, executable_bit_changed, trusted, racy))
-    }
-
-    /// Compares an entry's content with its node's.
-    ///
-    /// # Errors
-    /// The comparer's error.
-    fn compare(
-        &mut self,
-        entry: &Entry,
-        path: BStr<'_>,
-        node: &Metadata,
-    ) -> Result<Comparison<C::Output>, Error>
-        ensures compared { IsContentCompared
-            (⟦<Decider<'w, W, C, S, O, P, T, L> as Decide>⟧.query self.old)
-            (entry_at (bstr_bytes path.entry) entry.now) node.now result }
-        ensures same { ⟦<Decider<'w, W, C, S, O, P, T, L> as Decide>⟧.query self.new
-            ≡ ⟦<Decider<'w, W, C, S, O, P, T, L> as Decide>⟧.query self.old }
-    {
-        let (inputs, settings) = (&mut self.inputs, self.settings);
+        let (inputs, buffer) = (&mut self.inputs, &mut self.buffer);
         let path = path.as_bytes();
-        compare_node(
+        let comparison = compare_node(
             self.alloc,
             inputs,
-            settings,
-            &mut self.buffer,
+            self.settings,
+            buffer,
             entry,
             path,
             node,
-        )
+        )?;
+        Ok(decision_of(comparison, stat, executable_bit_changed, trusted, racy))
     }
 }
 

@@ -7,6 +7,7 @@ mod content;
 pub mod counts;
 pub mod decide;
 pub mod decider;
+mod defaults;
 mod feed;
 mod function;
 pub mod inputs;
@@ -23,6 +24,7 @@ mod types;
 pub mod workers;
 
 pub use apply::{ApplyChange, apply_changes};
+pub use defaults::index_as_worktree_with_defaults;
 pub use function::index_as_worktree;
 pub use recorder::{Record, Recorder};
 pub use types::{

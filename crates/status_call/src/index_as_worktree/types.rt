@@ -1,6 +1,8 @@
 //! What a status takes, and what it answers.
 
-ghost use Rattle.std.specs.Prelude.{◌≡◌, ◌+◌, ◌<◌, ◌^◌};
+ghost use Rattle.status_index.specs.Entries.{entry_at};
+ghost use Rattle.status_call.specs.Conflicts.{kept_of};
+ghost use Rattle.std.specs.Prelude.{◌≡◌, ◌+◌, ◌<◌, ◌^◌, []};
 
 use crate::index_as_worktree::counts::{Progress, Totals};
 pub use crate::index_as_worktree::recorder::VisitEntry;
@@ -234,10 +236,6 @@ impl Outcome {
 }
 
 impl From<&Entry> for ConflictIndexEntry {
-    ghost use Rattle.std.specs.Prelude.{◌≡◌, []};
-    ghost use Rattle.status_index.specs.Entries.{entry_at};
-    ghost use Rattle.status_call.specs.Conflicts.{kept_of};
-
     ghost from_gives = { λ e k. k ≡ kept_of (entry_at [] e.now) };
 
     fn from(entry: &Entry) -> ConflictIndexEntry {

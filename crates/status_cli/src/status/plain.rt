@@ -8,12 +8,11 @@ ghost use Rattle.status_call.specs.Outcomes.{skipped_of};
 use crate::failure::Failure;
 use crate::output::{flush, print_record, print_totals};
 use crate::status::profile_status::{Changes, ProfileStatus};
-use gix_status::index::State;
 use gix_status::index_as_worktree::traits::CompareBlobs;
 use gix_status::index_as_worktree::{
-    ApplyChange, Context, Error, Options, Outcome, Record, Recorder, VisitEntry, index_as_worktree,
+    ApplyChange, Record, Recorder, index_as_worktree_with_defaults,
 };
-use gix_status::worktree::{MemoryObjects, NoFilter, NoLister, NoSubmodules, Pathspec, Worktree};
+use gix_status::worktree::{Pathspec, Worktree};
 use std::alloc::Global;
 use std::io;
 use std::sync::Wait;
@@ -50,7 +49,7 @@ where
     } = status;
     let counts = options.counts;
     let mut recorder = Recorder::new(alloc);
-    let answer = report_status(
+    let answer = index_as_worktree_with_defaults(
         rt,
         alloc,
         index,
@@ -72,52 +71,6 @@ where
         Changes::Returned => Ok(recorder.changes()?),
         Changes::Dropped => Ok(Vec::new(alloc)),
     }
-}
-
-/// Reports a status to a collector, with no filter, listing, submodule or blob.
-fn report_status<
-    'index,
-    R: Threads + Wait,
-    W: Worktree + Sync,
-    V: VisitEntry<'index, ContentChange = C::Output, SubmoduleStatus = ()>,
-    C: CompareBlobs + Send,
-    P: Pathspec + Send,
->(
-    rt: &R,
-    alloc: Global,
-    index: &'index State,
-    worktree: &W,
-    collector: &mut V,
-    compare: C,
-    pathspec: P,
-    options: Options,
-) -> Result<Outcome, Error>
-where
-    W::File: Send,
-    C::Output: Send,
-    ensures fits { IfOk result (λ o. skipped_of o < 2 ^ 64) }
-    ensures inside { V.visits collector.old ≡ []
-        → AreInside (changes_of (V.visits collector.new)) (index_of index.now) }
-{
-    let context = Context {
-        pathspec,
-        filter: NoFilter,
-        lister: NoLister,
-        should_interrupt: None,
-    };
-    let objects = MemoryObjects::new(alloc);
-    index_as_worktree(
-        rt,
-        alloc,
-        index,
-        worktree,
-        collector,
-        compare,
-        NoSubmodules,
-        objects,
-        context,
-        options,
-    )
 }
 
 /// Prints a line for each record.

@@ -1,7 +1,8 @@
 //! Why a status with untracked files, renames and copies failed.
 
+ghost use Rattle.status_joined.specs.declared.index_as_worktree_with_renames.error.Error.TheVariants.{Memory};
 ghost use Rattle.std.specs.Prelude.{◌≡◌};
-ghost use Rattle.status_joined.specs.Errors.{error_of_walk, error_of_id, error_of_refused};
+ghost use Rattle.status_joined.specs.Errors.{error_of_walk, error_of_id, error_of_refused, error_of_status, error_of_tracker};
 
 use status_base::worktree::{Fault, FindError};
 use status_call::index_as_worktree;
@@ -47,9 +48,6 @@ pub enum Error {
 }
 
 impl From<index_as_worktree::Error> for Error {
-    ghost use Rattle.std.specs.Prelude.{◌≡◌};
-    ghost use Rattle.status_joined.specs.Errors.{error_of_status};
-
     ghost from_gives = { λ status e. e ≡ error_of_status status };
 
     fn from(error: index_as_worktree::Error) -> Error {
@@ -63,9 +61,6 @@ impl From<index_as_worktree::Error> for Error {
 }
 
 impl From<TrackerError> for Error {
-    ghost use Rattle.std.specs.Prelude.{◌≡◌};
-    ghost use Rattle.status_joined.specs.Errors.{error_of_tracker};
-
     ghost from_gives = { λ tracker e. e ≡ error_of_tracker tracker };
 
     fn from(error: TrackerError) -> Error {
@@ -77,9 +72,6 @@ impl From<TrackerError> for Error {
 }
 
 impl From<AllocError> for Error {
-    ghost use Rattle.std.specs.Prelude.{◌≡◌};
-    ghost use Rattle.status_joined.specs.declared.index_as_worktree_with_renames.error.Error.TheVariants.{Memory};
-
     ghost from_gives = { λ _ e. e ≡ Memory };
 
     fn from(_error: AllocError) -> Error {

@@ -9,7 +9,7 @@ use gix_status::index::{Moment, State};
 use gix_status::index_as_worktree::traits::{CompareBlobs, HashEq};
 use gix_status::index_as_worktree::{
     ApplyChange, Capabilities, Context, Error, Options, Outcome, Record, Recorder, VisitEntry,
-    apply_changes, index_as_worktree,
+    apply_changes, index_as_worktree, index_as_worktree_with_defaults,
 };
 use gix_status::worktree::{
     AllPaths, Find, MemoryObjects, NoFilter, NoLister, NoSubmodules, Pathspec, SubmoduleStatus,
@@ -202,16 +202,16 @@ where
 {
     let alloc = rt.alloc();
     let mut recorder = Recorder::new(alloc);
-    let request = plain_request(alloc);
-    report_to(
+    let options = options();
+    index_as_worktree_with_defaults(
         rt,
         alloc,
         index,
         worktree,
         &mut recorder,
         HashEq,
-        request,
-        None,
+        AllPaths,
+        options,
     )?;
     Ok(recorder.changes()?)
 }

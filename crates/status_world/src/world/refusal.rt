@@ -1,5 +1,8 @@
 //! Why an event is refused.
 
+ghost use Rattle.std.specs.Prelude.{◌≡◌};
+ghost use Rattle.status_world.specs.declared.world.refusal.Refusal.TheVariants.{Memory};
+
 use status_call::index_as_worktree::Error;
 use std::alloc::AllocError;
 
@@ -31,9 +34,6 @@ pub enum Refusal {
 }
 
 impl From<AllocError> for Refusal {
-    ghost use Rattle.std.specs.Prelude.{◌≡◌};
-    ghost use Rattle.status_world.specs.declared.world.refusal.Refusal.TheVariants.{Memory};
-
     ghost from_gives = { λ _ r. r ≡ Memory };
 
     fn from(_error: AllocError) -> Refusal {

@@ -1,7 +1,6 @@
 //! Status runs of a world.
 
 ghost use Rattle.std.specs.Prelude.{◌≡◌, false, IfOk, map};
-ghost use Rattle.status_world.specs.RunStatus.{IsRecorded, IsRecordedAlone};
 ghost use Rattle.status_world.specs.Events.{run_event};
 ghost use Rattle.status_world.specs.EventAnswers.{IsRunReport, IsRunApplied};
 ghost use Rattle.status_world.specs.Reports.{HasSum, changes_in, reported_value, record_value};
@@ -12,13 +11,12 @@ use crate::world::refusal::Refusal;
 use crate::world::report::{Report, ReportRecord};
 use crate::world::state::{NANOSECONDS, World};
 use bstr::BString;
-use status_base::index::{ObjectId, State};
-use status_base::worktree::{AllPaths, MemoryObjects, NoFilter, NoLister, NoSubmodules, Worktree};
+use status_base::index::ObjectId;
+use status_base::worktree::AllPaths;
 use status_call::index_as_worktree::{
-    ApplyChange, Capabilities, Context, Error, Options, Outcome, Record, Recorder, VisitEntry,
-    apply_changes, index_as_worktree,
+    ApplyChange, Capabilities, Options, Record, Recorder, apply_changes,
+    index_as_worktree_with_defaults,
 };
-use status_compare::CompareBlobs;
 use std::alloc::{AllocError, Global};
 use std::sync::Wait;
 use std::thread::Threads;
@@ -71,13 +69,14 @@ impl World {
             chunk_size: run.chunk_size,
         };
         let mut recorder = Recorder::new(parts.alloc);
-        let status = record_status(
+        let status = index_as_worktree_with_defaults(
             rt,
             parts.alloc,
             &parts.index,
             &parts.worktree,
             &mut recorder,
             run.comparer,
+            AllPaths,
             options,
         );
         match status {
@@ -88,52 +87,6 @@ impl World {
             Err(error) => Err(Refusal::Run(error)),
         }
     }
-}
-
-/// Records the status of an index against a worktree with no submodule, blob, filter or pathspec.
-fn record_status<
-    'index,
-    R: Threads + Wait,
-    W: Worktree + Sync,
-    V: VisitEntry<'index, ContentChange = C::Output, SubmoduleStatus = ()>,
-    C: CompareBlobs + Send,
->(
-    rt: &R,
-    alloc: Global,
-    index: &'index State,
-    worktree: &W,
-    collector: &mut V,
-    compare: C,
-    options: Options,
-) -> Result<Outcome, Error>
-where
-    W::File: Send,
-    C::Output: Send,
-    ensures met { IsRecorded options index.now W.modelled W.lstat_of W.open_of W.target_of worktree.now
-        C.answer C.counts_after compare V.visits collector.old result collector.new }
-    ensures uninterrupted { IfOk result (λ o. o.interrupted ≡ false) }
-    ensures alone { IsRecordedAlone options index.now W.modelled W.lstat_of W.open_of W.target_of worktree.now
-        C.answer C.counts_after compare result }
-{
-    let context = Context {
-        pathspec: AllPaths,
-        filter: NoFilter,
-        lister: NoLister,
-        should_interrupt: None,
-    };
-    let objects = MemoryObjects::new(alloc);
-    index_as_worktree(
-        rt,
-        alloc,
-        index,
-        worktree,
-        collector,
-        compare,
-        NoSubmodules,
-        objects,
-        context,
-        options,
-    )
 }
 
 /// The records of a recorder, with paths of their own.

@@ -4,7 +4,7 @@ use Rattle.status_index.specs.Entries.{IndexEntry}
 use Rattle.status_index.specs.States.{index_of}
 use Rattle.status_call.specs.declared.index_as_worktree.apply.ApplyChange.{ApplyChange}
 use Rattle.status_call.specs.declared.index_as_worktree.apply.ApplyChange.TheVariants.{NewStat}
-use Rattle.status_call.specs.IndexChanges.{DifferInStats, applied, applied_one, place_of}
+use Rattle.status_call.specs.IndexChanges.{DifferInStats, applied, applied_one, entry_index_of}
 use Rattle.status_call.proofs.IndexChanges.{no_entry, applied-append, length-applied, stats_alone}
 use Rattle.status_call.proofs.index_as_worktree.apply.apply_changes.Goals as goal
 
@@ -21,7 +21,7 @@ apply_one-requires c =
     let at = c.loop-change.change-index in
     let es = index_of c.args.index.now in
     let long : length (index_of c.loop-change.index) ≡ length es = ap length c.loop-change.invariant.index ∙ length-applied (take at changes) es in
-    subst (λ n. place_of (slice_index_or changes at blank) < n) (sym long) (c.requires.inside at blank c.loop-change-test.true)
+    subst (λ n. entry_index_of (slice_index_or changes at blank) < n) (sym long) (c.requires.inside at blank c.loop-change-test.true)
 
 pub loop-change-preserved : goal.loop-change-preserved
 loop-change-preserved c =

@@ -1,6 +1,56 @@
+use Rattle.std.proofs.Common.{rules}
+use Rattle.bstr.specs.BStr.{bstr_bytes}
 use Rattle.status_base.specs.ListedNodes.{known_node}
+use Rattle.status_compare.specs.EntryMeaning.{entry_meaning}
 use Rattle.status_call.specs.Modelled.{all_modelled, are_modelled}
+use Rattle.status_call.proofs.EntryCases.{all_meant}
 use Rattle.status_call.proofs.index_as_worktree.content.compare_node.Goals as goal
+
+pub returns-in_err-change-clause-compared : goal.returns-in_err-change-clause-compared
+returns-in_err-change-clause-compared g c = λ modelled.
+    let i = c.args.inputs.now in
+    let path = bstr_bytes c.new-path.result in
+    let meant = entry_meaning c.reads_link-is_link.result (λ x. g.T.ToGit.conversion i.filter x path) c.args.node.now.len
+    (g.W.Worktree.open_of i.worktree.now path) (g.W.Worktree.target_of i.worktree.now path) (g.O.Find.found i.objects c.args.entry.now.id) in
+    let some = all_meant (g.W.Worktree.modelled i.worktree.now) (g.O.Find.modelled i.objects) (g.S.SubmoduleStatus.modelled i.submodule)
+    (are_modelled c.args.settings.fscache (g.L.Lister.modelled i.lister)) meant modelled in
+    let answer = rw (c.new-reader.ensures, some) at (c.in_err-change.ensures.answer c.args.path.now) in
+    search rules
+
+pub returns-in_err-change-clause-same : goal.returns-in_err-change-clause-same
+returns-in_err-change-clause-same g c =
+    let i = c.args.inputs.now in
+    λ k settings. record {
+      modelled = all_modelled (g.W.Worktree.modelled i.worktree.now) (g.O.Find.modelled i.objects) (g.S.SubmoduleStatus.modelled i.submodule)
+          (are_modelled settings.fscache (g.L.Lister.modelled i.lister));
+      stat_options = settings.stat;
+      symlink = settings.fs.symlink;
+      executable_bit = settings.fs.executable_bit;
+      timestamp = settings.timestamp;
+      lstat = g.W.Worktree.lstat_of i.worktree.now;
+      opened = g.W.Worktree.open_of i.worktree.now;
+      linked = g.W.Worktree.target_of i.worktree.now;
+      cached = known_node settings.fscache (g.L.Lister.listing i.lister);
+      prefix = g.P.Pathspec.prefix i.pathspec;
+      included = g.P.Pathspec.included i.pathspec;
+      conversion = λ content path. g.T.ToGit.conversion i.filter content path;
+      blob = g.O.Find.found i.objects;
+      submodule = g.S.SubmoduleStatus.meaning i.submodule;
+      compared = c.compare_blobs.ensures.same_answer k;
+      counted = c.compare_blobs.ensures.same_counts k;
+    }
+
+pub returns-clause-compared : goal.returns-clause-compared
+returns-clause-compared g c = λ modelled.
+    let i = c.args.inputs.now in
+    let path = bstr_bytes c.new-path.result in
+    let meant = entry_meaning c.reads_link-is_link.result (λ x. g.T.ToGit.conversion i.filter x path) c.args.node.now.len
+    (g.W.Worktree.open_of i.worktree.now path) (g.W.Worktree.target_of i.worktree.now path) (g.O.Find.found i.objects c.args.entry.now.id) in
+    let some = all_meant (g.W.Worktree.modelled i.worktree.now) (g.O.Find.modelled i.objects) (g.S.SubmoduleStatus.modelled i.submodule)
+    (are_modelled c.args.settings.fscache (g.L.Lister.modelled i.lister)) meant modelled in
+    let answer = rw (c.new-reader.ensures, some) at (c.in_ok-change.ensures.answer c.args.path.now) in
+    let counts = rw (c.new-reader.ensures, some) at (c.in_ok-change.ensures.counts c.args.path.now) in
+    search rules
 
 pub returns-clause-same : goal.returns-clause-same
 returns-clause-same g c =
@@ -21,6 +71,6 @@ returns-clause-same g c =
       conversion = λ content path. g.T.ToGit.conversion i.filter content path;
       blob = g.O.Find.found i.objects;
       submodule = g.S.SubmoduleStatus.meaning i.submodule;
-      compared = c.compare_entry.ensures.same_answer k;
-      counted = c.compare_entry.ensures.same_counts k;
+      compared = c.compare_blobs.ensures.same_answer k;
+      counted = c.compare_blobs.ensures.same_counts k;
     }

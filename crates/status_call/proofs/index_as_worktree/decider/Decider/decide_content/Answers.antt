@@ -1,11 +1,29 @@
+use Rattle.std.proofs.Common.{ap, rules}
 use Rattle.bstr.specs.BStr.{bstr_bytes}
 use Rattle.status_index.specs.Entries.{entry_at}
 use Rattle.status_call.specs.EntryParts.{counted_of}
 use Rattle.status_call.specs.Modelled.{all_modelled, are_modelled}
 use Rattle.status_call.specs.Query.{Query}
+use Rattle.status_call.specs.declared.index_as_worktree.inputs.Settings.{Settings}
 use Rattle.status_base.specs.ListedNodes.{known_node}
 use Rattle.status_call.proofs.EntryCases.{compared_of_case}
 use Rattle.status_call.proofs.index_as_worktree.decider.Decider.decide_content.Goals as goal
+
+pub invariant_of-self : goal.invariant_of-self
+invariant_of-self g c = record { clear = rw c.compare_node.ensures.only c.args.self.now.clear; kept = rw c.compare_node.ensures.only c.args.self.now.kept }
+
+pub returns-in_err-comparison-clause-same : goal.returns-in_err-comparison-clause-same
+returns-in_err-comparison-clause-same g c =
+    ap (λ (f : Settings → Query g.row.C-Output.Denot g.row.S-Output.Denot). f c.args.self.now.settings) c.compare_node.ensures.same
+
+pub returns-in_err-comparison-clause-decided : goal.returns-in_err-comparison-clause-decided
+returns-in_err-comparison-clause-decided g c =
+    let compared = rw c.as_bytes-path.ensures at c.in_err-comparison.ensures.compared in
+    search rules
+
+pub returns-clause-same : goal.returns-clause-same
+returns-clause-same g c =
+    ap (λ (f : Settings → Query g.row.C-Output.Denot g.row.S-Output.Denot). f c.args.self.now.settings) c.compare_node.ensures.same
 
 pub returns-clause-decided : goal.returns-clause-decided
 returns-clause-decided g c =
@@ -33,6 +51,6 @@ returns-clause-decided g c =
     let e = entry_at (bstr_bytes c.args.path) c.args.entry.now in
     let n = c.args.node.now in
     λ modelled.
-    let answer = c.in_ok-comparison.ensures.compared modelled in
+    let answer = (rw c.as_bytes-path.ensures at c.in_ok-comparison.ensures.compared) modelled in
     compared_of_case q e n c.args.stat c.args.executable_bit_changed c.is_trusted-trusted.result c.is_racy-racy.result c.needs_comparison-compares.result c.in_ok-comparison.comparison.change (counted_of q e n) c.decision_of.result
     c.is_trusted-trusted.ensures c.is_racy-racy.ensures c.needs_comparison-compares.ensures c.if-not-compares.false answer.0 (c.decision_of.ensures e.path (counted_of q e n) answer.1)
