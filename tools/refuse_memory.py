@@ -15,6 +15,8 @@ profiles are those of tools/small_profiles.py, each with each limit of threads. 
 - Standard output has a beginning of the lines that the row has. A status with untracked files, renames or sorted lines
   has printed nothing where it failed, and some lines where a later one was refused memory: N is then among the last
   calls. A replay's refused run leaves all lines of the runs before it.
+- A refresh that failed leaves the file that it writes to as that was, and no lock. Else it leaves what it leaves where
+  nothing is refused.
 
 All else is wrong, and printed: another line or output, a signal, a hang. The exit status is 0 where no run ended
 wrongly, 1 where one did, and 2 where there is no sweep. It needs Linux with glibc, and a C compiler.
@@ -32,7 +34,7 @@ import tempfile
 from dataclasses import dataclass
 
 from quick_runs import Runner, content, empty
-from small_profiles import ROWS, wrong_files
+from small_profiles import ROWS, put_out, taken_out, wrong_files
 
 HERE = os.path.dirname(os.path.abspath(__file__))
 BUILT = os.path.join(os.path.dirname(HERE), "crates", "status_program", "out", "status_program")
@@ -41,9 +43,9 @@ MEMORY, THREAD, RUN = "out of memory\n", "status failed: no thread\n", r"refused
 LINE_CALLS = 6
 
 
-def compiler():
+def compiler(found=shutil.which):
     """The C compiler that is there, if any."""
-    return next(filter(None, map(shutil.which, (os.environ.get("CC") or "cc", "gcc", "clang"))), None)
+    return next(filter(None, map(found, (os.environ.get("CC") or "cc", "gcc", "clang"))), None)
 
 
 def compile_library(folder):
@@ -120,11 +122,14 @@ class Sweeper:
 
     def __init__(self, runner, library, row, file, report):
         self.runner, self.library, self.row, self.file, self.report = runner, library, row, file, report
+        # What a refresh leaves where nothing is refused.
+        self.new = None
 
     def run(self, at, on):
         """How a run ends in which this call is refused, and those behind it, and what was refused."""
         number = self.report.fileno()
         empty(number)
+        put_out(self.file, self.row.old)
         settings = {"LD_PRELOAD": self.library, "REFUSE_AT": str(at), "REFUSE_ON": str(int(on))}
         ended = self.runner.run(self.row.words(self.file), settings | {"REFUSE_REPORT": str(number)})
         return ended, content(number).decode()
@@ -133,11 +138,15 @@ class Sweeper:
         """Runs once. Gives how that ends, what was refused, and what is wrong, if anything."""
         ended, letters = self.run(at, on)
         said = wrong(self.row, Refused(letters, at, calls), ended)
-        return ended, letters, said or (self.row.command == "refresh" and wrong_files(self.file, ended.status))
+        if self.row.command == "refresh":
+            files = wrong_files(self.file, ended.status, self.row.old, self.new)
+            said = said or files
+        return ended, letters, said
 
     def calls(self):
-        """The letters of the calls of a run in which none is refused."""
-        _, letters, _ = self.judged(0, False, "")
+        """The letters of the calls of a run in which none is refused. What that leaves, each other run has to leave."""
+        _, letters = self.run(0, False)
+        self.new = taken_out(self.file).get(".out")
         return letters
 
     def sweep(self, on, repeat):

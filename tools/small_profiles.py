@@ -19,6 +19,8 @@ class Row:
     # What lies below the profile's folder, where it has one: the texts of files and the targets of links.
     files: dict = field(default_factory=dict)
     links: dict = field(default_factory=dict)
+    # The text of the file that a refresh writes to, where that is there before.
+    old: "str | None" = None
 
     @property
     def status(self):
@@ -57,12 +59,37 @@ def more_words(command, file):
     return (f"{file}.out", "10", "0") if command == "refresh" else ()
 
 
-def wrong_files(file, status):
-    """What is wrong with the files that a refresh leaves beside a profile's, if anything. They are removed."""
-    found = [name for name in (f"{file}.out", f"{file}.out.lock") if os.path.exists(name)]
-    for name in found:
-        os.remove(name)
-    return None if found == ([f"{file}.out"] if status == 0 else []) else f"other files are left: {found}"
+def put_out(file, text):
+    """Makes the file that a refresh of this profile's file writes to, where there is a text."""
+    if text is not None:
+        with open(f"{file}.out", "w", encoding="utf-8", newline="") as out:
+            out.write(text)
+
+
+def taken_out(file):
+    """The texts of what a refresh left beside a profile's file, by the names' endings. These files are removed."""
+    texts = {}
+    for ending in (".out", ".out.lock"):
+        if os.path.lexists(file + ending):
+            with open(file + ending, encoding="utf-8", errors="replace", newline="") as left:
+                texts[ending] = left.read()
+            os.remove(file + ending)
+    return texts
+
+
+def wrong_files(file, status, old=None, new=None):
+    """What is wrong with the files that a refresh leaves beside a profile's, if anything. They are removed.
+
+    A refresh that failed leaves the file that it writes to as that was, `old` or not there. Else it is there, and `new`
+    where that is known. No lock is left in any case.
+    """
+    texts = taken_out(file)
+    out = texts.get(".out")
+    if ".out.lock" in texts:
+        return "a lock is left"
+    if status != 0:
+        return None if out == old else f"a refresh that failed leaves {out!r} in place of {old!r}"
+    return None if out is not None and new in (None, out) else f"a refresh leaves {out!r} in place of {new!r}"
 
 
 def limited(event, limit):
@@ -122,6 +149,20 @@ RENAMES = {
     "index": [entry("a", "foo"), entry("m", "foo")],
     "worktree": [node("b", "foo"), node("c", "foo"), node("m", "bars")],
 }
+# Untracked files and a link, on three levels, beside an entry and below one's directory.
+LISTED = {
+    "timestamp": [9, 0],
+    "options": {"chunk_size": 1, "untracked": True},
+    "index": [entry("d/a", "foo"), entry("m", "foo")],
+    "worktree": [
+        node("b", "foo"),
+        node("d/a", "bars"),
+        node("d/c", "foo"),
+        node("d/e/f", "foo"),
+        node("l", "m", kind="link"),
+        node("m", "foo", mtime=[OLD, 0]),
+    ],
+}
 # Names that are longer than a path that the program keeps without memory.
 LONG = "/".join(["long" * 20] * 4)
 FOLDER = {
@@ -149,6 +190,8 @@ ROWS = {
     "history": Row("replay", HISTORY, 'run 1\n0 modified -cs "a"\n1 update "b"\nrun 2\n0 modified -c- "a"\n'),
     "reopened": Row("replay", REOPENED, 'run 1\n0 modified -cs "a"\n1 update "b"\nrun 2\n0 modified -c- "a"\n'),
     "refreshed": Row("refresh", MODIFIED, '0 modified -c- "a"\n'),
+    "refreshed_over": Row("refresh", MODIFIED, '0 modified -c- "a"\n', old="what was there\n"),
+    "listed": Row("status", LISTED, '0 modified -c- "d/a"\n- added "b"\n- added "d/c"\n- added "d/e/f"\n- added "l"\n'),
     "renames": Row("status", RENAMES, '- renamed "a" "b"\n- added "c"\n1 modified -c- "m"\n'),
     "folder": Row(
         "status",

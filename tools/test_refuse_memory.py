@@ -22,6 +22,17 @@ PROGRAM = os.path.abspath(os.environ["STATUS_PROGRAM"]) if os.environ.get("STATU
 LINE = '0 modified -c- "a"\n'
 # The rows that have one piece at most.
 ONE_PIECE = ("malformed",)
+# More calls than these are refused in each row that the gate sweeps.
+FEWEST = {
+    "modified": 10,
+    "conflict": 10,
+    "renames": 10,
+    "listed": 10,
+    "folder": 10,
+    "refreshed": 10,
+    "refreshed_over": 10,
+    "reopened": 100,
+}
 
 # Takes memory twice and starts a thread, which takes memory too, and then prints the line of the first row.
 STAND_IN = r"""
@@ -58,6 +69,40 @@ WRONG = {
     "crashes": "*(volatile int *)0 = 0",
     "aborts": "abort()",
     "hangs": "for (;;) pause()",
+}
+
+# Takes memory twice, prints the line of the first row, and writes the file that its arguments name.
+WRITER = r"""
+#include <fcntl.h>
+#include <stdio.h>
+#include <stdlib.h>
+#include <string.h>
+#include <unistd.h>
+static char lock[4096], *out;
+static void say(int to, const char *text) { if (write(to, text, strlen(text)) < 0) _exit(9); }
+static void put(const char *path, const char *text) {
+    int file = open(path, O_WRONLY | O_CREAT | O_TRUNC, 0600);
+    say(file, text);
+    close(file);
+}
+static int refused(void) { REFUSED; say(2, "out of memory\n"); return 1; }
+int main(int count, char **words) {
+    if (count < 6) return 2;
+    out = words[3];
+    snprintf(lock, sizeof lock, "%s.lock", out);
+    void *one = malloc(1), *two = realloc(one, 2);
+    if (!one || !two) return refused();
+    say(1, "0 modified -c- \"a\"\n");
+    put(lock, "new\n");
+    return rename(lock, out) ? 9 : 0;
+}
+"""
+WRONG_FILES = {
+    "leaves a lock": 'put(lock, "")',
+    "leaves a new file": 'put(out, "new\\n")',
+    "leaves an empty file": 'put(out, "")',
+    "says that it passed and leaves half": 'say(1, "0 modified -c- \\"a\\"\\n"); put(out, "ne"); return 0',
+    "says that it passed and takes the file away": 'say(1, "0 modified -c- \\"a\\"\\n"); unlink(out); return 0',
 }
 
 
@@ -123,14 +168,14 @@ class Judging(unittest.TestCase):
 
 @unittest.skipUnless(tool.compiler() and sys.platform == "linux", "no C compiler")
 class StandIns(unittest.TestCase):
-    def swept(self, refused, source=STAND_IN, seconds=10):
+    def swept(self, refused, source=STAND_IN, seconds=10, row="modified"):
         """How a sweep over a stand-in with this answer to a refusal ends, and what it prints."""
         with tempfile.TemporaryDirectory() as room:
             program = os.path.join(room, "stand_in")
             with open(program + ".c", "w", encoding="ascii") as file:
                 file.write(source.replace("REFUSED", refused))
             subprocess.run([tool.compiler(), "-pthread", "-o", program, program + ".c"], check=True)
-            words = ["--program", program, "--rows", "modified", "--limits", "1", "--repeat", "1"]
+            words = ["--program", program, "--rows", row, "--limits", "1", "--repeat", "1"]
             with contextlib.redirect_stdout(io.StringIO()) as printed:
                 status = tool.main([*words, "--seconds", str(seconds)])
         return status, printed.getvalue()
@@ -148,6 +193,20 @@ class StandIns(unittest.TestCase):
                 status, printed = self.swept(refused, seconds=0.2)
                 self.assertEqual(status, 1, printed)
                 self.assertIn("  call 1: ", printed)
+
+    def test_one_that_leaves_the_file_of_a_refresh_as_it_was_passes(self):
+        for row in ("refreshed", "refreshed_over"):
+            status, printed = self.swept("", WRITER, row=row)
+            self.assertEqual(status, 0, printed)
+            self.assertIn(f"{row}, limit 1, one: ", printed)
+
+    def test_one_that_leaves_other_files_is_noticed(self):
+        cases = [(row, *it) for row in ("refreshed", "refreshed_over") for it in WRONG_FILES.items()]
+        for row, name, refused in [*cases, ("refreshed_over", "takes the old file away", "unlink(out)")]:
+            with self.subTest(name, row=row):
+                status, printed = self.swept(refused, WRITER, row=row)
+                self.assertEqual(status, 1, printed)
+                self.assertIn("  call 1: a ", printed)
 
     def test_one_that_says_nothing_and_takes_no_memory_is_noticed(self):
         status, printed = self.swept("", source="int main(void) { return 0; }")
@@ -169,13 +228,31 @@ class Program(unittest.TestCase):
         self.assertEqual(len(calls), sweeps)
         self.assertGreater(min(calls), fewest, printed.getvalue())
 
-    def test_the_first_row_with_each_call_refused(self):
+    def test_each_call_of_the_first_row_is_refused(self):
         # The profile, the index, the worktree and the lines take more than a call for each entry.
-        self.assert_swept("--rows modified --limits 1 2 --repeat 2", 4, 10)
+        self.assert_swept("--rows modified --limits 1 2 --repeat 2", 4, FEWEST["modified"])
 
-    def test_a_history_with_reopenings_with_each_call_refused(self):
+    def test_each_call_of_a_conflict_is_refused(self):
+        self.assert_swept("--rows conflict --limits 1 2 --repeat 1", 4, FEWEST["conflict"])
+
+    def test_each_call_of_renames_is_refused(self):
+        self.assert_swept("--rows renames --limits 1 2 --repeat 1", 4, FEWEST["renames"])
+
+    def test_each_call_of_a_listing_is_refused(self):
+        self.assert_swept("--rows listed --limits 1 2 --repeat 1", 4, FEWEST["listed"])
+
+    def test_each_call_of_a_folder_is_refused(self):
+        self.assert_swept("--rows folder --limits 1 2 --repeat 1", 4, FEWEST["folder"])
+
+    def test_each_call_of_a_refresh_is_refused(self):
+        self.assert_swept("--rows refreshed --limits 1 2 --repeat 1", 4, FEWEST["refreshed"])
+
+    def test_each_call_of_a_refresh_that_replaces_a_file_is_refused(self):
+        self.assert_swept("--rows refreshed_over --limits 1 2 --repeat 1", 4, FEWEST["refreshed_over"])
+
+    def test_each_call_of_a_history_with_reopenings_is_refused(self):
         # Each of its reopenings stores and reads each entry.
-        self.assert_swept("--rows reopened --limits 1 --repeat 1", 2, 100)
+        self.assert_swept("--rows reopened --limits 1 --repeat 1", 2, FEWEST["reopened"])
 
     def test_only_a_limit_above_one_starts_a_thread(self):
         # A status with untracked files walks the worktree in a thread, whatever the limit is.
