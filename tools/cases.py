@@ -17,6 +17,13 @@ for name in [name for name in os.environ if name.startswith("GIT_")]:
 os.environ.update(GIT_CONFIG_GLOBAL=os.devnull, GIT_CONFIG_NOSYSTEM="1")
 
 
+def may_read_all():
+    """Whether this process may read and write any file, as root does."""
+    with tempfile.NamedTemporaryFile() as file:
+        os.chmod(file.name, 0)
+        return os.access(file.name, os.R_OK | os.W_OK)
+
+
 def run_tool(tool, *words, stdout=subprocess.PIPE, **settings):
     """What a tool prints when it is run by itself, with these settings in its environment."""
     command = [sys.executable, os.path.join(HERE, tool), *words]

@@ -19,22 +19,22 @@ NAME = "tests"
 SECONDS = "600"
 
 
-def files():
-    return sorted(TESTS.rglob("*" + ENDING))
+def files(tests=TESTS):
+    return sorted(tests.rglob("*" + ENDING))
 
 
-def module_of(path):
+def module_of(path, tests=TESTS):
     """The module that a file is read as, as `status::rows::faults`."""
-    parts = path.relative_to(TESTS).parent.parts + (path.name.removesuffix(ENDING),)
+    parts = path.relative_to(tests).parent.parts + (path.name.removesuffix(ENDING),)
     return "::".join(part for part in parts if part not in ("lib", "mod"))
 
 
-def names():
+def names(tests=TESTS):
     """The names of all tests, as the toolchain prints them."""
     found = []
-    for path in files():
+    for path in files(tests):
         for name in re.findall(r"^#\[test\]\nfn (\w+)", path.read_text(encoding="utf-8"), re.M):
-            found.append(f"{module_of(path)}::{name}")
+            found.append(f"{module_of(path, tests)}::{name}")
     return found
 
 
@@ -68,10 +68,15 @@ def changed_layout(crate):
 
 
 def run(crate):
-    """Runs all tests. Gives what became of each (`ok`, or why it failed), and all that was printed."""
+    """Runs all tests. Gives what became of each (`ok`, or why it failed), the exit status, and all that was printed."""
     ran = subprocess.run(["rt", "try", "--test", "--seconds", SECONDS], cwd=crate, capture_output=True, text=True, check=False)
     printed = ran.stdout + ran.stderr
     found = {}
     for name, end, more in re.findall(r"^test (\S+) \.\.\. (\w+)\n((?: .*\n)*)", printed, re.M):
         found[name] = end if end == "ok" else f"{end}\n{more}"
-    return found, printed
+    return found, ran.returncode, printed
+
+
+def wrong_end(status, printed):
+    """What is wrong with how a run ended, if anything, whatever it printed of each test."""
+    return None if status == 0 else f"rt try ended with exit status {status}:\n{printed[-3000:]}"

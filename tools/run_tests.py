@@ -1,27 +1,76 @@
 #!/usr/bin/env python3
-"""Runs the tests of tools/, and says in one line how many passed, failed and were not run:  python3 tools/run_tests.py
+"""Runs the tests of tools/, and says in lines how many passed, failed and were not run:  python3 tools/run_tests.py
 
-Where STATUS_PROGRAM names the built program, its lines are compared with git's. The exit status is 0 where tests ran and
-none failed.
+Where STATUS_PROGRAM names the built program, its lines are compared with git's. A test that wasn't run counts as one
+that failed, and so does one that is expected to fail. Root may read and write any file, so as root the tests run
+without that right: files that may not be read or written are then refused as they are for others, and no test is left
+out for that. The exit status is 0 where tests ran and none failed.
 """
 
 import collections
 import os
+import subprocess
 import sys
 import unittest
 
+import cases
 
-def main():
-    here = os.path.dirname(os.path.abspath(__file__))
-    result = unittest.TextTestRunner(stream=sys.stderr).run(unittest.defaultTestLoader.discover(here))
-    failed = len(result.failures) + len(result.errors) or int(result.testsRun == 0)
+HERE = os.path.dirname(os.path.abspath(__file__))
+# The words that start a command of root's without the right to read and write any file. What is taken from the bounding
+# set, no program that the command starts can have either.
+ORDINARY = ["setpriv", "--bounding-set=-dac_override,-dac_read_search", "--inh-caps=-all"]
+# What these words are followed by, so that they aren't tried twice.
+TRIED = "--ordinary"
+
+
+def may_be_ordinary():
+    """Whether a process of this user's can run without the right to read and write any file."""
+    if not cases.may_read_all():
+        return True
+    probe = "import cases, sys; sys.exit(cases.may_read_all())"
+    try:
+        return subprocess.run([*ORDINARY, sys.executable, "-c", probe], cwd=HERE, check=False).returncode == 0
+    except OSError:
+        return False
+
+
+class Result(unittest.TextTestResult):
+    """Knows which tests passed: all that they tried did."""
+
+    def __init__(self, *words, **settings):
+        super().__init__(*words, **settings)
+        self.passed = []
+
+    def addSuccess(self, test):
+        super().addSuccess(test)
+        self.passed.append(test.id())
+
+
+def kind_of(name):
+    """The kind of a test by its whole name: those of tests/ have the path of their module in it."""
+    return "library tests" if "::" in name else "Python tests"
+
+
+def said(result):
+    """What is said of a result, a line each, and how many tests failed or weren't run."""
+    kinds = collections.Counter({"Python tests": 0, "library tests": 0})
+    kinds.update(map(kind_of, result.passed))
     not_run = collections.Counter(reason for _, reason in result.skipped)
-    parts = [f"{max(0, result.testsRun - failed - len(result.skipped))} passed", f"{failed} failed"]
-    parts += [f"{count} not run ({reason})" for reason, count in not_run.items()]
-    parts += ["with the built program"] if os.environ.get("STATUS_PROGRAM") else []
-    print("tools:", ", ".join(parts))
+    wrong = (result.failures, result.errors, result.unexpectedSuccesses, result.expectedFailures, result.skipped)
+    failed = sum(map(len, wrong)) or int(not result.passed)
+    lines = [f"tools: {count} not run: {reason}" for reason, count in not_run.items()]
+    lines += [f"tools: {count} {kind} passed" for kind, count in kinds.items()]
+    return [*lines, f"tools: {len(result.passed)} passed, {failed} failed"], failed
+
+
+def main(words, folder=HERE):
+    if TRIED not in words and cases.may_read_all() and may_be_ordinary():
+        return subprocess.run([*ORDINARY, sys.executable, os.path.abspath(__file__), TRIED], check=False).returncode
+    runner = unittest.TextTestRunner(stream=sys.stderr, resultclass=Result)
+    lines, failed = said(runner.run(unittest.defaultTestLoader.discover(folder)))
+    print("\n".join(lines))
     return int(failed > 0)
 
 
 if __name__ == "__main__":
-    sys.exit(main())
+    sys.exit(main(sys.argv[1:]))

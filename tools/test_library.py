@@ -18,7 +18,7 @@ class Library(unittest.TestCase):
     @classmethod
     def setUpClass(cls):
         with library_tests.beside_the_crates() as crate:
-            cls.found, cls.printed = library_tests.run(crate)
+            cls.found, cls.status, cls.printed = library_tests.run(crate)
             cls.odd = library_tests.changed_layout(crate)
         if not cls.found:
             raise AssertionError(f"no test was run:\n{cls.printed[-3000:]}")
@@ -27,6 +27,9 @@ class Library(unittest.TestCase):
         if name not in self.found:
             self.fail(f"{name} wasn't run:\n{self.printed[-3000:]}")
         self.assertEqual(self.found[name], "ok", name)
+
+    def test_the_run_ended_with_no_fault(self):
+        self.assertIsNone(library_tests.wrong_end(self.status, self.printed))
 
     def test_no_other_test_ran(self):
         self.assertEqual(set(self.found) - set(library_tests.names()), set())

@@ -15,7 +15,7 @@ import unittest
 from contextlib import contextmanager
 from functools import partial
 
-from cases import FOO, PROGRAM
+from cases import FOO, PROGRAM, may_read_all
 from row_files import Malformed, read_rows, row_files, rows_of
 
 # A profile of no entries and no nodes, and what it prints.
@@ -233,7 +233,7 @@ class Inputs(unittest.TestCase):
         entry = {"path": "locked", "mode": "100644", "id": FOO}
         profile = {"timestamp": [9, 0], "index": [entry], "folder": self.folder}
         self.write(json.dumps(profile).encode())
-        if os.geteuid() == 0:
+        if may_read_all():
             self.assert_ends("status f", 0, b'0 update "locked"\n', b"")
         else:
             self.assert_ends("status f", 1, b"", b"status failed: permission denied\n")

@@ -1,0 +1,238 @@
+#!/usr/bin/env python3
+"""The gate behind `rt ci`. It looks at how that ended, runs the tests of tools/, and counts the evidence:
+
+    rt ci | tee OUTPUT
+    python3 tools/gate.py OUTPUT STATUS
+
+OUTPUT is the file with what `rt ci` printed, and STATUS its exit status. The gate fails, and a line says why,
+
+- where a command ends with another exit status than 0, or without its line 'N passed, M failed', or one with failures;
+- where a part that the tests need isn't there: the built program, git, a C compiler and so on;
+- where a test wasn't run, or a must-fail edit wasn't refused by the prover, as a bad edit;
+- where there is less evidence of a kind than .ci/floors says.
+
+More evidence than that is no failure: a line says that the floor is to be raised. The last line is 'N passed, M failed'
+for all of it, and the exit status is 0 where nothing failed.
+"""
+
+import os
+import re
+import shutil
+import subprocess
+import sys
+from dataclasses import dataclass
+from pathlib import Path
+
+import library_tests
+import refuse_memory
+import row_files
+import run_tests
+
+TOP = Path(__file__).resolve().parent.parent
+KINDS = ("must-fail-edits", "proved-tests", "python-tests", "library-tests", "rows", "rows-of-library-tests")
+# What `rt ci` says of an edit that shows nothing. It fails at some of them alone.
+USELESS = ("BAD EDIT", "NOT TRIED", "NOT REFUSED")
+TEST = r"^ *#\[test\]\n *fn (\w+)"
+
+
+class Malformed(Exception):
+    """What is wrong with the file of floors."""
+
+
+@dataclass(frozen=True)
+class Ran:
+    """How a command ended: its name, all that it printed, and its exit status."""
+
+    name: str
+    text: str
+    status: int
+
+
+@dataclass(frozen=True)
+class Count:
+    """How much evidence of a kind there is, and how that was counted."""
+
+    kind: str
+    how: str
+    number: int
+
+
+# What is missing
+
+
+def missing(program, found=shutil.which):
+    """The parts that the tests need and that aren't here. Each is named with what isn't tested without it."""
+    compiled = refuse_memory.compiler(found) and sys.platform == "linux"
+    parts = [
+        (os.path.isfile(program) and os.access(program, os.X_OK), f"the built program, {program}: no row is run"),
+        (found("rt"), "rt: neither a proof nor a test of tests/ is run"),
+        (found("git"), "git: nothing is compared with git"),
+        (compiled, "a C compiler (cc, gcc or clang) on Linux: no memory is refused"),
+        (os.path.exists("/dev/full"), "/dev/full: no output is refused"),
+        (run_tests.may_be_ordinary(), "setpriv: no file is refused, since root may read and write any"),
+    ]
+    return [f"missing: {words}" for is_there, words in parts if not is_there]
+
+
+# How commands ended
+
+
+def judged(ran):
+    """How many passed and failed by a command's last line, and what is wrong with how it ended, if anything."""
+    last = ran.text.rstrip("\n").split("\n")[-1]
+    line = re.fullmatch(r"(?:tools: )?(\d+) passed, (\d+) failed", last)
+    passed, failed = (int(line[1]), int(line[2])) if line else (0, 0)
+    faults = [] if line else [f"{ran.name} ended without a line 'N passed, M failed'"]
+    if ran.status != 0 and failed == 0:
+        faults.append(f"{ran.name} ended with exit status {ran.status}, and its last line tells of no failure")
+    if ran.status == 0 and failed > 0:
+        faults.append(f"{ran.name} ended with exit status 0, and its last line tells of failures")
+    return passed, failed, faults
+
+
+def useless_edits(text):
+    """What `rt ci` says of edits that show nothing."""
+    lines = [line for line in text.splitlines() if any(words in line for words in USELESS)]
+    return [f"an edit shows nothing: {line.removeprefix('rt: ')}" for line in lines]
+
+
+# What there is
+
+
+def edits_there(top):
+    """The must-fail edits of the crates, as `rt ci` names them."""
+    return {f"{path.parts[-3]}/{path.name}" for path in top.glob("crates/*/must-fail/*.edit")}
+
+
+def edits_refused(text):
+    """The must-fail edits that the prover refused, by what `rt ci` printed."""
+    return set(re.findall(r"^rt: must-fail (\S+\.edit): refused, as it must be", text, re.M))
+
+
+def tests_there(top):
+    """The names of the tests of the crates, without those of their modules."""
+    paths = top.glob("crates/*/src/**/*.rt")
+    return {name for path in paths for name in re.findall(TEST, path.read_text(encoding="utf-8"), re.M)}
+
+
+def tests_passed(text):
+    """The names of the proved tests that passed, by what `rt ci` printed, without those of their modules."""
+    return {name.split("::")[-1] for name in re.findall(r"^test (\S+) \.\.\. ok$", text, re.M)}
+
+
+def rows_there(top):
+    """How many rows of text the program is run on."""
+    return sum(len(row_files.read_rows(path)) for path in sorted(top.glob("tools/rows/*.txt")))
+
+
+def rows_of_tests(top):
+    """How many rows the tests in tests/*/rows have: each is written out with its name."""
+    texts = [path.read_text(encoding="utf-8") for path in top.glob("tests/*/rows/*" + library_tests.ENDING)]
+    return sum(len(re.findall(r'\bname: "', text)) for text in texts)
+
+
+def tools_passed(text, kind):
+    """How many tests of a kind passed, by what tools/run_tests.py printed."""
+    return sum(int(number) for number in re.findall(rf"^tools: (\d+) {kind} passed$", text, re.M))
+
+
+def counted(top, ci, tools):
+    """All evidence that there is, and what of it showed something."""
+    return [
+        Count("must-fail-edits", "in crates/*/must-fail", len(edits_there(top))),
+        Count("must-fail-edits", "refused by the prover", len(edits_refused(ci) & edits_there(top))),
+        Count("proved-tests", "in crates/*/src", len(tests_there(top))),
+        Count("proved-tests", "passed", len(tests_passed(ci) & tests_there(top))),
+        Count("python-tests", "passed", tools_passed(tools, "Python tests")),
+        Count("library-tests", "in tests/", len(library_tests.names(top / "tests"))),
+        Count("library-tests", "passed", tools_passed(tools, "library tests")),
+        Count("rows", "in tools/rows", rows_there(top)),
+        Count("rows-of-library-tests", "in tests/*/rows", rows_of_tests(top)),
+    ]
+
+
+# Floors
+
+
+def floors_of(text):
+    """The least number of each kind. `#` starts a comment."""
+    floors = {}
+    for line in filter(None, (line.partition("#")[0].strip() for line in text.splitlines())):
+        words = re.fullmatch(r"(\S+) +(\d+)", line)
+        if not words or words[1] not in KINDS:
+            raise Malformed(f"no kind of evidence and a number: {line}")
+        if words[1] in floors:
+            raise Malformed(f"two floors of {words[1]}")
+        floors[words[1]] = int(words[2])
+    without = [kind for kind in KINDS if not floors.get(kind)]
+    if without:
+        raise Malformed(f"no floor above 0 of {', '.join(without)}")
+    return floors
+
+
+def below(counts, floors):
+    """What there is too little of."""
+    low = [count for count in counts if count.number < floors[count.kind]]
+    return [f"{it.kind} {it.how}: {it.number}, and the floor in .ci/floors is {floors[it.kind]}" for it in low]
+
+
+def above(counts, floors):
+    """What has a floor that is to be raised: no count of it is as low."""
+    least = {kind: min(count.number for count in counts if count.kind == kind) for kind in KINDS}
+    high = [kind for kind in KINDS if least[kind] > floors[kind]]
+    return [f"{kind}: {least[kind]}, and the floor in .ci/floors is {floors[kind]}: raise the floor" for kind in high]
+
+
+def evidence(top, ci, tools):
+    """What is wrong with the evidence, and what is to be said of it besides."""
+    try:
+        floors = floors_of((top / ".ci" / "floors").read_text(encoding="utf-8"))
+        counts = counted(top, ci, tools)
+    except (Malformed, row_files.Malformed, OSError) as error:
+        return [f"the evidence can't be counted: {error}"], []
+    without = [
+        ("edits that the prover didn't refuse", edits_there(top) - edits_refused(ci)),
+        ("tests of crates that didn't pass", tests_there(top) - tests_passed(ci)),
+    ]
+    faults = [f"{words}: {', '.join(sorted(names))}" for words, names in without if names]
+    notes = [f"{count.kind} {count.how}: {count.number}" for count in counts]
+    return faults + below(counts, floors), notes + above(counts, floors)
+
+
+# The gate
+
+
+def run(name, words, settings):
+    """Runs a command, and prints what it prints as it comes."""
+    environment = {**os.environ, **settings}
+    lines = []
+    with subprocess.Popen(words, cwd=TOP, env=environment, stdout=subprocess.PIPE, text=True, errors="replace") as it:
+        for line in it.stdout:
+            lines.append(line)
+            print(line, end="", flush=True)
+    return Ran(name, "".join(lines), it.returncode)
+
+
+def verdict(top, program, ci, tools, found=shutil.which):
+    """How many passed and failed in all, what is wrong, and what is to be said besides."""
+    (passed, failed, wrong), (passed_too, failed_too, wrong_too) = judged(ci), judged(tools)
+    faults, notes = evidence(top, ci.text, tools.text)
+    faults = missing(program, found) + wrong + wrong_too + useless_edits(ci.text) + faults
+    return passed + passed_too, failed + failed_too + len(faults), faults, notes
+
+
+def main(output, status):
+    program = TOP / "crates" / "status_program" / "out" / "status_program"
+    ci = Ran("rt ci", Path(output).read_text(encoding="utf-8", errors="replace"), int(status))
+    # Where no program was built, each test that needs one says that it wasn't run.
+    settings = {"STATUS_PROGRAM": str(program) if program.is_file() else "", "PYTHONDONTWRITEBYTECODE": "1"}
+    tools = run("tools/run_tests.py", [sys.executable, "tools/run_tests.py"], settings)
+    passed, failed, faults, notes = verdict(TOP, program, ci, tools)
+    for line in [*notes, *(f"FAILED: {fault}" for fault in faults)]:
+        print(f"gate: {line}")
+    print(f"{passed} passed, {failed} failed")
+    return int(failed > 0)
+
+
+if __name__ == "__main__":
+    sys.exit(main(*sys.argv[1:]))

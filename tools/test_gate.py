@@ -1,0 +1,301 @@
+#!/usr/bin/env python3
+"""Tests of the gate, with parts and evidence that are missing on purpose:  python3 tools/test_gate.py"""
+
+import contextlib
+import io
+import os
+import shutil
+import subprocess
+import sys
+import tempfile
+import unittest
+from pathlib import Path
+
+import cases
+import gate
+import library_tests
+import run_tests
+
+FLOORS = """# The least.
+
+must-fail-edits 2   # edits
+proved-tests 2
+python-tests 3
+library-tests 2
+rows 2
+rows-of-library-tests 3
+"""
+# A repository with as much evidence as its floors say.
+FILES = {
+    ".ci/floors": FLOORS,
+    "crates/low/must-fail/one.edit": "",
+    "crates/high/must-fail/two.edit": "",
+    "crates/high/src/lib.rt": "#[test]\nfn first(rt: HostRuntime) {\n}\n",
+    "crates/high/src/deep/more.rt": "mod tests {\n    #[test]\n    fn second(rt: HostRuntime) {\n    }\n}\n",
+    "tests/status/rows/a.rt.txt": '#[test]\nfn third() {\n    Row {\n        name: "x",\n    };\n    Row { name: "y" }\n}\n',
+    "tests/joined/rows/b.rt.txt": '#[test]\nfn fourth() {\n    Row {\n        name: "z",\n    }\n}\n',
+    "tools/rows/r.txt": "-- words\nstatus f\n\n== a\n{}\n\n== b\n{}\n",
+}
+CI = """rt: must-fail low/one.edit: refused, as it must be: src/lib.rt:1:1: error
+rt: must-fail high/two.edit: refused, as it must be (only by a limit of the prover): src/lib.rt:1:1: error
+test first ... ok
+test deep::more::tests::second ... ok
+rt: high: its tests passed
+rt: ok; handles allowed: none; must-fail edits: 2 refused, 1 of them only by a limit; all
+6 passed, 0 failed
+"""
+TOOLS = "tools: 3 Python tests passed\ntools: 2 library tests passed\ntools: 5 passed, 0 failed\n"
+# What a shell needs for .ci/run, but for the program `rt` and for python3.
+COMMANDS = ("bash", "dirname", "mktemp", "nproc", "rm", "tee")
+
+
+class Planted(unittest.TestCase):
+    """A repository of a test's own, whose parts it takes away."""
+
+    def setUp(self):
+        room = tempfile.TemporaryDirectory()
+        self.addCleanup(room.cleanup)
+        self.top = Path(room.name)
+        for name, text in FILES.items():
+            self.write(name, text)
+        self.program = self.top / "program"
+        self.write("program", "")
+        self.program.chmod(0o755)
+
+    def write(self, name, text):
+        path = self.top / name
+        path.parent.mkdir(parents=True, exist_ok=True)
+        path.write_text(text, encoding="utf-8")
+
+    def verdict(self, ci=CI, ci_status=0, tools=TOOLS, tools_status=0, lacking=()):
+        """What the gate says where these commands aren't there."""
+        ran = gate.Ran("rt ci", ci, ci_status), gate.Ran("tools/run_tests.py", tools, tools_status)
+        found = lambda name: None if name in lacking else f"/bin/{name}"
+        return gate.verdict(self.top, str(self.program), *ran, found)
+
+    def assert_fails(self, *words, counted=0, **planted):
+        """The gate fails for as many reasons as there are words, each with these words, and for those that commands
+        counted themselves.
+        """
+        _, failed, faults, _ = self.verdict(**planted)
+        self.assertEqual((len(faults), failed), (len(words), len(words) + counted), faults)
+        for fault, part in zip(faults, words):
+            self.assertIn(part, fault)
+
+    def test_all_that_is_there_passes(self):
+        passed, failed, faults, notes = self.verdict()
+        self.assertEqual((passed, failed, faults), (11, 0, []))
+        self.assertIn("must-fail-edits refused by the prover: 2", notes)
+        self.assertFalse([note for note in notes if "raise the floor" in note])
+
+    def test_a_missing_part_is_a_failure(self):
+        self.assert_fails("missing: git: nothing is compared", lacking=["git"])
+        self.assert_fails("missing: rt: ", lacking=["rt"])
+        compilers = [os.environ.get("CC") or "cc", "gcc", "clang"]
+        self.assert_fails("missing: a C compiler (cc, gcc or clang) on Linux: no memory", lacking=compilers)
+        self.assert_fails(lacking=compilers[1:])
+        self.program.chmod(0o644)
+        self.assert_fails("missing: the built program, ")
+        self.program.unlink()
+        self.assert_fails("missing: the built program, ", "missing: git: ", lacking=["git"])
+
+    def test_a_failing_exit_status_is_a_failure_whatever_was_printed(self):
+        self.assert_fails("rt ci ended with exit status 1, and its last line tells of no failure", ci_status=1)
+        self.assert_fails("tools/run_tests.py ended with exit status -11, and", tools_status=-11)
+
+    def test_failures_that_a_command_counts_are_failures(self):
+        one = CI.replace("6 passed, 0 failed", "5 passed, 1 failed")
+        self.assert_fails(ci=one, ci_status=1, counted=1)
+        self.assert_fails("rt ci ended with exit status 0, and its last line tells of failures", ci=one, counted=1)
+        two = TOOLS.replace("5 passed, 0 failed", "5 passed, 2 failed")
+        self.assert_fails(tools=two, tools_status=1, counted=2)
+
+    def test_a_command_without_its_last_line_fails(self):
+        alone = CI.replace("0 failed", "0 failed (high and the crates below alone: not the gate)")
+        for ci in (alone, CI + "Killed\n", CI.replace("6 passed, 0 failed\n", "")):
+            self.assert_fails("rt ci ended without a line 'N passed, M failed'", ci=ci)
+        self.assert_fails("tools/run_tests.py ended without a line", tools=TOOLS + "x\n")
+
+    def test_one_edit_less_is_a_failure(self):
+        (self.top / "crates/low/must-fail/one.edit").unlink()
+        low = "must-fail-edits in crates/*/must-fail: 1, and the floor in .ci/floors is 2"
+        self.assert_fails(low, "must-fail-edits refused by the prover: 1, and")
+
+    def test_an_edit_that_was_not_refused_is_a_failure(self):
+        line = CI.splitlines(keepends=True)[0]
+        words = ("edits that the prover didn't refuse: low/one.edit", "must-fail-edits refused by the prover: 1, and")
+        self.assert_fails(*words, ci=CI.replace(line, ""))
+        for said in ("BAD EDIT: no line has it", "NOT TRIED: run this again", "NOT REFUSED: the crate is still proved"):
+            bad = CI.replace(line, f"rt: must-fail low/one.edit: {said}\n")
+            self.assert_fails(f"an edit shows nothing: must-fail low/one.edit: {said}", *words, ci=bad)
+
+    def test_a_bad_edit_beside_enough_others_is_a_failure(self):
+        bad = "rt: crates/low/must-fail/x/y.edit: BAD EDIT: an edit stands right in must-fail/\n"
+        self.assert_fails("an edit shows nothing: crates/low/must-fail/x/y.edit: BAD EDIT", ci=bad + CI)
+        self.write("crates/low/must-fail/three.edit", "")
+        said = "must-fail low/three.edit: BAD EDIT: no line has it"
+        self.assert_fails(f"nothing: {said}", "didn't refuse: low/three.edit", ci=f"rt: {said}\n{CI}")
+
+    def test_one_proved_test_less_is_a_failure(self):
+        unproved = CI.replace("test first ... ok", "test first ... FAILED")
+        self.assert_fails("tests of crates that didn't pass: first", "proved-tests passed: 1, and", ci=unproved)
+        (self.top / "crates/high/src/lib.rt").unlink()
+        self.assert_fails("proved-tests in crates/*/src: 1, and", "proved-tests passed: 1, and")
+
+    def test_one_test_less_of_tools_is_a_failure(self):
+        self.assert_fails("python-tests passed: 2, and", tools=TOOLS.replace("3 Python", "2 Python"))
+        self.assert_fails("library-tests passed: 1, and", tools=TOOLS.replace("2 library", "1 library"))
+        self.assert_fails("python-tests passed: 0, and", tools=TOOLS.replace("Python", "other"))
+
+    def test_one_row_less_is_a_failure(self):
+        self.write("tools/rows/r.txt", FILES["tools/rows/r.txt"].replace("\n== b\n{}\n", ""))
+        self.assert_fails("rows in tools/rows: 1, and")
+
+    def test_one_row_or_test_of_tests_less_is_a_failure(self):
+        self.write("tests/status/rows/a.rt.txt", FILES["tests/status/rows/a.rt.txt"].replace('name: "y"', ""))
+        self.assert_fails("rows-of-library-tests in tests/*/rows: 2, and")
+        (self.top / "tests/joined/rows/b.rt.txt").unlink()
+        self.assert_fails("library-tests in tests/: 1, and", "rows-of-library-tests in tests/*/rows: 1, and")
+
+    def test_more_than_a_floor_is_said(self):
+        self.write("tools/rows/more.txt", FILES["tools/rows/r.txt"])
+        passed, failed, faults, notes = self.verdict(tools=TOOLS.replace("3 Python", "5 Python"))
+        self.assertEqual((failed, faults), (0, []))
+        self.assertIn("rows: 4, and the floor in .ci/floors is 2: raise the floor", notes)
+        self.assertIn("python-tests: 5, and the floor in .ci/floors is 3: raise the floor", notes)
+        # An edit more counts once the prover refuses it.
+        self.write("crates/low/must-fail/three.edit", "")
+        self.assertFalse([note for note in self.verdict()[3] if "must-fail-edits: " in note])
+
+    def test_floors_of_another_form_are_a_failure(self):
+        for text, words in [
+            (FLOORS.replace("rows 2\n", ""), "no floor above 0 of rows"),
+            (FLOORS.replace("rows 2\n", "rows 0\n"), "no floor above 0 of rows"),
+            (FLOORS + "rows 2\n", "two floors of rows"),
+            (FLOORS + "more 2\n", "no kind of evidence and a number: more 2"),
+            (FLOORS + "rows many\n", "no kind of evidence and a number: rows many"),
+        ]:
+            self.write(".ci/floors", text)
+            self.assert_fails(f"the evidence can't be counted: {words}")
+        (self.top / ".ci/floors").unlink()
+        self.assert_fails("the evidence can't be counted: ")
+
+    def test_rows_of_another_form_are_a_failure(self):
+        self.write("tools/rows/r.txt", "== a\n")
+        self.assert_fails("the evidence can't be counted: r.txt: a: no words")
+
+
+class Commands(unittest.TestCase):
+    def test_the_exit_status_of_a_command_is_seen(self):
+        script = "print('tools: 3 passed, 0 failed', flush=True); import os; os._exit(3)"
+        with contextlib.redirect_stdout(io.StringIO()) as printed:
+            ran = gate.run("it", [sys.executable, "-c", script], {})
+        self.assertEqual((ran.text, printed.getvalue(), ran.status), ("tools: 3 passed, 0 failed\n", ran.text, 3))
+        self.assertEqual(gate.judged(ran)[:2], (3, 0))
+        self.assertEqual(len(gate.judged(ran)[2]), 1)
+
+    def test_the_floors_of_this_repository_are_read(self):
+        gate.floors_of((gate.TOP / ".ci" / "floors").read_text(encoding="utf-8"))
+
+    def test_the_exit_status_of_the_library_tests_is_seen(self):
+        self.assertIsNone(library_tests.wrong_end(0, "x"))
+        self.assertIn("exit status 4", library_tests.wrong_end(4, "test a ... ok\n"))
+
+
+class Runner(unittest.TestCase):
+    def said(self, *tests):
+        """What tools/run_tests.py says of a case with these tests."""
+        case = type("Inner", (unittest.TestCase,), {f"test_{number}": test for number, test in enumerate(tests)})
+        suite = unittest.defaultTestLoader.loadTestsFromTestCase(case)
+        runner = unittest.TextTestRunner(stream=io.StringIO(), resultclass=run_tests.Result)
+        return run_tests.said(runner.run(suite))
+
+    def test_a_skipped_test_is_a_failure(self):
+        skipped = lambda case: case.skipTest("no git")
+        lines, failed = self.said(lambda case: None, skipped)
+        self.assertEqual((lines[0], lines[-1], failed), ("tools: 1 not run: no git", "tools: 1 passed, 1 failed", 1))
+
+    def test_a_part_of_a_test_that_is_skipped_or_fails_is_a_failure(self):
+        for end in (lambda case: case.skipTest("no time"), lambda case: case.fail()):
+
+            def parted(case, end=end):
+                for part in range(2):
+                    with case.subTest(part=part):
+                        if part:
+                            end(case)
+
+            self.assertEqual(self.said(parted)[0][-1], "tools: 0 passed, 1 failed")
+
+    def test_an_expected_failure_is_one(self):
+        failing = unittest.expectedFailure(lambda case: case.fail())
+        passing = unittest.expectedFailure(lambda case: None)
+        self.assertEqual(self.said(failing, passing, lambda case: None)[0][-1], "tools: 1 passed, 2 failed")
+
+    def test_no_test_is_a_failure(self):
+        self.assertEqual(self.said()[0][-1], "tools: 0 passed, 1 failed")
+
+    def test_tests_are_counted_by_kind(self):
+        kinds = [run_tests.kind_of(name) for name in ("test_gate.Runner.test_x", "test_library.Library.test_a::b::c")]
+        self.assertEqual(kinds, ["Python tests", "library tests"])
+        lines = self.said(lambda case: None)[0]
+        self.assertEqual([gate.tools_passed("\n".join(lines), kind) for kind in kinds], [1, 0])
+
+    def test_root_can_give_away_its_right_to_read_all(self):
+        if not cases.may_read_all():
+            self.assertTrue(run_tests.may_be_ordinary())
+            return
+        probe = "import cases, sys; sys.exit(cases.may_read_all())"
+        ran = subprocess.run([*run_tests.ORDINARY, sys.executable, "-c", probe], cwd=cases.HERE)
+        self.assertEqual(ran.returncode == 0, run_tests.may_be_ordinary())
+
+
+class Script(unittest.TestCase):
+    """.ci/run, where other programs stand for `rt` and tools/gate.py."""
+
+    def setUp(self):
+        room = tempfile.TemporaryDirectory()
+        self.addCleanup(room.cleanup)
+        self.top = Path(room.name)
+        for name in (".ci", "bin", "tools"):
+            (self.top / name).mkdir()
+        shutil.copy(gate.TOP / ".ci" / "run", self.top / ".ci" / "run")
+        for name in COMMANDS:
+            (self.top / "bin" / name).symlink_to(shutil.which(name))
+
+    def stand_in(self, name, lines):
+        path = self.top / "bin" / name
+        path.write_text(f"#!{shutil.which('bash')}\n{lines}\n", encoding="utf-8")
+        path.chmod(0o755)
+
+    def ran(self, rt, python=None):
+        """How the script ends where these lines of a shell stand for `rt` and for python3, if that is there."""
+        self.stand_in("rt", rt)
+        if python:
+            self.stand_in("python3", python)
+        settings = {"PATH": str(self.top / "bin")}
+        ran = subprocess.run([self.top / ".ci" / "run"], env=settings, capture_output=True, text=True, timeout=60)
+        return ran.returncode, ran.stdout.splitlines()
+
+    def test_it_ends_as_the_gate_does(self):
+        good = 'echo "6 passed, 0 failed"'
+        # The gate is given what `rt ci` printed, and its exit status.
+        given = '[[ $1 == tools/gate.py && $3 == 0 && $(<"$2") == "6 passed, 0 failed" ]] && echo "9 passed, 0 failed"'
+        self.assertEqual(self.ran(good, given), (0, ["6 passed, 0 failed", "9 passed, 0 failed"]))
+        self.assertEqual(self.ran(good, 'echo "9 passed, 0 failed"; exit 1')[0], 1)
+
+    def test_a_failing_rt_fails_it_whatever_the_gate_says(self):
+        self.assertEqual(self.ran("exit 3", '[[ $3 == 3 ]] && echo "9 passed, 0 failed"'), (1, ["9 passed, 0 failed"]))
+
+    def test_a_missing_python_fails_it(self):
+        status, lines = self.ran('echo "6 passed, 0 failed"')
+        self.assertEqual((status, lines[-1]), (1, "0 passed, 1 failed"))
+        self.assertIn("missing: python3", lines[-2])
+
+    def test_a_missing_rt_fails_it(self):
+        self.stand_in("python3", '[[ $3 == 127 ]] && echo "9 passed, 0 failed"')
+        ran = subprocess.run([self.top / ".ci" / "run"], env={"PATH": str(self.top / "bin")}, capture_output=True)
+        self.assertEqual((ran.returncode, ran.stdout), (1, b"9 passed, 0 failed\n"))
+
+
+if __name__ == "__main__":
+    unittest.main()
