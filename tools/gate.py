@@ -147,6 +147,7 @@ def counted(top, ci, tools):
         Count("library-tests", "in tests/", len(library_tests.names(top / "tests"))),
         Count("library-tests", "passed", tools_passed(tools, "library tests")),
         Count("rows", "in tools/rows", rows_there(top)),
+        Count("rows", "passed", tools_passed(tools, "rows")),
         Count("rows-of-library-tests", "in tests/*/rows", rows_of_tests(top)),
     ]
 

@@ -44,7 +44,11 @@ rt: high: its tests passed
 rt: ok; handles allowed: none; must-fail edits: 2 refused, 1 of them only by a limit; all
 6 passed, 0 failed
 """
-TOOLS = "tools: 3 Python tests passed\ntools: 2 library tests passed\ntools: 5 passed, 0 failed\n"
+TOOLS = """tools: 3 Python tests passed
+tools: 2 library tests passed
+tools: 2 rows passed
+tools: 7 passed, 0 failed
+"""
 # What a shell needs for .ci/run, but for the program `rt` and for python3.
 COMMANDS = ("bash", "dirname", "mktemp", "nproc", "rm", "tee")
 
@@ -84,7 +88,7 @@ class Planted(unittest.TestCase):
 
     def test_all_that_is_there_passes(self):
         passed, failed, faults, notes = self.verdict()
-        self.assertEqual((passed, failed, faults), (11, 0, []))
+        self.assertEqual((passed, failed, faults), (13, 0, []))
         self.assertIn("must-fail-edits refused by the prover: 2", notes)
         self.assertFalse([note for note in notes if "raise the floor" in note])
 
@@ -107,7 +111,7 @@ class Planted(unittest.TestCase):
         one = CI.replace("6 passed, 0 failed", "5 passed, 1 failed")
         self.assert_fails(ci=one, ci_status=1, counted=1)
         self.assert_fails("rt ci ended with exit status 0, and its last line tells of failures", ci=one, counted=1)
-        two = TOOLS.replace("5 passed, 0 failed", "5 passed, 2 failed")
+        two = TOOLS.replace("7 passed, 0 failed", "7 passed, 2 failed")
         self.assert_fails(tools=two, tools_status=1, counted=2)
 
     def test_a_command_without_its_last_line_fails(self):
@@ -150,6 +154,8 @@ class Planted(unittest.TestCase):
     def test_one_row_less_is_a_failure(self):
         self.write("tools/rows/r.txt", FILES["tools/rows/r.txt"].replace("\n== b\n{}\n", ""))
         self.assert_fails("rows in tools/rows: 1, and")
+        self.write("tools/rows/r.txt", FILES["tools/rows/r.txt"])
+        self.assert_fails("rows passed: 1, and", tools=TOOLS.replace("2 rows", "1 rows"))
 
     def test_one_row_or_test_of_tests_less_is_a_failure(self):
         self.write("tests/status/rows/a.rt.txt", FILES["tests/status/rows/a.rt.txt"].replace('name: "y"', ""))
@@ -159,7 +165,8 @@ class Planted(unittest.TestCase):
 
     def test_more_than_a_floor_is_said(self):
         self.write("tools/rows/more.txt", FILES["tools/rows/r.txt"])
-        passed, failed, faults, notes = self.verdict(tools=TOOLS.replace("3 Python", "5 Python"))
+        more = TOOLS.replace("3 Python", "5 Python").replace("2 rows", "4 rows")
+        _, failed, faults, notes = self.verdict(tools=more)
         self.assertEqual((failed, faults), (0, []))
         self.assertIn("rows: 4, and the floor in .ci/floors is 2: raise the floor", notes)
         self.assertIn("python-tests: 5, and the floor in .ci/floors is 3: raise the floor", notes)
@@ -235,10 +242,11 @@ class Runner(unittest.TestCase):
         self.assertEqual(self.said()[0][-1], "tools: 0 passed, 1 failed")
 
     def test_tests_are_counted_by_kind(self):
-        kinds = [run_tests.kind_of(name) for name in ("test_gate.Runner.test_x", "test_library.Library.test_a::b::c")]
-        self.assertEqual(kinds, ["Python tests", "library tests"])
+        names = ("test_gate.Runner.test_x", "test_library.Library.test_a::b::c", "test_rows.Rows.test_a_b.txt: c: d")
+        kinds = [run_tests.kind_of(name) for name in names]
+        self.assertEqual(kinds, ["Python tests", "library tests", "rows"])
         lines = self.said(lambda case: None)[0]
-        self.assertEqual([gate.tools_passed("\n".join(lines), kind) for kind in kinds], [1, 0])
+        self.assertEqual([gate.tools_passed("\n".join(lines), kind) for kind in kinds], [1, 0, 0])
 
     def test_root_can_give_away_its_right_to_read_all(self):
         if not cases.may_read_all():

@@ -149,14 +149,13 @@ class Rows(unittest.TestCase):
             with open(os.path.join(folder, "o"), "rb") as file:
                 self.assertEqual(file.read(), left.encode())
 
-    def test_each_row_ends_as_it_says(self):
-        for file, row in all_rows():
-            with self.subTest(file=file, row=row.name), folder_of(row) as folder:
-                before = os.listdir(folder)
-                ran = run_program(folder, row.words)
-                wanted = (row.status, row.lines.encode(), row.fault.encode())
-                self.assertEqual((ran.returncode, ran.stdout, ran.stderr), wanted)
-                self.assert_left(folder, before, row.left)
+    def assert_ends_as_it_says(self, row):
+        with folder_of(row) as folder:
+            before = os.listdir(folder)
+            ran = run_program(folder, row.words)
+            wanted = (row.status, row.lines.encode(), row.fault.encode())
+            self.assertEqual((ran.returncode, ran.stdout, ran.stderr), wanted)
+            self.assert_left(folder, before, row.left)
 
     def test_an_output_that_is_too_small_is_a_failure_with_no_line(self):
         # Lines are kept until they are flushed, and then written at once. The system takes as many bytes of them as it
@@ -181,6 +180,11 @@ class Rows(unittest.TestCase):
                     ran = run_program(folder, row.words, stdout=full)
                     self.assertEqual((ran.returncode, ran.stderr), (1, b""))
                     self.assert_left(folder, before, None)
+
+
+# Each row is a test of its own.
+for name, found in all_rows():
+    setattr(Rows, f"test_{name}: {found.name}", lambda self, row=found: self.assert_ends_as_it_says(row))
 
 
 @unittest.skipUnless(PROGRAM, "no built program")
