@@ -16,7 +16,7 @@ HERE = os.path.dirname(os.path.abspath(__file__))
 sys.path.insert(0, HERE)
 import refuse_memory as tool
 from quick_runs import Ended
-from small_profiles import ROWS
+from small_profiles import ROWS, put_out, wrong_files
 
 PROGRAM = os.path.abspath(os.environ["STATUS_PROGRAM"]) if os.environ.get("STATUS_PROGRAM") else None
 LINE = '0 modified -c- "a"\n'
@@ -164,6 +164,40 @@ class Judging(unittest.TestCase):
             self.assertIsNotNone(self.said("modified", "m", status, "", fault), (status, fault))
         self.assertIsNotNone(self.said("malformed", "m", 1, "", "bad profile: worktree\n"))
         self.assertIsNotNone(tool.wrong(ROWS["modified"], tool.Refused("m", 1, 9), Ended(1, b"", b"\xff\n")))
+
+
+class Files(unittest.TestCase):
+    def said(self, status, old, new, **left):
+        """What is wrong where a refresh leaves these texts, by `out` and `lock`. Nothing is left after that."""
+        with tempfile.TemporaryDirectory() as room:
+            file = os.path.join(room, "profile.json")
+            put_out(file, left.get("out"))
+            if "lock" in left:
+                put_out(file, left["lock"])
+                os.rename(f"{file}.out", f"{file}.out.lock")
+                put_out(file, left.get("out"))
+            said = wrong_files(file, status, old, new)
+            self.assertEqual(os.listdir(room), [])
+        return said
+
+    def test_a_refresh_that_failed_leaves_what_was_there(self):
+        self.assertIsNone(self.said(1, None, "new"))
+        self.assertIsNone(self.said(1, "old", "new", out="old"))
+        for old, left in [(None, "old"), (None, ""), ("old", "new"), ("old", ""), ("old", "ol")]:
+            self.assertIsNotNone(self.said(1, old, "new", out=left), (old, left))
+        self.assertIsNotNone(self.said(1, "old", "new"))
+
+    def test_a_refresh_that_passed_leaves_its_file(self):
+        self.assertIsNone(self.said(0, "old", "new", out="new"))
+        self.assertIsNone(self.said(0, None, None, out="any"))
+        self.assertIsNotNone(self.said(0, "old", "new", out="old"))
+        self.assertIsNotNone(self.said(0, None, "new", out="ne"))
+        self.assertIsNotNone(self.said(0, None, "new"))
+        self.assertIsNotNone(self.said(0, None, None))
+
+    def test_no_lock_is_left(self):
+        for status in (0, 1, -9):
+            self.assertEqual(self.said(status, "new", "new", out="new", lock=""), "a lock is left")
 
 
 @unittest.skipUnless(tool.compiler() and sys.platform == "linux", "no C compiler")
