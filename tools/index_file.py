@@ -11,7 +11,7 @@ import stat
 import struct
 from dataclasses import dataclass, field
 
-from shared import Refused
+from shared import Refused, held_signals, ignore_signals
 
 HEADER = struct.Struct(">4sII")
 EXTENSION = struct.Struct(">4sI")
@@ -126,23 +126,44 @@ def refuse_split(content, at):
 def replace(index, content, moment, before_it):
     """Puts other bytes in an index's place, by its lock, with a moment as its time. `before_it` is called just before.
 
-    Where that fails, or the index was written since it was read, the lock goes and the index is as it was.
+    If that fails, or the index was written since it was read, the lock is removed and the index is unchanged. Signals
+    that end the tool wait until the lock is gone, except while `before_it` runs, which may wait for a reader. Once the
+    index is replaced, they are ignored: nothing is left to be done.
     """
     lock = index.path + ".lock"
+    # The file stays open, so that no other lock gets its inode.
+    with held_signals() as let_through, open(taken(lock), "wb") as file:
+        try:
+            if read(index.path) != (index.content, index.written):
+                raise Refused("the index was written meanwhile")
+            os.fchmod(file.fileno(), stat.S_IMODE(os.stat(index.path).st_mode))
+            file.write(content)
+            file.flush()
+            os.utime(file.fileno(), ns=(moment, moment))
+            with let_through():
+                before_it()
+            if not is_at(lock, file):
+                raise Refused(f"the lock {lock} was removed meanwhile")
+            os.rename(lock, index.path)
+        except BaseException:
+            if is_at(lock, file):
+                os.unlink(lock)
+            raise
+        ignore_signals()
+
+
+def taken(lock):
+    """The descriptor of a lock that wasn't there before."""
     try:
-        held = os.open(lock, os.O_WRONLY | os.O_CREAT | os.O_EXCL | os.O_CLOEXEC, 0o666)
+        return os.open(lock, os.O_WRONLY | os.O_CREAT | os.O_EXCL | os.O_CLOEXEC, 0o666)
     except FileExistsError:
         running = "Another git process seems to be running in this repository"
         raise Refused(f"Unable to create '{lock}': File exists. {running}") from None
+
+
+def is_at(path, file):
+    """Whether an open file is what is at a path."""
     try:
-        with open(held, "wb") as file:
-            if read(index.path) != (index.content, index.written):
-                raise Refused("the index was written meanwhile")
-            os.fchmod(held, stat.S_IMODE(os.stat(index.path).st_mode))
-            file.write(content)
-        os.utime(lock, ns=(moment, moment))
-        before_it()
-        os.rename(lock, index.path)
-    except BaseException:
-        os.unlink(lock)
-        raise
+        return os.path.samestat(os.lstat(path), os.fstat(file.fileno()))
+    except FileNotFoundError:
+        return False

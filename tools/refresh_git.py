@@ -26,14 +26,16 @@ it has to read the file again. --dry-run prints it and writes nothing. Notes on 
 doesn't see in the folder, as for status.py.
 
 The exit status is 0. It is 2 for what can't be done, with one line on standard error: then the index is as it was, also
-where it is split, locked, broken, or written meanwhile, and where the program fails.
+where it is split, locked, broken, or written meanwhile, and where the program fails. It is 130 if SIGINT, SIGTERM or
+SIGHUP ends the tool: then, too, the index is unchanged, and the tool's index.lock is removed. Once the index is replaced
+these signals change nothing. After SIGKILL or a crash of the system index.lock may be left; remove it by hand, as git
+says, if no git process is running.
 """
 
 import argparse
 import json
 import os
 import re
-import signal
 import subprocess
 import tempfile
 import time
@@ -41,7 +43,7 @@ import time
 import index_file
 from profile_from_git import profile_of
 from repository import git, line_of, top_of
-from shared import Refused, end, program_of, say
+from shared import Refused, end, end_by_signals, program_of, say
 from unseen import CONVERSIONS, is_passed_over, node_at
 
 UPDATED, SMUDGED = "update", "size 0"
@@ -196,7 +198,5 @@ def main():
 
 
 if __name__ == "__main__":
-    # An end by these signals takes the lock away, too.
-    for ending in (signal.SIGTERM, signal.SIGHUP):
-        signal.signal(ending, signal.default_int_handler)
+    end_by_signals()
     end(main, 2)

@@ -1,11 +1,15 @@
-"""What the tools share: where the built program is, what they refuse, and how they end."""
+"""What the tools share: where the built program is, what they refuse, and how they end, also by signals."""
 
+import contextlib
 import os
+import signal
 import sys
 
 TOP = os.path.dirname(os.path.dirname(os.path.abspath(__file__)))
 BUILT = os.path.join(TOP, "crates", "status_program", "out", "status_program")
 BUILD = "(cd crates/status_program && rt run -- status data/row1.json)"
+# The signals by which a user ends a tool, or the system does.
+SIGNALS = {signal.SIGINT, signal.SIGTERM, signal.SIGHUP}
 
 
 class Refused(Exception):
@@ -69,3 +73,44 @@ def forget_output():
     except (AttributeError, OSError):
         nowhere = os.open(os.devnull, os.O_WRONLY)
         os.dup2(nowhere, 1)
+
+
+def end_by_signals():
+    """Lets each of the signals end the tool by a KeyboardInterrupt, unless it was started with that signal ignored."""
+    for number in SIGNALS:
+        if signal.getsignal(number) != signal.SIG_IGN:
+            signal.signal(number, interrupt)
+
+
+def interrupt(*_):
+    """Handles a signal. Later ones are ignored, so that they don't cut off the cleaning up."""
+    ignore_signals()
+    raise KeyboardInterrupt
+
+
+def ignore_signals():
+    """Ignores the signals from now on, also those that are held, if `end_by_signals` was called."""
+    for number in SIGNALS:
+        if signal.getsignal(number) is interrupt:
+            signal.signal(number, signal.SIG_IGN)
+
+
+@contextlib.contextmanager
+def held_signals():
+    """Holds the signals in a block. Gives what lets them through again in a block within it."""
+    before = signal.pthread_sigmask(signal.SIG_BLOCK, ())
+
+    @contextlib.contextmanager
+    def let_through():
+        signal.pthread_sigmask(signal.SIG_SETMASK, before)
+        try:
+            yield
+        finally:
+            signal.pthread_sigmask(signal.SIG_BLOCK, SIGNALS)
+
+    try:
+        # A signal that came just before is raised here, when the mask is already set.
+        signal.pthread_sigmask(signal.SIG_BLOCK, SIGNALS)
+        yield let_through
+    finally:
+        signal.pthread_sigmask(signal.SIG_SETMASK, before)

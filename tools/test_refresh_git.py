@@ -26,6 +26,40 @@ from profile_from_git import entries_of
 from test_status import FOLDERS, NAMES, Drawn, git_lines, kept
 
 THEN = 1_600_000_000
+# A run of the tool in which something happens before or after a call: of `os`, or the `write` of its line.
+HOOKED = """
+import builtins, os, runpy, signal, sys
+lock = {lock!r}
+real = {{name: getattr(os, name) for name in ("open", "fchmod", "utime", "rename", "unlink")}}
+real["write"] = print
+
+def hook(name, before=lambda: None, after=lambda: None):
+    def hooked(*words, **more):
+        if name in ("open", "unlink") and words[0] != lock:
+            return real[name](*words, **more)
+        before()
+        value = real[name](*words, **more)
+        after()
+        return value
+    if name == "write":
+        builtins.print = hooked
+    else:
+        setattr(os, name, hooked)
+
+def send(*signals):
+    for number in signals:
+        os.kill(os.getpid(), number)
+
+def take():
+    with open(lock + ".new", "w") as file:
+        file.write("another's")
+    real["rename"](lock + ".new", lock)
+
+sys.path.insert(0, {folder!r})
+{hooks}
+sys.argv = {words!r}
+runpy.run_path(sys.argv[0], run_name="__main__")
+"""
 ODD = [folder + name for folder in dict.fromkeys(FOLDERS) for name in NAMES if folder + name + "/" not in FOLDERS]
 LONG = ["n" * 200 + "/" + "m" * 200, "n" * 200 + "x"]
 
@@ -564,6 +598,77 @@ class Faults(Refreshes):
         os.read(reader, 1 << 20)
         self.assertEqual(ran.wait(20), 130)
         self.assertEqual(kept(self.top), before)
+
+    def ended_by(self, hooks):
+        """The tool's exit status, its output and its errors, where hooks are put around calls of the system."""
+        folder = os.path.dirname(tool.__file__)
+        words = [tool.__file__, self.top, "--program", self.updates()]
+        code = HOOKED.format(folder=folder, hooks=hooks, words=words, lock=self.path(".git/index.lock"))
+        ran = subprocess.run([sys.executable, "-c", code], capture_output=True, timeout=60)
+        return ran.returncode, ran.stdout, ran.stderr
+
+    def test_a_signal_before_the_index_is_replaced_leaves_it(self):
+        before = kept(self.top)
+        for name in ("SIGINT", "SIGTERM", "SIGHUP"):
+            for call in ("open", "fchmod", "utime", "write"):
+                for when in ("before", "after"):
+                    with self.subTest(name=name, call=call, when=when):
+                        hooks = f"hook({call!r}, {when}=lambda: send(signal.{name}))"
+                        self.assertEqual(self.ended_by(hooks)[::2], (130, b""))
+                        self.assertEqual(kept(self.top), before)
+
+    def test_a_second_signal_does_not_cut_off_the_cleaning_up(self):
+        before = kept(self.top)
+        twice = "lambda: send(signal.SIGTERM, signal.SIGINT)"
+        for hooks in (f"hook('utime', after={twice})", f"hook('write', before={twice})"):
+            again = "hook('unlink', before=lambda: send(signal.SIGHUP, signal.SIGINT))"
+            self.assertEqual(self.ended_by(f"{hooks}; {again}")[0], 130)
+            self.assertEqual(kept(self.top), before)
+
+    def test_a_signal_at_the_rename_is_too_late(self):
+        line = b"refreshed 1 entry, 0 to be compared again\n"
+        for name in ("SIGINT", "SIGTERM", "SIGHUP"):
+            for when in ("before", "after"):
+                with self.subTest(name=name, when=when):
+                    self.touch_index(THEN + 1)
+                    hooks = f"hook('rename', {when}=lambda: send(signal.{name}))"
+                    self.assertEqual(self.ended_by(hooks), (0, line, b""))
+                    self.assertGreater(os.stat(self.path(".git/index")).st_mtime, THEN + 1)
+                    self.assertFalse(os.path.lexists(self.path(".git/index.lock")))
+
+    def test_a_lock_of_another_is_left(self):
+        lock = self.path(".git/index.lock")
+        # Another git process takes the lock right after the rename, when the tool's own is gone.
+        self.assertEqual(self.ended_by("hook('rename', after=lambda: (take(), send(signal.SIGTERM)))")[0], 0)
+        self.assert_another(lock)
+        # Someone removed the tool's lock, and then another process has one.
+        self.touch_index(THEN + 1)
+        for hooks in ("hook('write', before=lambda: (real['unlink'](lock), take()))", "hook('write', before=take)"):
+            before = kept(self.path(".git/index"))
+            status, _, said = self.ended_by(hooks)
+            self.assertEqual((status, said), (2, f"refused: the lock {lock} was removed meanwhile\n".encode()))
+            self.assertEqual(kept(self.path(".git/index")), before)
+            self.assert_another(lock)
+        # A signal that comes then changes nothing of that.
+        hooks = "hook('write', before=lambda: (take(), send(signal.SIGINT)))"
+        self.assertEqual(self.ended_by(hooks)[0], 130)
+        self.assert_another(lock)
+
+    def assert_another(self, lock):
+        """A lock of another process is there. It is removed for the next run."""
+        with open(lock, encoding="utf-8") as file:
+            self.assertEqual(file.read(), "another's")
+        os.remove(lock)
+
+    def test_a_lock_that_is_gone_is_refused(self):
+        before = kept(self.top)
+        status, _, said = self.ended_by("hook('write', after=lambda: real['unlink'](lock))")
+        self.assertEqual((status, b"was removed meanwhile" in said), (2, True))
+        self.assertEqual(kept(self.top), before)
+
+    def test_a_signal_that_was_ignored_from_the_start_stays_ignored(self):
+        hooks = "signal.signal(signal.SIGHUP, signal.SIG_IGN); hook('write', before=lambda: send(signal.SIGHUP))"
+        self.assertEqual(self.ended_by(hooks)[0], 0)
 
     def await_that(self, holds):
         began = time.monotonic()
