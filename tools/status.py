@@ -3,16 +3,19 @@
 
     python3 tools/status.py [REPOSITORY]
 
-The lines are those of `git status --porcelain --untracked-files=no`: two columns, a space and the path from the top of
-the worktree, in quotes where git puts it in quotes by default. The index isn't compared with HEAD, so the first column
-is a space, and what is as git has it is the second; only a conflict has both (UU, AA, DD, AU, UA, DU, UD).
+The lines are those of `git status --porcelain --untracked-files=no --no-renames`: two columns, a space and the path from
+the top of the worktree, in quotes where git puts it in quotes by default. The index isn't compared with HEAD, so the
+first column is a space, and what is as git has it is the second; only a conflict has both (UU, AA, DD, AU, UA, DU, UD).
+With renames, as by default, git prints one line ` R OLD -> NEW` for a file that was moved and then added by
+`git add -N NEW`. Here it is two, ` D OLD` and ` A NEW`.
 
     M  the content changed    D  nothing is there             T  another type: a file, or a link
     A  to be added (git add -N)                               ~  as staged, with another stat (only with --updates)
 
 With --untracked there are also lines `?? PATH`, one for each file or link, as with `--untracked-files=all`. This half
-isn't the program's, which over a folder tells none: the tool lists the folder, leaves out the paths of the index and
-asks git which of the others are ignored.
+isn't the program's, which over a folder tells none: the tool lists the folder, leaves out the paths of the index (with
+core.ignoreCase also those that differ from one in the case of ASCII letters, as git does) and asks git which of the
+others are ignored.
 
 What the program doesn't see in the folder is said in notes, on standard error. --compare prints no status: it prints
 each path at which git says another second column, under settings that make it compare the same.
@@ -28,7 +31,7 @@ import subprocess
 import tempfile
 
 from profile_from_git import COMPARABLE, STATUS, profile_of
-from repository import git, quoted
+from repository import git, quoted, setting
 from shared import Refused, end, program_of, say
 
 # git's columns for the program's words, and for its conflicts.
@@ -70,11 +73,13 @@ def untracked(profile, left_out):
     path, which ends in a slash, as git has it.
     """
     entries, top = profile["index"], os.fsencode(profile["folder"])
+    fold = folding(profile["folder"])
     passed_over = {entry["path"].encode() for entry in entries} | left_out
     passed_over |= {entry["path"].encode() + b"/" for entry in entries if entry.get("mode") == "160000"}
+    passed_over = {fold(path) for path in passed_over}
     found, level = [], [b""]
     while level:
-        paths = [path for front in level for path in nodes_in(top, front) if path not in passed_over]
+        paths = [path for front in level for path in nodes_in(top, front, fold) if fold(path) not in passed_over]
         paths, level = not_ignored(profile["folder"], paths), []
         for path in paths:
             is_entered = path.endswith(b"/") and not os.path.lexists(os.path.join(top, path, b".git"))
@@ -82,16 +87,23 @@ def untracked(profile, left_out):
     return sorted(found)
 
 
-def nodes_in(top, front):
+def folding(folder):
+    """What makes paths equal that git takes as equal: with core.ignoreCase, ASCII letters in both cases."""
+    return bytes.lower if setting(folder, "core.ignoreCase", "false") else bytes
+
+
+def nodes_in(top, front, fold):
     """The paths of the directories, files and links in a directory, but for `.git`. A directory's ends in a slash."""
     try:
         nodes = list(os.scandir(os.path.join(top, front)))
     except OSError as error:
         raise Refused(f"{quoted(front)} can't be listed: {error.strerror}") from None
     for node in nodes:
-        if node.name != b".git" and node.is_dir(follow_symlinks=False):
+        if fold(node.name) == b".git":
+            continue
+        if node.is_dir(follow_symlinks=False):
             yield front + node.name + b"/"
-        elif node.name != b".git" and (node.is_symlink() or node.is_file(follow_symlinks=False)):
+        elif node.is_symlink() or node.is_file(follow_symlinks=False):
             yield front + node.name
 
 

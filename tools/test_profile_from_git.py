@@ -152,6 +152,18 @@ class Unseen(Case):
         found = self.unseen()
         self.assertEqual((found.submodules, len(found.notes())), (1, 1))
 
+    def test_repositories_in_place_of_files_are_counted(self):
+        for name in ("a", "b"):
+            self.write(name, "foo")
+        self.git("add", ".")
+        for name in ("a", "b"):
+            os.remove(self.path(name))
+        self.git("init", "-q", "a")
+        os.mkdir(self.path("b"))
+        found = self.unseen()
+        self.assertEqual(found.repositories, 1)
+        self.assertIn("a repository in place of 1 file: ", found.notes()[0])
+
     def test_what_the_program_cannot_read_is_left_out(self):
         for name in ("a", "early", "late", "file"):
             self.write(name, "foo")

@@ -18,6 +18,7 @@ from unittest import mock
 import status as tool
 from cases import PROGRAM, Case, run_tool
 from profile_from_git import COMPARABLE
+from repository import quoted
 
 # Names that sort otherwise by bytes than by components, and names that git quotes.
 NAMES = ["a", "a-", "a0", "b c", "d\te", "f\ng", 'h"i', "j\\k", "\x01l\x7f", "é", "\u2028m", "\x85n", "\U00010000"]
@@ -243,6 +244,46 @@ class Comparison(Drawn):
             self.write(name, content)
         self.assertEqual(self.assert_as_git(), [" M b"])
 
+    def test_a_moved_file_that_is_to_be_added_has_two_lines(self):
+        self.write("a", "foo")
+        self.git("add", "a")
+        self.git("commit", "-q", "-m", "all")
+        os.rename(self.path("a"), self.path("b"))
+        self.git("add", "-N", "b")
+        # By default git pairs them.
+        self.assertEqual(self.git("status", "--porcelain", "-uno"), b" R a -> b\n")
+        self.assertEqual(self.assert_as_git(), [" A b", " D a"])
+
+    def test_a_repository_in_place_of_a_file_is_a_removal(self):
+        for name in ("a", "b", "c"):
+            self.write(name, "foo")
+        self.git("add", "a", "b")
+        self.git("add", "-N", "c")
+        for name in ("a", "b", "c"):
+            os.remove(self.path(name))
+            self.git("init", "-q", name)
+        for name in ("a", "c"):
+            self.git("-C", name, "commit", "-q", "--allow-empty", "-m", "one")
+        self.assertEqual(git_lines(self), [" A c", " D b", " T a"])
+        self.assertEqual(self.said()[0], [" D a", " D b", " D c"])
+        wanted = ["program  D  git  A  c", "program  D  git  T  a"]
+        self.assertEqual(self.said("--compare"), (wanted, 1))
+
+    def test_conversions_hide_changes_and_show_others(self):
+        self.write("a", "foo\r\n")
+        self.write("b", "foo\n")
+        self.git("add", "a", "b")
+        self.git("config", "filter.f.clean", "tr f g")
+        self.write(".git/info/attributes", "a text\nb filter=f\n")
+        for name in ("a", "b"):
+            os.utime(self.path(name), (5, 5))
+        # The bytes are as staged, and git would store others.
+        self.assertEqual((self.said()[0], git_lines(self)), ([], [" M a", " M b"]))
+        self.git("add", "a", "b")
+        for name in ("a", "b"):
+            os.utime(self.path(name), (6, 6))
+        self.assertEqual((self.said()[0], git_lines(self)), ([" M a", " M b"], []))
+
     def test_nothing_of_the_repository_is_written(self):
         self.draw(7, "sha1")
         before = kept(self.top)
@@ -282,6 +323,38 @@ def kept(top):
                     content = file.read()
             found[path] = (node.st_mtime_ns, node.st_ino, content)
     return found
+
+
+class Untracked(Case):
+    """The tool's own half, which needs no program."""
+
+    def assert_as_git(self):
+        found = tool.untracked(tool.profile_of(self.top)[0], set())
+        lines = [line for line in git_lines(self, "-uall") if line.startswith("?? ")]
+        self.assertEqual(sorted(f"?? {quoted(path)}" for path in found), lines)
+        return [path.decode() for path in found]
+
+    def make_cases(self):
+        """Paths that differ from those of the index in the case of letters."""
+        for name in ("A", "b", "d/x", "é"):
+            self.write(name, "foo")
+        self.git("init", "-q", "S")
+        self.git("-C", "S", "commit", "-q", "--allow-empty", "-m", "one")
+        self.git("add", ".")
+        for old, new in (("A", "a"), ("d", "D"), ("S", "s"), ("é", "É")):
+            os.rename(self.path(old), self.path(new))
+        for name in ("B", "D/new", "D/X", "d/X", "new/.GIT/x", "iGN", "ign"):
+            self.write(name, "foo")
+        self.write(".git/info/exclude", "IGN\n")
+
+    def test_case_counts_as_git_has_it(self):
+        self.make_cases()
+        if not os.path.exists(self.path("A")):
+            self.git("config", "core.ignoreCase", "false")
+            found = self.assert_as_git()
+            self.assertIn("a", found)
+            self.git("config", "core.ignoreCase", "true")
+            self.assertEqual(self.assert_as_git(), ["D/new", "É"])
 
 
 class Faults(Case):

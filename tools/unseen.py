@@ -15,6 +15,7 @@ class Unseen:
 
     conversions: int = 0
     executable: int = 0
+    repositories: int = 0
     restored: int = 0
     submodules: int = 0
     left_out: dict = field(default_factory=dict)
@@ -24,6 +25,9 @@ class Unseen:
         lines = []
         if self.conversions:
             lines.append(f"git converts {files(self.conversions)}, as attributes or settings say, and the program none")
+        if self.repositories:
+            place = f"a repository in place of {files(self.repositories)}"
+            lines.append(f"{place}: if it has a commit, git reports another type (T), and the program a removal (D)")
         if self.executable:
             lines.append(f"executability isn't compared, and differs at {files(self.executable)}")
         if self.restored:
@@ -53,6 +57,8 @@ def unseen_of(top, timestamp, entries):
         why = unreadable(top, entry, node)
         if why:
             found.left_out[entry["path"]] = why
+        elif stat.S_ISDIR(node.st_mode):
+            found.repositories += os.path.lexists(os.path.join(top, entry["path"].encode(), b".git"))
         elif stat.S_ISREG(node.st_mode) and entry.get("mode") != "120000":
             is_executable = entry.get("mode") == "100755"
             found.executable += modes_count and bool(node.st_mode & 0o100) != is_executable
