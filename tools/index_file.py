@@ -132,7 +132,7 @@ def replace(index, content, moment, before_it):
     """
     lock = index.path + ".lock"
     # The file stays open, so that no other lock gets its inode.
-    with held_signals() as let_through, open(taken(lock), "wb") as file:
+    with held_signals() as let_through, open(create_lock(lock), "wb") as file:
         try:
             if read(index.path) != (index.content, index.written):
                 raise Refused("the index was written meanwhile")
@@ -152,8 +152,8 @@ def replace(index, content, moment, before_it):
         ignore_signals()
 
 
-def taken(lock):
-    """The descriptor of a lock that wasn't there before."""
+def create_lock(lock):
+    """Creates a lock file, and returns its descriptor. One that is there already is another process's."""
     try:
         return os.open(lock, os.O_WRONLY | os.O_CREAT | os.O_EXCL | os.O_CLOEXEC, 0o666)
     except FileExistsError:
@@ -162,7 +162,7 @@ def taken(lock):
 
 
 def is_at(path, file):
-    """Whether an open file is what is at a path."""
+    """Whether this open file is the one at a path."""
     try:
         return os.path.samestat(os.lstat(path), os.fstat(file.fileno()))
     except FileNotFoundError:

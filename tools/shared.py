@@ -97,7 +97,7 @@ def ignore_signals():
 
 @contextlib.contextmanager
 def held_signals():
-    """Holds the signals in a block. Gives what lets them through again in a block within it."""
+    """Holds the signals in a block. Its value is a function for a block within, in which they come through again."""
     before = signal.pthread_sigmask(signal.SIG_BLOCK, ())
 
     @contextlib.contextmanager
