@@ -6,6 +6,8 @@ They run where STATUS_PROGRAM names the built program.
 
 import json
 import os
+import socket
+import stat
 import subprocess
 import tempfile
 import unittest
@@ -90,20 +92,96 @@ class Refreshed(unittest.TestCase):
             self.assertEqual(self.refresh(), (1, lines, said))
             self.assertEqual((self.content(self.out), self.left()), ("old", ["out.json", "profile.json"]))
 
+    def assert_unwritten(self, out, why=""):
+        """The status is printed, and the line says that OUT can't be written, and why. No file is left or gone."""
+        before = self.left()
+        self.assertEqual(self.refresh(out=out), (1, '0 modified -c- "a"\n', f"cannot write {out}{why}\n"))
+        self.assertEqual(self.left(), before)
+
     def test_a_file_that_cannot_be_written_is_named(self):
         self.write(MODIFIED)
-        os.mkdir(self.out)
-        for out in (self.out, os.path.join(self.room, "gone", "out.json"), os.path.join(self.file, "out.json")):
-            self.assertEqual(self.refresh(out=out), (1, '0 modified -c- "a"\n', f"cannot write {out}\n"))
-            self.assertEqual(self.left(), ["out.json", "profile.json"])
+        self.assert_unwritten(os.path.join(self.room, "gone", "out.json"))
+        self.assert_unwritten(os.path.join(self.file, "out.json"))
+
+    def test_what_is_no_regular_file_is_refused(self):
+        self.write(MODIFIED)
+        name = os.path.join(self.room, "node")
+        os.mkdir(name)
+        self.assert_unwritten(name, ": not a regular file")
+        os.rmdir(name)
+        os.mkfifo(name)
+        self.assert_unwritten(name, ": not a regular file")
+        self.assertTrue(stat.S_ISFIFO(os.lstat(name).st_mode))
+        os.remove(name)
+        with socket.socket(socket.AF_UNIX) as bound:
+            bound.bind(name)
+            self.assert_unwritten(name, ": not a regular file")
+            self.assertTrue(stat.S_ISSOCK(os.lstat(name).st_mode))
+
+    def test_a_link_to_what_is_no_regular_file_is_refused(self):
+        self.write(MODIFIED)
+        os.mkdir(os.path.join(self.room, "folder"))
+        outer, inner = os.openpty()
+        # The output of the program is a pipe here. No folder of devices takes another file.
+        for target in ("folder", os.ttyname(inner), "/dev/stdout", "/proc/self/fd/1"):
+            os.symlink(target, self.out)
+            self.assert_unwritten(self.out, ": not a regular file")
+            self.assertEqual(os.readlink(self.out), target)
+            os.remove(self.out)
+        os.close(outer)
+        os.close(inner)
+
+    def test_a_link_is_followed(self):
+        self.write(MODIFIED)
+        os.mkdir(os.path.join(self.room, "folder"))
+        real = os.path.join(self.room, "folder", "real.json")
+        with open(real, "w", encoding="utf-8") as file:
+            file.write("old")
+        os.symlink("folder/real.json", os.path.join(self.room, "middle"))
+        os.symlink("middle", self.out)
+        self.assertEqual(self.refresh()[0], 0)
+        self.assertEqual(json.loads(self.content(real))["timestamp"], [10, 0])
+        self.assertEqual((os.readlink(self.out), os.path.islink(real)), ("middle", False))
+        self.assertEqual(os.listdir(os.path.dirname(real)), ["real.json"])
+        # The lock is beside the file, as git's is.
+        lock = os.path.realpath(real) + ".lock"
+        with open(lock, "w", encoding="utf-8") as file:
+            file.write("another's")
+        self.assert_unwritten(self.out, f": {lock} exists; remove it if no other run is writing")
+        self.assertEqual(self.content(lock), "another's")
+
+    def test_a_link_that_leads_nowhere_is_refused(self):
+        self.write(MODIFIED)
+        os.symlink("gone", self.out)
+        self.assert_unwritten(self.out, ": a symbolic link that leads nowhere")
+        os.remove(self.out)
+        os.symlink("out.json", self.out)
+        self.assert_unwritten(self.out)
+
+    def test_permissions_are_kept(self):
+        self.write(MODIFIED)
+        before = os.umask(0o027)
+        self.addCleanup(os.umask, before)
+        self.assertEqual(self.refresh()[0], 0)
+        self.assertEqual(self.mode(), 0o640)
+        for mode in (0o600, 0o444, 0o666, 0o755):
+            os.chmod(self.out, mode)
+            self.assertEqual(self.refresh()[0], 0)
+            self.assertEqual(self.mode(), mode)
+        # Bits beside those of reading, writing and running are lost, as where a file is written anew.
+        os.chmod(self.out, 0o4755)
+        self.assertEqual((self.refresh()[0], self.mode()), (0, 0o755))
+
+    def mode(self):
+        return stat.S_IMODE(os.stat(self.out).st_mode)
 
     def test_a_lock_of_another_is_respected(self):
         self.write(MODIFIED)
-        before = self.content(self.file)
-        with open(self.file + ".lock", "w", encoding="utf-8") as file:
+        before, lock = self.content(self.file), self.file + ".lock"
+        with open(lock, "w", encoding="utf-8") as file:
             file.write("another's")
-        self.assertEqual(self.refresh(out=self.file)[::2], (1, f"cannot write {self.file}\n"))
-        self.assertEqual((self.content(self.file), self.content(self.file + ".lock")), (before, "another's"))
+        self.assert_unwritten(self.file, f": {lock} exists; remove it if no other run is writing")
+        self.assertEqual((self.content(self.file), self.content(lock)), (before, "another's"))
 
     def test_other_arguments_are_answered_with_the_usage(self):
         self.write(MODIFIED)

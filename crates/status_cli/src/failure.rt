@@ -43,6 +43,15 @@ pub enum Failure {
     Output,
     /// The file of a refreshed profile can't be written.
     Unwritable,
+    /// The file of a refreshed profile can't be written, since its lock file is there.
+    Locked {
+        /// The path of the lock file.
+        lock: String,
+    },
+    /// What is at the path of a refreshed profile is no regular file.
+    NotRegular,
+    /// What is at the path of a refreshed profile is a symbolic link that leads nowhere.
+    DanglingLink,
     /// Memory ran out.
     Memory,
 }
@@ -53,6 +62,14 @@ impl Failure {
         match error.kind() {
             io::ErrorKind::OutOfMemory => Failure::Memory,
             _ => Failure::Unreadable,
+        }
+    }
+
+    /// Returns the failure to write the file of a refreshed profile.
+    pub fn of_writing(error: io::Error) -> Failure {
+        match error.kind() {
+            io::ErrorKind::OutOfMemory => Failure::Memory,
+            _ => Failure::Unwritable,
         }
     }
 
@@ -110,6 +127,17 @@ impl Failure {
             }
             Failure::Output => Ok(()),
             Failure::Unwritable => writeln!(faults, "cannot write {name}"),
+            Failure::Locked { lock } => writeln!(
+                faults,
+                "cannot write {name}: {lock} exists; remove it if no other run is writing"
+            ),
+            Failure::NotRegular => writeln!(faults, "cannot write {name}: not a regular file"),
+            Failure::DanglingLink => {
+                writeln!(
+                    faults,
+                    "cannot write {name}: a symbolic link that leads nowhere"
+                )
+            }
             Failure::Memory => writeln!(faults, "out of memory"),
         }
     }

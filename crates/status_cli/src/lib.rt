@@ -1,7 +1,8 @@
 //! The program's commands `status`, `replay` and `refresh`, over any reader and writers.
 //!
 //! Read `status`, `replay` and `refresh` first, a command each. Then `lines`, the text of each line, `output`, which
-//! writes it, and `failure`, why a command fails and the line that says so. `input` reads the file of a profile.
+//! writes it, and `failure`, why a command fails and the line that says so. `input` reads the file of a profile, and
+//! `whole` writes the file of a refreshed one.
 #![tactic(auto)]
 
 mod failure;
@@ -11,8 +12,10 @@ mod output;
 mod refresh;
 mod replay;
 mod status;
+mod whole;
 
 pub use failure::Failure;
 pub use refresh::run_refresh;
 pub use replay::run_replay;
 pub use status::run_status;
+pub use whole::write_whole;

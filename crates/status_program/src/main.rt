@@ -1,10 +1,7 @@
 //! The program: its arguments, the files that it reads and writes, and how it is called.
 #![tactic(auto)]
 
-mod whole;
-
-use crate::whole::write_whole;
-use status_cli::{Failure, run_refresh, run_replay, run_status};
+use status_cli::{Failure, run_refresh, run_replay, run_status, write_whole};
 use std::convert::AsStr;
 use std::io::BufWriter;
 use std::process::ExitCode;
