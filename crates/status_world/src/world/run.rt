@@ -103,18 +103,19 @@ fn owned_records(
     Ok(owned)
 }
 
+/// A record with a path of its own.
 fn owned_record(
     alloc: Global,
-    record: Record<'_, Option<ObjectId>, ()>,
+    reported: Record<'_, Option<ObjectId>, ()>,
 ) -> Result<ReportRecord, AllocError>
-    ensures { IfOk result (λ owned. reported_value owned ≡ record_value record.entry) }
+    ensures { IfOk result (λ owned. reported_value owned ≡ record_value reported.entry) }
 {
     let Record {
         entry_index,
         relative_path,
         status,
         ..
-    } = record;
+    } = reported;
     Ok(ReportRecord {
         entry_index,
         path: BString::from_slice(alloc, relative_path.as_bytes())?,
