@@ -1,5 +1,5 @@
 -- What of a walk was kept.
-use Rattle.std.specs.Prelude.{◌≡◌, Bool, IsTrue, List, false, [], map, Result, Ok, Err}
+use Rattle.std.specs.Prelude.{◌≡◌, Bool, List, false, [], map, IfSome, Result, Ok, Err}
 use Rattle.status_walk.specs.declared.walk.Outcome.{Outcome}
 use Rattle.status_walk.specs.declared.walk.WalkError.{WalkError}
 use Rattle.status_walk.specs.WalkedNodes.{Walked}
@@ -21,4 +21,4 @@ IsBeside m interruptible (Err e) = IsWalkFault m.fault e
 
 -- the same where what there is to walk is modelled
 abbrev pub IsBesideOf : Walking → Bool → Result Beside WalkError → Type 0
-IsBesideOf w interruptible result = IsTrue w.modelled → IsBeside w.meaning interruptible result
+IsBesideOf w interruptible result = IfSome w (λ m. IsBeside m interruptible result)

@@ -1,5 +1,5 @@
 -- The two halves of a status: what the index's entries give, and what the walk found beside them.
-use Rattle.std.specs.Prelude.{◌≡◌, ℕ, Bool, true, false, IsTrue, List, [], map, Option, Some, None, Result, Ok, Err}
+use Rattle.std.specs.Prelude.{◌≡◌, ℕ, Bool, List, [], map, Option, Some, None, IfSome, Result, Ok, Err}
 use Rattle.status_index.specs.declared.state.State.{State}
 use Rattle.status_call.specs.Query.{Query}
 use Rattle.status_call.specs.RecorderVisits.{visits_of}
@@ -17,7 +17,7 @@ use Rattle.status_joined.specs.Walkings.{Walking}
 
 -- what the walk kept, and how it ended: nothing, where there is none
 abbrev pub IsWalkedHalf : Bool → Option Walking → List Walked → Option Outcome → Type 0
-IsWalkedHalf interruptible (Some w) kept (Some o) = IsTrue w.modelled → IsKeptOf w.meaning interruptible kept o
+IsWalkedHalf interruptible (Some w) kept (Some o) = IfSome w (λ m. IsKeptOf m interruptible kept o)
 IsWalkedHalf interruptible None kept None = kept ≡ []
 IsWalkedHalf interruptible (Some w) kept None = ⊥
 IsWalkedHalf interruptible None kept (Some o) = ⊥
@@ -29,7 +29,7 @@ HasWalked interruptible w = (kept : List Walked) × ((o : Option Outcome) × IsW
 -- the walk failed: it is meant to, or memory ran out
 abbrev pub IsWalkFailure : Option Walking → WalkError → Type 0
 IsWalkFailure None e = ⊥
-IsWalkFailure (Some w) e = IsTrue w.modelled → IsWalkFault w.meaning.fault e
+IsWalkFailure (Some w) e = IfSome w (λ m. IsWalkFault m.fault e)
 
 module _ {T U : Type 0} (query : Query T U) (limit : Option ℕ) (index : State) (interruptible : Bool) (w : Option Walking) where
   -- both halves; or the walk's failure; or, where the walk came through, the status's

@@ -1,10 +1,10 @@
 -- What of a walk is kept.
-use Rattle.std.specs.Prelude.{Bool, true, false, not, ◌&&◌, Option, Some}
+use Rattle.std.specs.Prelude.{Bool, true, false, not, ◌&&◌, List, map, Option, Some}
 use Rattle.status_walk.specs.declared.entry.Kind.{Kind}
 use Rattle.status_walk.specs.declared.entry.Kind.TheVariants.{Untrackable}
 use Rattle.status_walk.specs.declared.entry.Status.{Status}
 use Rattle.status_walk.specs.declared.entry.Status.TheVariants.{Tracked}
-use Rattle.status_walk.specs.WalkedNodes.{Walked, walked_of}
+use Rattle.status_walk.specs.WalkedNodes.{DelegateState, Walked, walked_of}
 use Rattle.status_joined.specs.declared.kept.Kept.{Kept}
 
 abbrev pub is_untrackable : Option Kind → Bool
@@ -22,3 +22,7 @@ is_kept w = not (is_untrackable w.disk_kind) && not (is_tracked w.status)
 -- the node that was kept
 abbrev pub kept_walked : Kept → Walked
 kept_walked k = walked_of k.entry k.collapsed_directory_status
+
+-- who keeps what can be tracked and isn't
+abbrev pub keeper_state : List Kept → Bool → DelegateState
+keeper_state kept cancelled = record { keeps = is_kept; kept = map kept_walked kept; cancelled = cancelled }

@@ -5,18 +5,9 @@ use Rattle.status_index.specs.Entries.{IndexEntry}
 use Rattle.status_walk.specs.Walks.{WalkMeaning}
 use Rattle.status_joined.specs.declared.walker.Walker.{Walker}
 
--- whether the walk and the worktree are modelled, and what there is to find
-pub record Walking : Type 0 where
-  pub modelled : Bool
-  pub meaning : WalkMeaning
-
--- whether both are modelled
-abbrev pub are_both : Bool → Bool → Bool
-are_both true worktree = worktree
-are_both false worktree = false
-
-abbrev pub walking : Bool → Bool → WalkMeaning → Walking
-walking walk worktree meaning = record { modelled = are_both walk worktree; meaning = meaning }
+-- what there is to find, where the walk is modelled
+abbrev pub Walking : Type 0
+Walking = Option WalkMeaning
 
 abbrev pub walker_of : {W K P : Type 0} → Bor W → K → P → Walker W K P
 walker_of worktree walk pathspec = record { worktree = worktree; walk = walk; pathspec = pathspec }

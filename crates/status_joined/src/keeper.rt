@@ -1,8 +1,8 @@
 //! Who keeps what a walk finds.
 
-ghost use Rattle.std.specs.Prelude.{◌≡◌, ◌++◌, ◌∷◌, [], OnOk, filter, map};
+ghost use Rattle.std.specs.Prelude.{◌≡◌, ◌++◌, ◌∷◌, [], OnOk, false, filter, map};
 ghost use Rattle.status_walk.specs.WalkedNodes.{walked_of};
-ghost use Rattle.status_joined.specs.Keeping.{is_kept, kept_walked};
+ghost use Rattle.status_joined.specs.Keeping.{is_kept, kept_walked, keeper_state};
 
 use crate::kept::Kept;
 use status_walk::{Action, Delegate, DirEntry, Kind, Status};
@@ -41,14 +41,7 @@ pub(crate) struct Keeper {
 }
 
 impl Delegate for Keeper {
-    ghost use Rattle.std.specs.Prelude.{false, map};
-    ghost use Rattle.status_joined.specs.Keeping.{is_kept, kept_walked};
-
-    ghost keeps = { λ _. is_kept };
-
-    ghost kept = { λ k. map kept_walked k.kept.items };
-
-    ghost cancelled = { λ _. false };
+    ghost state = { λ k. keeper_state k.kept.items false };
 
     fn emit(&mut self, entry: DirEntry, collapsed: Option<Status>) -> Result<Action, AllocError> {
         keep(&mut self.kept, entry, collapsed)?;
@@ -65,14 +58,7 @@ pub(crate) struct FlaggedKeeper<'a> {
 }
 
 impl<'a> Delegate for FlaggedKeeper<'a> {
-    ghost use Rattle.std.specs.Prelude.{false, map};
-    ghost use Rattle.status_joined.specs.Keeping.{is_kept, kept_walked};
-
-    ghost keeps = { λ _. is_kept };
-
-    ghost kept = { λ k. map kept_walked k.kept.items };
-
-    ghost cancelled = { λ k. k.cancelled };
+    ghost state = { λ k. keeper_state k.kept.items k.cancelled };
 
     fn emit(&mut self, entry: DirEntry, collapsed: Option<Status>) -> Result<Action, AllocError> {
         keep(&mut self.kept, entry, collapsed)?;

@@ -1,6 +1,6 @@
 //! Who finds what lies in a worktree beside an index.
 
-ghost use Rattle.std.specs.Prelude.{◌≡◌, List, IfOk, IsTrue, false};
+ghost use Rattle.std.specs.Prelude.{◌≡◌, List, IfOk, IfSome, false};
 ghost use Rattle.status_index.specs.Entries.{IndexEntry};
 ghost use Rattle.status_index.specs.States.{index_of};
 ghost use Rattle.status_walk.specs.Walks.{IsWalk};
@@ -13,7 +13,7 @@ use std::alloc::AllocError;
 
 /// Who finds what lies in a worktree beside an index.
 pub trait FindBeside {
-    /// What there is to find beside these entries.
+    /// What there is to find beside these entries. None where it isn't modelled.
     ghost walking: { Self → List IndexEntry → Walking };
 
     /// Hands what it finds to a delegate. Where that says so it ends, and hands out nothing more.
@@ -21,9 +21,9 @@ pub trait FindBeside {
     /// # Errors
     /// Those of a walk.
     fn find<D: Delegate>(&mut self, index: &State, delegate: &mut D) -> Result<Outcome, WalkError>
-        requires { D.cancelled delegate.old ≡ false }
-        ensures { let w = walking self.old (index_of index.now) in IsTrue w.modelled
-            → IsWalk w.meaning (D.keeps delegate.old) (D.kept delegate.old) (D.cancelled delegate.new) result (D.kept delegate.new) };
+        requires { (D.state delegate.old).cancelled ≡ false }
+        ensures { IfSome (walking self.old (index_of index.now))
+            (λ m. IsWalk m (D.state delegate.old) result (D.state delegate.new)) };
 }
 
 /// A walk over a worktree, of the paths that a pathspec includes.
@@ -38,10 +38,7 @@ pub struct Walker<'w, W, K, P> {
 }
 
 impl<'w, W: Worktree, K: Walk<W>, P: Pathspec> FindBeside for Walker<'w, W, K, P> {
-    ghost use Rattle.status_joined.specs.Walkings.{walking};
-
-    ghost walking = { λ w entries. walking (K.modelled w.walk) (W.modelled w.worktree.now)
-        (K.meaning w.walk w.worktree.now entries (P.prefix w.pathspec) (P.included w.pathspec)) };
+    ghost walking = { λ w entries. K.meaning w.walk w.worktree.now entries (P.prefix w.pathspec) (P.included w.pathspec) };
 
     fn find<D: Delegate>(&mut self, index: &State, delegate: &mut D) -> Result<Outcome, WalkError> {
         self.walk

@@ -1,7 +1,7 @@
 //! Trackers, and what they answer.
 
-ghost use Rattle.status_rewrites.specs.declared.tracker.TrackerError.TheVariants.{Memory};
 ghost use Rattle.std.specs.Prelude.{◌≡◌, Bool, List, Result, map};
+ghost use Rattle.status_rewrites.specs.declared.tracker.TrackerError.TheVariants.{Memory};
 ghost use Rattle.status_rewrites.specs.TrackedChanges.{Changed};
 ghost use Rattle.status_rewrites.specs.Trackers.{TrackerFault, IsMeantAnswer};
 ghost use Rattle.status_rewrites.specs.declared.tracker.Pair.{Pair as PairValue};

@@ -1,9 +1,9 @@
 //! Why an index isn't stored, or isn't read.
 
 ghost use Rattle.std.specs.Prelude.{◌≡◌};
+ghost use Rattle.status_stored.specs.declared.error.FieldError.TheVariants as field_errors;
 ghost use Rattle.status_stored.specs.declared.error.StoreError.TheVariants as store_errors;
 ghost use Rattle.status_stored.specs.Loading.{error_of_index, error_of_field};
-ghost use Rattle.status_stored.specs.declared.error.FieldError.TheVariants as field_errors;
 
 use status_index::IndexError;
 use std::alloc::{AllocError, AllocFailed};

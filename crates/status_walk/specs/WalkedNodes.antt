@@ -18,9 +18,15 @@ pub record Walked : Type 0 where
 abbrev pub walked_of : DirEntry → Option Status → Walked
 walked_of e collapsed = record { path = bstring_bytes e.rela_path; status = e.status; disk_kind = e.disk_kind; collapsed = collapsed }
 
+-- what a delegate wants to keep, what it has kept, in order, and whether it has ended the walk
+pub record DelegateState : Type 0 where
+  pub keeps : Walked → Bool
+  pub kept : List Walked
+  pub cancelled : Bool
+
 -- what a delegate has kept, once at most one more node is handed to it
-abbrev pub kept_more : (Walked → Bool) → List Walked → Option Walked → List Walked
-kept_more keeps kept handed = kept ++ filter keeps (option_to_list handed)
+abbrev pub kept_more : DelegateState → Option Walked → List Walked
+kept_more d handed = d.kept ++ filter d.keeps (option_to_list handed)
 
 abbrev pub is_cancel : Action → Bool
 is_cancel Continue = false

@@ -5,7 +5,7 @@ use Rattle.status_index.specs.declared.fault.Fault.{Fault as WorktreeFault}
 use Rattle.status_walk.specs.declared.walk.Outcome.{Outcome}
 use Rattle.status_walk.specs.declared.walk.WalkError.{WalkError}
 use Rattle.status_walk.specs.declared.walk.WalkError.TheVariants.{Fault, Memory}
-use Rattle.status_walk.specs.WalkedNodes.{Walked}
+use Rattle.status_walk.specs.WalkedNodes.{DelegateState, Walked}
 
 -- a fault, and where it is met
 pub record WalkFault : Type 0 where
@@ -31,7 +31,7 @@ abbrev pub IsWalkFault : Option WalkFault → WalkError → Type 0
 IsWalkFault meant (Fault path fault) = meant ≡ Some (record { path = bstring_bytes path; fault = fault })
 IsWalkFault meant Memory = ⊤
 
--- what a walk answers by its meaning: so it ended, or so it failed
-abbrev pub IsWalk : WalkMeaning → (Walked → Bool) → List Walked → Bool → Result Outcome WalkError → List Walked → Type 0
-IsWalk m keeps old cancelled (Ok o) new = IsWalked m keeps old new cancelled o
-IsWalk m keeps old cancelled (Err e) new = IsWalkFault m.fault e
+-- what a walk answers by its meaning and by its delegate: so it ended, or so it failed
+abbrev pub IsWalk : WalkMeaning → DelegateState → Result Outcome WalkError → DelegateState → Type 0
+IsWalk m old (Ok o) new = IsWalked m old.keeps old.kept new.kept new.cancelled o
+IsWalk m old (Err e) new = IsWalkFault m.fault e

@@ -1,7 +1,7 @@
 //! To whom a walk hands what it finds.
 
-ghost use Rattle.std.specs.Prelude.{◌≡◌, ◌∷◌, [], ◌++◌, filter, Bool, List, false, IfOk, OnOk};
-ghost use Rattle.status_walk.specs.WalkedNodes.{Walked, walked_of, is_cancel};
+ghost use Rattle.std.specs.Prelude.{◌≡◌, ◌∷◌, [], ◌++◌, filter, false, IfOk, OnOk};
+ghost use Rattle.status_walk.specs.WalkedNodes.{DelegateState, walked_of, is_cancel};
 
 use crate::entry::{DirEntry, Status};
 use std::alloc::AllocError;
@@ -17,14 +17,8 @@ pub enum Action {
 
 /// Gets what a walk finds, and keeps what it wants of it.
 pub trait Delegate {
-    /// What it wants to keep.
-    ghost keeps: { Self → Walked → Bool };
-
-    /// What it kept, in order.
-    ghost kept: { Self → List Walked };
-
-    /// Whether it has ended the walk.
-    ghost cancelled: { Self → Bool };
+    /// What it wants to keep, what it has kept, and whether it has ended the walk.
+    ghost state: { Self → DelegateState };
 
     /// Takes a node that was found. `collapsed` is the status of the directory that stands for the nodes in it, where one
     /// does.
@@ -32,8 +26,9 @@ pub trait Delegate {
     /// # Errors
     /// Want of memory.
     fn emit(&mut self, entry: DirEntry, collapsed: Option<Status>) -> Result<Action, AllocError>
-        requires { cancelled self.old ≡ false }
-        ensures keeps { keeps self.new ≡ keeps self.old }
-        ensures kept { OnOk result (kept self.new ≡ kept self.old ++ filter (keeps self.old) (walked_of entry collapsed ∷ [])) }
-        ensures cancelled { IfOk result (λ action. cancelled self.new ≡ is_cancel action) };
+        requires { (state self.old).cancelled ≡ false }
+        ensures keeps { (state self.new).keeps ≡ (state self.old).keeps }
+        ensures kept { OnOk result ((state self.new).kept
+            ≡ (state self.old).kept ++ filter (state self.old).keeps (walked_of entry collapsed ∷ [])) }
+        ensures cancelled { IfOk result (λ action. (state self.new).cancelled ≡ is_cancel action) };
 }

@@ -1,6 +1,6 @@
 //! The walk over a folder of the disk.
 
-ghost use Rattle.std.specs.Prelude.{[], None, false};
+ghost use Rattle.std.specs.Prelude.{None};
 
 mod entries;
 mod folder;
@@ -76,9 +76,7 @@ impl<R: Files + AllocGlobal + Clone + Drop> DiskWalk<R> {
 }
 
 impl<W: Worktree, R: Files + AllocGlobal + Clone + Drop> Walk<W> for DiskWalk<R> {
-    ghost modelled = { λ _. false };
-
-    ghost meaning = { λ _ _ _ _ _. record { entries = []; fault = None } };
+    ghost meaning = { λ _ _ _ _ _. None };
 
     fn walk<P: Pathspec, D: Delegate>(
         &mut self,

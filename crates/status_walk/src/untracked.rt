@@ -1,6 +1,6 @@
 //! The walk that finds what isn't tracked.
 
-ghost use Rattle.std.specs.Prelude.{◌≡◌, is_some, None, IfOk, OnOk, IsTrue, true, false};
+ghost use Rattle.std.specs.Prelude.{◌≡◌, is_some, None, Some, IfOk, OnOk, false};
 ghost use Rattle.std.specs.List.{list_any};
 ghost use Rattle.std.specs.Option.{option_map};
 ghost use Rattle.bstr.specs.BStr.{bstr_bytes};
@@ -33,9 +33,7 @@ impl UntrackedWalk {
 }
 
 impl Walk<MemoryWorktree> for UntrackedWalk {
-    ghost modelled = { λ _. true };
-
-    ghost meaning = { λ _ tree es _ included. untracked_walk tree es included };
+    ghost meaning = { λ _ tree es _ included. Some (untracked_walk tree es included) };
 
     fn walk<P: Pathspec, D: Delegate>(
         &mut self,
@@ -44,9 +42,9 @@ impl Walk<MemoryWorktree> for UntrackedWalk {
         pathspec: &P,
         delegate: &mut D,
     ) -> Result<Outcome, WalkError>
-        requires { D.cancelled delegate.old ≡ false }
+        requires { (D.state delegate.old).cancelled ≡ false }
         ensures { IsWalk (untracked_walk worktree.now (index_of index.now) (P.included pathspec.now))
-            (D.keeps delegate.old) (D.kept delegate.old) (D.cancelled delegate.new) result (D.kept delegate.new) }
+            (D.state delegate.old) result (D.state delegate.new) }
     {
         let mut emitted = 0;
         for (path, node) in worktree.nodes() {
@@ -78,13 +76,13 @@ fn hand_out<P: Pathspec, D: Delegate>(
     kind: NodeKind,
     delegate: &mut D,
 ) -> Result<Option<Action>, AllocError>
-    requires { D.cancelled delegate.old ≡ false }
-    ensures keeps { D.keeps delegate.new ≡ D.keeps delegate.old }
+    requires { (D.state delegate.old).cancelled ≡ false }
+    ensures keeps { (D.state delegate.new).keeps ≡ (D.state delegate.old).keeps }
     ensures handed { IfOk result (λ action. is_some action
         ≡ is_some (untracked_at (index_of index.now) (P.included pathspec.now) (bstr_bytes path.entry) kind)) }
-    ensures kept { OnOk result (D.kept delegate.new ≡ kept_more (D.keeps delegate.old) (D.kept delegate.old)
+    ensures kept { OnOk result ((D.state delegate.new).kept ≡ kept_more (D.state delegate.old)
         (untracked_at (index_of index.now) (P.included pathspec.now) (bstr_bytes path.entry) kind)) }
-    ensures cancelled { IfOk result (λ action. D.cancelled delegate.new ≡ is_cancelling action) }
+    ensures cancelled { IfOk result (λ action. (D.state delegate.new).cancelled ≡ is_cancelling action) }
 {
     match untracked_at(alloc, index, pathspec, path, kind)? {
         Some(entry) => Ok(Some(delegate.emit(entry, None)?)),

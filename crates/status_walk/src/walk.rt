@@ -1,10 +1,10 @@
 //! Walks, and what they answer.
 
-ghost use Rattle.status_walk.specs.declared.walk.WalkError.TheVariants.{Memory};
-ghost use Rattle.std.specs.Prelude.{◌≡◌, IsTrue, Bool, List, ℕ, false};
+ghost use Rattle.std.specs.Prelude.{◌≡◌, Bool, List, ℕ, Option, IfSome, false};
 ghost use Rattle.status_index.specs.Entries.{IndexEntry};
 ghost use Rattle.status_index.specs.States.{index_of};
 ghost use Rattle.status_walk.specs.Walks.{WalkMeaning, IsWalk};
+ghost use Rattle.status_walk.specs.declared.walk.WalkError.TheVariants.{Memory};
 
 use crate::delegate::Delegate;
 use bstr::BString;
@@ -49,11 +49,9 @@ impl From<AllocError> for WalkError {
 /// Goes through a worktree, and hands what it finds to a delegate. It is either modelled, and then a function of the
 /// worktree, of what the index says and of the pathspec tells what it finds; or not, as one over a real folder.
 pub trait Walk<W: Worktree> {
-    /// Whether it is modelled.
-    ghost modelled: { Self → Bool };
-
-    /// What it finds, by the worktree, the index, the pathspec's prefix and what that includes.
-    ghost meaning: { Self → W → List IndexEntry → List ℕ → (List ℕ → Bool → Bool) → WalkMeaning };
+    /// What it finds, by the worktree, the index, the pathspec's prefix and what that includes. None where it isn't
+    /// modelled.
+    ghost meaning: { Self → W → List IndexEntry → List ℕ → (List ℕ → Bool → Bool) → Option WalkMeaning };
 
     /// Goes through the worktree. Where the delegate says so it ends, and hands out nothing more.
     ///
@@ -66,8 +64,7 @@ pub trait Walk<W: Worktree> {
         pathspec: &P,
         delegate: &mut D,
     ) -> Result<Outcome, WalkError>
-        requires { D.cancelled delegate.old ≡ false }
-        ensures { IsTrue (modelled self.old) → IsTrue (W.modelled worktree.now)
-            → IsWalk (meaning self.old worktree.now (index_of index.now) (P.prefix pathspec.now) (P.included pathspec.now))
-            (D.keeps delegate.old) (D.kept delegate.old) (D.cancelled delegate.new) result (D.kept delegate.new) };
+        requires { (D.state delegate.old).cancelled ≡ false }
+        ensures { IfSome (meaning self.old worktree.now (index_of index.now) (P.prefix pathspec.now) (P.included pathspec.now))
+            (λ m. IsWalk m (D.state delegate.old) result (D.state delegate.new)) };
 }

@@ -14,6 +14,9 @@ use std::alloc::Global;
 use std::sync::Wait;
 use std::thread::Threads;
 
+/// A worktree, a comparer and a pathspec beside the usual interfaces.
+type Usual<'w, W, C, P> = Inputs<'w, W, C, NoSubmodules, MemoryObjects, P, NoFilter, NoLister>;
+
 /// Reports what `index_as_worktree` does where files are stored as they are, no submodule is checked out, no blob is at
 /// hand, no directory is listed, and nothing interrupts it.
 ///
@@ -40,10 +43,10 @@ pub fn index_as_worktree_with_defaults<
 where
     W::File: Send,
     C::Output: Send,
-    ensures all { IsStatus ⟦<Inputs<'w, W, C, NoSubmodules, MemoryObjects, P, NoFilter, NoLister> as Ask>⟧.query
+    ensures all { IsStatus ⟦<Usual<'w, W, C, P> as Ask>⟧.query
         (usual worktree.entry compare pathspec) options index.now V.visits collector.old result collector.new }
     ensures uninterrupted { IfOk result (λ o. o.interrupted ≡ false) }
-    ensures alone { IsAlone ⟦<Inputs<'w, W, C, NoSubmodules, MemoryObjects, P, NoFilter, NoLister> as Ask>⟧.query
+    ensures alone { IsAlone ⟦<Usual<'w, W, C, P> as Ask>⟧.query
         (usual worktree.entry compare pathspec) options index.now result }
 {
     let context = Context {

@@ -1,8 +1,8 @@
 //! What a status takes, and what it answers.
 
+ghost use Rattle.std.specs.Prelude.{◌≡◌, ◌+◌, ◌<◌, ◌^◌, []};
 ghost use Rattle.status_index.specs.Entries.{entry_at};
 ghost use Rattle.status_call.specs.Conflicts.{kept_of};
-ghost use Rattle.std.specs.Prelude.{◌≡◌, ◌+◌, ◌<◌, ◌^◌, []};
 
 use crate::index_as_worktree::counts::{Progress, Totals};
 pub use crate::index_as_worktree::recorder::VisitEntry;

@@ -9,12 +9,10 @@ use gix_status::worktree::{Pathspec, Worktree};
 pub struct NoWalk;
 
 impl<W: Worktree> Walk<W> for NoWalk {
-    ghost use Rattle.std.specs.Prelude.{◌≡◌, [], None, true, false};
+    ghost use Rattle.std.specs.Prelude.{◌≡◌, [], None, Some, false};
     ghost use Rattle.status_walk.specs.Walks.{IsWalk};
 
-    ghost modelled = { λ _. true };
-
-    ghost meaning = { λ _ _ _ _ _. record { entries = []; fault = None } };
+    ghost meaning = { λ _ _ _ _ _. Some (record { entries = []; fault = None }) };
 
     fn walk<P: Pathspec, D: Delegate>(
         &mut self,
@@ -23,9 +21,8 @@ impl<W: Worktree> Walk<W> for NoWalk {
         _pathspec: &P,
         delegate: &mut D,
     ) -> Result<Outcome, WalkError>
-        requires { D.cancelled delegate.old ≡ false }
-        ensures { IsWalk (record { entries = []; fault = None }) (D.keeps delegate.old) (D.kept delegate.old)
-            (D.cancelled delegate.new) result (D.kept delegate.new) }
+        requires { (D.state delegate.old).cancelled ≡ false }
+        ensures { IsWalk (record { entries = []; fault = None }) (D.state delegate.old) result (D.state delegate.new) }
     {
         Ok(Outcome {
             emitted: 0,

@@ -1,7 +1,7 @@
 //! Why a status with untracked files, renames and copies failed.
 
-ghost use Rattle.status_joined.specs.declared.index_as_worktree_with_renames.error.Error.TheVariants.{Memory};
 ghost use Rattle.std.specs.Prelude.{◌≡◌};
+ghost use Rattle.status_joined.specs.declared.index_as_worktree_with_renames.error.Error.TheVariants.{Memory};
 ghost use Rattle.status_joined.specs.Errors.{error_of_walk, error_of_id, error_of_refused, error_of_status, error_of_tracker};
 
 use status_base::worktree::{Fault, FindError};

@@ -1,6 +1,6 @@
 //! Walks of a test's own. None is modelled.
 
-ghost use Rattle.std.specs.Prelude.{◌≡◌, false, [], None, IfOk};
+ghost use Rattle.std.specs.Prelude.{◌≡◌, false, None, IfOk};
 
 use bstr::{BStr, BString};
 use status_base::index::State;
@@ -51,8 +51,8 @@ pub fn hand_out<D: Delegate>(
     nodes: &[Found<'_>],
     delegate: &mut D,
 ) -> Result<Outcome, WalkError>
-    requires { D.cancelled delegate.old ≡ false }
-    ensures { IfOk result (λ outcome. D.cancelled delegate.new ≡ outcome.cancelled) }
+    requires { (D.state delegate.old).cancelled ≡ false }
+    ensures { IfOk result (λ outcome. (D.state delegate.new).cancelled ≡ outcome.cancelled) }
 {
     for (before, node) in nodes.iter().enumerate() {
         match delegate.emit(entry(alloc, node)?, node.collapsed)? {
@@ -79,9 +79,7 @@ pub struct HandsOut<'a> {
 }
 
 impl<'a, W: Worktree> Walk<W> for HandsOut<'a> {
-    ghost modelled = { λ _. false };
-
-    ghost meaning = { λ _ _ _ _ _. record { entries = []; fault = None } };
+    ghost meaning = { λ _ _ _ _ _. None };
 
     fn walk<P: Pathspec, D: Delegate>(
         &mut self,
@@ -104,9 +102,7 @@ pub struct Fails<'a> {
 }
 
 impl<'a, W: Worktree> Walk<W> for Fails<'a> {
-    ghost modelled = { λ _. false };
-
-    ghost meaning = { λ _ _ _ _ _. record { entries = []; fault = None } };
+    ghost meaning = { λ _ _ _ _ _. None };
 
     fn walk<P: Pathspec, D: Delegate>(
         &mut self,

@@ -13,7 +13,7 @@ loop-path-init g c =
       going = c.requires;
       way = rw c.into_iter-path-iterator.ensures.into_iter_gives
           (begins c.args.worktree.now (index_of c.args.index.now) (g.P.Pathspec.included c.args.pathspec.now)
-          (g.D.Delegate.keeps c.args.delegate.now) (g.D.Delegate.kept c.args.delegate.now) c.nodes-path-items.result nodes.nodes nodes.fits);
+          (g.D.Delegate.state c.args.delegate.now).keeps (g.D.Delegate.state c.args.delegate.now).kept c.nodes-path-items.result nodes.nodes nodes.fits);
     }
 
 pub hand_out-requires : goal.hand_out-requires

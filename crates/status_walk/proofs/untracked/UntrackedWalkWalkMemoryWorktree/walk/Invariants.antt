@@ -5,8 +5,8 @@ use Rattle.status_walk.proofs.untracked.UntrackedWalkWalkMemoryWorktree.walk.Giv
 
 abbrev pub invariant-loop-path : goal.invariant-loop-path
 invariant-loop-path g l = record {
-  keeps : g.D.Delegate.keeps l.delegate ≡ g.D.Delegate.keeps l.fn.delegate;
-  going : g.D.Delegate.cancelled l.delegate ≡ false;
-  way : IsUnderWay l.worktree (index_of l.index) (g.P.Pathspec.included l.pathspec) (g.D.Delegate.keeps l.fn.delegate)
-      (g.D.Delegate.kept l.fn.delegate) l.emitted l.path-iterator (g.D.Delegate.kept l.delegate);
+  keeps : (g.D.Delegate.state l.delegate).keeps ≡ (g.D.Delegate.state l.fn.delegate).keeps;
+  going : (g.D.Delegate.state l.delegate).cancelled ≡ false;
+  way : IsUnderWay l.worktree (index_of l.index) (g.P.Pathspec.included l.pathspec) (g.D.Delegate.state l.fn.delegate).keeps
+      (g.D.Delegate.state l.fn.delegate).kept l.emitted l.path-iterator (g.D.Delegate.state l.delegate).kept;
 }

@@ -2,4 +2,4 @@ use Rattle.std.proofs.Common.{◌≡◌, false}
 use Rattle.status_tests.proofs.given.joined.walks.hand_out.Given as goal
 
 abbrev pub invariant-loop-before : goal.invariant-loop-before
-invariant-loop-before g l = g.D.Delegate.cancelled l.delegate ≡ false
+invariant-loop-before g l = (g.D.Delegate.state l.delegate).cancelled ≡ false
