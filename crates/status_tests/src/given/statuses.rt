@@ -81,30 +81,8 @@ pub struct StatusReport<'index, T, U> {
     pub answer: Result<Outcome, Error>,
 }
 
-/// The status of an index against a worktree.
+/// The status of an index against a worktree. It ends early where the flag is seen set.
 pub fn status_of<
-    'index,
-    R: AllocGlobal + Threads + Wait,
-    W: Worktree + Sync,
-    C: CompareBlobs + Send,
-    P: Pathspec + Send,
-    T: ToGit + Send,
->(
-    rt: &R,
-    index: &'index State,
-    worktree: &W,
-    compare: C,
-    request: FileRequest<P, T>,
-) -> StatusReport<'index, C::Output, ()>
-where
-    W::File: Send,
-    C::Output: Send + 'index,
-{
-    status_with(rt, index, worktree, compare, request, None)
-}
-
-/// The same with any submodules and any blobs, and with an interrupt flag.
-pub fn status_with<
     'index,
     R: AllocGlobal + Threads + Wait,
     W: Worktree + Sync,

@@ -128,7 +128,7 @@ where
         ..options()
     };
     let request = request_with(rt.alloc(), options);
-    status_of(rt, index, worktree, HashEq, request)
+    status_of(rt, index, worktree, HashEq, request, None)
 }
 
 // Why a submodule has no status whose status call failed.

@@ -77,7 +77,7 @@ pub struct JoinedReport<'index> {
     pub answer: Result<Outcome, Error>,
 }
 
-/// Tells of an index and a worktree, by ids.
+/// The status of an index and a worktree with untracked files, by ids.
 pub fn joined<
     'index,
     R: AllocGlobal + Threads + Wait,
@@ -95,47 +95,25 @@ where
 {
     let alloc = rt.alloc();
     let mut recorder = Recorder::new(alloc);
-    let answer = tell(rt, alloc, index, worktree, &mut recorder, request);
+    let answer = report_to(
+        rt,
+        alloc,
+        index,
+        worktree,
+        &mut recorder,
+        NoSubmodules,
+        NoFilter,
+        NoLister,
+        request,
+    );
     JoinedReport {
         records: recorder.records,
         answer,
     }
 }
 
-/// Tells a collector of an index and a worktree, by ids.
-pub fn tell<
-    'index,
-    R: Threads + Wait,
-    W: Worktree + Sync,
-    V: VisitEntry<'index, ContentChange = ObjectId, SubmoduleStatus = ()>,
-    K: Walk<W> + Send + Drop,
-    X: Tracker + Drop,
->(
-    rt: &R,
-    alloc: Global,
-    index: &'index State,
-    worktree: &W,
-    collector: &mut V,
-    request: JoinedRequest<'_, K, X>,
-) -> Result<Outcome, Error>
-where
-    W::File: Send,
-{
-    report_with(
-        rt,
-        alloc,
-        index,
-        worktree,
-        collector,
-        NoSubmodules,
-        NoFilter,
-        NoLister,
-        request,
-    )
-}
-
-/// Tells a collector of an index and a worktree, by ids, with submodules, a filter and a lister.
-pub fn report_with<
+/// Reports an index and a worktree to a collector, by ids, with submodules, a filter and a lister.
+pub fn report_to<
     'index,
     R: Threads + Wait,
     W: Worktree + Sync,
