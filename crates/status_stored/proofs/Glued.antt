@@ -7,7 +7,7 @@ use Rattle.status_world.specs.declared.world.refusal.Refusal.{Refusal}
 use Rattle.status_world.specs.History.{AreAccepted, after_events, reports_at, reports_of, accepted_count, IsStop, IsReplay}
 use Rattle.status_world.specs.Reports.{RunReport}
 use Rattle.status_world.specs.StampedWorld.{StampedWorld, after_event}
-use Rattle.status_world.proofs.Replays.{AreReplayed}
+use Rattle.status_world.proofs.Replays.{AreReplayed, ended}
 
 -- ---- two lists of events
 
@@ -42,6 +42,9 @@ all_replayed es w now earlier replay = record {
   world = replay.world ∙ ap (λ l. after_events l w) (whole es);
   reported = replay.reported ∙ ap (λ l. reports_of l w) (whole es);
 }
+
+pub to_the_end : (es : List Event) (w now : StampedWorld) (earlier : List RunReport) → AreReplayed es w now earlier → IsReplay w es now earlier None
+to_the_end es w now earlier so_far = ended es (length es) w now earlier refl (subst (λ l. AreReplayed l w now earlier) (sym (whole es)) so_far)
 
 count_all : (es fs : List Event) (stop : Option (ℕ × Refusal)) → accepted_count (es ++ fs) (shifted (length es) stop) ≡ length es + accepted_count fs stop
 count_all es fs None = length-append es fs

@@ -1,5 +1,5 @@
 -- The index of a world that events made is the same after it was stored and loaded.
-use Rattle.std.proofs.Common.{◌≡◌, refl, sym, subst, ◌∙◌, ℕ, List, Result, Ok, Err, IfErr}
+use Rattle.std.proofs.Common.{◌≡◌, refl, sym, subst, ◌∙◌, ℕ, List, Result, Ok, Err, IfErr, OnOk}
 use Rattle.status_index.specs.declared.stat.Moment.{Moment}
 use Rattle.status_index.specs.declared.state.State.{State}
 use Rattle.status_index.specs.Entries.{IndexEntry}
@@ -7,7 +7,7 @@ use Rattle.status_index.specs.FlagBits.{bits_of_stage}
 use Rattle.status_index.specs.States.{index_of, timestamp_of}
 use Rattle.status_stored.specs.declared.error.ReopenError.TheVariants as errors
 use Rattle.status_stored.specs.RoundTrip.{IsRoundTrip, IsStateOf}
-use Rattle.status_stored.specs.Storable.{AreKnown, IsKnown, IsNotUtf8At}
+use Rattle.status_stored.specs.Storable.{AreKnown, IsKnown, IsNotUtf8At, IsStorableIndex}
 use Rattle.status_stored.specs.Reopening.{IsOpeningRefusal}
 use Rattle.status_world.specs.declared.world.refusal.Refusal.{Refusal}
 use Rattle.status_world.specs.declared.world.refusal.Refusal.TheVariants.{OtherIndex}
@@ -32,6 +32,12 @@ not_text w es t at own h = λ formed. (at, subst (λ l. IsNotUtf8At l at) own h)
 pub unread : (w : StampedWorld) (es : List IndexEntry) (t : Moment) → es ≡ w.entries → IsRoundTrip es t (Err errors.Unreadable)
     → IsOpeningRefusal w OtherIndex
 unread w es t own h = λ formed. absurd (h (subst AreKnown (sym own) (known_flags w formed)))
+
+-- what was loaded was storable
+pub storable : (w : StampedWorld) (es : List IndexEntry) (t : Moment) (s : State) (r : Result (Unit {0}) Refusal) → es ≡ w.entries → t ≡ w.timestamp
+    → IsRoundTrip es t (Ok s) → OnOk r (IsStorableIndex w.entries w.timestamp)
+storable w es t s (Ok _) own own_time loaded = subst (λ u. IsStorableIndex w.entries u) own_time (subst (λ l. IsStorableIndex l t) own loaded.0)
+storable w es t s (Err r) own own_time loaded = tt
 
 -- what was loaded isn't refused
 pub refused : (w : StampedWorld) (es : List IndexEntry) (t : Moment) (s : State) (r : Result (Unit {0}) Refusal) (new : StampedWorld) → es ≡ w.entries

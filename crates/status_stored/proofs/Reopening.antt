@@ -3,6 +3,7 @@ use Rattle.std.proofs.Common.{◌≡◌, List, Some, None, Err, sym, ap, ◌∙�
 use Rattle.serde_json.specs.Data.{Data}
 use Rattle.status_index.specs.declared.stat.Moment.{Moment}
 use Rattle.status_index.specs.declared.state.IndexError.{IndexError}
+use Rattle.status_index.specs.declared.state.IndexError.TheVariants as refusals
 use Rattle.status_index.specs.Entries.{IndexEntry, IsIndex}
 use Rattle.status_stored.specs.declared.error.ReopenError.{ReopenError}
 use Rattle.status_stored.specs.declared.error.ReopenError.TheVariants.{NotUtf8, Unreadable, Memory}
@@ -35,6 +36,13 @@ module _ (es : List IndexEntry) (t : Moment) (d : Data) (is : d ≡ stored_index
   never_form none known = cc (said known)
 
   pub never_refused : (e : IndexError) → IsIndex es → IsRefusedIndex (index_in d) e → AreKnown es → ⊥
-  never_refused e index refused known =
+  never_refused (refusals.EmptyPath at) index refused known =
       let refusal = rw (said known) at refused in
       refusal.1 index
+  never_refused (refusals.NotAscending at) index refused known =
+      let refusal = rw (said known) at refused in
+      refusal.1 index
+  never_refused (refusals.MixedHash at) index refused known =
+      let refusal = rw (said known) at refused in
+      refusal.1 index
+  never_refused refusals.Memory index refused known = rw (said known) at refused

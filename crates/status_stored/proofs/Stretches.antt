@@ -9,7 +9,7 @@ use Rattle.status_world.specs.History.{IsReplay}
 use Rattle.status_world.specs.Reports.{RunReport}
 use Rattle.status_world.specs.StampedWorld.{StampedWorld}
 use Rattle.status_world.proofs.Replays.{AreReplayed}
-use Rattle.status_stored.proofs.Glued.{shifted, glued, with_later, all_replayed, stop_inside}
+use Rattle.status_stored.proofs.Glued.{shifted, glued, with_later, all_replayed, to_the_end, stop_inside}
 
 events_all : (ss ts : List (Vec Event Global)) → events_in (ss ++ ts) ≡ events_in ss ++ events_in ts
 events_all [] ts = refl
@@ -47,6 +47,16 @@ module _ (w : StampedWorld) (ss : List (Vec Event Global)) (k : ℕ) (s : Vec Ev
       (with_later (events_in (take (k + 1) ss)) (events_in (drop (k + 1) ss)) w new (earlier ++ more) place
       (subst (λ o. IsReplay w (events_in (take (k + 1) ss)) new (earlier ++ more) (shifted (length (events_in (take k ss))) o)) some
       (next_stretch so_far same these replay)))
+
+  -- the stretch by itself, behind those before it
+  pub alone : AreReplayed (events_in (take k ss)) w old earlier → before ≡ old → events ≡ s.items → IsReplay before events new more stop
+      → IsReplay w (events_in (take k ss)) old earlier None × ((d : Vec Event Global) → IsReplay old (slice_index_or ss k d).items new more stop)
+  alone so_far same these replay = (
+      to_the_end (events_in (take k ss)) w old earlier so_far,
+      λ d.
+      subst (λ (v : Vec Event Global). IsReplay old v.items new more stop) (here ∙ get_or_default ss k s d inside)
+      (subst (λ u. IsReplay u s.items new more stop) same (subst (λ l. IsReplay before l new more stop) these replay)),
+  )
 
 -- where a stretch stops
 pub stop_place : (ss : List (Vec Event Global)) (k : ℕ) (s : Vec Event Global) (before new : StampedWorld) (more : List RunReport) (stop : Option (ℕ × Refusal))

@@ -22,9 +22,10 @@ abbrev pub error_of_field : FieldError → LoadError
 error_of_field fields.Form = Form
 error_of_field fields.Memory = Memory
 
--- something is meant, whose entries are no index, for this reason
+-- something is meant, whose entries are no index, for this reason; want of memory is none
 abbrev pub IsRefusedIndex : Option (List IndexEntry × Moment) → IndexError → Type 0
 IsRefusedIndex None e = ⊥
+IsRefusedIndex (Some meant) refusals.Memory = ⊥
 IsRefusedIndex (Some meant) e = IsRefusal meant.0 e × (IsIndex meant.0 → ⊥)
 
 -- by what is meant: Ok where it is an index, which then is the one that is given; Form just where nothing is meant; and

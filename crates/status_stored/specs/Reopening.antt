@@ -28,8 +28,9 @@ IsOpeningRefusal w _ = ⊥
 abbrev pub IsPlaceIn : List (Vec Event Global) → ℕ → ℕ → Type 0
 IsPlaceIn ss stretch at = (stretch < length ss) × ((d : Vec Event Global) → at < length (slice_index_or ss stretch d).items)
 
--- what is left is what a replay of the events leaves without a reopening: of all; up to a refused one; of those before a
--- stretch that isn't the first; or, where there was no memory for the last stretch's reports, without these
+-- what is left is what a replay of the events leaves without a reopening: of all; up to a refused one; or of those before a
+-- stretch that isn't the first. Where there was no memory for a stretch's reports, the reports are those of the stretches
+-- before it, and the world is that which a replay of it alone leaves of theirs
 abbrev pub IsReopenedReplay : StampedWorld → List (Vec Event Global) → StampedWorld → List RunReport → Option Stop → Type 0
 IsReopenedReplay w ss final reports None = IsReplay w (events_in ss) final reports None
 IsReopenedReplay w ss final reports (Some (stops.Event stretch at refusal)) =
@@ -37,4 +38,6 @@ IsReopenedReplay w ss final reports (Some (stops.Event stretch at refusal)) =
 IsReopenedReplay w ss final reports (Some (stops.Opening stretch refusal)) =
     (0 < stretch) × (stretch < length ss) × IsReplay w (events_in (take stretch ss)) final reports None × IsOpeningRefusal final refusal
 IsReopenedReplay w ss final reports (Some (stops.Reports stretch)) =
-    (stretch < length ss) × (lost : List RunReport) × (stopped : Option (ℕ × Refusal)) × IsReplay w (events_in (take (stretch + 1) ss)) final (reports ++ lost) stopped
+    (stretch < length ss) × (before : StampedWorld) × IsReplay w (events_in (take stretch ss)) before reports None
+    × (lost : List RunReport) × (stopped : Option (ℕ × Refusal))
+    × ((d : Vec Event Global) → IsReplay before (slice_index_or ss stretch d).items final lost stopped)

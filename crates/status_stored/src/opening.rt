@@ -1,7 +1,8 @@
 //! The index of a world, stored and opened again.
 
-ghost use Rattle.std.specs.Prelude.{◌≡◌, ◌<◌, IfErr};
+ghost use Rattle.std.specs.Prelude.{◌≡◌, ◌<◌, IfErr, OnOk};
 ghost use Rattle.status_stored.specs.Reopening.{IsOpeningRefusal};
+ghost use Rattle.status_stored.specs.Storable.{IsStorableIndex};
 
 use crate::{ReopenError, reopened};
 use status_world::world::{Refusal, World};
@@ -14,6 +15,7 @@ use std::alloc::Global;
 /// Where a path isn't UTF-8 there is no such index. Or where memory runs out.
 fn open_again(alloc: Global, world: &mut World) -> Result<(), Refusal>
     ensures kept { world.new ≡ world.old }
+    ensures storable { OnOk result (IsStorableIndex world.old.entries world.old.timestamp) }
     ensures refused { IfErr result (IsOpeningRefusal world.old) }
 {
     let index = match reopened(alloc, world.index()) {
@@ -28,6 +30,7 @@ fn open_again(alloc: Global, world: &mut World) -> Result<(), Refusal>
 /// The same before a stretch of events, where it isn't the first.
 pub(crate) fn open_before(alloc: Global, world: &mut World, stretch: usize) -> Result<(), Refusal>
     ensures kept { world.new ≡ world.old }
+    ensures storable { OnOk result (0 < stretch → IsStorableIndex world.old.entries world.old.timestamp) }
     ensures refused { IfErr result (IsOpeningRefusal world.old) }
     ensures later { IfErr result (λ _. 0 < stretch) }
 {

@@ -1,9 +1,8 @@
-use Rattle.std.proofs.Common.{rules, ◌≡◌, sym, ap, ◌∙◌, ◌++◌, ◌+◌, length, map, take, subst, All}
+use Rattle.std.proofs.Common.{rules, ◌≡◌, None, sym, ap, ◌∙◌, ◌++◌, map, take, subst, All}
 use Rattle.std.proofs.lemmas.List.{map-append}
 use Rattle.std.proofs.lemmas.List.Elements.{All-append}
 use Rattle.status_stored.specs.Reopening.{events_in}
-use Rattle.status_stored.proofs.Glued.{shifted}
-use Rattle.status_stored.proofs.Stretches.{next_stretch, goes_on, stops, stop_place}
+use Rattle.status_stored.proofs.Stretches.{alone, goes_on, stops, stop_place}
 use Rattle.status_stored.proofs.replay.replay_reopening.Goals as goal
 use Rattle.status_world.specs.History.{IsReplay}
 use Rattle.status_world.specs.Reports.{HasSum, report_value}
@@ -12,15 +11,14 @@ use Rattle.status_world.specs.Sound.{IsFormed}
 pub returns-then-is_err-clause-replay : goal.returns-then-is_err-clause-replay
 returns-then-is_err-clause-replay g c =
     let items : c.append.new.self.items ≡ c.loop-stretch.reports.items = search rules in
-    let next = next_stretch _ _ _ _ c.loop-stretch-test.true c.index-stretches-stretch.is _ _ _ _ _ _ _ c.loop-stretch.invariant.replayed c.open_before.ensures.kept c.deref.ensures.value c.replay-next.ensures.replay in
-    let stretches = c.args.stretches.now in
-    let more = map report_value c.replay-next.result.reports.items in
-    let stop = shifted (length (events_in (take c.loop-stretch.stretch stretches))) c.replay-next.result.stopped in (
+    let parts = alone _ _ _ _ c.loop-stretch-test.true c.index-stretches-stretch.is _ _ _ _ _ _ _ c.loop-stretch.invariant.replayed c.open_before.ensures.kept c.deref.ensures.value c.replay-next.ensures.replay in
+    let earlier = events_in (take c.loop-stretch.stretch c.args.stretches.now) in (
       c.loop-stretch-test.true,
-      more,
-      stop,
-      subst (λ l. IsReplay c.args.world (events_in (take (c.loop-stretch.stretch + 1) stretches)) c.replay-next.result.world (l ++ more) stop)
-          (sym (ap (map report_value) items)) next,
+      c.loop-stretch.world,
+      subst (λ l. IsReplay c.args.world earlier c.loop-stretch.world l None) (sym (ap (map report_value) items)) parts.0,
+      map report_value c.replay-next.result.reports.items,
+      c.replay-next.result.stopped,
+      parts.1,
     )
 
 pub returns-then-is_err-clause-formed : goal.returns-then-is_err-clause-formed
