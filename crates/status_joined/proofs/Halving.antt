@@ -1,5 +1,5 @@
 -- Each half, by what its thread answered.
-use Rattle.std.proofs.Common.{◌≡◌, subst, ℕ, Bool, Option, Result, Ok, Err}
+use Rattle.std.proofs.Common.{◌≡◌, subst, ℕ, Bool, Option, Result, Err}
 use Rattle.status_index.specs.declared.state.State.{State}
 use Rattle.status_compare.specs.declared.error.Error.{Error}
 use Rattle.status_call.specs.Query.{Query}

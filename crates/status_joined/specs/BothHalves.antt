@@ -33,7 +33,7 @@ IsWalkFailure (Some w) e = IfSome w (λ m. IsWalkFault m.fault e)
 
 module _ {T U : Type 0} (query : Query T U) (limit : Option ℕ) (index : State) (interruptible : Bool) (w : Option Walking) where
   -- both halves; or the walk's failure; or, where the walk came through, the status's
-  abbrev pub IsBoth : Result (Halves T U) Failed → Type 0
-  IsBoth (Ok h) = IsTrackedHalf query index interruptible (visits_of h.tracked.recorder) h.tracked.outcome × IsWalkedHalf interruptible w (map kept_walked h.kept.items) h.walked
-  IsBoth (Err (failures.Walk e)) = IsWalkFailure w e
-  IsBoth (Err (failures.Tracked e)) = HasWalked interruptible w × IsTrackedFailure query limit index e
+  abbrev pub IsHalves : Result (Halves T U) Failed → Type 0
+  IsHalves (Ok h) = IsTrackedHalf query index interruptible (visits_of h.tracked.recorder) h.tracked.outcome × IsWalkedHalf interruptible w (map kept_walked h.kept.items) h.walked
+  IsHalves (Err (failures.Walk e)) = IsWalkFailure w e
+  IsHalves (Err (failures.Tracked e)) = HasWalked interruptible w × IsTrackedFailure query limit index e

@@ -1,5 +1,5 @@
--- The joined theorem: what a status with untracked files, renames and copies reports to its collector, and what it answers.
-use Rattle.std.specs.Prelude.{◌≡◌, ◌⊎◌, ℕ, Bool, not, IsTrue, List, map, Some, Result, Ok, Err, slice_get, ⊤}
+-- What is reported of the list of both halves: with renames and copies, where they are looked for, or why it has none.
+use Rattle.std.specs.Prelude.{◌≡◌, ◌⊎◌, ℕ, Bool, not, IsTrue, List, map, Option, Some, None, Result, Ok, Err, slice_get, ⊤}
 use Rattle.std.specs.List.{count_by}
 use Rattle.status_index.specs.declared.fault.Fault.TheVariants as faults
 use Rattle.status_index.specs.declared.id.HashKind.{HashKind}
@@ -7,9 +7,11 @@ use Rattle.status_call.specs.declared.index_as_worktree.types.Options.{Options a
 use Rattle.status_rewrites.specs.AfterRewrites.{IsRewritten}
 use Rattle.status_rewrites.specs.Lawful.{AreLawful, IsBadPair}
 use Rattle.status_rewrites.specs.declared.rewritten.Rewritten.{Rewritten}
+use Rattle.status_rewrites.specs.declared.rewritten.Rewritten.TheVariants.{Alone}
 use Rattle.status_rewrites.specs.TrackedChanges.{Changed}
 use Rattle.status_rewrites.specs.Trackers.{TrackerFault, bad_pair, refused}
 use Rattle.status_rewrites.specs.declared.tracker.Pair.{Pair}
+use Rattle.status_rewrites.specs.declared.tracker.Rewrites.{Rewrites}
 use Rattle.status_rewrites.specs.declared.tracker.TrackerError.TheVariants as tracker_errors
 use Rattle.status_walk.specs.declared.id.IdError.{IdError}
 use Rattle.status_walk.specs.declared.id.IdError.TheVariants.{Open, Hash, ReadLink, Convert}
@@ -18,8 +20,9 @@ use Rattle.status_joined.specs.declared.index_as_worktree_with_renames.error.Err
 use Rattle.status_joined.specs.declared.index_as_worktree_with_renames.rewrites.Outcome.{Outcome as RewritesOutcome}
 use Rattle.status_joined.specs.declared.index_as_worktree_with_renames.types.Options.{Options}
 use Rattle.status_joined.specs.Changes.{changed_of}
+use Rattle.status_joined.specs.Feeding.{AreReported}
 use Rattle.status_joined.specs.NodeIds.{Identifying, forget, identified, id_faults}
-use Rattle.status_joined.specs.Items.{Item, is_removed, is_walked}
+use Rattle.status_joined.specs.Items.{Item, Reported, is_removed, is_walked}
 
 -- the tracked half's options: the listings are the joined call's own
 abbrev pub tracked_options : Options → StatusOptions
@@ -74,3 +77,16 @@ module _ {T U : Type 0} (ids : Identifying) (kind : HashKind) (means : List Chan
       (items : List (Item T U)) × (HaveTheirIds list items × means (map changed_of items) track_empty (Err (refused code)))
   IsRewritingFault track_empty list errors.Memory = ⊤
   IsRewritingFault track_empty list _ = ⊥
+
+  -- what is reported of a list: each item alone; or, where renames and copies are looked for, the list with these
+  abbrev pub IsReportedOf : Option Rewrites → List (Item T U) → List (Reported T U) → Option RewritesOutcome → Type 0
+  IsReportedOf None list reported None = AreReported (map Alone list) reported
+  IsReportedOf (Some r) list reported (Some o) =
+      (entries : List (Rewritten (Item T U))) × (IsRewriting r.track_empty list entries o × AreReported entries reported)
+  IsReportedOf None list reported (Some o) = ⊥
+  IsReportedOf (Some r) list reported None = ⊥
+
+  -- why the list has no renames and copies, where these are looked for
+  abbrev pub IsListFault : Option Rewrites → List (Item T U) → Error → Type 0
+  IsListFault None list e = ⊥
+  IsListFault (Some r) list e = IsRewritingFault r.track_empty list e

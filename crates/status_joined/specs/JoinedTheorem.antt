@@ -1,5 +1,5 @@
 -- The joined theorem: what a status with untracked files, renames and copies reports to its collector, and what it answers.
-use Rattle.std.specs.Prelude.{◌≡◌, ◌⊎◌, ◌<◌, Bool, IsTrue, List, [], ◌++◌, length, map, Option, Some, None, is_some, Result, IfOk, IfErr, ⊤}
+use Rattle.std.specs.Prelude.{◌≡◌, ◌⊎◌, ◌<◌, Bool, IsTrue, List, [], ◌++◌, length, Option, is_some, Result, IfOk, IfErr, ⊤}
 use Rattle.std.specs.List.Sorted.{IsSorted}
 use Rattle.status_index.specs.States.{index_of}
 use Rattle.status_index.specs.declared.state.State.{State}
@@ -9,63 +9,41 @@ use Rattle.status_call.specs.StatusTheorem.{IsBeginning}
 use Rattle.status_call.specs.declared.index_as_worktree.types.Outcome.{Outcome as StatusOutcome}
 use Rattle.status_joined.specs.JoinedQuery.{JoinedQuery}
 use Rattle.status_joined.specs.Walkings.{Walking, wanted_walk}
-use Rattle.status_rewrites.specs.declared.rewritten.Rewritten.{Rewritten}
-use Rattle.status_rewrites.specs.declared.rewritten.Rewritten.TheVariants.{Alone}
 use Rattle.status_rewrites.specs.TrackedChanges.{Changed}
 use Rattle.status_rewrites.specs.Trackers.{TrackerFault}
 use Rattle.status_rewrites.specs.declared.tracker.Pair.{Pair}
-use Rattle.status_rewrites.specs.declared.tracker.Rewrites.{Rewrites}
 use Rattle.status_walk.specs.declared.walk.Outcome.{Outcome as WalkOutcome}
 use Rattle.status_joined.specs.declared.index_as_worktree_with_renames.error.Error.{Error}
 use Rattle.status_joined.specs.declared.index_as_worktree_with_renames.error.Error.TheVariants.{DirWalk, Memory, TrackedFileModifications}
-use Rattle.status_joined.specs.declared.index_as_worktree_with_renames.rewrites.Outcome.{Outcome as RewritesOutcome}
 use Rattle.status_joined.specs.declared.index_as_worktree_with_renames.types.Options.{Options}
 use Rattle.status_joined.specs.declared.index_as_worktree_with_renames.types.Outcome.{Outcome}
-use Rattle.status_joined.specs.Feeding.{AreReported}
 use Rattle.status_joined.specs.NodeIds.{Identifying}
 use Rattle.status_joined.specs.Items.{Item, Reported}
-use Rattle.status_joined.specs.Joined.{IsRewriting, IsRewritingFault, tracked_options}
+use Rattle.status_joined.specs.Joined.{IsListFault, IsReportedOf, tracked_options}
 use Rattle.status_joined.specs.Listing.{HasList, IsHalfFault}
 use Rattle.status_joined.specs.Summaries.{reported_cmp}
 
 module _ {T U : Type 0} (query : Query T U) (options : Options) (index : State) (interruptible : Bool) (walking : Option Walking) (ids : Identifying) (means : List Changed → Bool → Result (List Pair) TrackerFault → Type 0) where
-  -- both halves came through and ended so, and this is the list of what they found
-  abbrev pub HasJoinedList : List (Item T U) → StatusOutcome → Option WalkOutcome → Type 0
-  HasJoinedList = HasList query options.tracked_file_modifications.thread_limit index interruptible walking options.object_hash (is_some options.sorting)
-
-  -- what is reported of a list: each item alone; or, where renames and copies are looked for, the list with these
-  abbrev pub IsReportedOf : Option Rewrites → List (Item T U) → List (Reported T U) → Option RewritesOutcome → Type 0
-  IsReportedOf None list reported None = AreReported (map Alone list) reported
-  IsReportedOf (Some r) list reported (Some o) =
-      (entries : List (Rewritten (Item T U))) × (IsRewriting ids options.object_hash means r.track_empty list entries o × AreReported entries reported)
-  IsReportedOf None list reported (Some o) = ⊥
-  IsReportedOf (Some r) list reported None = ⊥
-
   -- all that there is to report, with the outcomes of both halves and of the renames and copies
   pub record IsWhole (reported : List (Reported T U)) (o : Outcome) : Type 0 where
     pub list : List (Item T U)
-    pub has : HasJoinedList list o.tracked_file_modification o.dirwalk
-    pub is_reported : IsReportedOf options.rewrites list reported o.rewrites
+    pub has : HasList query options index interruptible walking list o.tracked_file_modification o.dirwalk
+    pub is_reported : IsReportedOf ids options.object_hash means options.rewrites list reported o.rewrites
     -- with sorting: by the path that each is reported by, and at equal paths records before nodes
     pub order : IsTrue (is_some options.sorting) → IsSorted reported_cmp reported
-
-  -- why the list has no renames and copies, where these are looked for
-  abbrev pub IsListFault : Option Rewrites → List (Item T U) → Error → Type 0
-  IsListFault None list e = ⊥
-  IsListFault (Some r) list e = IsRewritingFault ids options.object_hash means r.track_empty list e
 
   -- both halves came through, and their list has this fault
   pub record IsLateFault (e : Error) : Type 0 where
     pub tracked : StatusOutcome
     pub walked : Option WalkOutcome
     pub list : List (Item T U)
-    pub has : HasJoinedList list tracked walked
-    pub fault : IsListFault options.rewrites list e
+    pub has : HasList query options index interruptible walking list tracked walked
+    pub fault : IsListFault ids options.object_hash means options.rewrites list e
 
   -- the fault of a half; or, where both came through, of their list; or memory ran out
   abbrev pub IsFault : Error → Type 0
-  IsFault (DirWalk e) = IsHalfFault query options.tracked_file_modifications.thread_limit index interruptible walking options.object_hash (is_some options.sorting) (DirWalk e)
-  IsFault (TrackedFileModifications e) = IsHalfFault query options.tracked_file_modifications.thread_limit index interruptible walking options.object_hash (is_some options.sorting) (TrackedFileModifications e)
+  IsFault (DirWalk e) = IsHalfFault query options index interruptible walking (DirWalk e)
+  IsFault (TrackedFileModifications e) = IsHalfFault query options index interruptible walking (TrackedFileModifications e)
   IsFault Memory = ⊤
   IsFault e = IsLateFault e
 

@@ -1,6 +1,5 @@
 -- The list of both halves, and why there is none.
-use Rattle.std.specs.Prelude.{ℕ, Bool, List, map, Option, Result, Ok, Err, ⊤}
-use Rattle.status_index.specs.declared.id.HashKind.{HashKind}
+use Rattle.std.specs.Prelude.{Bool, List, map, Option, is_some, Result, Ok, Err, ⊤}
 use Rattle.status_index.specs.declared.fault.Fault.TheVariants as faults
 use Rattle.status_index.specs.declared.state.State.{State}
 use Rattle.status_call.specs.Query.{Query}
@@ -19,6 +18,7 @@ use Rattle.status_walk.specs.declared.walk.WalkError.TheVariants as walks
 use Rattle.status_joined.specs.declared.index_as_worktree_with_renames.error.Error.{Error}
 use Rattle.status_joined.specs.declared.index_as_worktree_with_renames.error.Error.TheVariants as errors
 use Rattle.status_joined.specs.declared.index_as_worktree_with_renames.listing.Listing.{Listing}
+use Rattle.status_joined.specs.declared.index_as_worktree_with_renames.types.Options.{Options}
 use Rattle.status_joined.specs.Errors.{error_of_status, error_of_walk}
 use Rattle.status_joined.specs.Items.{Item}
 use Rattle.status_joined.specs.ListItems.{item_of}
@@ -29,14 +29,14 @@ abbrev pub error_of_failed : Failed → Error
 error_of_failed (failures.Walk e) = error_of_walk e
 error_of_failed (failures.Tracked e) = error_of_status e
 
-module _ {T U : Type 0} (query : Query T U) (limit : Option ℕ) (index : State) (interruptible : Bool) (walking : Option Walking) (kind : HashKind) (sorted : Bool) where
+module _ {T U : Type 0} (query : Query T U) (options : Options) (index : State) (interruptible : Bool) (walking : Option Walking) where
   -- both halves came through and ended so, and this is the list of what they found
   pub record HasList (list : List (Item T U)) (o : Outcome) (w : Option WalkOutcome) : Type 0 where
     pub visits : List (Visit T U)
     pub kept : List Walked
     pub tracked : IsTrackedHalf query index interruptible visits o
     pub walked : IsWalkedHalf interruptible walking kept w
-    pub list_is : IsList sorted (unsorted kind visits kept) list
+    pub list_is : IsList (is_some options.sorting) (unsorted options.object_hash visits kept) list
 
   -- the walk's fault; or, where the walk came through, the status's; or memory ran out, which is reported as that
   abbrev pub IsHalfFault : Error → Type 0
@@ -46,7 +46,7 @@ module _ {T U : Type 0} (query : Query T U) (limit : Option ℕ) (index : State)
   IsHalfFault (errors.TrackedFileModifications statuses.Memory) = ⊥
   IsHalfFault (errors.TrackedFileModifications (statuses.Io faults.Memory)) = ⊥
   IsHalfFault (errors.TrackedFileModifications (statuses.Find finds.Memory)) = ⊥
-  IsHalfFault (errors.TrackedFileModifications e) = HasWalked interruptible walking × IsTrackedFailure query limit index e
+  IsHalfFault (errors.TrackedFileModifications e) = HasWalked interruptible walking × IsTrackedFailure query options.tracked_file_modifications.thread_limit index e
   IsHalfFault errors.Memory = ⊤
   IsHalfFault _ = ⊥
 

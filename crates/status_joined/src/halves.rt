@@ -2,7 +2,7 @@
 
 ghost use Rattle.std.specs.Prelude.{Some, is_some, option_map, ⊤};
 ghost use Rattle.status_index.specs.States.{index_of};
-ghost use Rattle.status_joined.specs.BothHalves.{IsBoth};
+ghost use Rattle.status_joined.specs.BothHalves.{IsHalves};
 
 use crate::beside::{Beside, walk_beside};
 use crate::kept::Kept;
@@ -55,7 +55,7 @@ fn run_both<'index, R: Threads + Wait, B: FindBeside + Send + Drop, D: Decide + 
 where
     D::Content: Send + Drop + 'index,
     D::Submodule: Send + Drop + 'index,
-    ensures { IsBoth (D.query decider) limits.thread_limit index.now (is_some interrupt.entry)
+    ensures { IsHalves (D.query decider) limits.thread_limit index.now (is_some interrupt.entry)
         (Some (B.walking finder (index_of index.now))) result }
 {
     let flag = &interrupt;
@@ -99,7 +99,7 @@ pub fn run_halves<'index, R: Threads + Wait, B: FindBeside + Send + Drop, D: Dec
 where
     D::Content: Send + Drop + 'index,
     D::Submodule: Send + Drop + 'index,
-    ensures { IsBoth (D.query decider) limits.thread_limit index.now (is_some interrupt.entry)
+    ensures { IsHalves (D.query decider) limits.thread_limit index.now (is_some interrupt.entry)
         (option_map (λ b. B.walking b (index_of index.now)) finder) result }
 {
     match finder {

@@ -1,13 +1,14 @@
 //! Who gives nodes their ids.
 
-ghost use Rattle.std.specs.Prelude.{IsTrue};
+ghost use Rattle.std.specs.Prelude.{◌≡◌, IfOk, IsTrue};
 ghost use Rattle.status_walk.specs.WalkedNodes.{walked_of};
 ghost use Rattle.status_walk.specs.WorktreeIds.{IsId};
-ghost use Rattle.status_joined.specs.NodeIds.{Identifying};
+ghost use Rattle.status_joined.specs.NodeIds.{Identifying, identifying};
 
 use status_base::index::{HashKind, ObjectId};
 use status_base::worktree::{ToGit, Worktree};
 use status_walk::{DirEntry, IdError, worktree_id};
+use std::alloc::AllocError;
 
 /// Who gives nodes their ids.
 pub trait Identify {
@@ -35,8 +36,6 @@ pub struct Identifier<'w, W, F> {
 }
 
 impl<'w, W: Worktree, F: ToGit> Identify for Identifier<'w, W, F> {
-    ghost use Rattle.status_joined.specs.NodeIds.{identifying};
-
     ghost identifying = { λ i. identifying W.modelled W.lstat_of W.open_of W.target_of F.conversion i.kind i.worktree.now i.filter };
 
     fn id_of(&self, entry: &DirEntry, buffer: &mut Vec<u8>) -> Result<ObjectId, IdError> {
@@ -50,4 +49,23 @@ impl<'w, W: Worktree, F: ToGit> Identify for Identifier<'w, W, F> {
             buffer,
         )
     }
+}
+
+/// The identifier of a worktree's nodes, with a filter of its own.
+///
+/// # Errors
+/// Want of memory.
+pub(crate) fn identifier_of<'w, W: Worktree, F: ToGit>(
+    kind: HashKind,
+    worktree: &'w W,
+    filter: &F,
+) -> Result<Identifier<'w, W, F>, AllocError>
+    ensures { IfOk result (λ i. ⟦<Identifier<'w, W, F> as Identify>⟧.identifying i
+        ≡ identifying W.modelled W.lstat_of W.open_of W.target_of F.conversion kind worktree.now filter.now) }
+{
+    Ok(Identifier {
+        kind,
+        worktree,
+        filter: filter.clone()?,
+    })
 }

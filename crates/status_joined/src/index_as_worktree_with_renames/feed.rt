@@ -11,7 +11,6 @@ ghost use Rattle.status_joined.specs.Entries.{reported_entry, reported_source};
 use crate::ModificationOrDirwalkEntry;
 use crate::index_as_worktree_with_renames::entry::{Entry, RewriteSource};
 use crate::index_as_worktree_with_renames::recorder::VisitEntry;
-use status_call::index_as_worktree::Record;
 use status_rewrites::Rewritten;
 use std::alloc::AllocError;
 
@@ -22,23 +21,13 @@ fn entry_of_item<'index, T, U>(
     ensures { IsReported (Alone (item_of item.entry)) (reported_entry result) }
 {
     match item {
-        ModificationOrDirwalkEntry::Modification(record) => {
-            let entries = record.entries();
-            let Record {
-                entry,
-                entry_index,
-                relative_path,
-                status,
-                ..
-            } = record;
-            Entry::Modification {
-                entries,
-                entry,
-                entry_index,
-                rela_path: relative_path,
-                status,
-            }
-        }
+        ModificationOrDirwalkEntry::Modification(record) => Entry::Modification {
+            entries: record.entries(),
+            entry: record.entry,
+            entry_index: record.entry_index,
+            rela_path: record.relative_path,
+            status: record.status,
+        },
         ModificationOrDirwalkEntry::DirwalkEntry {
             entry,
             id: _,
@@ -57,23 +46,13 @@ fn source_of_item<'index, T, U>(
     ensures { reported_source result ≡ item_of item.entry }
 {
     match item {
-        ModificationOrDirwalkEntry::Modification(record) => {
-            let index_entries = record.entries();
-            let Record {
-                entry,
-                entry_index,
-                relative_path,
-                status,
-                ..
-            } = record;
-            RewriteSource::RewriteFromIndex {
-                index_entries,
-                source_entry: entry,
-                source_entry_index: entry_index,
-                source_rela_path: relative_path,
-                source_status: status,
-            }
-        }
+        ModificationOrDirwalkEntry::Modification(record) => RewriteSource::RewriteFromIndex {
+            index_entries: record.entries(),
+            source_entry: record.entry,
+            source_entry_index: record.entry_index,
+            source_rela_path: record.relative_path,
+            source_status: record.status,
+        },
         ModificationOrDirwalkEntry::DirwalkEntry {
             entry,
             id,

@@ -5,9 +5,10 @@ ghost use Rattle.status_index.specs.States.{index_of};
 ghost use Rattle.status_joined.specs.Listing.{error_of_failed, IsListing};
 
 use crate::index_as_worktree_with_renames::error::{Error, walk_error};
+use crate::index_as_worktree_with_renames::types::Options;
 use crate::walker::FindBeside;
 use crate::{Failed, Halves, ModificationOrDirwalkEntry, Tracked, list_of, run_halves};
-use status_base::index::{HashKind, State};
+use status_base::index::State;
 use status_call::index_as_worktree::Outcome;
 use status_call::index_as_worktree::decide::Decide;
 use status_call::index_as_worktree::workers::Limits;
@@ -34,7 +35,8 @@ fn failed_error(failed: Failed) -> Error
     }
 }
 
-/// Lets both halves run, and lists what they found: by path, where that is wanted, else the records before the nodes.
+/// Lets both halves run, and lists what they found: by path, where the options have `sorting`, else the records before the
+/// nodes.
 ///
 /// # Errors
 /// The walk's, or else the status's. Want of memory.
@@ -49,17 +51,16 @@ pub(crate) fn list_halves<
     index: &'index State,
     finder: Option<B>,
     decider: D,
-    limits: Limits,
+    options: &Options,
     interrupt: Option<&AtomicBool>,
-    kind: HashKind,
-    sorted: bool,
 ) -> Result<Listing<'index, D::Content, D::Submodule>, Error>
 where
     D::Content: Send + Drop + 'index,
     D::Submodule: Send + Drop + 'index,
-    ensures { IsListing (D.query decider) limits.thread_limit index.now (is_some interrupt.entry)
-        (option_map (λ b. B.walking b (index_of index.now)) finder) kind sorted result }
+    ensures { IsListing (D.query decider) options.now index.now (is_some interrupt.entry)
+        (option_map (λ b. B.walking b (index_of index.now)) finder) result }
 {
+    let limits = Limits::of(&options.tracked_file_modifications);
     let halves = match run_halves(rt, alloc, index, finder, decider, limits, interrupt) {
         Ok(halves) => halves,
         Err(failed) => return Err(failed_error(failed)),
@@ -70,7 +71,8 @@ where
         walked,
     } = halves;
     let Tracked { recorder, outcome } = tracked;
-    match list_of(alloc, kind, recorder.records, kept, sorted) {
+    let sorted = options.sorting.is_some();
+    match list_of(alloc, options.object_hash, recorder.records, kept, sorted) {
         Ok(items) => Ok(Listing {
             items,
             tracked: outcome,

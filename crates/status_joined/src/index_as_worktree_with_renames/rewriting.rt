@@ -1,18 +1,19 @@
-//! The list with its renames and copies.
+//! The list with its renames and copies, and how it is reported.
 
 ghost use Rattle.std.specs.Prelude.{◌≡◌, IfOk, map, not, All};
 ghost use Rattle.std.specs.List.{count_by};
 ghost use Rattle.status_rewrites.specs.Entries.{map_rewritten, IsLed};
 ghost use Rattle.status_joined.specs.Items.{is_walked};
 ghost use Rattle.status_joined.specs.ListItems.{item_of};
-ghost use Rattle.status_joined.specs.RewritingAnswers.{IsRewritingAnswer, IsRewritingReported};
+ghost use Rattle.status_joined.specs.RewritingAnswers.{IsListReported, IsRewritingAnswer};
 
 use crate::identifier::Identify;
 use crate::index_as_worktree_with_renames::error::{Error, id_error, refused_error};
 use crate::index_as_worktree_with_renames::exact_clone::ExactClone;
-use crate::index_as_worktree_with_renames::feed::feed_rewritten;
+use crate::index_as_worktree_with_renames::feed::{feed_items, feed_rewritten};
 use crate::index_as_worktree_with_renames::recorder::VisitEntry;
 use crate::index_as_worktree_with_renames::rewrites::Outcome;
+use crate::index_as_worktree_with_renames::types::Options;
 use crate::{ModificationOrDirwalkEntry, identify};
 use status_base::index::HashKind;
 use status_rewrites::{Pair, Rewrites, Rewritten, Tracker, rewrite};
@@ -67,33 +68,38 @@ fn rewrite_list<'index, N: Identify, X: Tracker, T: ExactClone, U: ExactClone>(
     }
 }
 
-/// Rewrites the list as `rewrite_list` does, and reports it to a collector. Gives how many renames and copies there are.
+/// Reports a list to a collector: each item alone, or, where the options have `rewrites`, the list that `rewrite_list` gives.
+/// Gives how many renames and copies there are, where they are looked for.
 ///
 /// # Errors
 /// Those of `rewrite_list`; then nothing was reported. Want of memory; then nothing was reported, or a beginning.
-pub(crate) fn report_rewritten<'index, N: Identify, X: Tracker, V: VisitEntry<'index>>(
+pub(crate) fn report_list<'index, N: Identify, X: Tracker + Drop, V: VisitEntry<'index>>(
     alloc: Global,
-    kind: HashKind,
     ids: &N,
-    tracker: &mut X,
-    rewrites: Rewrites,
+    mut tracker: X,
+    options: &Options,
     items: Vec<ModificationOrDirwalkEntry<'index, V::ContentChange, V::SubmoduleStatus>>,
     collector: &mut V,
-) -> Result<Outcome, Error>
+) -> Result<Option<Outcome>, Error>
 where
     V::ContentChange: ExactClone + Drop,
     V::SubmoduleStatus: ExactClone + Drop,
-    ensures { IsRewritingReported (N.identifying ids.now) kind (X.means tracker.old) rewrites items.entry.items
-        (V.visits collector.old) result (V.visits collector.new) }
+    ensures { IsListReported (N.identifying ids.now) options.now.object_hash (X.means tracker) options.now.rewrites
+        (map item_of items.entry.items) (V.visits collector.old) result (V.visits collector.new) }
 {
-    let RewrittenList { entries, outcome } = match rewrite_list(
-        alloc, kind, ids, tracker, rewrites, items,
-    ) {
+    let Some(rewrites) = options.rewrites else {
+        return match feed_items(items, collector) {
+            Ok(()) => Ok(None),
+            Err(_refused) => Err(Error::Memory),
+        };
+    };
+    let kind = options.object_hash;
+    let list = match rewrite_list(alloc, kind, ids, &mut tracker, rewrites, items) {
         Ok(list) => list,
         Err(error) => return Err(error),
     };
-    match feed_rewritten(entries, collector) {
-        Ok(()) => Ok(outcome),
+    match feed_rewritten(list.entries, collector) {
+        Ok(()) => Ok(Some(list.outcome)),
         Err(_refused) => Err(Error::Memory),
     }
 }
