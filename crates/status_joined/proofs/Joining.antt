@@ -23,7 +23,7 @@ use Rattle.status_joined.specs.Joined.{IsListFault, IsReportedOf}
 use Rattle.status_joined.specs.JoinedTheorem.{IsFault, IsJoinedStatus, IsWhole}
 use Rattle.status_joined.specs.Listing.{HasList, IsHalfFault}
 use Rattle.status_joined.specs.Lists.{IsList, list_cmp, unsorted}
-use Rattle.status_joined.specs.RewritingAnswers.{IsListReported}
+use Rattle.status_joined.specs.RewritingAnswers.{IsListFed}
 use Rattle.status_joined.specs.Summaries.{reported_cmp}
 use Rattle.status_joined.proofs.InOrder.{alone_in_order, rewritten_in_order}
 
@@ -90,11 +90,11 @@ module _ {T U : Type 0} (query : Query T U) (options : Options) (index : State) 
     fault_of_list (Some r) is (errors.RewriteTracker x) fault = record { tracked = tracked; walked = walked; list = list; has = has; fault = rw is fault }
 
     -- all was reported
-    pub reported_all : (o : Option RewritesOutcome) (old new : List (Reported T U)) → IsListReported ids options.object_hash means options.rewrites list old (Ok o) new → IsJoinedStatus query options index interruptible walking ids means old (Ok (ended o)) new
+    pub reported_all : (o : Option RewritesOutcome) (old new : List (Reported T U)) → IsListFed ids options.object_hash means options.rewrites list old (Ok o) new → IsJoinedStatus query options index interruptible walking ids means old (Ok (ended o)) new
     reported_all o old new (ts, (reported, grew)) = record { more = ts; grew = grew; complete = whole_of ts o reported; fault = tt; quiet = tt }
 
     -- the list has no renames and copies, or memory ran out while it was reported
-    pub unreported : (e : Error) (old new : List (Reported T U)) → IsListReported ids options.object_hash means options.rewrites list old (Err e) new → IsJoinedStatus query options index interruptible walking ids means old (Err e) new
+    pub unreported : (e : Error) (old new : List (Reported T U)) → IsListFed ids options.object_hash means options.rewrites list old (Err e) new → IsJoinedStatus query options index interruptible walking ids means old (Err e) new
     unreported e old new (inl (fault, same)) =
         subst (λ x. IsJoinedStatus query options index interruptible walking ids means old (Err e) x) (sym same)
         (quietly old e (fault_of_list options.rewrites refl e fault))

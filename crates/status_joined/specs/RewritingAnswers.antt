@@ -23,10 +23,10 @@ IsRewritingAnswer ids kind means rewrites list (Err e) = IsRewritingFault ids ki
 
 -- the list was reported; or why it has no renames and copies, and nothing was reported; or memory ran out behind a beginning of it, and not
 -- all of it
-abbrev pub IsListReported : {T U : Type 0} → Identifying → HashKind → (List Changed → Bool → Result (List Pair) TrackerFault → Type 0) → Option Rewrites → List (Item T U) → List (Reported T U) → Result (Option Outcome) Error → List (Reported T U) → Type 0
-IsListReported {T} {U} ids kind means rewrites list old (Ok o) new =
+abbrev pub IsListFed : {T U : Type 0} → Identifying → HashKind → (List Changed → Bool → Result (List Pair) TrackerFault → Type 0) → Option Rewrites → List (Item T U) → List (Reported T U) → Result (Option Outcome) Error → List (Reported T U) → Type 0
+IsListFed {T} {U} ids kind means rewrites list old (Ok o) new =
     (ts : List (Reported T U)) × (IsReportedOf ids kind means rewrites list ts o × (new ≡ old ++ ts))
-IsListReported {T} {U} ids kind means rewrites list old (Err e) new =
+IsListFed {T} {U} ids kind means rewrites list old (Err e) new =
     (IsListFault ids kind means rewrites list e × (new ≡ old))
     ⊎ ((e ≡ Memory) × ((ts : List (Reported T U)) × ((o : Option Outcome)
     × (IsReportedOf ids kind means rewrites list ts o × ((n : ℕ) × (n < length ts) × (new ≡ old ++ take n ts))))))

@@ -5,7 +5,7 @@ ghost use Rattle.status_joined.specs.JoinedTheorem.{IsJoined};
 
 use crate::index_as_worktree_with_renames::error::Error;
 use crate::index_as_worktree_with_renames::exact_clone::ExactClone;
-use crate::index_as_worktree_with_renames::inputs::{AskJoined, JoinedInputs};
+use crate::index_as_worktree_with_renames::inputs::{Ask, Inputs};
 use crate::index_as_worktree_with_renames::joined_by::joined_by;
 use crate::index_as_worktree_with_renames::recorder::VisitEntry;
 use crate::index_as_worktree_with_renames::types::{Context, DirwalkContext, Options, Outcome};
@@ -65,7 +65,7 @@ where
     W::File: Send,
     C::Output: Send + ExactClone + 'index,
     S::Output: Send + ExactClone + 'index,
-    ensures { IsJoined ⟦<JoinedInputs<'w, W, C, S, O, P, T, L, K, X> as AskJoined>⟧.query
+    ensures { IsJoined ⟦<Inputs<'w, W, C, S, O, P, T, L, K, X> as Ask>⟧.query
         (given worktree.entry compare submodule objects context.entry) options index.now
         V.visits collector.old result collector.new }
 {
@@ -77,7 +77,7 @@ where
         dirwalk: DirwalkContext { walk },
         tracker,
     } = context;
-    let inputs = JoinedInputs {
+    let inputs = Inputs {
         status: inputs::Inputs {
             worktree,
             compare,

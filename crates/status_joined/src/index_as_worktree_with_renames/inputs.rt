@@ -12,7 +12,7 @@ use std::sync::atomic::AtomicBool;
 
 /// The worktree and the interfaces that a caller hands in.
 #[derive(Drop)]
-pub struct JoinedInputs<'w, W, C, S, O, P, T, L, K, X> {
+pub struct Inputs<'w, W, C, S, O, P, T, L, K, X> {
     /// Those of the status of the index.
     pub status: inputs::Inputs<'w, W, C, S, O, P, T, L>,
     /// Finds what lies in the worktree beside the index.
@@ -24,7 +24,7 @@ pub struct JoinedInputs<'w, W, C, S, O, P, T, L, K, X> {
 }
 
 /// What a status with untracked files, renames and copies is computed from, whoever hands it in.
-pub trait AskJoined {
+pub trait Ask {
     /// What a comparer reports of a change.
     type Content;
     /// What a submodule reports of a change.
@@ -45,7 +45,7 @@ impl<
     L: Lister,
     K: Walk<W>,
     X: Tracker,
-> AskJoined for JoinedInputs<'w, W, C, S, O, P, T, L, K, X> {
+> Ask for Inputs<'w, W, C, S, O, P, T, L, K, X> {
     ghost use Rattle.std.specs.Prelude.{is_some};
     ghost use Rattle.status_joined.specs.NodeIds.{identifying};
     ghost use Rattle.status_joined.specs.Walkings.{walker_of};

@@ -7,7 +7,7 @@ ghost use Rattle.status_joined.specs.JoinedTheorem.{IsMetBy};
 use crate::identifier::identifier_of;
 use crate::index_as_worktree_with_renames::error::Error;
 use crate::index_as_worktree_with_renames::exact_clone::ExactClone;
-use crate::index_as_worktree_with_renames::inputs::{AskJoined, JoinedInputs};
+use crate::index_as_worktree_with_renames::inputs::{Ask, Inputs};
 use crate::index_as_worktree_with_renames::listing::list_halves;
 use crate::index_as_worktree_with_renames::recorder::VisitEntry;
 use crate::index_as_worktree_with_renames::rewriting::report_list;
@@ -61,7 +61,7 @@ pub(crate) fn joined_by<
     rt: &R,
     alloc: Global,
     index: &'index State,
-    inputs: JoinedInputs<'w, W, C, S, O, P, T, L, K, X>,
+    inputs: Inputs<'w, W, C, S, O, P, T, L, K, X>,
     options: Options,
     collector: &mut V,
 ) -> Result<Outcome, Error>
@@ -69,7 +69,7 @@ where
     W::File: Send,
     C::Output: Send + ExactClone + 'index,
     S::Output: Send + ExactClone + 'index,
-    ensures { IsMetBy (⟦<JoinedInputs<'w, W, C, S, O, P, T, L, K, X> as AskJoined>⟧.query inputs.entry) options index.now
+    ensures { IsMetBy (⟦<Inputs<'w, W, C, S, O, P, T, L, K, X> as Ask>⟧.query inputs.entry) options index.now
         (V.visits collector.old) result (V.visits collector.new) }
 {
     let worktree = inputs.status.worktree;

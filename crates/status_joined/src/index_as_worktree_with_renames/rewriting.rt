@@ -5,7 +5,7 @@ ghost use Rattle.std.specs.List.{count_by};
 ghost use Rattle.status_rewrites.specs.Entries.{map_rewritten, IsLed};
 ghost use Rattle.status_joined.specs.Items.{is_walked};
 ghost use Rattle.status_joined.specs.ListItems.{item_of};
-ghost use Rattle.status_joined.specs.RewritingAnswers.{IsListReported, IsRewritingAnswer};
+ghost use Rattle.status_joined.specs.RewritingAnswers.{IsListFed, IsRewritingAnswer};
 
 use crate::identifier::Identify;
 use crate::index_as_worktree_with_renames::error::{Error, id_error, refused_error};
@@ -84,7 +84,7 @@ pub(crate) fn report_list<'index, N: Identify, X: Tracker + Drop, V: VisitEntry<
 where
     V::ContentChange: ExactClone + Drop,
     V::SubmoduleStatus: ExactClone + Drop,
-    ensures { IsListReported (N.identifying ids.now) options.now.object_hash (X.means tracker) options.now.rewrites
+    ensures { IsListFed (N.identifying ids.now) options.now.object_hash (X.means tracker) options.now.rewrites
         (map item_of items.entry.items) (V.visits collector.old) result (V.visits collector.new) }
 {
     let Some(rewrites) = options.rewrites else {
