@@ -1,6 +1,6 @@
 //! The index of a profile.
 
-use crate::error::FieldError;
+use crate::error::{FieldError, FieldTaken};
 use crate::key::ItemKey;
 use crate::list::Items;
 use crate::stat::StatFields;
@@ -79,12 +79,7 @@ impl Items for Entries {
         }
     }
 
-    fn set<V: FieldValue>(
-        &mut self,
-        alloc: Global,
-        key: ItemKey,
-        value: &mut V,
-    ) -> Result<(), FieldError> {
+    fn set<V: FieldValue>(&mut self, alloc: Global, key: ItemKey, value: &mut V) -> FieldTaken {
         match key {
             ItemKey::Path => {
                 value.text_into(alloc, &mut self.path)?;

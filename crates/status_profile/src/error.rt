@@ -90,6 +90,9 @@ pub enum FieldError {
     Memory,
 }
 
+/// What taking a field answers.
+pub type FieldTaken = Result<(), FieldError>;
+
 impl FieldError {
     /// Returns the error of a profile with this field under `key`.
     pub fn under(self, key: Key) -> ProfileError {

@@ -1,7 +1,7 @@
 //! The two ways to read a list of entries or of nodes.
 
 use crate::ahead::or_form;
-use crate::error::FieldError;
+use crate::error::{FieldError, FieldTaken};
 use crate::held::Held;
 use crate::key::ItemKey;
 use crate::value::FieldValue;
@@ -15,12 +15,7 @@ pub trait Items: Sized + Drop {
     fn none(alloc: Global) -> Self;
 
     /// Takes a field of the next item. If a key is repeated, its last field counts.
-    fn set<V: FieldValue>(
-        &mut self,
-        alloc: Global,
-        key: ItemKey,
-        value: &mut V,
-    ) -> Result<(), FieldError>;
+    fn set<V: FieldValue>(&mut self, alloc: Global, key: ItemKey, value: &mut V) -> FieldTaken;
 
     /// Takes the end of the item.
     fn end(&mut self, alloc: Global) -> Result<(), FieldError>;

@@ -1,6 +1,6 @@
 //! The worktree of a profile.
 
-use crate::error::FieldError;
+use crate::error::{FieldError, FieldTaken};
 use crate::field::{Fields, text_of};
 use crate::key::ItemKey;
 use crate::list::{Items, List};
@@ -92,12 +92,7 @@ impl Items for Nodes {
         }
     }
 
-    fn set<V: FieldValue>(
-        &mut self,
-        alloc: Global,
-        key: ItemKey,
-        value: &mut V,
-    ) -> Result<(), FieldError> {
+    fn set<V: FieldValue>(&mut self, alloc: Global, key: ItemKey, value: &mut V) -> FieldTaken {
         let fields = &mut self.fields;
         match key {
             ItemKey::Path => fields.path = Some(BString::from(value.text(alloc)?)),

@@ -1,6 +1,6 @@
 //! The stamps and the owner of a file, in the fields of an entry or of a node.
 
-use crate::error::FieldError;
+use crate::error::FieldTaken;
 use crate::key::ItemKey;
 use crate::value::FieldValue;
 use gix_status::index::{Stat, Time};
@@ -16,12 +16,7 @@ pub struct StatFields {
 
 impl StatFields {
     /// Takes a field. A field with another key is ignored.
-    pub fn set<V: FieldValue>(
-        &mut self,
-        alloc: Global,
-        key: ItemKey,
-        value: &mut V,
-    ) -> Result<(), FieldError> {
+    pub fn set<V: FieldValue>(&mut self, alloc: Global, key: ItemKey, value: &mut V) -> FieldTaken {
         match key {
             ItemKey::Mtime => self.stat.mtime = value.stamp()?,
             ItemKey::Ctime => self.ctime = Some(value.stamp()?),

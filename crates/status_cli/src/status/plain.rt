@@ -40,20 +40,13 @@ where
     ensures { IfOk result (λ changes. AreInside changes.items (index_of status.entry.index.now)) }
 {
     let alloc = rt.alloc();
-    let ProfileStatus {
-        index,
-        worktree,
-        options,
-        changes,
-        ..
-    } = status;
-    let counts = options.counts;
+    let options = status.options;
     let mut recorder = Recorder::new(alloc);
     let answer = index_as_worktree_with_defaults(
         rt,
         alloc,
-        index,
-        worktree,
+        status.index,
+        status.worktree,
         &mut recorder,
         compare,
         pathspec,
@@ -62,12 +55,12 @@ where
     print_records(alloc, recorder.records.as_slice(), output)?;
     match answer {
         Ok(outcome) => {
-            print_totals(alloc, &outcome, counts, output)?;
+            print_totals(alloc, &outcome, options.counts, output)?;
             flush(output)?;
         }
         Err(error) => return Err(Failure::from(error)),
     }
-    match changes {
+    match status.changes {
         Changes::Returned => Ok(recorder.changes()?),
         Changes::Dropped => Ok(Vec::new(alloc)),
     }

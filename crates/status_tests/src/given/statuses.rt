@@ -126,8 +126,8 @@ where
 pub fn report_to<
     'index,
     R: Threads + Wait,
-    W: Worktree + Sync,
     V: VisitEntry<'index, ContentChange = C::Output, SubmoduleStatus = S::Output>,
+    W: Worktree + Sync,
     C: CompareBlobs + Send,
     S: SubmoduleStatus + Send,
     O: Find + Send,

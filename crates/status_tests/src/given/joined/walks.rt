@@ -71,11 +71,12 @@ pub fn hand_out<D: Delegate>(
     })
 }
 
-/// Hands these nodes out, whatever the worktree and the index have.
+/// Hands these nodes out, whatever the worktree and the index have, and then meets a fault at a path, if one is given.
 #[derive(Clone, Copy)]
 pub struct HandsOut<'a> {
     pub alloc: Global,
     pub nodes: &'a [Found<'a>],
+    pub fault: Option<(&'a str, Fault)>,
 }
 
 impl<'a, W: Worktree> Walk<W> for HandsOut<'a> {
@@ -88,33 +89,13 @@ impl<'a, W: Worktree> Walk<W> for HandsOut<'a> {
         _pathspec: &P,
         delegate: &mut D,
     ) -> Result<Outcome, WalkError> {
-        hand_out(self.alloc, self.nodes, delegate)
-    }
-}
-
-/// Hands a node out, and meets a fault at another.
-#[derive(Clone, Copy)]
-pub struct Fails<'a> {
-    pub alloc: Global,
-    pub nodes: &'a [Found<'a>],
-    pub path: &'a str,
-    pub fault: Fault,
-}
-
-impl<'a, W: Worktree> Walk<W> for Fails<'a> {
-    ghost meaning = { λ _ _ _ _ _. None };
-
-    fn walk<P: Pathspec, D: Delegate>(
-        &mut self,
-        _worktree: &W,
-        _index: &State,
-        _pathspec: &P,
-        delegate: &mut D,
-    ) -> Result<Outcome, WalkError> {
-        let _handed = hand_out(self.alloc, self.nodes, delegate)?;
+        let outcome = hand_out(self.alloc, self.nodes, delegate)?;
+        let Some((path, fault)) = self.fault else {
+            return Ok(outcome);
+        };
         Err(WalkError::Fault {
-            rela_path: BString::from_slice(self.alloc, self.path)?,
-            fault: self.fault,
+            rela_path: BString::from_slice(self.alloc, path)?,
+            fault,
         })
     }
 }
