@@ -52,10 +52,10 @@ module _ (w : StampedWorld) (ss : List (Vec Event Global)) (k : ℕ) (s : Vec Ev
   pub alone : AreReplayed (events_in (take k ss)) w old earlier → before ≡ old → events ≡ s.items → IsReplay before events new more stop
       → IsReplay w (events_in (take k ss)) old earlier None × ((d : Vec Event Global) → IsReplay old (slice_index_or ss k d).items new more stop)
   alone so_far same these replay = (
-      to_the_end (events_in (take k ss)) w old earlier so_far,
-      λ d.
-      subst (λ (v : Vec Event Global). IsReplay old v.items new more stop) (here ∙ get_or_default ss k s d inside)
-      (subst (λ u. IsReplay u s.items new more stop) same (subst (λ l. IsReplay before l new more stop) these replay)),
+    to_the_end (events_in (take k ss)) w old earlier so_far,
+    λ d.
+        subst (λ (v : Vec Event Global). IsReplay old v.items new more stop) (here ∙ get_or_default ss k s d inside)
+        (subst (λ u. IsReplay u s.items new more stop) same (subst (λ l. IsReplay before l new more stop) these replay)),
   )
 
 -- where a stretch stops
