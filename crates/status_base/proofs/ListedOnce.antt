@@ -3,12 +3,12 @@ use Rattle.std.proofs.Common.{◌≡◌, ◌≢◌, ◌⊎◌, ℕ, zero, suc, �
 use Rattle.std.specs.Prelude.{All, AllPairs}
 use Rattle.std.specs.List.{filter, list_any, slice_index_or}
 use Rattle.std.proofs.lemmas.List.{get_or_at, length-append, length-take-le, take_at}
-use Rattle.std.proofs.lemmas.List.Elements.{All-nil, All-head, All-tail, All-append, All-weaker, All-filter, filter_passes, Contains-append_left, Contains-append_right}
+use Rattle.std.proofs.lemmas.List.Elements.{All-nil, All-head, All-tail, All-append, All-weaker, All-filter, All-contains, All-contains_itself, filter_passes, Contains-append_left, Contains-append_right}
 use Rattle.std.proofs.lemmas.List.Kept.{AllPairs-cons, AllPairs-filter}
 use Rattle.std.proofs.lemmas.Bool.Decides.{Decides-eqb}
 use Rattle.std.proofs.lemmas.Slice.Eq.{starts_is}
 use Rattle.status_base.specs.Paths.{is_slash, directories, directories_below, lies_above}
-use Rattle.status_base.specs.Looks.{ListedOnceLaw, directories_beside, directories_above}
+use Rattle.status_base.specs.Looks.{ListedOnceLaw, StandsAbove, directories_beside, directories_above}
 use Rattle.status_base.proofs.LinkLemmas.{directories_contain}
 use Rattle.status_base.proofs.LooksLemmas.{all_above, all_last, or_cases}
 
@@ -140,6 +140,20 @@ unless_seen : (P : Type 0) → (false ≡ true) ⊎ P → P
 unless_seen P (inl seen) = cc
 unless_seen P (inr kept) = kept
 
+above_later : (q : List ℕ) (qs : List (List ℕ)) (d : List ℕ) → StandsAbove qs d → StandsAbove (q ∷ qs) d
+above_later q qs d (first, within, above) = (first, (suc within.0, omega (arith, within.1), within.2), above)
+
+-- what is listed stands above one of the paths
+all_stand_above : (earlier qs : List (List ℕ)) → All (StandsAbove qs) (directories_beside earlier qs)
+all_stand_above earlier [] = All-nil (StandsAbove [])
+all_stand_above earlier (q ∷ qs) =
+    let P : List ℕ → Type 0 = Contains (directories q) in
+    let here : (d : List ℕ) → P d → StandsAbove (q ∷ qs) d = λ d above. (q, (0, omega arith, refl), above) in
+    All-append (StandsAbove (q ∷ qs)) (filter (is_unseen earlier) (directories q)) (directories_beside (q ∷ earlier) qs) (All-weaker P (StandsAbove (q ∷ qs)) here (filter (is_unseen earlier) (directories q)) (All-filter (is_unseen earlier) P (directories q) (All-contains_itself (directories q)))) (All-weaker (StandsAbove qs) (StandsAbove (q ∷ qs)) (above_later q qs) (directories_beside (q ∷ earlier) qs) (all_stand_above (q ∷ earlier) qs))
+
 pub listed_once_law : (qs : List (List ℕ)) → ListedOnceLaw qs
-listed_once_law qs =
-    (all_differ [] qs, λ q d of above. unless_seen (Contains (directories_above qs) d) (listed [] qs q d of.0 of.1 of.2 above))
+listed_once_law qs = record {
+  once = all_differ [] qs;
+  all = λ d above. unless_seen (Contains (directories_above qs) d) (listed [] qs above.0 d above.1.0 above.1.1 above.1.2 above.2);
+  only = λ d listed. All-contains (StandsAbove qs) (directories_above qs) d (all_stand_above [] qs) listed;
+}

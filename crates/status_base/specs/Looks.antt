@@ -33,6 +33,12 @@ IsAscending qs = AllPairs (λ a b. slice_cmp nat_cmp a b ≡ Less) qs
 abbrev pub LooksLaw : Bool → (List ℕ → Result Metadata Fault) → CheckState → List (List ℕ) → CheckState → Type 0
 LooksLaw modelled lstat old qs new = old.path ≡ [] → IsAscending qs → AreVerified modelled lstat old qs new → new.looks ≤ old.looks + length (directories_above qs)
 
--- no directory is listed twice, and each one above one of the paths is listed
-abbrev pub ListedOnceLaw : List (List ℕ) → Type 0
-ListedOnceLaw qs = AllPairs (λ a b. a ≢ b) (directories_above qs) × ((q d : List ℕ) → Contains qs q → Contains (directories q) d → Contains (directories_above qs) d)
+-- a directory stands above one of the paths
+abbrev pub StandsAbove : List (List ℕ) → List ℕ → Type 0
+StandsAbove qs d = (q : List ℕ) × Contains qs q × Contains (directories q) d
+
+-- no directory is listed twice, and those are listed that stand above one of the paths, and no others
+pub record ListedOnceLaw (qs : List (List ℕ)) : Type 0 where
+  pub once : AllPairs (λ a b. a ≢ b) (directories_above qs)
+  pub all : (d : List ℕ) → StandsAbove qs d → Contains (directories_above qs) d
+  pub only : (d : List ℕ) → Contains (directories_above qs) d → StandsAbove qs d

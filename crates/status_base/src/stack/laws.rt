@@ -12,7 +12,7 @@ pub fn looks_are_few()
     ensures { (modelled : Bool) (lstat : List ℕ → Result Metadata Fault) (old new : CheckState) (qs : List (List ℕ)) → LooksLaw modelled lstat old qs new }
 {}
 
-/// The directories above some paths are listed once each, and all of them are.
+/// The directories above some paths are listed once each: all of them, and nothing else.
 pub fn directories_are_listed_once()
     ensures { (qs : List (List ℕ)) → ListedOnceLaw qs }
 {}
