@@ -1,7 +1,9 @@
 """What the tests of the tools share: a git repository for a test, tools that are run by themselves, and their ends."""
 
 import os
+import resource
 import shutil
+import signal
 import subprocess
 import sys
 import tempfile
@@ -22,6 +24,13 @@ def may_read_all():
     with tempfile.NamedTemporaryFile() as file:
         os.chmod(file.name, 0)
         return os.access(file.name, os.R_OK | os.W_OK)
+
+
+def limit_files(size):
+    """Lets this process write no further than so many bytes into a file."""
+    # The signal would end the process. Where it is ignored, the write fails.
+    signal.signal(signal.SIGXFSZ, signal.SIG_IGN)
+    resource.setrlimit(resource.RLIMIT_FSIZE, (size, size))
 
 
 def run_tool(tool, *words, stdout=subprocess.PIPE, **settings):

@@ -11,9 +11,10 @@ import stat
 import subprocess
 import tempfile
 import unittest
+from functools import partial
 
-from cases import FOO, HERE, PROGRAM
-from small_profiles import MALFORMED, MODIFIED, RENAMES, entry, node
+from cases import FOO, HERE, PROGRAM, limit_files
+from small_profiles import MALFORMED, MODIFIED, RENAMES, entry, node, put_out, wrong_files
 
 ROW_1 = os.path.join(os.path.dirname(HERE), "crates", "status_program", "data", "row1.json")
 # What row1.json is after a refresh with the moment 10 0.
@@ -44,12 +45,12 @@ class Refreshed(unittest.TestCase):
         with open(self.file, "w", encoding="utf-8") as file:
             json.dump(profile, file)
 
-    def run_program(self, *words):
-        ran = subprocess.run([PROGRAM, *words], capture_output=True, timeout=60)
+    def run_program(self, *words, **settings):
+        ran = subprocess.run([PROGRAM, *words], capture_output=True, timeout=60, **settings)
         return ran.returncode, ran.stdout.decode(), ran.stderr.decode()
 
-    def refresh(self, file=None, out=None, secs="10", nsecs="0"):
-        return self.run_program("refresh", file or self.file, out or self.out, secs, nsecs)
+    def refresh(self, file=None, out=None, secs="10", nsecs="0", **settings):
+        return self.run_program("refresh", file or self.file, out or self.out, secs, nsecs, **settings)
 
     def content(self, name):
         with open(name, encoding="utf-8") as file:
@@ -102,6 +103,21 @@ class Refreshed(unittest.TestCase):
         self.write(MODIFIED)
         self.assert_unwritten(os.path.join(self.room, "gone", "out.json"))
         self.assert_unwritten(os.path.join(self.file, "out.json"))
+
+    def test_a_file_that_there_is_no_room_for_is_not_written(self):
+        # The system takes as many bytes of the new file as there is room for, and refuses the next write.
+        self.write(MODIFIED)
+        out, line = f"{self.file}.out", '0 modified -c- "a"\n'
+        self.assertEqual(self.refresh(), (0, line, ""))
+        new = self.content(self.out)
+        for old in (None, "old"):
+            for room in (0, 1, len(new) - 1, len(new)):
+                with self.subTest(old=old, room=room):
+                    put_out(self.file, old)
+                    ran = self.refresh(out=out, preexec_fn=partial(limit_files, room))
+                    is_full = room < len(new)
+                    self.assertEqual(ran, (1, line, f"cannot write {out}\n") if is_full else (0, line, ""))
+                    self.assertIsNone(wrong_files(self.file, ran[0], old, new))
 
     def test_what_is_no_regular_file_is_refused(self):
         self.write(MODIFIED)

@@ -301,6 +301,18 @@ class Program(unittest.TestCase):
                             starts = it.calls().count("t")
                         self.assertEqual(starts > 0, limit == 2 and name not in ONE_PIECE, starts)
 
+    def test_a_joined_status_starts_a_thread_for_its_walk_and_more_only_if_the_limit_is_above_one(self):
+        rows = [name for name, row in ROWS.items() if row.is_joined]
+        with tempfile.TemporaryDirectory() as folder:
+            library = tool.compile_library(folder)
+            for name in rows:
+                for limit in (1, 2):
+                    with self.subTest(row=name, limit=limit):
+                        with tool.sweeper(PROGRAM, library, name, limit, 10) as it:
+                            starts = it.calls().count("t")
+                        self.assertEqual(starts > 1, limit == 2, starts)
+                        self.assertIn(starts - 1, range(limit + 1))
+
 
 if __name__ == "__main__":
     unittest.main()

@@ -7,15 +7,13 @@ The rows are run where STATUS_PROGRAM names the built program. Without it they a
 import json
 import os
 import re
-import resource
-import signal
 import subprocess
 import tempfile
 import unittest
 from contextlib import contextmanager
 from functools import partial
 
-from cases import FOO, PROGRAM, may_read_all
+from cases import FOO, PROGRAM, limit_files, may_read_all
 from row_files import Malformed, read_rows, row_files, rows_of
 
 # A profile of no entries and no nodes, and what it prints.
@@ -126,13 +124,6 @@ def run_program(folder, words, **settings):
     return subprocess.run([PROGRAM, *words], cwd=folder, timeout=60, **given)
 
 
-def limit_files(size):
-    """Lets this process write no further than so many bytes into a file."""
-    # The signal would end the process. Where it is ignored, the write fails.
-    signal.signal(signal.SIGXFSZ, signal.SIG_IGN)
-    resource.setrlimit(resource.RLIMIT_FSIZE, (size, size))
-
-
 def all_rows():
     """Each row, with the name of its file."""
     return [(os.path.basename(path), row) for path in row_files() for row in read_rows(path)]
@@ -204,6 +195,12 @@ class Inputs(unittest.TestCase):
         with open(os.path.join(self.folder, "f"), "wb") as file:
             file.write(content)
 
+    def write_over_folder(self, index):
+        """Writes a profile of these entries over the folder, which asks for the totals, with a piece for each entry."""
+        options = {"counts": True, "chunk_size": 1, "thread_limit": 1}
+        profile = {"timestamp": [9, 0], "options": options, "index": index, "folder": self.folder}
+        self.write(json.dumps(profile).encode())
+
     def test_a_profile_that_is_no_utf_8_is_refused(self):
         self.write(b'{"hash":"\xff"}')
         self.assert_ends("status f", 1, b"", b"not JSON\n")
@@ -222,25 +219,70 @@ class Inputs(unittest.TestCase):
                 self.assert_ends(command, 1, b"", b"cannot read /dev/stdin\n", stdin=folder)
         self.assertEqual(os.listdir(self.folder), [])
 
-    def test_a_path_of_ten_thousand_components_is_followed(self):
+    def assert_long_path_ends(self, text, mtime, record, read):
+        """What is printed of a path of 10,000 components with this file: a record's words, if any, and what was read."""
         path = "/".join(["a"] * 10_000)
         entry = {"path": path, "id": FOO, "size": 3, "mtime": [5, 0]}
-        node = {"path": path, "text": "bar", "mtime": [7, 0]}
+        node = {"path": path, "text": text, "mtime": mtime}
         profile = {"timestamp": [9, 0], "options": {"counts": True}, "index": [entry], "worktree": [node]}
         self.write(json.dumps(profile).encode())
-        totals = "total: to process 1, processed 1, skipped 0, lstat 1, to update 0, racy 0, read 1, bytes 3\n"
-        self.assert_ends("status f", 0, f'0 modified -c- "{path}"\n{totals}'.encode(), b"")
+        lines = f'0 {record} "{path}"\n' if record else ""
+        totals = f"total: to process 1, processed 1, skipped 0, lstat 1, to update 0, racy 0, {read}\n"
+        self.assert_ends("status f", 0, (lines + totals).encode(), b"")
+
+    def test_a_path_of_ten_thousand_components_is_followed(self):
+        self.assert_long_path_ends("bar", [7, 0], "modified -c-", "read 1, bytes 3")
+
+    def test_a_clean_path_of_ten_thousand_components_has_no_record(self):
+        self.assert_long_path_ends("foo", [5, 0], None, "read 0, bytes 0")
 
     def test_a_file_that_nobody_may_read_is_read_by_root_alone(self):
-        make_node(self.folder, "file", "locked", "foo")
+        for name, text in (("a", "bar"), ("locked", "foo"), ("z", "bar")):
+            make_node(self.folder, "file", name, text)
         os.chmod(os.path.join(self.folder, "locked"), 0)
-        entry = {"path": "locked", "mode": "100644", "id": FOO}
-        profile = {"timestamp": [9, 0], "index": [entry], "folder": self.folder}
-        self.write(json.dumps(profile).encode())
+        self.write_over_folder([{"path": name, "id": FOO} for name in ("a", "locked", "z")])
         if may_read_all():
-            self.assert_ends("status f", 0, b'0 update "locked"\n', b"")
+            totals = b"total: to process 3, processed 3, skipped 0, lstat 3, to update 1, racy 0, read 3, bytes 9\n"
+            lines = b'0 modified -c- "a"\n1 update "locked"\n2 modified -c- "z"\n' + totals
+            self.assert_ends("status f", 0, lines, b"")
         else:
-            self.assert_ends("status f", 1, b"", b"status failed: permission denied\n")
+            # The record before the fault stays printed, and there are no totals.
+            self.assert_ends("status f", 1, b'0 modified -c- "a"\n', b"status failed: permission denied\n")
+
+    def test_what_is_in_a_folder_that_nobody_may_enter_is_found_by_root_alone(self):
+        make_node(self.folder, "folder", "d")
+        make_node(self.folder, "folder", "d/e")
+        for name in ("d/e/x", "d/x"):
+            make_node(self.folder, "file", name, "foo")
+        os.chmod(os.path.join(self.folder, "d"), 0o600)
+        self.addCleanup(os.chmod, os.path.join(self.folder, "d"), 0o700)
+        # The fault comes from the directory on the way to the first, and from the second itself.
+        for path in ("d/e/x", "d/x"):
+            with self.subTest(path=path):
+                self.write_over_folder([{"path": "a", "id": FOO}, {"path": path, "id": FOO}])
+                if may_read_all():
+                    totals = b"total: to process 2, processed 2, skipped 0, lstat 2, to update 1, racy 0, read 1, bytes 3\n"
+                    lines = f'0 removed "a"\n1 update "{path}"\n'.encode() + totals
+                    self.assert_ends("status f", 0, lines, b"")
+                else:
+                    self.assert_ends("status f", 1, b'0 removed "a"\n', b"status failed: permission denied\n")
+
+    def test_a_link_whose_target_is_no_utf_8_is_a_fault(self):
+        os.symlink(b"\xff", os.path.join(self.folder, "l"))
+        self.write_over_folder([{"path": "a", "id": FOO}, {"path": "l", "mode": "120000", "id": FOO}])
+        self.assert_ends("status f", 1, b'0 removed "a"\n', b"status failed: other 0\n")
+
+    def test_a_clean_file_and_a_clean_link_are_never_opened(self):
+        # Reading the file would be a fault, or for root a change, and reading the link would be a fault.
+        make_node(self.folder, "file", "a", "bar", 5)
+        os.chmod(os.path.join(self.folder, "a"), 0)
+        link = os.path.join(self.folder, "l")
+        os.symlink(b"\xff", link)
+        os.utime(link, (5, 5), follow_symlinks=False)
+        clean = {"id": FOO, "mtime": [5, 0]}
+        self.write_over_folder([{"path": "a", "size": 3, **clean}, {"path": "l", "mode": "120000", "size": 1, **clean}])
+        totals = b"total: to process 2, processed 2, skipped 0, lstat 2, to update 0, racy 0, read 0, bytes 0\n"
+        self.assert_ends("status f", 0, totals, b"")
 
 
 if __name__ == "__main__":
