@@ -1,7 +1,11 @@
--- What is read of a stored index is that index.
-use Rattle.std.proofs.Common.{◌≡◌, ℕ, ◌^◌, ◌<◌, List, [], ◌∷◌, map, length, Some, Ok, All, refl, arith}
+-- What is read of a stored index is that index, with its known flags alone.
+use Rattle.std.proofs.Common.{◌≡◌, ℕ, ◌^◌, ◌<◌, List, [], ◌∷◌, map, length, slice_index_or, Some, Ok, All, AllPairs, refl, sym, ap, subst, ◌∙◌, arith}
+use Rattle.std.specs.Ordering.{nat_cmp, ordering_then}
+use Rattle.std.specs.Cmp.Lexicographic.{slice_cmp}
+use Rattle.std.specs.declared.cmp.Ordering.TheVariants.{Less}
 use Rattle.std.proofs.lemmas.Bool.{lt-ltb}
-use Rattle.std.proofs.lemmas.List.Elements.{All-head, All-tail}
+use Rattle.std.proofs.lemmas.List.{get_or-map, length-map}
+use Rattle.std.proofs.lemmas.List.Elements.{All-head, All-map, All-tail}
 use Rattle.hex.proofs.HexLemmas.{IsDigits-lower_digits, decode_pairs-encode_with, length-encode_with}
 use Rattle.hex.specs.Hex.{IsBytes, decode_pairs, encode_lower, lower_digits}
 use Rattle.serde_json.specs.Data.{string}
@@ -12,12 +16,13 @@ use Rattle.status_index.specs.declared.mode.Mode.{Mode}
 use Rattle.status_index.specs.declared.mode.Mode.TheVariants as modes
 use Rattle.status_index.specs.declared.stat.Moment.{Moment}
 use Rattle.status_index.specs.declared.stat.Time.{Time}
-use Rattle.status_index.specs.Entries.{IndexEntry, stage_of}
+use Rattle.status_index.specs.BlobId.{id_kind}
+use Rattle.status_index.specs.Entries.{IndexEntry, IsIndex, entry_cmp, stage_of}
 use Rattle.status_stored.specs.Reading.{number_in, time_in, moment_in, stage_in, mode_in, id_in, entry_in, entries_from, index_in}
-use Rattle.status_stored.specs.Storable.{AreKnown, IsKnown, Fits32, FitsTime, FitsId, IsStorable, IsStorableIndex}
+use Rattle.status_stored.specs.Storable.{AreKnown, IsKnown, known_entry, Fits32, FitsTime, FitsId, IsStorable, IsStorableIndex}
 use Rattle.status_stored.specs.StoredIndex.{stored_number, stored_stamp, stored_time, stored_entry, stored_index}
 use Rattle.status_stored.specs.Words.{mode_digits, id_digits}
-use Rattle.status_stored.proofs.FlagsBack.{flags_back}
+use Rattle.status_stored.proofs.FlagsBack.{flags_back, stage_known}
 
 number_back : (n : ℕ) → Fits32 n → number_in (stored_number n) ≡ Some n
 number_back n fits = rw (lt-ltb n (2 ^ 32) fits) refl
@@ -52,14 +57,14 @@ id_back (Sha256 digest) fits =
     let long : length (encode_lower digest) ≡ 64 = omega (arith, length-encode_with lower_digits digest, fits.0) in
     rw (long, pairs_back digest fits.1) refl
 
-entry_back : (e : IndexEntry) → IsStorable e → IsKnown e.flags.0 → entry_in (stored_entry e) ≡ Some e
+entry_back : (e : IndexEntry) → IsStorable e → entry_in (stored_entry e) ≡ Some (known_entry e)
 unfolding entry_in
-entry_back e h known =
+entry_back e h =
     let stat = h.stat in
     rw (
       id_back e.id h.id,
       stage_back e,
-      flags_back e.flags.0 known,
+      flags_back e.flags.0,
       mode_back e.mode,
       number_back e.stat.size stat.size,
       time_back e.stat.mtime stat.mtime,
@@ -70,13 +75,48 @@ entry_back e h known =
       number_back e.stat.gid stat.gid,
     ) refl
 
-entries_back : (es : List IndexEntry) → All IsStorable es → AreKnown es → entries_from (items_of (map stored_entry es)) ≡ Some es
-entries_back [] h known = refl
-entries_back (e ∷ es) h known =
-    let first = entry_back e (All-head IsStorable e es h) (All-head (λ x. IsKnown x.flags.0) e es known) in
-    let rest = entries_back es (All-tail IsStorable e es h) (All-tail (λ x. IsKnown x.flags.0) e es known) in
+entries_back : (es : List IndexEntry) → All IsStorable es → entries_from (items_of (map stored_entry es)) ≡ Some (map known_entry es)
+entries_back [] h = refl
+entries_back (e ∷ es) h =
+    let first = entry_back e (All-head IsStorable e es h) in
+    let rest = entries_back es (All-tail IsStorable e es h) in
     rw (first, rest) refl
 
-pub index_back : (es : List IndexEntry) (t : Moment) → IsStorableIndex es t → AreKnown es → index_in (stored_index es t) ≡ Some (es, t)
+pub index_back : (es : List IndexEntry) (t : Moment) → IsStorableIndex es t → index_in (stored_index es t) ≡ Some (map known_entry es, t)
 unfolding index_in
-index_back es t h known = rw (moment_back t h.secs h.nsecs, entries_back es h.entries known) refl
+index_back es t h = rw (moment_back t h.secs h.nsecs, entries_back es h.entries) refl
+
+-- ---- known flags
+
+entry_same : (e : IndexEntry) → IsKnown e.flags.0 → known_entry e ≡ e
+entry_same e known = λ i. record { path = e.path; stat = e.stat; id = e.id; flags = record { 0 = sym known i }; mode = e.mode }
+
+-- entries whose flags are known stay as they are
+pub entries_same : (es : List IndexEntry) → AreKnown es → map known_entry es ≡ es
+entries_same [] known = refl
+entries_same (e ∷ es) known = λ i.
+    entry_same e (All-head (λ x. IsKnown x.flags.0) e es known) i ∷ entries_same es (All-tail (λ x. IsKnown x.flags.0) e es known) i
+
+pub index_same : (es : List IndexEntry) (t : Moment) → IsStorableIndex es t → AreKnown es → index_in (stored_index es t) ≡ Some (es, t)
+index_same es t h known = index_back es t h ∙ ap (λ (l : List IndexEntry). Some (l, t)) (entries_same es known)
+
+-- ---- the entries that are read are an index
+
+pairs_map : (R : IndexEntry → IndexEntry → Type 0) (f : IndexEntry → IndexEntry) (es : List IndexEntry) → AllPairs (λ a b. R (f a) (f b)) es → AllPairs R (map f es)
+pairs_map R f es h = λ i j d l m.
+    let inside : j < length es = subst (λ n. j < n) (length-map es f) m in
+    let first : slice_index_or (map f es) i d ≡ f (slice_index_or es i d) = get_or-map f es i d d (omega (arith, l, inside)) in
+    let second : slice_index_or (map f es) j d ≡ f (slice_index_or es j d) = get_or-map f es j d d inside in
+    subst (λ x. R x (slice_index_or (map f es) j d)) (sym first) (subst (λ y. R (f (slice_index_or es i d)) y) (sym second) (h i j d l inside))
+
+pub known_index : (es : List IndexEntry) → IsIndex es → IsIndex (map known_entry es)
+known_index es index = record {
+  named = All-map (λ (e : IndexEntry). 0 < length e.path) known_entry es index.named;
+  ascending = pairs_map (λ a b. entry_cmp a b ≡ Less) known_entry es (λ i j d l m.
+      let a : IndexEntry = slice_index_or es i d in
+      let b : IndexEntry = slice_index_or es j d in
+      let same : entry_cmp (known_entry a) (known_entry b) ≡ entry_cmp a b =
+      λ k. ordering_then (slice_cmp nat_cmp a.path b.path) (nat_cmp (stage_known a.flags.0 k) (stage_known b.flags.0 k)) in
+      same ∙ index.ascending i j d l m);
+  one_kind = pairs_map (λ a b. id_kind a.id ≡ id_kind b.id) known_entry es index.one_kind;
+}

@@ -1,14 +1,15 @@
 -- The index of a world that events made is the same after it was stored and loaded.
-use Rattle.std.proofs.Common.{◌≡◌, refl, sym, subst, ◌∙◌, ℕ, List, Result, Ok, Err, IfErr, OnOk}
+use Rattle.std.proofs.Common.{◌≡◌, refl, sym, subst, ◌∙◌, ℕ, List, map, Result, Ok, Err, IfErr, OnOk}
 use Rattle.status_index.specs.declared.stat.Moment.{Moment}
 use Rattle.status_index.specs.declared.state.State.{State}
 use Rattle.status_index.specs.Entries.{IndexEntry}
 use Rattle.status_index.specs.FlagBits.{bits_of_stage}
 use Rattle.status_index.specs.States.{index_of, timestamp_of}
 use Rattle.status_stored.specs.declared.error.ReopenError.TheVariants as errors
-use Rattle.status_stored.specs.RoundTrip.{IsRoundTrip, IsStateOf}
-use Rattle.status_stored.specs.Storable.{AreKnown, IsKnown, IsNotUtf8At, IsStorableIndex}
+use Rattle.status_stored.specs.RoundTrip.{IsRoundTrip}
+use Rattle.status_stored.specs.Storable.{AreKnown, IsKnown, known_entry, IsNotUtf8At, IsStorableIndex}
 use Rattle.status_stored.specs.Reopening.{IsOpeningRefusal}
+use Rattle.status_stored.proofs.Back.{entries_same}
 use Rattle.status_world.specs.declared.world.refusal.Refusal.{Refusal}
 use Rattle.status_world.specs.declared.world.refusal.Refusal.TheVariants.{OtherIndex}
 use Rattle.status_world.specs.SameIndex as opens
@@ -31,7 +32,7 @@ not_text w es t at own h = λ formed. (at, subst (λ l. IsNotUtf8At l at) own h)
 
 pub unread : (w : StampedWorld) (es : List IndexEntry) (t : Moment) → es ≡ w.entries → IsRoundTrip es t (Err errors.Unreadable)
     → IsOpeningRefusal w OtherIndex
-unread w es t own h = λ formed. absurd (h (subst AreKnown (sym own) (known_flags w formed)))
+unread w es t own h = absurd h
 
 -- what was loaded was storable
 pub storable : (w : StampedWorld) (es : List IndexEntry) (t : Moment) (s : State) (r : Result (Unit {0}) Refusal) → es ≡ w.entries → t ≡ w.timestamp
@@ -46,5 +47,5 @@ refused w es t s (Ok _) new own own_time loaded opened = tt
 refused w es t s (Err r) new own own_time loaded opened =
     subst (IsOpeningRefusal w) (sym opened.0)
     (λ formed.
-    let same : IsStateOf es t s = loaded.1 (subst AreKnown (sym own) (known_flags w formed)) in
-    absurd (opened.1 (sym (same.1 ∙ own_time), sym (same.0 ∙ own))))
+    let known : map known_entry es ≡ es = entries_same es (subst AreKnown (sym own) (known_flags w formed)) in
+    absurd (opened.1 (sym (loaded.1.1 ∙ own_time), sym (loaded.1.0 ∙ known ∙ own))))

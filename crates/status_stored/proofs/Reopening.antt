@@ -1,5 +1,5 @@
 -- What is loaded of a stored index.
-use Rattle.std.proofs.Common.{◌≡◌, List, Some, None, Err, sym, ap, ◌∙◌}
+use Rattle.std.proofs.Common.{◌≡◌, List, map, Some, None, Err, sym, ap, ◌∙◌}
 use Rattle.serde_json.specs.Data.{Data}
 use Rattle.status_index.specs.declared.stat.Moment.{Moment}
 use Rattle.status_index.specs.declared.state.IndexError.{IndexError}
@@ -10,9 +10,9 @@ use Rattle.status_stored.specs.declared.error.ReopenError.TheVariants.{NotUtf8, 
 use Rattle.status_stored.specs.Loading.{IsRefusedIndex}
 use Rattle.status_stored.specs.Reading.{index_in}
 use Rattle.status_stored.specs.RoundTrip.{IsReadAgain, IsRoundTrip}
-use Rattle.status_stored.specs.Storable.{AreKnown, IsStorableIndex}
+use Rattle.status_stored.specs.Storable.{known_entry, IsStorableIndex}
 use Rattle.status_stored.specs.StoredIndex.{stored_index}
-use Rattle.status_stored.proofs.Back.{index_back}
+use Rattle.status_stored.proofs.Back.{index_back, known_index}
 
 -- what isn't parsed is refused for want of memory
 pub parse_refused : (es : List IndexEntry) (t : Moment) (d : Data) (e : ReopenError) → IsReadAgain d (Err e) → IsRoundTrip es t (Err e)
@@ -24,25 +24,25 @@ one_pair : (a b : List IndexEntry × Moment) → Some a ≡ Some b → a ≡ b
 one_pair a b h = cc
 
 module _ (es : List IndexEntry) (t : Moment) (d : Data) (is : d ≡ stored_index es t) (h : IsStorableIndex es t) where
-  said : AreKnown es → index_in d ≡ Some (es, t)
-  said known = rw is (index_back es t h known)
+  said : index_in d ≡ Some (map known_entry es, t)
+  said = rw is (index_back es t h)
 
-  pub loaded_same : (read : List IndexEntry) (at : Moment) → index_in d ≡ Some (read, at) → AreKnown es → (read ≡ es) × (at ≡ t)
-  loaded_same read at loaded known =
-      let same = one_pair (read, at) (es, t) (sym loaded ∙ said known) in
+  pub loaded_same : (read : List IndexEntry) (at : Moment) → index_in d ≡ Some (read, at) → (read ≡ map known_entry es) × (at ≡ t)
+  loaded_same read at loaded =
+      let same = one_pair (read, at) (map known_entry es, t) (sym loaded ∙ said) in
       (ap (λ pair. pair.0) same, ap (λ pair. pair.1) same)
 
-  pub never_form : index_in d ≡ None → AreKnown es → ⊥
-  never_form none known = cc (said known)
+  pub never_form : index_in d ≡ None → ⊥
+  never_form none = cc said
 
-  pub never_refused : (e : IndexError) → IsIndex es → IsRefusedIndex (index_in d) e → AreKnown es → ⊥
-  never_refused (refusals.EmptyPath at) index refused known =
-      let refusal = rw (said known) at refused in
-      refusal.1 index
-  never_refused (refusals.NotAscending at) index refused known =
-      let refusal = rw (said known) at refused in
-      refusal.1 index
-  never_refused (refusals.MixedHash at) index refused known =
-      let refusal = rw (said known) at refused in
-      refusal.1 index
-  never_refused refusals.Memory index refused known = rw (said known) at refused
+  pub never_refused : (e : IndexError) → IsIndex es → IsRefusedIndex (index_in d) e → ⊥
+  never_refused (refusals.EmptyPath at) index refused =
+      let refusal = rw said at refused in
+      refusal.1 (known_index es index)
+  never_refused (refusals.NotAscending at) index refused =
+      let refusal = rw said at refused in
+      refusal.1 (known_index es index)
+  never_refused (refusals.MixedHash at) index refused =
+      let refusal = rw said at refused in
+      refusal.1 (known_index es index)
+  never_refused refusals.Memory index refused = rw said at refused

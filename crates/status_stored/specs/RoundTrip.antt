@@ -1,5 +1,5 @@
 -- What an index is after it was stored, written as text, parsed and loaded.
-use Rattle.std.specs.Prelude.{◌≡◌, List, Result, Ok, Err, ⊤}
+use Rattle.std.specs.Prelude.{◌≡◌, List, map, Result, Ok, Err, ⊤}
 use Rattle.serde_json.specs.Data.{Data}
 use Rattle.serde_json.specs.View.{view}
 use Rattle.serde_json.specs.declared.value.Value.{Value}
@@ -9,17 +9,17 @@ use Rattle.status_index.specs.Entries.{IndexEntry}
 use Rattle.status_index.specs.States.{index_of, timestamp_of}
 use Rattle.status_stored.specs.declared.error.ReopenError.{ReopenError}
 use Rattle.status_stored.specs.declared.error.ReopenError.TheVariants.{NotUtf8, Unreadable, Memory}
-use Rattle.status_stored.specs.Storable.{AreKnown, IsNotUtf8At, IsStorableIndex}
+use Rattle.status_stored.specs.Storable.{known_entry, IsNotUtf8At, IsStorableIndex}
 
 -- the entries and the timestamp of an index are these
 abbrev pub IsStateOf : List IndexEntry → Moment → State → Type 0
 IsStateOf es t s = (index_of s ≡ es) × (timestamp_of s ≡ t)
 
--- the same index, where all its flags are known; what was written is then never unreadable
+-- the same index, with its known flags alone; what was written is never unreadable
 abbrev pub IsRoundTrip : List IndexEntry → Moment → Result State ReopenError → Type 0
-IsRoundTrip es t (Ok s) = IsStorableIndex es t × (AreKnown es → IsStateOf es t s)
+IsRoundTrip es t (Ok s) = IsStorableIndex es t × IsStateOf (map known_entry es) t s
 IsRoundTrip es t (Err (NotUtf8 at)) = IsNotUtf8At es at
-IsRoundTrip es t (Err Unreadable) = AreKnown es → ⊥
+IsRoundTrip es t (Err Unreadable) = ⊥
 IsRoundTrip es t (Err Memory) = ⊤
 
 -- a value that was written and parsed is the same

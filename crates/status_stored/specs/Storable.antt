@@ -50,9 +50,17 @@ pub record IsStorableIndex (es : List IndexEntry) (t : Moment) : Type 0 where
   pub secs : Fits32 t.secs
   pub nsecs : Fits32 t.nsecs
 
--- bits that name no flag aren't stored: there are none but the stage's two and the five lowest, which are the flags'
+-- of some bits those that are stored: the stage's two and the five lowest, which are the flags'
+abbrev pub known_bits : ℕ → ℕ
+known_bits bits = stage_of_bits bits * 0x1000 + bits % 32
+
+-- an entry with its known flags alone
+abbrev pub known_entry : IndexEntry → IndexEntry
+known_entry e = record { path = e.path; stat = e.stat; id = e.id; flags = record { 0 = known_bits e.flags.0 }; mode = e.mode }
+
+-- there are no other bits
 abbrev pub IsKnown : ℕ → Type 0
-IsKnown bits = bits ≡ stage_of_bits bits * 0x1000 + bits % 32
+IsKnown bits = bits ≡ known_bits bits
 
 -- all flags of an index are known
 abbrev pub AreKnown : List IndexEntry → Type 0

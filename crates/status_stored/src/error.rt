@@ -84,7 +84,7 @@ pub enum ReopenError {
         /// The entry's place.
         at: usize,
     },
-    /// What was stored isn't read. This doesn't happen to an index whose flags are all known.
+    /// What was stored isn't read. It is never answered.
     #[error("the stored index can't be read")]
     Unreadable,
     /// Memory ran out.

@@ -14,12 +14,11 @@ use serde_json::Value;
 use status_index::State;
 use std::alloc::Global;
 
-/// The index that is loaded of the compact text of what `state` is stored as. It is the same index, where its flags are
-/// those that have words.
+/// The index that is loaded of the compact text of what `state` is stored as. It is the same index, with the flags that have
+/// words: bits that name no flag aren't stored.
 ///
 /// # Errors
-/// Where a path isn't UTF-8: the first of these. Or where memory runs out. With other flags also
-/// [`ReopenError::Unreadable`].
+/// Where a path isn't UTF-8: the first of these. Or where memory runs out.
 pub fn reopened(alloc: Global, state: &State) -> Result<State, ReopenError>
     ensures { IsRoundTrip (index_of state.now) (timestamp_of state.now) result }
 {
