@@ -15,7 +15,7 @@ events_all : (ss ts : List (Vec Event Global)) → events_in (ss ++ ts) ≡ even
 events_all [] ts = refl
 events_all (s ∷ ss) ts = ap (λ l. s.items ++ l) (events_all ss ts) ∙ sym (append_assoc s.items (events_in ss) (events_in ts))
 
-events_more : (ss : List (Vec Event Global)) (k : ℕ) (s : Vec Event Global) → k < length ss → s ≡ slice_index_or ss k s
+pub events_more : (ss : List (Vec Event Global)) (k : ℕ) (s : Vec Event Global) → k < length ss → s ≡ slice_index_or ss k s
     → events_in (take (k + 1) ss) ≡ events_in (take k ss) ++ s.items
 events_more ss k s inside here =
     ap events_in (take_more ss k s inside ∙ ap (λ x. take k ss ++ x ∷ []) (sym here))

@@ -8,9 +8,9 @@ use Rattle.status_stored.specs.Storable.{IsNotUtf8At}
 use Rattle.status_world.specs.declared.world.event.Event.{Event}
 use Rattle.status_world.specs.declared.world.refusal.Refusal.{Refusal}
 use Rattle.status_world.specs.declared.world.refusal.Refusal.TheVariants as refusals
-use Rattle.status_world.specs.History.{IsReplay}
+use Rattle.status_world.specs.History.{AreExact, HasDistinctContents, IsExactIfSound, IsReplay, plain_world_of, plains_of}
 use Rattle.status_world.specs.Reports.{RunReport}
-use Rattle.status_world.specs.Sound.{IsFormed}
+use Rattle.status_world.specs.Sound.{IsFormed, IsSound}
 use Rattle.status_world.specs.StampedWorld.{StampedWorld}
 
 -- the events of some stretches, in order
@@ -41,3 +41,18 @@ IsReopenedReplay w ss final reports (Some (stops.Reports stretch)) =
     (stretch < length ss) × (before : StampedWorld) × IsReplay w (events_in (take stretch ss)) before reports None
     × (lost : List RunReport) × (stopped : Option (ℕ × Refusal))
     × ((d : Vec Event Global) → IsReplay before (slice_index_or ss stretch d).items final lost stopped)
+
+-- the reports of these stretches are exact, and the world's index can be trusted
+pub record IsExactUpTo (w : StampedWorld) (ss : List (Vec Event Global)) (final : StampedWorld) (reports : List RunReport) : Type 0 where
+  pub exact : AreExact w.executable_bit reports (plains_of (events_in ss) (plain_world_of w))
+  pub sound : IsSound final
+
+-- no change is missed, as in a replay without a reopening. Where there was no memory for a stretch's reports, those before it
+-- are exact, where contents at hand that have one id are one, also those of the stretch's events
+abbrev pub IsExactIfReopened : StampedWorld → List (Vec Event Global) → StampedWorld → List RunReport → Option Stop → Type 0
+IsExactIfReopened w ss final reports None = IsExactIfSound w (events_in ss) final reports None
+IsExactIfReopened w ss final reports (Some (stops.Event stretch at refusal)) =
+    IsExactIfSound w (events_in ss) final reports (Some (length (events_in (take stretch ss)) + at, refusal))
+IsExactIfReopened w ss final reports (Some (stops.Opening stretch refusal)) = IsExactIfSound w (events_in (take stretch ss)) final reports None
+IsExactIfReopened w ss final reports (Some (stops.Reports stretch)) =
+    IsSound w → HasDistinctContents w (events_in (take (stretch + 1) ss)) → IsExactUpTo w (take stretch ss) final reports

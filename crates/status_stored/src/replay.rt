@@ -1,7 +1,7 @@
 //! Replaying stretches of events.
 
 ghost use Rattle.std.specs.Prelude.{All, map};
-ghost use Rattle.status_stored.specs.Reopening.{IsReopenedReplay};
+ghost use Rattle.status_stored.specs.Reopening.{IsReopenedReplay, IsExactIfReopened};
 ghost use Rattle.status_world.specs.Reports.{HasSum, report_value};
 ghost use Rattle.status_world.specs.Sound.{IsFormed};
 
@@ -16,8 +16,24 @@ use std::thread::Threads;
 /// stored, written as text, parsed, loaded, and opened again in the world.
 ///
 /// **To store an index and open it again changes nothing**: the reports and the world are those of a
-/// [`replay`](status_world::world::replay) of all the events without a reopening.
+/// [`replay`](status_world::world::replay) of all the events without a reopening. So no change is missed, where the
+/// world's index can be trusted and contents that have one id are one.
 pub fn replay_reopening<R: Threads + Wait>(
+    rt: &R,
+    alloc: Global,
+    world: World,
+    stretches: &[Vec<Event>],
+) -> ReopenedReplay
+    ensures replay { IsReopenedReplay world stretches.now result.world (map report_value result.reports.items) result.stopped }
+    ensures formed { IsFormed world → IsFormed result.world }
+    ensures exact { IsFormed world → IsExactIfReopened world stretches.now result.world (map report_value result.reports.items) result.stopped }
+    ensures sums { All HasSum result.reports.items }
+{
+    replay_stretches(rt, alloc, world, stretches)
+}
+
+/// The same, stretch by stretch.
+fn replay_stretches<R: Threads + Wait>(
     rt: &R,
     alloc: Global,
     world: World,

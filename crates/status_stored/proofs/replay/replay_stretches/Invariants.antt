@@ -3,7 +3,7 @@ use Rattle.status_stored.specs.Reopening.{events_in}
 use Rattle.status_world.specs.Reports.{HasSum, report_value}
 use Rattle.status_world.specs.Sound.{IsFormed}
 use Rattle.status_world.proofs.Replays.{AreReplayed}
-use Rattle.status_stored.proofs.replay.replay_reopening.Given as goal
+use Rattle.status_stored.proofs.replay.replay_stretches.Given as goal
 
 -- the events of the stretches so far were accepted, and gave the reports
 abbrev pub invariant-loop-stretch : goal.invariant-loop-stretch
