@@ -27,9 +27,9 @@ use Rattle.status_joined.specs.RewritingAnswers.{IsListFed}
 use Rattle.status_joined.specs.Summaries.{reported_cmp}
 use Rattle.status_joined.proofs.InOrder.{alone_in_order, rewritten_in_order}
 
-module _ {T U : Type 0} (query : Query T U) (options : Options) (index : State) (interruptible : Bool) (walking : Option Walking) (ids : Identifying) (means : List Changed → Bool → Result (List Pair) TrackerFault → Type 0) where
+module _ {T U : Type 0} (query : Query T U) (options : Options) (index : State) (interruptible : Bool) (walking : Option Walking) (ids : Identifying) (means : List Changed → Bool → Result (List Pair) TrackerFault → Type 0) (may_fail : Bool) where
   -- an error before anything was reported
-  pub quietly : (old : List (Reported T U)) (e : Error) → IsFault query options index interruptible walking ids means e → IsJoinedStatus query options index interruptible walking ids means old (Err e) old
+  pub quietly : (old : List (Reported T U)) (e : Error) → IsFault query options index interruptible walking ids means e → IsJoinedStatus query options index interruptible walking ids means may_fail old (Err e) old
   quietly old e fault = record { more = []; grew = sym (append-nil old); complete = tt; fault = fault; quiet = inl (λ i. []) }
 
   fault_of_half : (e : Error) → IsHalfFault query options index interruptible walking e → IsFault query options index interruptible walking ids means e
@@ -45,7 +45,7 @@ module _ {T U : Type 0} (query : Query T U) (options : Options) (index : State) 
   fault_of_half (errors.RewriteTracker x) fault = absurd fault
 
   -- a half failed
-  pub unlisted : (old : List (Reported T U)) (e : Error) → IsHalfFault query options index interruptible walking e → IsJoinedStatus query options index interruptible walking ids means old (Err e) old
+  pub unlisted : (old : List (Reported T U)) (e : Error) → IsHalfFault query options index interruptible walking e → IsJoinedStatus query options index interruptible walking ids means may_fail old (Err e) old
   unlisted old e fault = quietly old e (fault_of_half e fault)
 
   -- what is reported of a sorted list is sorted
@@ -90,36 +90,39 @@ module _ {T U : Type 0} (query : Query T U) (options : Options) (index : State) 
     fault_of_list (Some r) is (errors.RewriteTracker x) fault = record { tracked = tracked; walked = walked; list = list; has = has; fault = rw is fault }
 
     -- all was reported
-    pub reported_all : (o : Option RewritesOutcome) (old new : List (Reported T U)) → IsListFed ids options.object_hash means options.rewrites list old (Ok o) new → IsJoinedStatus query options index interruptible walking ids means old (Ok (ended o)) new
+    pub reported_all : (o : Option RewritesOutcome) (old new : List (Reported T U)) → IsListFed ids options.object_hash means options.rewrites list may_fail old (Ok o) new → IsJoinedStatus query options index interruptible walking ids means may_fail old (Ok (ended o)) new
     reported_all o old new (ts, (reported, grew)) = record { more = ts; grew = grew; complete = whole_of ts o reported; fault = tt; quiet = tt }
 
     -- the list has no renames and copies, or memory ran out while it was reported
-    pub unreported : (e : Error) (old new : List (Reported T U)) → IsListFed ids options.object_hash means options.rewrites list old (Err e) new → IsJoinedStatus query options index interruptible walking ids means old (Err e) new
+    pub unreported : (e : Error) (old new : List (Reported T U)) → IsListFed ids options.object_hash means options.rewrites list may_fail old (Err e) new → IsJoinedStatus query options index interruptible walking ids means may_fail old (Err e) new
     unreported e old new (inl (fault, same)) =
-        subst (λ x. IsJoinedStatus query options index interruptible walking ids means old (Err e) x) (sym same)
+        subst (λ x. IsJoinedStatus query options index interruptible walking ids means may_fail old (Err e) x) (sym same)
         (quietly old e (fault_of_list options.rewrites refl e fault))
-    unreported e old new (inr (memory, (ts, (o, (reported, (n, few, grew)))))) =
-        subst (λ x. IsJoinedStatus query options index interruptible walking ids means old (Err x) new) (sym memory)
+    unreported e old new (inr (fails, (memory, (ts, (o, (reported, (n, few, grew))))))) =
+        subst (λ x. IsJoinedStatus query options index interruptible walking ids means may_fail old (Err x) new) (sym memory)
         (record {
           more = take n ts;
           grew = grew;
           complete = tt;
           fault = tt;
           quiet = inr (
-            (λ i. errors.Memory),
-            record {
-              whole = ts;
-              outcome = ended o;
-              is_whole = whole_of ts o reported;
-              beginning = (drop n ts, take-append-drop n ts);
-              short = omega (arith, few, length-take-le n ts (omega (arith, few)));
-            },
+            fails,
+            (
+              (λ i. errors.Memory),
+              record {
+                whole = ts;
+                outcome = ended o;
+                is_whole = whole_of ts o reported;
+                beginning = (drop n ts, take-append-drop n ts);
+                short = omega (arith, few, length-take-le n ts (omega (arith, few)));
+              },
+            ),
           );
         })
 
   -- the same by what the call's steps say of its decider, of the walk that is wanted and of the ids' filter
-  pub joined_at : (by : Query T U) → by ≡ query → (w : Option Walking) → w ≡ walking → (known : Identifying) → known ≡ ids → (old : List (Reported T U)) (result : Result Outcome Error) (new : List (Reported T U)) → IsJoinedStatus by options index interruptible w known means old result new → IsJoinedStatus query options index interruptible walking ids means old result new
+  pub joined_at : (by : Query T U) → by ≡ query → (w : Option Walking) → w ≡ walking → (known : Identifying) → known ≡ ids → (old : List (Reported T U)) (result : Result Outcome Error) (new : List (Reported T U)) → IsJoinedStatus by options index interruptible w known means may_fail old result new → IsJoinedStatus query options index interruptible walking ids means may_fail old result new
   joined_at by same_query w same_walk known same_ids old result new is =
-      subst (λ x. IsJoinedStatus x options index interruptible walking ids means old result new) same_query
-      (subst (λ x. IsJoinedStatus by options index interruptible x ids means old result new) same_walk
-      (subst (λ x. IsJoinedStatus by options index interruptible w x means old result new) same_ids is))
+      subst (λ x. IsJoinedStatus x options index interruptible walking ids means may_fail old result new) same_query
+      (subst (λ x. IsJoinedStatus by options index interruptible x ids means may_fail old result new) same_walk
+      (subst (λ x. IsJoinedStatus by options index interruptible w x means may_fail old result new) same_ids is))

@@ -55,23 +55,23 @@ module _ {T U : Type 0} (query : Query T U) (options : Options) (index : State) 
     pub beginning : IsBeginning reported whole
     pub short : length reported < length whole
 
-  -- what was reported over any worktree, and where all that was handed in is modelled
-  pub record IsJoinedStatus (old : List (Reported T U)) (result : Result Outcome Error) (new : List (Reported T U)) : Type 0 where
+  -- what was reported to a collector, which may fail or never does, over any worktree, and where all that was handed in is modelled
+  pub record IsJoinedStatus (may_fail : Bool) (old : List (Reported T U)) (result : Result Outcome Error) (new : List (Reported T U)) : Type 0 where
     pub more : List (Reported T U)
     pub grew : new ≡ old ++ more
     -- Ok: all that there is to report
     pub complete : IfOk result (IsWhole more)
     -- an error: a fault that a part has
     pub fault : IfErr result IsFault
-    -- on an error nothing was reported; or the collector's memory ran out, behind a beginning
-    pub quiet : IfErr result (λ e. (more ≡ []) ⊎ ((e ≡ Memory) × IsCutShort more))
+    -- on an error nothing was reported; or the collector, which may fail, had no memory for an entry behind a beginning
+    pub quiet : IfErr result (λ e. (more ≡ []) ⊎ (IsTrue may_fail × ((e ≡ Memory) × IsCutShort more)))
 
 -- the same of what was handed in: the status of the index by the options, the walk where one is wanted, and the ids by their kind
-abbrev pub IsMetBy : {T U : Type 0} → JoinedQuery T U → Options → State → List (Reported T U) → Result Outcome Error → List (Reported T U) → Type 0
-IsMetBy q options index old result new =
+abbrev pub IsMetBy : {T U : Type 0} → JoinedQuery T U → Options → State → Bool → List (Reported T U) → Result Outcome Error → List (Reported T U) → Type 0
+IsMetBy q options index may_fail old result new =
     IsJoinedStatus (q.status (settings (tracked_options options) index)) options index q.interruptible
-    (wanted_walk options.dirwalk (q.walking (index_of index))) (q.identifying options.object_hash) q.pairs old result new
+    (wanted_walk options.dirwalk (q.walking (index_of index))) (q.identifying options.object_hash) q.pairs may_fail old result new
 
 -- the same by the meaning of the collector
-abbrev pub IsJoined : {I T U V : Type 0} → (I → JoinedQuery T U) → I → Options → State → (V → List (Reported T U)) → V → Result Outcome Error → V → Type 0
-IsJoined query given options index visits old result new = IsMetBy (query given) options index (visits old) result (visits new)
+abbrev pub IsJoined : {I T U V : Type 0} → (I → JoinedQuery T U) → I → Options → State → Bool → (V → List (Reported T U)) → V → Result Outcome Error → V → Type 0
+IsJoined query given options index may_fail visits old result new = IsMetBy (query given) options index may_fail (visits old) result (visits new)

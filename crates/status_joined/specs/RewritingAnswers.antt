@@ -1,5 +1,5 @@
 -- What the rewriting of a list answers.
-use Rattle.std.specs.Prelude.{◌≡◌, ◌⊎◌, ℕ, ◌<◌, Bool, List, ◌++◌, length, map, take, Option, Result, Ok, Err}
+use Rattle.std.specs.Prelude.{◌≡◌, ◌⊎◌, ℕ, ◌<◌, Bool, IsTrue, List, ◌++◌, length, map, take, Option, Result, Ok, Err}
 use Rattle.status_index.specs.declared.id.HashKind.{HashKind}
 use Rattle.status_rewrites.specs.Entries.{map_rewritten}
 use Rattle.status_rewrites.specs.TrackedChanges.{Changed}
@@ -21,12 +21,12 @@ abbrev pub IsRewritingAnswer : {T U : Type 0} → Identifying → HashKind → (
 IsRewritingAnswer ids kind means rewrites list (Ok r) = IsRewriting ids kind means rewrites.track_empty (map item_of list) (map (map_rewritten item_of) r.entries.items) r.outcome
 IsRewritingAnswer ids kind means rewrites list (Err e) = IsRewritingFault ids kind means rewrites.track_empty (map item_of list) e
 
--- the list was reported; or why it has no renames and copies, and nothing was reported; or memory ran out behind a beginning of it, and not
--- all of it
-abbrev pub IsListFed : {T U : Type 0} → Identifying → HashKind → (List Changed → Bool → Result (List Pair) TrackerFault → Type 0) → Option Rewrites → List (Item T U) → List (Reported T U) → Result (Option Outcome) Error → List (Reported T U) → Type 0
-IsListFed {T} {U} ids kind means rewrites list old (Ok o) new =
+-- the list was reported; or why it has no renames and copies, and nothing was reported; or the collector failed, for want of memory, behind a
+-- beginning of it, and not all of it
+abbrev pub IsListFed : {T U : Type 0} → Identifying → HashKind → (List Changed → Bool → Result (List Pair) TrackerFault → Type 0) → Option Rewrites → List (Item T U) → Bool → List (Reported T U) → Result (Option Outcome) Error → List (Reported T U) → Type 0
+IsListFed {T} {U} ids kind means rewrites list may_fail old (Ok o) new =
     (ts : List (Reported T U)) × (IsReportedOf ids kind means rewrites list ts o × (new ≡ old ++ ts))
-IsListFed {T} {U} ids kind means rewrites list old (Err e) new =
+IsListFed {T} {U} ids kind means rewrites list may_fail old (Err e) new =
     (IsListFault ids kind means rewrites list e × (new ≡ old))
-    ⊎ ((e ≡ Memory) × ((ts : List (Reported T U)) × ((o : Option Outcome)
-    × (IsReportedOf ids kind means rewrites list ts o × ((n : ℕ) × (n < length ts) × (new ≡ old ++ take n ts))))))
+    ⊎ (IsTrue may_fail × ((e ≡ Memory) × ((ts : List (Reported T U)) × ((o : Option Outcome)
+    × (IsReportedOf ids kind means rewrites list ts o × ((n : ℕ) × (n < length ts) × (new ≡ old ++ take n ts)))))))

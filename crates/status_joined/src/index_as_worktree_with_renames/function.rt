@@ -33,8 +33,8 @@ use std::thread::Threads;
 ///
 /// # Errors
 /// The walk's fault, or else the status's, that of the first node that has no id, or the tracker's; or the first of the
-/// tracker's pairs that breaks a rule. A thread that the status was refused is a fault of its. Then nothing was reported. Want
-/// of memory; then nothing was reported, or a beginning.
+/// tracker's pairs that breaks a rule. A thread that the status was refused is a fault of its. Want of memory. Then nothing was
+/// reported, unless it was the collector that had no memory for an entry: then the entries before it were.
 pub fn index_as_worktree_with_renames<
     'index,
     'w,
@@ -67,7 +67,7 @@ where
     S::Output: Send + ExactClone + 'index,
     ensures { IsJoined ⟦<Inputs<'w, W, C, S, O, P, T, L, K, X> as Ask>⟧.query
         (given worktree.entry compare submodule objects context.entry) options index.now
-        V.visits collector.old result collector.new }
+        V.may_fail V.visits collector.old result collector.new }
 {
     let Context {
         pathspec,

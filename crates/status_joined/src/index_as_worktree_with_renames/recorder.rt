@@ -1,6 +1,6 @@
 //! Who is given the entries of a status with untracked files, renames and copies.
 
-ghost use Rattle.std.specs.Prelude.{◌≡◌, ◌++◌, ◌∷◌, [], List, OnOk, OnErr};
+ghost use Rattle.std.specs.Prelude.{◌≡◌, ◌++◌, ◌∷◌, [], Bool, IsTrue, List, OnOk, OnErr};
 ghost use Rattle.status_joined.specs.Items.{Reported};
 ghost use Rattle.status_joined.specs.Entries.{reported_entry};
 
@@ -17,6 +17,9 @@ pub trait VisitEntry<'index> {
     /// What it was given so far.
     ghost visits: { Self → List (Reported Self.ContentChange Self.SubmoduleStatus) };
 
+    /// Whether it may fail to take an entry.
+    ghost may_fail: { Bool };
+
     /// Takes an entry.
     ///
     /// # Errors
@@ -26,7 +29,7 @@ pub trait VisitEntry<'index> {
         entry: Entry<'index, Self::ContentChange, Self::SubmoduleStatus>,
     ) -> Result<(), AllocError>
         ensures ok { OnOk result (visits self.new ≡ visits self.old ++ reported_entry entry.entry ∷ []) }
-        ensures err { OnErr result (visits self.new ≡ visits self.old) };
+        ensures err { OnErr result (IsTrue may_fail × (visits self.new ≡ visits self.old)) };
 }
 
 /// Keeps the entries of a status in a list. One that is refused memory stays as it was.
@@ -51,7 +54,7 @@ impl<'index, T, U> Recorder<'index, T, U> {
 }
 
 impl<'index, T: Drop, U: Drop> VisitEntry<'index> for Recorder<'index, T, U> {
-    ghost use Rattle.std.specs.Prelude.{◌≡◌, ◌++◌, ◌∷◌, [], OnOk, OnErr};
+    ghost use Rattle.std.specs.Prelude.{◌≡◌, ◌++◌, ◌∷◌, [], true, IsTrue, OnOk, OnErr};
     ghost use Rattle.status_joined.specs.RecorderItems.{reported_of_recorder};
     ghost use Rattle.status_joined.specs.Entries.{reported_entry};
 
@@ -61,10 +64,12 @@ impl<'index, T: Drop, U: Drop> VisitEntry<'index> for Recorder<'index, T, U> {
 
     ghost visits = { reported_of_recorder };
 
+    ghost may_fail = { true };
+
     fn visit_entry(&mut self, entry: Entry<'index, T, U>) -> Result<(), AllocError>
         ensures ok { OnOk result (reported_of_recorder self.new
             ≡ reported_of_recorder self.old ++ reported_entry entry.entry ∷ []) }
-        ensures err { OnErr result (reported_of_recorder self.new ≡ reported_of_recorder self.old) }
+        ensures err { OnErr result (IsTrue true × (reported_of_recorder self.new ≡ reported_of_recorder self.old)) }
     {
         self.records.push(entry)?;
         Ok(())

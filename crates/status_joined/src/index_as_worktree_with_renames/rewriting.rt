@@ -72,7 +72,7 @@ fn rewrite_list<'index, N: Identify, X: Tracker, T: ExactClone, U: ExactClone>(
 /// Gives how many renames and copies there are, where they are looked for.
 ///
 /// # Errors
-/// Those of `rewrite_list`; then nothing was reported. Want of memory; then nothing was reported, or a beginning.
+/// Those of `rewrite_list`; then nothing was reported. The collector's want of memory; then a beginning was reported.
 pub(crate) fn report_list<'index, N: Identify, X: Tracker + Drop, V: VisitEntry<'index>>(
     alloc: Global,
     ids: &N,
@@ -85,7 +85,7 @@ where
     V::ContentChange: ExactClone + Drop,
     V::SubmoduleStatus: ExactClone + Drop,
     ensures { IsListFed (N.identifying ids.now) options.now.object_hash (X.means tracker) options.now.rewrites
-        (map item_of items.entry.items) (V.visits collector.old) result (V.visits collector.new) }
+        (map item_of items.entry.items) V.may_fail (V.visits collector.old) result (V.visits collector.new) }
 {
     let Some(rewrites) = options.rewrites else {
         return match feed_items(items, collector) {

@@ -15,7 +15,7 @@ where
     V::ContentChange: Drop,
     V::SubmoduleStatus: Drop,
 {
-    ghost use Rattle.std.specs.Prelude.{◌≡◌, ◌++◌, ◌∷◌, [], OnOk, OnErr};
+    ghost use Rattle.std.specs.Prelude.{◌≡◌, ◌++◌, ◌∷◌, [], true, IsTrue, OnOk, OnErr};
     ghost use Rattle.status_joined.specs.Entries.{reported_entry};
 
     type ContentChange = V::ContentChange;
@@ -24,12 +24,14 @@ where
 
     ghost visits = { λ s. V.visits s.collector };
 
+    ghost may_fail = { true };
+
     fn visit_entry(
         &mut self,
         entry: Entry<'index, V::ContentChange, V::SubmoduleStatus>,
     ) -> Result<(), AllocError>
         ensures ok { OnOk result (V.visits self.new.collector ≡ V.visits self.old.collector ++ reported_entry entry.entry ∷ []) }
-        ensures err { OnErr result (V.visits self.new.collector ≡ V.visits self.old.collector) }
+        ensures err { OnErr result (IsTrue true × (V.visits self.new.collector ≡ V.visits self.old.collector)) }
     {
         if self.room == 0 {
             return Err(AllocError);

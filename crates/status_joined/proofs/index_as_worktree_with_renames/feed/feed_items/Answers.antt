@@ -22,10 +22,12 @@ loop-item-preserved g c =
 pub returns-in-Err : goal.returns-in-Err
 returns-in-Err g c =
     let visits = g.V.VisitEntry.visits in
-    let alone = λ (items : List (ModificationOrDirwalkEntry g.row.V-ContentChange.Denot g.row.V-SubmoduleStatus.Denot)). map Alone (map item_of items) in
-    reported_until (alone c.args.items.items) (visits c.args.collector.now) (visits c.loop-item.collector) (visits c.feed_one.new.collector)
-    (Alone (item_of c.in-Some.item)) (alone (into_iter_items c.loop-item.item-iterator)) (alone (into_iter_items c.next.new.self))
-    (ap alone c.in-Some.ensures.steps.0) (alone_led (map item_of c.args.items.items)) c.loop-item.invariant c.in-Err.ensures
+    let alone = λ (items : List (ModificationOrDirwalkEntry g.row.V-ContentChange.Denot g.row.V-SubmoduleStatus.Denot)). map Alone (map item_of items) in (
+      c.in-Err.ensures.0,
+      reported_until (alone c.args.items.items) (visits c.args.collector.now) (visits c.loop-item.collector) (visits c.feed_one.new.collector)
+          (Alone (item_of c.in-Some.item)) (alone (into_iter_items c.loop-item.item-iterator)) (alone (into_iter_items c.next.new.self))
+          (ap alone c.in-Some.ensures.steps.0) (alone_led (map item_of c.args.items.items)) c.loop-item.invariant c.in-Err.ensures.1,
+    )
 
 pub returns : goal.returns
 returns g c =

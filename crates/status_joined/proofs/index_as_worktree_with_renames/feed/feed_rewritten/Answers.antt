@@ -34,10 +34,12 @@ loop-entry-preserved g c =
 pub returns-in-Err : goal.returns-in-Err
 returns-in-Err g c =
     let visits = g.V.VisitEntry.visits in
-    let mapped = λ (entries : List (Rewritten (ModificationOrDirwalkEntry g.row.V-ContentChange.Denot g.row.V-SubmoduleStatus.Denot))). map (map_rewritten item_of) entries in
-    reported_until (mapped c.args.entries.items) (visits c.args.collector.now) (visits c.loop-entry.collector) (visits c.feed_one.new.collector)
-    (map_rewritten item_of c.in-Some.entry) (mapped (into_iter_items c.loop-entry.entry-iterator)) (mapped (into_iter_items c.next.new.self))
-    (ap mapped c.in-Some.ensures.steps.0) c.requires c.loop-entry.invariant c.in-Err.ensures
+    let mapped = λ (entries : List (Rewritten (ModificationOrDirwalkEntry g.row.V-ContentChange.Denot g.row.V-SubmoduleStatus.Denot))). map (map_rewritten item_of) entries in (
+      c.in-Err.ensures.0,
+      reported_until (mapped c.args.entries.items) (visits c.args.collector.now) (visits c.loop-entry.collector) (visits c.feed_one.new.collector)
+          (map_rewritten item_of c.in-Some.entry) (mapped (into_iter_items c.loop-entry.entry-iterator)) (mapped (into_iter_items c.next.new.self))
+          (ap mapped c.in-Some.ensures.steps.0) c.requires c.loop-entry.invariant c.in-Err.ensures.1,
+    )
 
 pub returns : goal.returns
 returns g c =

@@ -6,14 +6,18 @@ use Rattle.status_joined.proofs.index_as_worktree_with_renames.rewriting.report_
 pub returns : goal.returns
 returns g c =
     let list = c.in-Ok-rewrite_list.list in
-    let fed = c.in-Err-feed_rewritten.ensures in
+    let failed = c.in-Err-feed_rewritten.ensures in
+    let fed = failed.1 in
     inr (
-      refl,
+      failed.0,
       (
-        fed.0,
+        refl,
         (
-          Some list.outcome,
-          (rw c.in-Some.is (map (map_rewritten item_of) list.entries.items, (c.in-Ok-rewrite_list.ensures.answer, fed.1)), fed.2),
+          fed.0,
+          (
+            Some list.outcome,
+            (rw c.in-Some.is (map (map_rewritten item_of) list.entries.items, (c.in-Ok-rewrite_list.ensures.answer, fed.1)), fed.2),
+          ),
         ),
       ),
     )
