@@ -90,21 +90,24 @@ abbrev pub IsShared : Event → Type 0
 IsShared (events.Run comparer chunk_size thread_limit stamp) = thread_limit ≢ Some 1
 IsShared _ = ⊥
 
--- an event that takes memory, where its path isn't refused before; room for a run's report is made before all else
-abbrev pub TakesMemory : Event → Type 0
-TakesMemory (events.Tick n) = ⊥
-TakesMemory (events.TickNanos n) = ⊥
-TakesMemory (events.Write path bytes) = is_bad_path (bstring_bytes path) ≡ false
-TakesMemory (events.Link path target) = is_bad_path (bstring_bytes path) ≡ false
-TakesMemory (events.SetExecutable path executable) = is_bad_path (bstring_bytes path) ≡ false
-TakesMemory (events.Remove path) = ⊥
-TakesMemory (events.Stage path) = is_bad_path (bstring_bytes path) ≡ false
-TakesMemory (events.Run comparer chunk_size thread_limit stamp) = ⊤
+-- an event that takes memory before a refusal is known, or where none is due: a write or a link looks up what is in the way of
+-- its path, if that isn't bad; executability is set in a copy of the file; what is there is staged, where it is a file or
+-- link; and room for a run's report is made before all else
+abbrev pub TakesMemory : Event → StampedWorld → Type 0
+TakesMemory (events.Tick n) w = ⊥
+TakesMemory (events.TickNanos n) w = ⊥
+TakesMemory (events.Write path bytes) w = is_bad_path (bstring_bytes path) ≡ false
+TakesMemory (events.Link path target) w = is_bad_path (bstring_bytes path) ≡ false
+TakesMemory (events.SetExecutable path executable) w = refusal_of (events.SetExecutable path executable) w ≡ None
+TakesMemory (events.Remove path) w = ⊥
+TakesMemory (events.Stage path) w =
+    (refusal_of (events.Stage path) w ≡ None) × (is_some (stored_node (node_at w (bstring_bytes path))) ≡ true)
+TakesMemory (events.Run comparer chunk_size thread_limit stamp) w = ⊤
 
 -- why an event may be refused: an event that takes memory by want of it, a run that has begun also by a want of memory or
 -- of a thread in its status; else the refusal is the one that is due
 abbrev pub IsRefused : Refusal → Event → StampedWorld → Type 0
-IsRefused refusals.Memory e w = TakesMemory e
+IsRefused refusals.Memory e w = TakesMemory e w
 IsRefused refusals.Interrupted e w = ⊥
 IsRefused (refusals.Run errors.Memory) e w = IsBegun e w
 IsRefused (refusals.Run errors.SpawnThread) e w = IsBegun e w × IsShared e
