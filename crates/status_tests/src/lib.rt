@@ -1,7 +1,7 @@
-//! Interfaces and calls as a caller writes them, and the few tests that are proved.
+//! Interfaces and calls as a caller writes them, with README's example.
 //!
 //! Read `example` first, which README.md shows, then `given`, interfaces and calls of a caller, and `board`, whose
-//! threads a caller starts. The other tests are in `tests/` of the repository.
+//! threads a caller starts. Other tests are in `status_parts_tests`, and in `tests/` of the repository.
 #![tactic(auto)]
 
 #[cfg(test)]

@@ -1,6 +1,6 @@
 //! Reading to the end.
 
-use crate::parts::pieces::Piece;
+use crate::pieces::Piece;
 use status_index::{Fault, read_all};
 
 // Reads these bytes with this fault behind them.

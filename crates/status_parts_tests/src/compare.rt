@@ -4,17 +4,13 @@ ghost use Rattle.std.specs.Prelude.{true, false, Err, refl};
 ghost use Rattle.status_index.specs.declared.fault.Fault.TheVariants.{NotFound};
 ghost use Rattle.status_base.specs.declared.worktree.objects.FindError.TheVariants.{Missing};
 
-use crate::parts::pieces::Piece;
-use crate::parts::words::assert_shown;
+use crate::pieces::Piece;
 use bstr::{BStr, BString};
 use status_base::index::{Flags, Mode, Moment, NewEntry, ObjectId, Stat, State};
-use status_base::worktree::{
-    ByteText, Fault, Find, FindError, Metadata, NoFilter, ToGitOutcome, Worktree,
-};
+use status_base::worktree::{Fault, Find, FindError, Metadata, NoFilter, ToGitOutcome, Worktree};
 use status_compare::{CompareBlobs, EntryReader, Error, FastEq, HashEq, ReadData, Reads, Stream};
 use std::alloc::Global;
 use std::io::{ErrorKind, Read};
-use std::test::Fail;
 
 const FOO: [u8; 20] = [
     0x19, 0x10, 0x28, 0x15, 0x66, 0x3d, 0x23, 0xf8, 0xb7, 0x5a, 0x47, 0xe7, 0xa0, 0x19, 0x65, 0xdc,
@@ -184,8 +180,6 @@ fn ids_report_a_change_by_the_new_id(rt: HostRuntime) {
         let reads = one_read(case.len);
         assert!(rt; is_compared(rt.alloc(), HashEq, &case, change, reads));
     }
-    let short = compare(rt.alloc(), HashEq, &plain(b"foo", 4, 3));
-    assert!(rt; matches!(short, Err(Error::Io(Fault::UnexpectedEnd))));
 }
 
 #[test]
@@ -196,22 +190,6 @@ fn sizes_decide_without_a_read(rt: HostRuntime) {
         (plain(b"foo", 3, 0), None, one_read(3)),
     ] {
         assert!(rt; is_compared(rt.alloc(), FastEq, &case, change, reads));
-    }
-}
-
-#[test]
-fn streams_count_what_they_give(rt: HostRuntime) {
-    let mut buffer: Stream<'_, Piece<'_>> = Stream::new(ToGitOutcome::Buffer(b"foo"), None);
-    assert_eq!(rt; buffer.as_bytes(), Some(b"foo".as_slice()));
-    assert_eq!(rt; buffer.as_bytes(), Some(b"foo".as_slice()));
-    assert_eq!(rt; Stream::bytes(&buffer), 6);
-}
-
-#[test]
-fn streams_have_the_size_that_is_known(rt: HostRuntime) {
-    for size in [None, Some(0), Some(3)] {
-        let stream: Stream<'_, Piece<'_>> = Stream::new(ToGitOutcome::Buffer(b"foo"), size);
-        assert_eq!(rt; stream.size(), size);
     }
 }
 
@@ -235,47 +213,4 @@ fn streams_of_files_end_by_their_fault(rt: HostRuntime) {
     assert_eq!(rt; end_of(&mut file, &mut all), Some(ErrorKind::UnexpectedEof));
     assert_eq!(rt; all.as_slice(), b"foo".as_slice());
     assert_eq!(rt; (file.size(), Stream::bytes(&file)), (Some(4), 3));
-}
-
-#[test]
-fn errors_have_words(rt: HostRuntime) -> Result<(), Fail> {
-    assert_shown(&rt, &Error::IllformedUtf8, "Could not convert path to UTF8")?;
-    let clock =
-        "The clock was off when reading file related metadata after updating a file on disk";
-    assert_shown(&rt, &Error::Time, clock)?;
-    assert_shown(&rt, &Error::SpawnThread, "Could not start a worker thread")?;
-    assert_shown(&rt, &Error::Memory, "Out of memory")
-}
-
-#[test]
-fn errors_of_reads_have_words(rt: HostRuntime) -> Result<(), Fail> {
-    let io = "IO error while writing blob or reading file metadata or changing filetype";
-    assert_shown(&rt, &Error::Io(Fault::NotFound), io)?;
-    let find = "Failed to obtain blob from object database";
-    assert_shown(&rt, &Error::Find(FindError::Missing), find)
-}
-
-#[test]
-fn want_of_memory_is_one_error_wherever_it_is_met(rt: HostRuntime) {
-    assert!(rt; matches!(Error::from(FindError::Memory), Error::Memory));
-    assert!(rt; matches!(Error::from(Fault::Memory), Error::Memory));
-    assert!(rt;
-        matches!(
-            Error::from(FindError::Missing),
-            Error::Find(FindError::Missing)
-        )
-    );
-}
-
-#[test]
-fn errors_of_submodules_have_words(rt: HostRuntime) -> Result<(), Fail> {
-    let error = Error::SubmoduleStatus {
-        rela_path: ByteText::from_slice(rt.alloc(), b"d/s")?,
-        text: ByteText::from_slice(rt.alloc(), b"no head")?,
-    };
-    assert_shown(
-        &rt,
-        &error,
-        "Could not determine status for submodule at 'd/s'",
-    )
 }

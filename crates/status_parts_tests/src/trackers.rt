@@ -1,8 +1,8 @@
-//! Trackers: pairs of equal content, by hand and against a plain count.
+//! Trackers: a long list of files that went and came, and drawn changes against a plain count.
 
 ghost use Rattle.status_rewrites.specs.TrackedChanges.{Changed};
 
-use crate::given::Draws;
+use crate::draws::Draws;
 use ChangeKind::{Addition, Deletion, Modification};
 use EntryKind::{Blob, BlobExecutable, Commit, Link};
 use bstr::BStr;
@@ -84,186 +84,6 @@ fn found<T: Tracker>(
     Ok(places)
 }
 
-// A kind of change, a path, a mode and an id.
-type Given = (ChangeKind, &'static str, EntryKind, ObjectId);
-
-fn items_of(alloc: Global, given: &[Given]) -> Result<Vec<Item>, AllocError> {
-    let mut items = Vec::new(alloc);
-    for (kind, path, mode, id) in given {
-        items.push(Item {
-            kind: *kind,
-            path: *path,
-            mode: *mode,
-            id: *id,
-        })?;
-    }
-    Ok(items)
-}
-
-// What is shown, changes, and the places of the pairs.
-type Row = (&'static str, &'static [Given], &'static [(usize, usize)]);
-
-const ROWS: [Row; 17] = [
-    ("no changes", &[], &[]),
-    (
-        "the first source by path",
-        &[
-            (Deletion, "a", Blob, FOO),
-            (Deletion, "b", Blob, FOO),
-            (Addition, "c", Blob, FOO),
-        ],
-        &[(0, 2)],
-    ),
-    (
-        "the first destination by path",
-        &[
-            (Deletion, "a", Blob, FOO),
-            (Addition, "b", Blob, FOO),
-            (Addition, "c", Blob, FOO),
-        ],
-        &[(0, 1)],
-    ),
-    (
-        "a destination before its source",
-        &[(Deletion, "b", Blob, FOO), (Addition, "a", Blob, FOO)],
-        &[(0, 1)],
-    ),
-    (
-        "by path, not by place",
-        &[
-            (Deletion, "b", Blob, FOO),
-            (Deletion, "a", Blob, FOO),
-            (Addition, "d", Blob, FOO),
-            (Addition, "c", Blob, FOO),
-        ],
-        &[(1, 3), (0, 2)],
-    ),
-    (
-        "a path before those that it begins",
-        &[
-            (Deletion, "ab", Blob, FOO),
-            (Deletion, "a/b", Blob, FOO),
-            (Deletion, "a", Blob, FOO),
-            (Addition, "z", Blob, FOO),
-        ],
-        &[(2, 3)],
-    ),
-    (
-        "by the bytes of paths",
-        &[
-            (Deletion, "ab", Blob, FOO),
-            (Deletion, "a/b", Blob, FOO),
-            (Addition, "z", Blob, FOO),
-        ],
-        &[(1, 2)],
-    ),
-    (
-        "sources of one path by place",
-        &[
-            (Deletion, "a", Blob, FOO),
-            (Deletion, "a", Blob, FOO),
-            (Addition, "b", Blob, FOO),
-        ],
-        &[(0, 2)],
-    ),
-    (
-        "destinations of one path by place",
-        &[
-            (Addition, "b", Blob, FOO),
-            (Addition, "b", Blob, FOO),
-            (Deletion, "a", Blob, FOO),
-        ],
-        &[(2, 0)],
-    ),
-    (
-        "two contents",
-        &[
-            (Deletion, "a", Blob, FOO),
-            (Deletion, "b", Blob, BAR),
-            (Addition, "c", Blob, BAR),
-            (Addition, "d", Blob, FOO),
-        ],
-        &[(0, 3), (1, 2)],
-    ),
-    (
-        "other ids",
-        &[
-            (Deletion, "a", Blob, FOO),
-            (Addition, "b", Blob, LONG_FOO),
-            (Addition, "c", Blob, BAR),
-        ],
-        &[],
-    ),
-    (
-        "a link and a file",
-        &[(Deletion, "a", Link, FOO), (Addition, "b", Blob, FOO)],
-        &[],
-    ),
-    (
-        "links among files",
-        &[
-            (Deletion, "a", Link, FOO),
-            (Deletion, "b", Blob, FOO),
-            (Addition, "c", Link, FOO),
-        ],
-        &[(0, 2)],
-    ),
-    (
-        "an executable file",
-        &[
-            (Deletion, "a", Blob, FOO),
-            (Addition, "b", BlobExecutable, FOO),
-        ],
-        &[(0, 1)],
-    ),
-    (
-        "no ids",
-        &[(Deletion, "a", Blob, NULL), (Addition, "b", Blob, NULL)],
-        &[],
-    ),
-    (
-        "submodules",
-        &[(Deletion, "a", Commit, FOO), (Addition, "b", Commit, FOO)],
-        &[],
-    ),
-    (
-        "a change in place",
-        &[(Modification, "a", Blob, FOO), (Addition, "b", Blob, FOO)],
-        &[],
-    ),
-];
-
-// Whether these are the pairs, in order, and none is a copy.
-fn are_pairs(pairs: &[(usize, usize, bool)], want: &[(usize, usize)]) -> bool {
-    if pairs.len() != want.len() {
-        return false;
-    }
-    for ((source, destination, copy), (from, to)) in pairs.iter().zip(want) {
-        if *source != *from || *destination != *to || *copy {
-            return false;
-        }
-    }
-    true
-}
-
-// Whether a tracker pairs off a row as it says.
-fn is_row<T: Tracker>(alloc: Global, tracker: &mut T, row: &Row) -> Result<bool, TrackerError> {
-    let (_name, given, want) = *row;
-    let items = items_of(alloc, given)?;
-    let pairs = found(alloc, tracker, &items, true)?;
-    Ok(are_pairs(&pairs, want))
-}
-
-#[test]
-fn equal_contents_pair_off_by_path(rt: HostRuntime) -> Result<(), Fail> {
-    let mut tracker = IdentityTracker::new(rt.alloc());
-    for row in &ROWS {
-        let met = is_row(rt.alloc(), &mut tracker, row)?;
-        assert!(rt; met, "{}", row.0);
-    }
-    Ok(())
-}
-
 /// How many files go and come in a long list, four of each content.
 const FILES: usize = 20_000;
 
@@ -287,39 +107,23 @@ fn many_items(alloc: Global) -> Result<Vec<Item>, AllocError> {
     Ok(items)
 }
 
+// Whether the file of each number is a pair with the one that came as it went, in order.
+fn are_in_order(pairs: &[(usize, usize, bool)]) -> bool {
+    for (number, (source, destination, copy)) in pairs.iter().enumerate() {
+        if *source != number || *destination != number.saturating_add(FILES) || *copy {
+            return false;
+        }
+    }
+    true
+}
+
 #[test]
 fn a_long_list_pairs_off_by_contents_and_places(rt: HostRuntime) -> Result<(), Fail> {
     let items = many_items(rt.alloc())?;
     let mut tracker = IdentityTracker::new(rt.alloc());
     let pairs = found(rt.alloc(), &mut tracker, &items, false)?;
     assert_eq!(rt; pairs.len(), FILES);
-    for (number, pair) in pairs.iter().enumerate() {
-        assert_eq!(rt; *pair, (number, FILES + number, false));
-    }
-    Ok(())
-}
-
-// How many pairs a tracker finds of a file with no bytes that went and came.
-fn pairs_of_empty<T: Tracker>(
-    alloc: Global,
-    tracker: &mut T,
-    kind: HashKind,
-    track_empty: bool,
-) -> Result<usize, TrackerError> {
-    let empty = ObjectId::empty_blob(kind);
-    let items = [gone("a", empty), came("b", empty)];
-    Ok(found(alloc, tracker, &items, track_empty)?.len())
-}
-
-#[test]
-fn files_with_no_bytes_pair_where_they_are_tracked(rt: HostRuntime) -> Result<(), Fail> {
-    for kind in [HashKind::Sha1, HashKind::Sha256] {
-        let mut tracker = IdentityTracker::new(rt.alloc());
-        for (track_empty, want) in [(false, 0), (true, 1)] {
-            let pairs = pairs_of_empty(rt.alloc(), &mut tracker, kind, track_empty)?;
-            assert_eq!(rt; pairs, want, "{kind:?}");
-        }
-    }
+    assert!(rt; are_in_order(&pairs));
     Ok(())
 }
 

@@ -2,9 +2,9 @@
 
 ghost use Rattle.std.specs.Prelude.{◌≡◌, true, false, refl};
 ghost use Rattle.std.proofs.Common.{sym};
-ghost use Rattle.tests.specs.declared.parts.rewrites.Node.TheVariants as nodes;
+ghost use Rattle.status_parts_tests.specs.declared.rewrites.Node.TheVariants as nodes;
 
-use crate::given::Draws;
+use crate::draws::Draws;
 use Named::{Alone, Copied, Renamed};
 use Node::{Changed, Removed, Walked};
 use status_rewrites::{Item, Pair, Refused, Rewritten, rewrite};
@@ -100,8 +100,7 @@ type Row<'a> = (
     Result<&'a [Named], usize>,
 );
 
-const ROWS: [Row<'static>; 42] = [
-    (&[], &[], Ok(&[])),
+const ROWS: [Row<'static>; 13] = [
     // What is in no pair stays.
     (
         &[Removed(0), Changed(1), Walked(2)],
@@ -110,132 +109,49 @@ const ROWS: [Row<'static>; 42] = [
     ),
     // A rename's source leaves its place, and the rename stands in its destination's.
     (
-        &[Removed(0), Changed(1), Walked(2)],
-        &[(0, 2, false)],
-        Ok(&[Alone(1), Renamed(0, 2)]),
+        &[Removed(0), Removed(1), Walked(2), Walked(3)],
+        &[(0, 3, false), (1, 2, false)],
+        Ok(&[Renamed(1, 2), Renamed(0, 3)]),
     ),
     (
         &[Walked(0), Changed(1), Removed(2)],
         &[(2, 0, false)],
         Ok(&[Renamed(2, 0), Alone(1)]),
     ),
-    (
-        &[Removed(0), Removed(1), Walked(2), Walked(3)],
-        &[(0, 3, false), (1, 2, false)],
-        Ok(&[Renamed(1, 2), Renamed(0, 3)]),
-    ),
-    // A copy's source stays, whatever it is.
-    (
-        &[Changed(0), Changed(1), Walked(2)],
-        &[(0, 2, true)],
-        Ok(&[Alone(0), Alone(1), Copied(0, 2)]),
-    ),
-    (
-        &[Walked(0), Changed(1)],
-        &[(1, 0, true)],
-        Ok(&[Copied(1, 0), Alone(1)]),
-    ),
-    (
-        &[Removed(0), Walked(1)],
-        &[(0, 1, true)],
-        Ok(&[Alone(0), Copied(0, 1)]),
-    ),
-    (
-        &[Walked(0), Walked(1)],
-        &[(0, 1, true)],
-        Ok(&[Alone(0), Copied(0, 1)]),
-    ),
-    // One source of several copies.
+    // A copy's source stays, whatever it is, and may be that of several.
     (
         &[Changed(0), Walked(1), Walked(2)],
         &[(0, 2, true), (0, 1, true)],
         Ok(&[Alone(0), Copied(0, 1), Copied(0, 2)]),
     ),
     (
-        &[
-            Removed(0),
-            Changed(1),
-            Walked(2),
-            Walked(3),
-            Walked(4),
-            Walked(5),
-        ],
-        &[(1, 4, true), (0, 2, false), (1, 3, true)],
-        Ok(&[
-            Alone(1),
-            Renamed(0, 2),
-            Copied(1, 3),
-            Copied(1, 4),
-            Alone(5),
-        ]),
+        &[Removed(0), Walked(1)],
+        &[(0, 1, true)],
+        Ok(&[Alone(0), Copied(0, 1)]),
     ),
     // A place out of range.
-    (&[], &[(0, 0, true)], Err(0)),
-    (&[Removed(0), Walked(1)], &[(2, 1, false)], Err(0)),
-    (&[Removed(0), Walked(1)], &[(2, 1, true)], Err(0)),
-    (&[Removed(0), Walked(1)], &[(0, 2, false)], Err(0)),
-    (&[Removed(0), Walked(1)], &[(0, 2, true)], Err(0)),
     (
         &[Removed(0), Walked(1)],
         &[(0, 1, false), (usize::MAX, 1, true)],
         Err(1),
     ),
     // A destination that didn't come.
-    (&[Removed(0), Changed(1)], &[(0, 1, false)], Err(0)),
-    (&[Removed(0), Removed(1)], &[(0, 1, false)], Err(0)),
     (&[Changed(0), Changed(1)], &[(0, 1, true)], Err(0)),
-    (&[Changed(0), Removed(1)], &[(0, 1, true)], Err(0)),
-    (
-        &[Removed(0), Removed(1), Walked(2), Changed(3)],
-        &[(0, 2, false), (1, 3, false)],
-        Err(1),
-    ),
     // A destination of two pairs.
-    (
-        &[Removed(0), Removed(1), Walked(2)],
-        &[(0, 2, false), (1, 2, false)],
-        Err(1),
-    ),
     (
         &[Removed(0), Changed(1), Walked(2)],
         &[(0, 2, false), (1, 2, true)],
         Err(1),
     ),
-    (
-        &[Removed(0), Changed(1), Walked(2)],
-        &[(1, 2, true), (0, 2, false)],
-        Err(1),
-    ),
-    (
-        &[Changed(0), Walked(1)],
-        &[(0, 1, true), (0, 1, true)],
-        Err(1),
-    ),
     // A rename of what didn't go.
     (&[Changed(0), Walked(1)], &[(0, 1, false)], Err(0)),
-    (&[Walked(0), Walked(1)], &[(0, 1, false)], Err(0)),
-    (
-        &[Removed(0), Changed(1), Walked(2), Walked(3)],
-        &[(0, 2, false), (1, 3, false)],
-        Err(1),
-    ),
     // The source of two renames.
     (
         &[Removed(0), Walked(1), Walked(2)],
         &[(0, 1, false), (0, 2, false)],
         Err(1),
     ),
-    (
-        &[Removed(0), Removed(1), Walked(2), Walked(3), Walked(4)],
-        &[(0, 2, false), (1, 3, false), (0, 4, false)],
-        Err(2),
-    ),
     // The source of a rename and of a copy.
-    (
-        &[Removed(0), Walked(1), Walked(2)],
-        &[(0, 1, false), (0, 2, true)],
-        Err(1),
-    ),
     (
         &[Removed(0), Walked(1), Walked(2)],
         &[(0, 1, true), (0, 2, false)],
@@ -244,35 +160,15 @@ const ROWS: [Row<'static>; 42] = [
     // The source of a copy and a destination.
     (
         &[Removed(0), Walked(1), Walked(2)],
-        &[(0, 1, false), (1, 2, true)],
-        Err(1),
-    ),
-    (
-        &[Removed(0), Walked(1), Walked(2)],
         &[(1, 2, true), (0, 1, false)],
         Err(1),
     ),
-    (
-        &[Changed(0), Walked(1), Walked(2)],
-        &[(0, 1, true), (1, 2, true)],
-        Err(1),
-    ),
-    (
-        &[Changed(0), Walked(1), Walked(2)],
-        &[(1, 2, true), (0, 1, true)],
-        Err(1),
-    ),
-    // Source and destination are one.
-    (&[Walked(0)], &[(0, 0, true)], Err(0)),
-    (&[Walked(0)], &[(0, 0, false)], Err(0)),
-    (&[Removed(0)], &[(0, 0, false)], Err(0)),
     // Of several bad pairs the first counts.
     (
         &[Removed(0), Walked(1), Walked(2)],
         &[(0, 1, false), (9, 2, true), (0, 2, false)],
         Err(1),
     ),
-    (&[Changed(0)], &[(3, 0, true), (0, 0, true)], Err(0)),
 ];
 
 /// These pairs: source, destination, copy.
@@ -302,8 +198,7 @@ fn is_row(alloc: Global, row: &Row<'_>) -> Result<bool, AllocError> {
 #[test]
 fn pairs_become_entries_or_the_first_bad_one_is_named(rt: HostRuntime) -> Result<(), Fail> {
     for (at, row) in ROWS.iter().enumerate() {
-        let met = is_row(rt.alloc(), row)?;
-        assert!(rt; met, "row {at}");
+        assert!(rt; is_row(rt.alloc(), row)?, "row {at}");
     }
     Ok(())
 }

@@ -1,9 +1,9 @@
 //! Ids of content, held against those of git.
 
-use crate::parts::pieces::Piece;
+use crate::pieces::Piece;
 use status_index::{Fault, HashKind, ObjectId, compute_hash, compute_stream_hash};
 
-const FOO: [u8; 20] = [
+pub(crate) const FOO: [u8; 20] = [
     0x19, 0x10, 0x28, 0x15, 0x66, 0x3d, 0x23, 0xf8, 0xb7, 0x5a, 0x47, 0xe7, 0xa0, 0x19, 0x65, 0xdc,
     0xdc, 0x96, 0x46, 0x8c,
 ];
@@ -35,40 +35,13 @@ fn ids_are_those_of_git(rt: HostRuntime) {
     }
 }
 
-#[test]
-fn empty_blobs_are_known(rt: HostRuntime) {
-    assert_eq!(rt; ObjectId::empty_blob(HashKind::Sha1), ObjectId::Sha1(EMPTY));
-    assert_eq!(rt;
-        ObjectId::from_bytes(&EMPTY_BY_SHA256),
-        Some(ObjectId::empty_blob(HashKind::Sha256))
-    );
-    assert_eq!(rt; ObjectId::from_bytes(b"foo"), None);
-    assert!(rt; ObjectId::Sha256(EMPTY_BY_SHA256).is_empty_blob());
-    assert!(rt; !ObjectId::Sha1(FOO).is_empty_blob());
-}
-
-#[test]
-fn null_ids_have_no_bit(rt: HostRuntime) {
-    for kind in [HashKind::Sha1, HashKind::Sha256] {
-        let null = ObjectId::null(kind);
-        assert!(rt; null.is_null(), "{kind:?}");
-        assert!(rt; null.as_bytes().iter().all(|byte| *byte == 0), "{kind:?}");
-    }
-    for id in [ObjectId::Sha1(FOO), ObjectId::Sha256(EMPTY_BY_SHA256)] {
-        assert!(rt; !id.is_null());
-    }
-}
-
 // The id of the first `len` bytes of `foo`, with this fault behind it.
 fn hash_foo(fault: Option<Fault>, len: u64) -> Result<ObjectId, Fault> {
-    compute_stream_hash(
-        HashKind::Sha1,
-        &mut Piece {
-            bytes: b"foo",
-            fault,
-        },
-        len,
-    )
+    let mut foo = Piece {
+        bytes: b"foo",
+        fault,
+    };
+    compute_stream_hash(HashKind::Sha1, &mut foo, len)
 }
 
 #[test]

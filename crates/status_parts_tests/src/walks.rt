@@ -1,6 +1,6 @@
 //! What isn't tracked in a worktree in memory.
 
-ghost use Rattle.std.specs.Prelude.{map, true};
+ghost use Rattle.std.specs.Prelude.{map, true, false};
 ghost use Rattle.status_walk.specs.WalkedNodes.{walked_of};
 
 use bstr::{BStr, BString};
@@ -17,28 +17,22 @@ struct Found {
     collapsed: Option<Status>,
 }
 
-/// Keeps what it gets, and ends the walk with the last that it has room for.
+/// Keeps what it gets.
 #[derive(Drop)]
 struct Keeper {
     found: Vec<Found>,
-    room: usize,
-    cancelled: bool,
 }
 
 impl Delegate for Keeper {
     ghost state = { λ k. record {
       keeps = λ _. true;
       kept = map (λ f. walked_of f.entry f.collapsed) k.found.items;
-      cancelled = k.cancelled;
+      cancelled = false;
     } };
 
     fn emit(&mut self, entry: DirEntry, collapsed: Option<Status>) -> Result<Action, AllocError> {
         self.found.push(Found { entry, collapsed })?;
-        if self.found.len() < self.room {
-            return Ok(Action::Continue);
-        }
-        self.cancelled = true;
-        Ok(Action::Cancel)
+        Ok(Action::Continue)
     }
 }
 
@@ -76,19 +70,16 @@ fn index(alloc: Global, entries: &[(&str, Mode)]) -> Result<State, IndexError> {
     State::from_entries(alloc, list, Moment::default())
 }
 
-/// Walks these entries and nodes, and keeps at most `room` of what is found.
+/// Walks these entries and nodes, and keeps what is found.
 fn walked(
     alloc: Global,
     entries: &[(&str, Mode)],
     nodes: &[(&str, NodeKind)],
-    room: usize,
 ) -> Result<(Outcome, Vec<Found>), Fail> {
     let index = index(alloc, entries)?;
     let worktree = worktree(alloc, nodes)?;
     let mut keeper = Keeper {
         found: Vec::new(alloc),
-        room,
-        cancelled: false,
     };
     let outcome = UntrackedWalk::new(alloc).walk(&worktree, &index, &AllPaths, &mut keeper)?;
     Ok((outcome, keeper.found))
@@ -101,7 +92,7 @@ type Row<'a> = (
     &'a [(&'a str, Kind)],
 );
 
-const ROWS: [Row<'static>; 6] = [
+const ROWS: [Row<'static>; 3] = [
     // Files, links and others, in the order of their paths; directories aren't handed out.
     (
         &[("a", Mode::File)],
@@ -127,12 +118,6 @@ const ROWS: [Row<'static>; 6] = [
         ],
         &[("sub.x", Kind::File)],
     ),
-    // What lies in the place of a file is.
-    (
-        &[("sub", Mode::File)],
-        &[("sub/x", NodeKind::File)],
-        &[("sub/x", Kind::File)],
-    ),
     // An entry has its own path alone.
     (
         &[("ab", Mode::File), ("d/e", Mode::Symlink)],
@@ -145,8 +130,6 @@ const ROWS: [Row<'static>; 6] = [
         ],
         &[("a", Kind::File), ("abc", Kind::File), ("d/f", Kind::File)],
     ),
-    (&[], &[("a", NodeKind::File)], &[("a", Kind::File)]),
-    (&[("a", Mode::File)], &[], &[]),
 ];
 
 // Whether these nodes were found, in order, and no directory stands for them.
@@ -164,31 +147,21 @@ fn are_found(kept: &[Found], wanted: &[(&str, Kind)]) -> bool {
     true
 }
 
-#[test]
-fn what_no_entry_has_is_found(rt: HostRuntime) -> Result<(), Fail> {
-    for (row, (entries, nodes, wanted)) in ROWS.into_iter().enumerate() {
-        let (outcome, kept) = walked(rt.alloc(), entries, nodes, 100)?;
-        let whole = Outcome {
-            emitted: wanted.len(),
-            cancelled: false,
-        };
-        assert_eq!(rt; outcome, whole, "row {row}");
-        assert!(rt; are_found(&kept, wanted), "row {row}");
-    }
-    Ok(())
+// Whether a row's nodes are found.
+fn is_row(alloc: Global, row: &Row<'_>) -> Result<bool, Fail> {
+    let (entries, nodes, wanted) = *row;
+    let (outcome, kept) = walked(alloc, entries, nodes)?;
+    let whole = Outcome {
+        emitted: wanted.len(),
+        cancelled: false,
+    };
+    Ok(outcome == whole && are_found(&kept, wanted))
 }
 
 #[test]
-fn a_delegate_ends_a_walk(rt: HostRuntime) -> Result<(), Fail> {
-    let nodes = [("b", NodeKind::File), ("c", NodeKind::File)];
-    let (outcome, kept) = walked(rt.alloc(), &[], &nodes, 1)?;
-    assert_eq!(rt;
-        outcome,
-        Outcome {
-            emitted: 1,
-            cancelled: true
-        }
-    );
-    assert_eq!(rt; kept.len(), 1);
+fn what_no_entry_has_is_found(rt: HostRuntime) -> Result<(), Fail> {
+    for (at, row) in ROWS.iter().enumerate() {
+        assert!(rt; is_row(rt.alloc(), row)?, "row {at}");
+    }
     Ok(())
 }

@@ -4,11 +4,9 @@ ghost use Rattle.std.specs.Prelude.{None, false, refl};
 
 use bstr::{BStr, BString};
 use status_base::fscache::{FsCache, Stat, filetime_to_unix, type_flags_from_attributes};
-use status_base::worktree::{Lister, Listing};
-use status_index::Time;
+use status_base::worktree::{Lister, Listing, NoLister};
 use std::alloc::{AllocError, Global};
 use std::sync::atomic::{AtomicBool, AtomicUsize, Ordering};
-use std::test::Fail;
 
 /// A directory's path and its names, each with a file's size, or None where it can't be listed.
 type Directory = (&'static str, Option<&'static [(&'static str, u64)]>);
@@ -94,70 +92,103 @@ fn size_at(cache: &mut FsCache<'_, Table<'_>>, path: &str) -> Result<Option<u64>
     }
 }
 
-/// What is known of each path; in the end, how often each directory was asked, and how many were
-/// listed.
-type Sizes = (&'static [(&'static str, Option<u64>)], [usize; 3], u64);
+/// What is looked up: whether memory is refused then, a path, and the size that is known of it, or None where memory ran out.
+type Look = (bool, &'static str, Option<Option<u64>>);
 
-const SIZES: [Sizes; 5] = [
+/// What is shown, what is looked up in turn, how often each directory was asked then, and how many were listed.
+type Row = (&'static str, &'static [Look], [usize; 3], u64);
+
+const ROWS: [Row; 7] = [
     (
+        "names in two directories",
         &[
-            ("test.txt", Some(1)),
-            ("subdir/nested.txt", Some(2)),
-            ("Test.txt", None),
-            ("does-not-exist", None),
+            (false, "test.txt", Some(Some(1))),
+            (false, "subdir/nested.txt", Some(Some(2))),
+            (false, "Test.txt", Some(None)),
+            (false, "does-not-exist", Some(None)),
         ],
         [1, 1, 0],
         2,
     ),
-    (&[("d/x", None), ("d/y", None)], [0, 0, 1], 1),
-    (&[("twice", Some(6))], [1, 0, 0], 1),
-    // A name as another, and not the directory above.
-    (&[("..", None)], [1, 0, 0], 1),
-    // No file name, so nothing to be listed.
-    (&[("d/", None), ("subdir/", None), ("", None)], [0, 0, 0], 0),
+    (
+        "a directory that can't be listed",
+        &[(false, "d/x", Some(None)), (false, "d/y", Some(None))],
+        [0, 0, 1],
+        1,
+    ),
+    (
+        "a name twice",
+        &[(false, "twice", Some(Some(6)))],
+        [1, 0, 0],
+        1,
+    ),
+    (
+        "a name as another, and not the directory above",
+        &[(false, "..", Some(None))],
+        [1, 0, 0],
+        1,
+    ),
+    (
+        "no file name, so nothing to be listed",
+        &[
+            (false, "d/", Some(None)),
+            (false, "subdir/", Some(None)),
+            (false, "", Some(None)),
+        ],
+        [0, 0, 0],
+        0,
+    ),
+    (
+        "what was listed is known after a refusal",
+        &[
+            (false, "subdir/nested.txt", Some(Some(2))),
+            (true, "test.txt", None),
+            (false, "subdir/nested.txt", Some(Some(2))),
+        ],
+        [1, 1, 0],
+        1,
+    ),
+    (
+        "a refused listing is asked for again",
+        &[
+            (false, "subdir/nested.txt", Some(Some(2))),
+            (true, "test.txt", None),
+            (false, "test.txt", Some(Some(1))),
+        ],
+        [2, 1, 0],
+        2,
+    ),
 ];
+
+// Whether all is known, asked and listed as a row says.
+fn is_row(alloc: Global, row: &Row) -> bool {
+    let (_name, looks, wanted, listings) = *row;
+    let (asked, refuses) = (no_counts(), AtomicBool::new(false));
+    let lister = Table {
+        alloc,
+        asked: &asked,
+        refuses: &refuses,
+    };
+    let mut cache = FsCache::new(alloc, &lister);
+    for (refused, path, size) in looks {
+        refuses.store(*refused, Ordering::SeqCst);
+        if size_at(&mut cache, *path).ok() != *size {
+            return false;
+        }
+    }
+    counts(&asked) == wanted && cache.listings() == listings
+}
 
 #[test]
 fn each_directory_is_listed_once(rt: HostRuntime) {
-    let refuses = AtomicBool::new(false);
-    for (paths, wanted, listings) in SIZES {
-        let asked = no_counts();
-        let lister = Table {
-            alloc: rt.alloc(),
-            asked: &asked,
-            refuses: &refuses,
-        };
-        let mut cache = FsCache::new(rt.alloc(), &lister);
-        for (path, size) in paths {
-            let found = size_at(&mut cache, *path).ok();
-            assert_eq!(rt; found, Some(*size), "at {path}");
-        }
-        assert_eq!(rt; counts(&asked), wanted);
-        assert_eq!(rt; cache.listings(), listings);
+    for row in &ROWS {
+        assert!(rt; is_row(rt.alloc(), row), "{}", row.0);
     }
 }
 
 #[test]
-fn a_refused_listing_is_asked_for_again(rt: HostRuntime) {
-    let (asked, refuses) = (no_counts(), AtomicBool::new(false));
-    let lister = Table {
-        alloc: rt.alloc(),
-        asked: &asked,
-        refuses: &refuses,
-    };
-    let mut cache = FsCache::new(rt.alloc(), &lister);
-    // Whether memory is refused, a path, what is known of it, and what was asked and listed then.
-    for (refused, path, size, wanted, listings) in [
-        (false, "subdir/nested.txt", Some(Some(2)), [0, 1, 0], 1),
-        (true, "test.txt", None, [1, 1, 0], 1),
-        (false, "subdir/nested.txt", Some(Some(2)), [1, 1, 0], 1),
-        (false, "test.txt", Some(Some(1)), [2, 1, 0], 2),
-    ] {
-        refuses.store(refused, Ordering::SeqCst);
-        assert_eq!(rt; size_at(&mut cache, path).ok(), size, "at {path}");
-        assert_eq!(rt; counts(&asked), wanted, "at {path}");
-        assert_eq!(rt; cache.listings(), listings, "at {path}");
-    }
+fn no_directory_is_listed(rt: HostRuntime) {
+    assert!(rt; matches!(NoLister.list(BStr::from("d")), Ok(None)));
 }
 
 #[test]
@@ -187,33 +218,4 @@ fn attributes_are_flags(rt: HostRuntime) {
         let flags = type_flags_from_attributes(attributes, tag);
         assert_eq!(rt; flags, want, "{attributes:#x}, {tag:#x}");
     }
-}
-
-#[test]
-fn a_listed_stat_is_the_stat_of_an_entry(rt: HostRuntime) {
-    let listed = Stat {
-        is_dir: false,
-        is_symlink: false,
-        size: 1234,
-        mtime_secs: 1_700_000_000,
-        mtime_nsecs: 500_000_000,
-        ctime_secs: 1_699_999_999,
-        ctime_nsecs: 100_000_000,
-    };
-    let wanted = status_index::Stat {
-        mtime: Time {
-            secs: 1_700_000_000,
-            nsecs: 500_000_000,
-        },
-        ctime: Time {
-            secs: 1_699_999_999,
-            nsecs: 100_000_000,
-        },
-        dev: 0,
-        ino: 0,
-        uid: 0,
-        gid: 0,
-        size: 1234,
-    };
-    assert_eq!(rt; listed.to_stat(), wanted);
 }

@@ -1,6 +1,6 @@
 //! Rounds over numbers, with one worker and with several.
 
-ghost use Rattle.std.specs.Prelude.{◌≡◌, ⊤, false};
+ghost use Rattle.std.specs.Prelude.{◌≡◌, ◌≤◌, ◌^◌, ⊤, false, IfOk, vec_len};
 
 use status_board::round::{Refused, work_round};
 use status_board::work::Work;
@@ -90,7 +90,9 @@ impl Work for Meeting {
     }
 }
 
-fn crew_of(alloc: Global, workers: usize) -> Result<Vec<u64>, AllocError> {
+fn crew_of(alloc: Global, workers: usize) -> Result<Vec<u64>, AllocError>
+    ensures { IfOk result (λ crew. vec_len crew ≡ workers) }
+{
     let mut crew = Vec::new(alloc);
     for _ in 0..workers {
         crew.push(0)?;
@@ -105,7 +107,9 @@ fn outs_of<R: Threads + Wait>(
     workers: usize,
     pieces: usize,
     short: Option<usize>,
-) -> Result<Vec<Given>, Refused> {
+) -> Result<Vec<Given>, Refused>
+    requires { (pieces ≤ 2 ^ 20) × (1 ≤ workers) × (workers ≤ 64) }
+{
     let work = Numbers { pieces, short };
     let crew = match crew_of(alloc, workers) {
         Ok(crew) => crew,
@@ -114,14 +118,23 @@ fn outs_of<R: Threads + Wait>(
     work_round(rt, alloc, stack_size, &work, pieces, crew)
 }
 
-// Whether crews of one to eight give the numbers below `end`, in order.
-fn crews_give<R: Threads + Wait>(
-    rt: &R,
-    alloc: Global,
-    pieces: usize,
-    short: Option<usize>,
-    end: usize,
-) -> bool {
+// How many pieces there are, which one ends short, and how many are given.
+type Row = (usize, Option<usize>, usize);
+
+const ROWS: [Row; 5] = [
+    (0, None, 0),
+    (1, Some(0), 1),
+    (5, Some(2), 3),
+    (100, None, 100),
+    (100, Some(50), 51),
+];
+
+// Whether crews of one to eight give the numbers of a row, in order.
+fn is_row<R: Threads + Wait>(rt: &R, alloc: Global, row: Row) -> bool {
+    let (pieces, short, end) = row;
+    if pieces > 100 {
+        return false;
+    }
     for workers in 1..9 {
         let Ok(outs) = outs_of(rt, alloc, None, workers, pieces, short) else {
             return false;
@@ -139,22 +152,10 @@ fn crews_give<R: Threads + Wait>(
 }
 
 #[test]
-fn every_piece_comes_in_order(rt: HostRuntime) {
-    assert!(rt; crews_give(&rt, rt.alloc(), 0, None, 0));
-    assert!(rt; crews_give(&rt, rt.alloc(), 1, None, 1));
-    assert!(rt; crews_give(&rt, rt.alloc(), 5, None, 5));
-    assert!(rt; crews_give(&rt, rt.alloc(), 100, None, 100));
-}
-
-#[test]
-fn nothing_comes_behind_a_short_piece(rt: HostRuntime) {
-    assert!(rt; crews_give(&rt, rt.alloc(), 1, Some(0), 1));
-    assert!(rt; crews_give(&rt, rt.alloc(), 5, Some(0), 1));
-    assert!(rt; crews_give(&rt, rt.alloc(), 5, Some(2), 3));
-    assert!(rt; crews_give(&rt, rt.alloc(), 5, Some(4), 5));
-    assert!(rt; crews_give(&rt, rt.alloc(), 100, Some(0), 1));
-    assert!(rt; crews_give(&rt, rt.alloc(), 100, Some(50), 51));
-    assert!(rt; crews_give(&rt, rt.alloc(), 100, Some(99), 100));
+fn each_crew_gives_the_pieces(rt: HostRuntime) {
+    for row in ROWS {
+        assert!(rt; is_row(&rt, rt.alloc(), row), "{} pieces", row.0);
+    }
 }
 
 #[test]

@@ -1,0 +1,151 @@
+//! The check of paths that lead through links: each form of answer, and that the looks that are counted are made.
+
+use bstr::{BStr, BString};
+use status_base::stack::SymlinkCheck;
+use status_base::worktree::{Fault, Metadata, NodeKind, ReadBytes, Worktree};
+use std::alloc::{AllocError, Global};
+use std::sync::atomic::{AtomicUsize, Ordering};
+use std::test::Fail;
+
+/// What `lstat` answers. It is NotFound for any other path.
+const ANSWERS: [(&str, Result<NodeKind, Fault>); 6] = [
+    ("a", Ok(NodeKind::Directory)),
+    ("a/b", Ok(NodeKind::Directory)),
+    ("a/e", Ok(NodeKind::Directory)),
+    ("f", Ok(NodeKind::File)),
+    ("f/x", Err(Fault::NotADirectory)),
+    ("l", Ok(NodeKind::Link)),
+];
+
+/// A worktree of these answers, whose looks are counted.
+#[derive(Drop)]
+struct Counted<'a> {
+    looks: &'a AtomicUsize,
+}
+
+#[derive(Drop)]
+struct NoFile;
+
+impl ReadBytes for NoFile {
+    fn read_bytes(&mut self, _buffer: &mut [u8]) -> Result<usize, Fault> {
+        Err(Fault::Other(0))
+    }
+}
+
+impl<'a> Worktree for Counted<'a> {
+    ghost use Rattle.std.specs.Prelude.{false, Err};
+    ghost use Rattle.status_index.specs.declared.fault.Fault.TheVariants.{NotFound};
+
+    type File = NoFile;
+
+    ghost modelled = { λ _. false };
+
+    ghost lstat_of = { λ _ _. Err NotFound };
+
+    ghost open_of = { λ _ _. Err NotFound };
+
+    ghost target_of = { λ _ _. Err NotFound };
+
+    fn lstat(&self, path: BStr<'_>) -> Result<Metadata, Fault> {
+        self.looks.fetch_add(1, Ordering::SeqCst);
+        for (name, answer) in &ANSWERS {
+            if name.as_bytes() == path.as_bytes() {
+                return answer.map(node);
+            }
+        }
+        Err(Fault::NotFound)
+    }
+
+    fn open(&self, _path: BStr<'_>) -> Result<NoFile, Fault> {
+        Err(Fault::NotFound)
+    }
+
+    fn read_link(&self, _path: BStr<'_>, _target: &mut Vec<u8>) -> Result<(), Fault> {
+        Err(Fault::NotFound)
+    }
+}
+
+fn node(kind: NodeKind) -> Metadata {
+    Metadata {
+        kind,
+        len: 0,
+        executable: false,
+        mtime: None,
+        ctime: None,
+        dev: 0,
+        ino: 0,
+        uid: 0,
+        gid: 0,
+    }
+}
+
+/// A path, whether a directory above it may be absent, what a check below the root `r` answers, and how often it has
+/// looked then.
+type Row = (&'static str, bool, &'static str, u64);
+
+/// The paths that one check is asked, in turn.
+const ROWS: [Row; 14] = [
+    // It looks at `a` and `a/b`; at nothing new; at `a/e`.
+    ("a/b/c", false, "Ok(\"r/a/b/c\")", 2),
+    ("a/b/d", false, "Ok(\"r/a/b/d\")", 2),
+    ("a/e/f", false, "Ok(\"r/a/e/f\")", 3),
+    // A path that isn't normal is refused before any look.
+    ("", false, "Err(EmptyPath)", 3),
+    ("a/b/../c", false, "Err(NotNormal { component: \"..\" })", 3),
+    ("./a", false, "Err(NotNormal { component: \".\" })", 3),
+    ("a//b", false, "Err(NotNormal { component: \"\" })", 3),
+    // It looks at directories, and not at the path itself.
+    ("l", false, "Ok(\"r/l\")", 3),
+    ("l/x", false, "Err(ThroughLink { prefix: \"l\" })", 4),
+    ("f/x/y", false, "Err(Fault(NotADirectory))", 6),
+    ("f/x", false, "Ok(\"r/f/x\")", 6),
+    ("q/x", false, "Err(Fault(NotFound))", 7),
+    ("p/x", true, "Ok(\"r/p/x\")", 8),
+    ("l/x", true, "Err(ThroughLink { prefix: \"l\" })", 9),
+];
+
+/// What a check answers for a path, which may lead to nothing where that is allowed.
+fn answer(
+    alloc: Global,
+    check: &mut SymlinkCheck,
+    worktree: &Counted<'_>,
+    path: &str,
+    may_be_absent: bool,
+) -> Result<String, AllocError> {
+    let path = BStr::from(path);
+    let answer = if may_be_absent {
+        check.verified_path_allow_nonexisting(worktree, path)
+    } else {
+        check.verified_path(worktree, path)
+    };
+    format!(in alloc; "{answer:?}")
+}
+
+/// Whether a check answers a row as it says, after as many looks as that many calls.
+fn is_row(
+    alloc: Global,
+    check: &mut SymlinkCheck,
+    worktree: &Counted<'_>,
+    row: &Row,
+) -> Result<bool, AllocError> {
+    let (path, may_be_absent, want, looks) = *row;
+    let found = answer(alloc, check, worktree, path, may_be_absent)?;
+    let made = worktree.looks.load(Ordering::SeqCst) as u64;
+    Ok(found.as_str() == want && check.looks() == looks && made == looks)
+}
+
+#[test]
+fn each_directory_is_looked_at_once(rt: HostRuntime) -> Result<(), Fail> {
+    let looks = AtomicUsize::new(0);
+    let worktree = Counted { looks: &looks };
+    let root = BString::from_slice(rt.alloc(), "r")?;
+    let mut check = SymlinkCheck::new(rt.alloc(), root);
+    for row in &ROWS {
+        assert!(rt;
+            is_row(rt.alloc(), &mut check, &worktree, row)?,
+            "at {}",
+            row.0
+        );
+    }
+    Ok(())
+}

@@ -1,0 +1,153 @@
+//! Indexes: entries that are taken or refused, and a search that counts.
+
+use bstr::{BStr, BString};
+use status_index::{Flags, HashKind, IndexError, Mode, Moment, NewEntry, ObjectId, Stat, State};
+use std::alloc::{AllocError, Global};
+use std::test::Fail;
+
+// A path, a stage and a kind of id.
+type Given<'a> = (&'a str, u32, HashKind);
+
+// Why entries are no index, if they aren't.
+fn refused(alloc: Global, given: &[Given<'_>]) -> Result<Option<IndexError>, AllocError> {
+    let mut entries = Vec::new(alloc);
+    for (path, stage, kind) in given {
+        entries.push(NewEntry {
+            path: BString::from_slice(alloc, *path)?,
+            stat: Stat::default(),
+            id: ObjectId::null(*kind),
+            flags: Flags::from_stage(*stage),
+            mode: Mode::File,
+        })?;
+    }
+    Ok(State::from_entries(alloc, entries, Moment::default()).err())
+}
+
+// What is shown, entries, and why they are refused.
+type Refusal<'a> = (&'a str, &'a [Given<'a>], Option<IndexError>);
+
+const REFUSALS: [Refusal<'static>; 8] = [
+    (
+        "a path twice",
+        &[("a", 0, HashKind::Sha1), ("a", 0, HashKind::Sha1)],
+        Some(IndexError::NotAscending { at: 1 }),
+    ),
+    (
+        "an empty path before a mixed hash",
+        &[("a", 0, HashKind::Sha1), ("", 0, HashKind::Sha256)],
+        Some(IndexError::EmptyPath { at: 1 }),
+    ),
+    (
+        "a wrong order before a mixed hash",
+        &[("b", 0, HashKind::Sha1), ("a", 0, HashKind::Sha256)],
+        Some(IndexError::NotAscending { at: 1 }),
+    ),
+    (
+        "a mixed hash",
+        &[("a", 0, HashKind::Sha1), ("b", 0, HashKind::Sha256)],
+        Some(IndexError::MixedHash { at: 1 }),
+    ),
+    (
+        "the lower of two empty paths",
+        &[("", 0, HashKind::Sha1), ("", 0, HashKind::Sha1)],
+        Some(IndexError::EmptyPath { at: 0 }),
+    ),
+    (
+        "the lower of two faults",
+        &[
+            ("b", 0, HashKind::Sha1),
+            ("a", 0, HashKind::Sha1),
+            ("", 0, HashKind::Sha1),
+        ],
+        Some(IndexError::NotAscending { at: 1 }),
+    ),
+    (
+        "stages that fall",
+        &[
+            ("e", 0, HashKind::Sha1),
+            ("f", 2, HashKind::Sha1),
+            ("f", 1, HashKind::Sha1),
+        ],
+        Some(IndexError::NotAscending { at: 2 }),
+    ),
+    (
+        "stages that rise",
+        &[
+            ("e", 3, HashKind::Sha1),
+            ("f", 1, HashKind::Sha1),
+            ("f", 2, HashKind::Sha1),
+        ],
+        None,
+    ),
+];
+
+#[test]
+fn entries_are_an_index_or_refused(rt: HostRuntime) -> Result<(), Fail> {
+    for (name, given, want) in REFUSALS {
+        assert_eq!(rt; refused(rt.alloc(), given)?, want, "at {name}");
+    }
+    Ok(())
+}
+
+// An index of these paths, pushed in order.
+fn grown(alloc: Global, paths: &[&str]) -> Result<State, IndexError> {
+    let mut state = State::new(alloc, Moment::default());
+    for path in paths {
+        state.push_entry(
+            Stat::default(),
+            ObjectId::null(HashKind::Sha1),
+            Flags::default(),
+            Mode::File,
+            BStr::new(path.as_bytes()),
+        )?;
+    }
+    Ok(state)
+}
+
+// A path and its kind of id that are put into an index of `a` and `c`, and why they are refused.
+type Put = (&'static str, HashKind, Option<IndexError>);
+
+const PUTS: [Put; 9] = [
+    ("", HashKind::Sha1, Some(IndexError::EmptyPath { at: 0 })),
+    ("", HashKind::Sha256, Some(IndexError::EmptyPath { at: 0 })),
+    ("A", HashKind::Sha256, Some(IndexError::MixedHash { at: 0 })),
+    ("a", HashKind::Sha256, Some(IndexError::MixedHash { at: 0 })),
+    ("b", HashKind::Sha256, Some(IndexError::MixedHash { at: 1 })),
+    ("c", HashKind::Sha256, Some(IndexError::MixedHash { at: 1 })),
+    ("d", HashKind::Sha256, Some(IndexError::MixedHash { at: 2 })),
+    ("b", HashKind::Sha1, None),
+    ("c", HashKind::Sha1, None),
+];
+
+// Whether an entry is put, or refused, as a row says.
+fn is_put(alloc: Global, row: &Put) -> Result<bool, IndexError> {
+    let (path, kind, want) = *row;
+    let mut state = grown(alloc, &["a", "c"])?;
+    let put = state.put_entry(
+        Stat::default(),
+        ObjectId::null(kind),
+        Flags::default(),
+        Mode::File,
+        BStr::new(path.as_bytes()),
+    );
+    Ok(put.err() == want)
+}
+
+#[test]
+fn entries_are_put_or_refused(rt: HostRuntime) -> Result<(), Fail> {
+    for row in &PUTS {
+        assert!(rt; is_put(rt.alloc(), row)?, "at {}", row.0);
+    }
+    Ok(())
+}
+
+#[test]
+fn a_search_for_a_prefix_counts(rt: HostRuntime) -> Result<(), Fail> {
+    let state = grown(rt.alloc(), &["a", "a-", "a/b", "a/c", "a0"])?;
+    for prefix in ["a/", "a", "b"] {
+        let prefix_bytes = BStr::new(prefix.as_bytes());
+        let (_range, compared) = state.prefixed_entries_range_counted(prefix_bytes);
+        assert!(rt; compared > 0, "at {prefix}");
+    }
+    Ok(())
+}
