@@ -13,8 +13,8 @@ profiles are those of tools/small_profiles.py, each with each limit of threads. 
   the program takes memory right before it asks for the thread, and the C library takes some too. Where more than one
   call was refused there may be no line, since it takes memory to write one.
 - Standard output has a beginning of the lines that the row has. A status with untracked files, renames or sorted lines
-  has printed nothing where it failed, and some lines where a later one was refused memory: N is then among the last
-  calls. A replay's refused run leaves all lines of the runs before it.
+  has printed nothing where it failed, and some lines where its recorder or a later line was refused memory: N is then
+  among the last calls. A replay's refused run leaves all lines of the runs before it.
 - A refresh that failed leaves the file that it writes to as that was, and no lock. Else it leaves what it leaves where
   nothing is refused.
 
@@ -111,8 +111,8 @@ def wrong(row, refused, ended):
         return ended.end()
     if not row.out.startswith(out) or out[-1:] not in ("", "\n"):
         return "output that is no beginning of the lines"
-    unprinted = row.out.count("\n") - out.count("\n")
-    if row.is_joined and out and refused.at <= len(refused.calls) - LINE_CALLS * unprinted:
+    # Once a recorder takes entries all lines are still to come.
+    if row.is_joined and out and refused.at <= len(refused.calls) - LINE_CALLS * row.out.count("\n"):
         return "lines of a joined status that failed"
     return wrong_fault(row, refused, out, fault)
 

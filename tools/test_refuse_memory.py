@@ -128,10 +128,13 @@ class Judging(unittest.TestCase):
         for out in (lines[1], lines[0] + lines[2], lines[0][:-1], "\n"):
             self.assertIsNotNone(self.said("folder", "m", 1, out, "out of memory\n"), out)
 
-    def test_a_joined_status_that_fails_has_no_line(self):
+    def test_a_joined_status_that_fails_before_it_reports_has_no_line(self):
         line = ROWS["renames"].out.splitlines(keepends=True)[0]
         self.assertIsNone(self.said("renames", "m", 1, "", "out of memory\n", 10))
-        self.assertIsNotNone(self.said("renames", "m", 1, line, "out of memory\n", 10))
+        # Of the hundred calls three lines take eighteen at most.
+        for at in (10, 82):
+            self.assertIsNotNone(self.said("renames", "m", 1, line, "out of memory\n", at), at)
+        self.assertIsNone(self.said("renames", "m", 1, line, "out of memory\n", 83))
         self.assertIsNone(self.said("renames", "m", 1, line, "out of memory\n", 89))
         self.assertIsNotNone(self.said("renames", "m", 1, line + line, "out of memory\n", 89))
 
@@ -275,6 +278,15 @@ class Program(unittest.TestCase):
 
     def test_each_call_of_a_listing_is_refused(self):
         self.assert_swept("--rows listed --limits 1 2 --repeat 1", 4, FEWEST["listed"])
+
+    def test_what_a_joined_status_recorded_before_it_was_refused_memory_is_printed(self):
+        # The recorder takes memory for four entries, and then for the fifth, before the first line takes any.
+        with tempfile.TemporaryDirectory() as folder:
+            library = tool.compile_library(folder)
+            with tool.sweeper(PROGRAM, library, "listed", 1, 10) as it:
+                outs = [it.run(at + 1, False)[0].out.decode() for at in range(len(it.calls()))]
+        lines = ROWS["listed"].out.splitlines(keepends=True)
+        self.assertEqual(next(filter(None, outs)), "".join(lines[:4]))
 
     def test_each_call_of_a_folder_is_refused(self):
         self.assert_swept("--rows folder --limits 1 2 --repeat 1", 4, FEWEST["folder"])

@@ -21,7 +21,8 @@ use std::io;
 use std::sync::Wait;
 use std::thread::Threads;
 
-/// Prints a status of these paths by this comparer. If the status fails, no record is printed.
+/// Prints a status of these paths by this comparer. If the status fails, the entries that the recorder holds are printed:
+/// those before one for which it had no memory, and none after any other failure.
 pub fn print_joined<
     'a,
     R: AllocGlobal + Threads + Wait,
@@ -44,10 +45,15 @@ where
     let alloc = rt.alloc();
     let counts = status.options.counts;
     let mut recorder = Recorder::new(alloc);
-    let outcome = report_joined(rt, alloc, status, &mut recorder, pathspec, compare)?;
+    let answer = report_joined(rt, alloc, status, &mut recorder, pathspec, compare);
     print_entries(alloc, recorder.records.as_slice(), output)?;
-    print_totals(alloc, &outcome.tracked_file_modification, counts, output)?;
-    flush(output)
+    match answer {
+        Ok(outcome) => {
+            print_totals(alloc, &outcome.tracked_file_modification, counts, output)?;
+            flush(output)
+        }
+        Err(error) => Err(Failure::from(error)),
+    }
 }
 
 /// Reports a status to a collector, with no filter, listing, submodule or blob, and with renames by equal content.
