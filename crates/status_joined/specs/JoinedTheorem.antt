@@ -1,5 +1,6 @@
 -- The joined theorem: what a status with untracked files, renames and copies reports to its collector, and what it answers.
 use Rattle.std.specs.Prelude.{◌≡◌, ◌⊎◌, ◌<◌, Bool, IsTrue, List, [], ◌++◌, length, Option, is_some, Result, IfOk, IfErr, ⊤}
+use Rattle.std.specs.Borrow.{Bor}
 use Rattle.std.specs.List.Sorted.{IsSorted}
 use Rattle.status_index.specs.States.{index_of}
 use Rattle.status_index.specs.declared.state.State.{State}
@@ -7,6 +8,9 @@ use Rattle.status_call.specs.Inputs.{settings}
 use Rattle.status_call.specs.Query.{Query}
 use Rattle.status_call.specs.StatusTheorem.{IsBeginning}
 use Rattle.status_call.specs.declared.index_as_worktree.types.Outcome.{Outcome as StatusOutcome}
+use Rattle.status_joined.specs.declared.index_as_worktree_with_renames.inputs.Inputs.{Inputs}
+use Rattle.status_joined.specs.declared.index_as_worktree_with_renames.types.Context.{Context}
+use Rattle.status_joined.specs.Given.{given}
 use Rattle.status_joined.specs.JoinedQuery.{JoinedQuery}
 use Rattle.status_joined.specs.Walkings.{Walking, wanted_walk}
 use Rattle.status_rewrites.specs.TrackedChanges.{Changed}
@@ -72,6 +76,7 @@ IsMetBy q options index may_fail old result new =
     IsJoinedStatus (q.status (settings (tracked_options options) index)) options index q.interruptible
     (wanted_walk options.dirwalk (q.walking (index_of index))) (q.identifying options.object_hash) q.pairs may_fail old result new
 
--- the same by the meaning of the collector
-abbrev pub IsJoined : {I T U V : Type 0} → (I → JoinedQuery T U) → I → Options → State → Bool → (V → List (Reported T U)) → V → Result Outcome Error → V → Type 0
-IsJoined query given options index may_fail visits old result new = IsMetBy (query given) options index may_fail (visits old) result (visits new)
+-- the same of a call, by what it was handed and by the meaning of its collector
+abbrev pub IsJoined : {W C S O P L K X A T U V : Type 0} → (Inputs W C S O P A L K X → JoinedQuery T U) → Bor W → C → S → O → Context P A L K X → Options → State → Bool → (V → List (Reported T U)) → V → Result Outcome Error → V → Type 0
+IsJoined query worktree compare submodule objects context options index may_fail visits old result new =
+    IsMetBy (query (given worktree compare submodule objects context)) options index may_fail (visits old) result (visits new)

@@ -9,6 +9,7 @@ use Rattle.status_rewrites.specs.declared.tracker.Rewrites.{Rewrites}
 use Rattle.status_joined.specs.declared.index_as_worktree_with_renames.error.Error.{Error}
 use Rattle.status_joined.specs.declared.index_as_worktree_with_renames.error.Error.TheVariants.{Memory}
 use Rattle.status_joined.specs.declared.index_as_worktree_with_renames.rewrites.Outcome.{Outcome}
+use Rattle.status_joined.specs.declared.index_as_worktree_with_renames.types.Options.{Options}
 use Rattle.status_joined.specs.Items.{Item, Reported}
 use Rattle.status_joined.specs.declared.index_as_worktree_with_renames.rewriting.RewrittenList.{RewrittenList}
 use Rattle.status_joined.specs.NodeIds.{Identifying}
@@ -30,3 +31,7 @@ IsListFed {T} {U} ids kind means rewrites list may_fail old (Err e) new =
     (IsListFault ids kind means rewrites list e × (new ≡ old))
     ⊎ (IsTrue may_fail × ((e ≡ Memory) × ((ts : List (Reported T U)) × ((o : Option Outcome)
     × (IsReportedOf ids kind means rewrites list ts o × ((n : ℕ) × (n < length ts) × (new ≡ old ++ take n ts)))))))
+
+-- the same by the options of the call
+abbrev pub IsListFedBy : {T U : Type 0} → Identifying → (List Changed → Bool → Result (List Pair) TrackerFault → Type 0) → Options → List (Item T U) → Bool → List (Reported T U) → Result (Option Outcome) Error → List (Reported T U) → Type 0
+IsListFedBy ids means options list may_fail old result new = IsListFed ids options.object_hash means options.rewrites list may_fail old result new

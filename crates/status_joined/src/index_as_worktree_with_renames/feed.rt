@@ -113,7 +113,7 @@ fn feed_one<'index, V: VisitEntry<'index>>(
     collector: &mut V,
 ) -> Result<(), AllocError>
     requires { IsLed is_walked (map_rewritten item_of entry) }
-    ensures { IsReportedOne V.may_fail (map_rewritten item_of entry.entry) (V.visits collector.old) result (V.visits collector.new) }
+    ensures { IsReportedOne V.fails (map_rewritten item_of entry.entry) (V.visits collector.old) result (V.visits collector.new) }
 {
     collector.visit_entry(entry_of_rewritten(entry))
 }
@@ -129,7 +129,7 @@ pub(crate) fn feed_items<'index, V: VisitEntry<'index>>(
 where
     V::ContentChange: Drop,
     V::SubmoduleStatus: Drop,
-    ensures { IsFed V.may_fail (map Alone (map item_of items.entry.items)) (V.visits collector.old) result (V.visits collector.new) }
+    ensures { IsFed V.fails (map Alone (map item_of items.entry.items)) (V.visits collector.old) result (V.visits collector.new) }
 {
     for item in items {
         if let Err(refused) = feed_one(Rewritten::Alone(item), collector) {
@@ -153,7 +153,7 @@ where
     V::ContentChange: Drop,
     V::SubmoduleStatus: Drop,
     requires { All (IsLed is_walked) (map (map_rewritten item_of) entries.items) }
-    ensures { IsFed V.may_fail (map (map_rewritten item_of) entries.entry.items) (V.visits collector.old) result (V.visits collector.new) }
+    ensures { IsFed V.fails (map (map_rewritten item_of) entries.entry.items) (V.visits collector.old) result (V.visits collector.new) }
 {
     for entry in entries {
         if let Err(refused) = feed_one(entry, collector) {

@@ -1,6 +1,5 @@
 //! The status of an index against a worktree with untracked files, renames and copies.
 
-ghost use Rattle.status_joined.specs.Given.{given};
 ghost use Rattle.status_joined.specs.JoinedTheorem.{IsJoined};
 
 use crate::index_as_worktree_with_renames::error::Error;
@@ -66,8 +65,8 @@ where
     C::Output: Send + ExactClone + 'index,
     S::Output: Send + ExactClone + 'index,
     ensures { IsJoined ⟦<Inputs<'w, W, C, S, O, P, T, L, K, X> as Ask>⟧.query
-        (given worktree.entry compare submodule objects context.entry) options index.now
-        V.may_fail V.visits collector.old result collector.new }
+        worktree.entry compare submodule objects context.entry options index.now
+        V.fails V.visits collector.old result collector.new }
 {
     let Context {
         pathspec,

@@ -70,7 +70,7 @@ where
     C::Output: Send + ExactClone + 'index,
     S::Output: Send + ExactClone + 'index,
     ensures { IsMetBy (⟦<Inputs<'w, W, C, S, O, P, T, L, K, X> as Ask>⟧.query inputs.entry) options index.now
-        V.may_fail (V.visits collector.old) result (V.visits collector.new) }
+        V.fails (V.visits collector.old) result (V.visits collector.new) }
 {
     let worktree = inputs.status.worktree;
     let walk = inputs.walk;

@@ -18,7 +18,7 @@ pub trait VisitEntry<'index> {
     ghost visits: { Self → List (Reported Self.ContentChange Self.SubmoduleStatus) };
 
     /// Whether it may fail to take an entry.
-    ghost may_fail: { Bool };
+    ghost fails: { Bool };
 
     /// Takes an entry.
     ///
@@ -29,7 +29,7 @@ pub trait VisitEntry<'index> {
         entry: Entry<'index, Self::ContentChange, Self::SubmoduleStatus>,
     ) -> Result<(), AllocError>
         ensures ok { OnOk result (visits self.new ≡ visits self.old ++ reported_entry entry.entry ∷ []) }
-        ensures err { OnErr result (IsTrue may_fail × (visits self.new ≡ visits self.old)) };
+        ensures err { OnErr result (IsTrue fails × (visits self.new ≡ visits self.old)) };
 }
 
 /// Keeps the entries of a status in a list. One that is refused memory stays as it was.
@@ -64,7 +64,7 @@ impl<'index, T: Drop, U: Drop> VisitEntry<'index> for Recorder<'index, T, U> {
 
     ghost visits = { reported_of_recorder };
 
-    ghost may_fail = { true };
+    ghost fails = { true };
 
     fn visit_entry(&mut self, entry: Entry<'index, T, U>) -> Result<(), AllocError>
         ensures ok { OnOk result (reported_of_recorder self.new

@@ -5,7 +5,7 @@ ghost use Rattle.std.specs.List.{count_by};
 ghost use Rattle.status_rewrites.specs.Entries.{map_rewritten, IsLed};
 ghost use Rattle.status_joined.specs.Items.{is_walked};
 ghost use Rattle.status_joined.specs.ListItems.{item_of};
-ghost use Rattle.status_joined.specs.RewritingAnswers.{IsListFed, IsRewritingAnswer};
+ghost use Rattle.status_joined.specs.RewritingAnswers.{IsListFedBy, IsRewritingAnswer};
 
 use crate::identifier::Identify;
 use crate::index_as_worktree_with_renames::error::{Error, id_error, refused_error};
@@ -84,8 +84,8 @@ pub(crate) fn report_list<'index, N: Identify, X: Tracker + Drop, V: VisitEntry<
 where
     V::ContentChange: ExactClone + Drop,
     V::SubmoduleStatus: ExactClone + Drop,
-    ensures { IsListFed (N.identifying ids.now) options.now.object_hash (X.means tracker) options.now.rewrites
-        (map item_of items.entry.items) V.may_fail (V.visits collector.old) result (V.visits collector.new) }
+    ensures { IsListFedBy (N.identifying ids.now) (X.means tracker) options.now (map item_of items.entry.items)
+        V.fails (V.visits collector.old) result (V.visits collector.new) }
 {
     let Some(rewrites) = options.rewrites else {
         return match feed_items(items, collector) {

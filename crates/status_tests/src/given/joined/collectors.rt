@@ -24,7 +24,7 @@ where
 
     ghost visits = { λ s. V.visits s.collector };
 
-    ghost may_fail = { true };
+    ghost fails = { true };
 
     fn visit_entry(
         &mut self,
