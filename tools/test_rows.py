@@ -272,6 +272,18 @@ class Inputs(unittest.TestCase):
         self.write_over_folder([{"path": "a", "id": FOO}, {"path": "l", "mode": "120000", "id": FOO}])
         self.assert_ends("status f", 1, b'0 removed "a"\n', b"status failed: other 0\n")
 
+    def test_a_file_of_1969_and_one_past_32_bit_seconds_have_no_time(self):
+        for second in (-1, 1 << 32):
+            with self.subTest(second=second):
+                make_node(self.folder, "file", "late", "foo", second)
+                entries = [{"path": "a", "id": FOO}, {"path": "late", "id": FOO}]
+                self.write_over_folder(entries)
+                self.assert_ends("status f", 1, b'0 removed "a"\n', b"status failed: time\n")
+                # An entry that is skipped isn't looked at.
+                self.write_over_folder([entries[0], {**entries[1], "flags": ["skip-worktree"]}])
+                totals = b"total: to process 2, processed 2, skipped 1, lstat 1, to update 0, racy 0, read 0, bytes 0\n"
+                self.assert_ends("status f", 0, b'0 removed "a"\n' + totals, b"")
+
     def test_a_clean_file_and_a_clean_link_are_never_opened(self):
         # Reading the file would be a fault, or for root a change, and reading the link would be a fault.
         make_node(self.folder, "file", "a", "bar", 5)
