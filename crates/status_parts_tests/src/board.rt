@@ -111,3 +111,15 @@ fn two_seats_draw_report_and_look(rt: HostRuntime) -> Result<(), Fail> {
     assert_eq!(rt; board.close(back), Some(tally));
     Ok(())
 }
+
+#[test]
+fn no_tally_without_each_seat(rt: HostRuntime) -> Result<(), Fail> {
+    let (board, mut seats) = opened(rt.alloc(), 3, 2)?;
+    let mut t = seat_of(&rt, &board, &mut seats);
+    let mut s = seat_of(&rt, &board, &mut seats);
+    assert_drawn(&rt, &board, &mut s, &mut t);
+    let mut back = Vec::new(rt.alloc());
+    give_back(&board, &mut back, s)?;
+    assert_eq!(rt; board.close(back), None);
+    Ok(())
+}

@@ -4,11 +4,15 @@ use bstr::{BStr, BString};
 use status_base::stack::SymlinkCheck;
 use status_base::worktree::{Fault, Metadata, NodeKind, ReadBytes, Worktree};
 use std::alloc::{AllocError, Global};
+use std::process::Abort;
 use std::sync::atomic::{AtomicUsize, Ordering};
 use std::test::Fail;
 
+/// What `lstat` answers at a path.
+type Answer = (&'static str, Result<NodeKind, Fault>);
+
 /// What `lstat` answers. It is NotFound for any other path.
-const ANSWERS: [(&str, Result<NodeKind, Fault>); 6] = [
+const ANSWERS: [Answer; 6] = [
     ("a", Ok(NodeKind::Directory)),
     ("a/b", Ok(NodeKind::Directory)),
     ("a/e", Ok(NodeKind::Directory)),
@@ -17,9 +21,13 @@ const ANSWERS: [(&str, Result<NodeKind, Fault>); 6] = [
     ("l", Ok(NodeKind::Link)),
 ];
 
-/// A worktree of these answers, whose looks are counted.
+/// The same where a directory has a link's name and more.
+const ALIKE: [Answer; 2] = [("a", Ok(NodeKind::Link)), ("ab", Ok(NodeKind::Directory))];
+
+/// A worktree of such answers, whose looks are counted.
 #[derive(Drop)]
 struct Counted<'a> {
+    answers: &'static [Answer],
     looks: &'a AtomicUsize,
 }
 
@@ -48,7 +56,7 @@ impl<'a> Worktree for Counted<'a> {
 
     fn lstat(&self, path: BStr<'_>) -> Result<Metadata, Fault> {
         self.looks.fetch_add(1, Ordering::SeqCst);
-        for (name, answer) in &ANSWERS {
+        for (name, answer) in self.answers {
             if name.as_bytes() == path.as_bytes() {
                 return answer.map(node);
             }
@@ -84,7 +92,8 @@ fn node(kind: NodeKind) -> Metadata {
 type Row = (&'static str, bool, &'static str, u64);
 
 /// The paths that one check is asked, in turn.
-const ROWS: [Row; 14] = [
+const ROWS: [Row; 18] = [
+    ("a", false, "Ok(\"r/a\")", 0),
     // It looks at `a` and `a/b`; at nothing new; at `a/e`.
     ("a/b/c", false, "Ok(\"r/a/b/c\")", 2),
     ("a/b/d", false, "Ok(\"r/a/b/d\")", 2),
@@ -97,11 +106,20 @@ const ROWS: [Row; 14] = [
     // It looks at directories, and not at the path itself.
     ("l", false, "Ok(\"r/l\")", 3),
     ("l/x", false, "Err(ThroughLink { prefix: \"l\" })", 4),
+    ("l", false, "Ok(\"r/l\")", 4),
     ("f/x/y", false, "Err(Fault(NotADirectory))", 6),
     ("f/x", false, "Ok(\"r/f/x\")", 6),
-    ("q/x", false, "Err(Fault(NotFound))", 7),
-    ("p/x", true, "Ok(\"r/p/x\")", 8),
-    ("l/x", true, "Err(ThroughLink { prefix: \"l\" })", 9),
+    ("a/x", false, "Ok(\"r/a/x\")", 7),
+    ("q/x", false, "Err(Fault(NotFound))", 8),
+    ("a/y", false, "Ok(\"r/a/y\")", 9),
+    ("p/x", true, "Ok(\"r/p/x\")", 10),
+    ("l/x", true, "Err(ThroughLink { prefix: \"l\" })", 11),
+];
+
+/// The same of the worktree with a directory `ab` and a link `a`.
+const ALIKE_ROWS: [Row; 2] = [
+    ("ab/x", false, "Ok(\"r/ab/x\")", 1),
+    ("a/x", false, "Err(ThroughLink { prefix: \"a\" })", 2),
 ];
 
 /// What a check answers for a path, which may lead to nothing where that is allowed.
@@ -121,7 +139,7 @@ fn answer(
     format!(in alloc; "{answer:?}")
 }
 
-/// Whether a check answers a row as it says, after as many looks as that many calls.
+/// Whether a check answers a row as it says, after as many looks as that many calls, and has its root as before.
 fn is_row(
     alloc: Global,
     check: &mut SymlinkCheck,
@@ -131,21 +149,36 @@ fn is_row(
     let (path, may_be_absent, want, looks) = *row;
     let found = answer(alloc, check, worktree, path, may_be_absent)?;
     let made = worktree.looks.load(Ordering::SeqCst) as u64;
-    Ok(found.as_str() == want && check.looks() == looks && made == looks)
+    let is_counted = check.looks() == looks && made == looks;
+    Ok(found.as_str() == want && is_counted && check.root() == BStr::from("r"))
 }
 
-#[test]
-fn each_directory_is_looked_at_once(rt: HostRuntime) -> Result<(), Fail> {
+// Asserts what one check below the root `r` answers for paths in turn.
+fn assert_rows<R: AllocGlobal + Abort>(
+    rt: &R,
+    answers: &'static [Answer],
+    rows: &[Row],
+) -> Result<(), AllocError> {
     let looks = AtomicUsize::new(0);
-    let worktree = Counted { looks: &looks };
+    let worktree = Counted {
+        answers,
+        looks: &looks,
+    };
     let root = BString::from_slice(rt.alloc(), "r")?;
     let mut check = SymlinkCheck::new(rt.alloc(), root);
-    for row in &ROWS {
+    for row in rows {
         assert!(rt;
             is_row(rt.alloc(), &mut check, &worktree, row)?,
             "at {}",
             row.0
         );
     }
+    Ok(())
+}
+
+#[test]
+fn each_directory_is_looked_at_once(rt: HostRuntime) -> Result<(), Fail> {
+    assert_rows(&rt, &ANSWERS, &ROWS)?;
+    assert_rows(&rt, &ALIKE, &ALIKE_ROWS)?;
     Ok(())
 }

@@ -5,6 +5,7 @@ ghost use Rattle.std.specs.Prelude.{None, false, refl};
 use bstr::{BStr, BString};
 use status_base::fscache::{FsCache, Stat, filetime_to_unix, type_flags_from_attributes};
 use status_base::worktree::{Lister, Listing, NoLister};
+use status_index::Time;
 use std::alloc::{AllocError, Global};
 use std::sync::atomic::{AtomicBool, AtomicUsize, Ordering};
 
@@ -218,4 +219,29 @@ fn attributes_are_flags(rt: HostRuntime) {
         let flags = type_flags_from_attributes(attributes, tag);
         assert_eq!(rt; flags, want, "{attributes:#x}, {tag:#x}");
     }
+}
+
+#[test]
+fn a_listed_stat_is_the_stat_of_an_entry(rt: HostRuntime) {
+    let listed = Stat {
+        size: 1234,
+        mtime_secs: 1_700_000_000,
+        mtime_nsecs: 500_000_000,
+        ctime_secs: 1_699_999_999,
+        ctime_nsecs: 100_000_000,
+        ..Stat::default()
+    };
+    let wanted = status_index::Stat {
+        mtime: Time {
+            secs: 1_700_000_000,
+            nsecs: 500_000_000,
+        },
+        ctime: Time {
+            secs: 1_699_999_999,
+            nsecs: 100_000_000,
+        },
+        size: 1234,
+        ..status_index::Stat::default()
+    };
+    assert_eq!(rt; listed.to_stat(), wanted);
 }

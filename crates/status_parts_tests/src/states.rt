@@ -3,6 +3,7 @@
 use bstr::{BStr, BString};
 use status_index::{Flags, HashKind, IndexError, Mode, Moment, NewEntry, ObjectId, Stat, State};
 use std::alloc::{AllocError, Global};
+use std::ops::Range;
 use std::test::Fail;
 
 // A path, a stage and a kind of id.
@@ -141,13 +142,27 @@ fn entries_are_put_or_refused(rt: HostRuntime) -> Result<(), Fail> {
     Ok(())
 }
 
+// The first place of a stretch, and the place behind its last.
+fn ends_of(stretch: Option<Range<usize>>) -> Option<(usize, usize)> {
+    match stretch {
+        Some(range) => Some((range.start, range.end)),
+        None => None,
+    }
+}
+
 #[test]
 fn a_search_for_a_prefix_counts(rt: HostRuntime) -> Result<(), Fail> {
     let state = grown(rt.alloc(), &["a", "a-", "a/b", "a/c", "a0"])?;
-    for prefix in ["a/", "a", "b"] {
+    for (prefix, want, least, most) in [
+        ("a/", Some((2, 4)), 1, 6),
+        ("a", Some((0, 5)), 1, 6),
+        ("b", None, 1, 6),
+        ("", Some((0, 5)), 0, 0),
+    ] {
         let prefix_bytes = BStr::new(prefix.as_bytes());
-        let (_range, compared) = state.prefixed_entries_range_counted(prefix_bytes);
-        assert!(rt; compared > 0, "at {prefix}");
+        let (range, compared) = state.prefixed_entries_range_counted(prefix_bytes);
+        assert_eq!(rt; ends_of(range), want, "at {prefix}");
+        assert!(rt; least <= compared && compared <= most, "at {prefix}");
     }
     Ok(())
 }
