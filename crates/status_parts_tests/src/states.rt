@@ -154,7 +154,8 @@ fn ends_of(stretch: Option<Range<usize>>) -> Option<(usize, usize)> {
 fn a_search_for_a_prefix_counts(rt: HostRuntime) -> Result<(), Fail> {
     let state = grown(rt.alloc(), &["a", "a-", "a/b", "a/c", "a0"])?;
     for (prefix, want, least, most) in [
-        ("a/", Some((2, 4)), 1, 6),
+        // The entries on both sides of each end have to be compared: four of them.
+        ("a/", Some((2, 4)), 4, 6),
         ("a", Some((0, 5)), 1, 6),
         ("b", None, 1, 6),
         ("", Some((0, 5)), 0, 0),
