@@ -10,6 +10,7 @@ out for that. The exit status is 0 where tests ran and none failed.
 import collections
 import os
 import re
+import signal
 import subprocess
 import sys
 import unittest
@@ -69,6 +70,8 @@ def said(result):
 def main(words, folder=HERE):
     if TRIED not in words and cases.may_read_all() and may_be_ordinary():
         return subprocess.run([*ORDINARY, sys.executable, os.path.abspath(__file__), TRIED], check=False).returncode
+    # In a job in the background the signal is ignored, and what is started here would ignore it too. Tests send it.
+    signal.signal(signal.SIGINT, signal.default_int_handler)
     runner = unittest.TextTestRunner(stream=sys.stderr, resultclass=Result)
     lines, failed = said(runner.run(unittest.defaultTestLoader.discover(folder)))
     print("\n".join(lines))

@@ -284,9 +284,10 @@ class Program(unittest.TestCase):
         with tempfile.TemporaryDirectory() as folder:
             library = tool.compile_library(folder)
             with tool.sweeper(PROGRAM, library, "listed", 1, 10) as it:
-                outs = [it.run(at + 1, False)[0].out.decode() for at in range(len(it.calls()))]
+                ends = [it.run(at + 1, False)[0] for at in range(len(it.calls()))]
         lines = ROWS["listed"].out.splitlines(keepends=True)
-        self.assertEqual(next(filter(None, outs)), "".join(lines[:4]))
+        printed = [ended.out.decode() for ended in ends if ended.status != 0 and ended.out]
+        self.assertEqual(printed[0], "".join(lines[:4]))
 
     def test_each_call_of_a_folder_is_refused(self):
         self.assert_swept("--rows folder --limits 1 2 --repeat 1", 4, FEWEST["folder"])
