@@ -67,7 +67,7 @@ module _ {T U : Type 0} (query : Query T U) (options : Options) (index : State) 
     pub complete : IfOk result (IsWhole more)
     -- an error: a fault that a part has
     pub fault : IfErr result IsFault
-    -- on an error nothing was reported; or the collector, which may fail, had no memory for an entry behind a beginning
+    -- on an error nothing was reported; or, with a collector that may fail, the error is want of memory, and a beginning was
     pub quiet : IfErr result (λ e. (more ≡ []) ⊎ (IsTrue may_fail × ((e ≡ Memory) × IsCutShort more)))
 
 -- the same of what was handed in: the status of the index by the options, the walk where one is wanted, and the ids by their kind
