@@ -95,31 +95,32 @@ fn assert_drawn<R: Abort>(rt: &R, board: &Board, s: &mut Seat, t: &mut Seat)
     assert!(rt; s.is_done() && t.is_done());
 }
 
+// The tally of a board that two seats used, where one of them comes back, or both.
+fn tally_of<R: Abort>(rt: &R, alloc: Global, both: bool) -> Result<Option<Tally>, AllocError> {
+    let (board, mut seats) = opened(alloc, 3, 2)?;
+    let mut t = seat_of(rt, &board, &mut seats);
+    let mut s = seat_of(rt, &board, &mut seats);
+    assert_drawn(rt, &board, &mut s, &mut t);
+    let mut back = Vec::new(alloc);
+    give_back(&board, &mut back, s)?;
+    if both {
+        give_back(&board, &mut back, t)?;
+    }
+    Ok(board.close(back))
+}
+
 #[test]
 fn two_seats_draw_report_and_look(rt: HostRuntime) -> Result<(), Fail> {
-    let (board, mut seats) = opened(rt.alloc(), 3, 2)?;
-    let mut t = seat_of(&rt, &board, &mut seats);
-    let mut s = seat_of(&rt, &board, &mut seats);
-    assert_drawn(&rt, &board, &mut s, &mut t);
-    let mut back = Vec::new(rt.alloc());
-    give_back(&board, &mut back, s)?;
-    give_back(&board, &mut back, t)?;
     let tally = Tally {
         drawn: 3,
         least_reported: Some(1),
     };
-    assert_eq!(rt; board.close(back), Some(tally));
+    assert_eq!(rt; tally_of(&rt, rt.alloc(), true)?, Some(tally));
     Ok(())
 }
 
 #[test]
 fn no_tally_without_each_seat(rt: HostRuntime) -> Result<(), Fail> {
-    let (board, mut seats) = opened(rt.alloc(), 3, 2)?;
-    let mut t = seat_of(&rt, &board, &mut seats);
-    let mut s = seat_of(&rt, &board, &mut seats);
-    assert_drawn(&rt, &board, &mut s, &mut t);
-    let mut back = Vec::new(rt.alloc());
-    give_back(&board, &mut back, s)?;
-    assert_eq!(rt; board.close(back), None);
+    assert_eq!(rt; tally_of(&rt, rt.alloc(), false)?, None);
     Ok(())
 }
