@@ -1,5 +1,5 @@
 -- Maps from paths to nodes and to planted faults as a tree.
-use Rattle.std.proofs.Common.{◌≡◌, ℕ, Bool, true, false, cond, List, [], ◌∷◌, Option, Some, None, Result, Ok, Err, OnOk, OnErr, refl, sym, ap, ◌∙◌}
+use Rattle.std.proofs.Common.{◌≡◌, ℕ, Bool, true, false, cond, ◌&&◌, ◌||◌, List, [], ◌∷◌, Option, Some, None, Result, Ok, Err, OnOk, OnErr, refl, sym, ap, ◌∙◌, if◌then◌else◌}
 use Rattle.std.specs.Option.{option_map, unwrap_or}
 use Rattle.std.specs.Ordering.{nat_cmp, eq_by_cmp}
 use Rattle.std.specs.Cmp.Lexicographic.{slice_cmp}
@@ -9,11 +9,14 @@ use Rattle.std.specs.BTreeMap.{is_at}
 use Rattle.std.specs.FinMap as paths
 use Rattle.std.proofs.lemmas.Cmp.{nat_list_cmp_total}
 use Rattle.status_index.specs.declared.fault.Fault.{Fault}
-use Rattle.status_base.specs.MemoryTree.{Placed, Planted, PathMap, Tree, planted_at, planted_or_none, no_faults}
-use Rattle.status_base.specs.Nodes.{placed_of, placed_entries, placed_nodes, tree_of}
+use Rattle.status_base.specs.MemoryTree.{Placed, Planted, PathMap, Tree, has_below, has_file_above, is_no_directory_kind, planted_at, planted_or_none, no_faults}
+use Rattle.status_base.specs.Nodes.{placed_of, placed_entries, placed_nodes, tree_of, is_bad_path, put_fault, IsLookedBelow}
 use Rattle.status_base.specs.PathTables.{map_of}
 use Rattle.status_base.specs.Points.{with_fault, IsPlanted}
+use Rattle.status_index.specs.declared.metadata.NodeKind.{NodeKind}
 use Rattle.status_base.specs.declared.worktree.memory.Node.{Node}
+use Rattle.status_base.specs.declared.worktree.memory.TreeError.{TreeError}
+use Rattle.status_base.specs.declared.worktree.memory.TreeError.TheVariants.{BadPath, InTheWay}
 use Rattle.status_base.specs.declared.worktree.planted.Point.{Point}
 use Rattle.status_base.proofs.ListingTables.{to_key, key_cmp, tied, lookup-updated, map-insert, map-remove, map-get}
 
@@ -145,3 +148,14 @@ pub planted-first : (es : Nodes) (old new : Faults) (tree : Tree) (k path : List
 planted-first es old new tree k path point fault is view at none here others one =
     tree-plant es old new tree k path is view at here others
     ∙ ap (λ p. record tree { planted = paths.insert tree.planted path p }) (one ∙ ap (λ p. with_fault p point fault) (tree-planted es old tree k path None view at none))
+
+-- ---- where a node can be put
+
+free_parts : (bad above below : Bool) → (if bad then Some BadPath else (if above || below then Some InTheWay else None)) ≡ None → (bad ≡ false) × (above ≡ false)
+free_parts true above below h = absurd (cc)
+free_parts false true below h = absurd (cc)
+free_parts false false below h = (refl, refl)
+
+-- where nothing is in the way of a node, what lies below its path was looked up
+pub looked_below : (tree : Tree) (path : List ℕ) (kind : NodeKind) → put_fault tree path kind ≡ None → IsLookedBelow tree path
+looked_below tree path kind free = free_parts (is_bad_path path) (has_file_above tree path) (is_no_directory_kind kind && has_below tree path) free

@@ -1,5 +1,5 @@
 -- What a node is in a tree, and what becomes of a tree where a node is put.
-use Rattle.std.specs.Prelude.{◌≡◌, ◌⊎◌, ℕ, Bool, ◌==◌, ◌&&◌, ◌||◌, List, map, length, Option, Some, None, is_some, Result, Ok, Err, if◌then◌else◌}
+use Rattle.std.specs.Prelude.{◌≡◌, ◌⊎◌, ℕ, Bool, false, ◌==◌, ◌&&◌, ◌||◌, List, map, length, Option, Some, None, is_some, Result, Ok, Err, if◌then◌else◌}
 use Rattle.std.specs.FinMap as paths
 use Rattle.std.specs.Global.{Vec}
 use Rattle.status_index.specs.declared.metadata.NodeKind.{NodeKind}
@@ -52,9 +52,13 @@ abbrev pub put_fault : Tree → List ℕ → NodeKind → Option TreeError
 put_fault tree path kind =
     if is_bad_path path then Some BadPath else (if is_in_the_way tree path kind then Some InTheWay else None)
 
--- the node is put, or the tree stays for the fault that is meant or for want of memory
+-- what lies below a path is looked up, which takes memory: the path isn't bad, and nothing above it is in the way
+abbrev pub IsLookedBelow : Tree → List ℕ → Type 0
+IsLookedBelow tree path = (is_bad_path path ≡ false) × (has_file_above tree path ≡ false)
+
+-- the node is put; or the tree stays for the fault that is meant or, once what lies below is looked up, for want of memory
 abbrev pub IsPut : {A : Type 0} → Tree → List ℕ → Placed → Result A TreeError → Tree → Type 0
 IsPut old path placed (Ok _) new =
     (put_fault old path placed.metadata.kind ≡ None) × (new ≡ record old { nodes = paths.insert old.nodes path placed })
 IsPut old path placed (Err e) new =
-    ((e ≡ Memory) ⊎ (put_fault old path placed.metadata.kind ≡ Some e)) × (new ≡ old)
+    (((e ≡ Memory) × IsLookedBelow old path) ⊎ (put_fault old path placed.metadata.kind ≡ Some e)) × (new ≡ old)

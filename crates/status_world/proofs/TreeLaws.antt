@@ -19,10 +19,11 @@ use Rattle.status_index.specs.declared.metadata.NodeKind.{NodeKind}
 use Rattle.status_index.specs.declared.metadata.NodeKind.TheVariants.{File, Link, Directory, Other}
 use Rattle.status_base.specs.LinkCheck.{LinkCheck, accepted, empty_path, not_normal, through_link, faulty, barrier_of_kind, barrier_of, decided, leftmost_barrier, link_check}
 use Rattle.status_base.specs.MemoryTree.{Tree, Placed, PathMap, Planted, planted_or_none, or_planted, lstat_of_node, lstat_in, has_below, has_file_above, absence, bare_directory}
-use Rattle.status_base.specs.Nodes.{is_bad_path}
+use Rattle.status_base.specs.Nodes.{is_bad_path, put_fault}
 use Rattle.status_base.specs.Paths.{is_slash, directories, lies_above, abnormal_component}
 use Rattle.status_base.proofs.LinkLemmas.{directories_contain, link_check_normal}
 use Rattle.status_base.proofs.LooksLemmas.{all_above}
+use Rattle.status_base.proofs.Placed.{looked_below}
 use Rattle.status_world.specs.PlainWorld.{with_value}
 use Rattle.status_world.proofs.EntryLists.{is_path, path_of}
 
@@ -65,6 +66,10 @@ good_path path h =
     let parts = or_parts (length path == 0) (is_some (abnormal_component path)) h in
     let full = eqb-false (length path) 0 parts.0 in
     (omega (arith, full), is_none_of (abnormal_component path) parts.1)
+
+-- where a node can be put, nothing above is in the way
+pub free_above : (tree : Tree) (path : List ℕ) (kind : NodeKind) → put_fault tree path kind ≡ None → has_file_above tree path ≡ false
+free_above tree path kind free = (looked_below tree path kind free).1
 
 -- ---- has_below
 

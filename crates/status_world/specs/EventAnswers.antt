@@ -1,8 +1,8 @@
 -- What applying an event answers, and what it leaves.
-use Rattle.std.specs.Prelude.{◌≡◌, ◌≢◌, ◌⊎◌, ℕ, false, List, ◌++◌, Option, Some, None, option_map, Result, Ok, Err, ⊤}
+use Rattle.std.specs.Prelude.{◌≡◌, ◌≢◌, ◌⊎◌, ℕ, List, ◌++◌, Option, Some, None, option_map, Result, Ok, Err, ⊤}
 use Rattle.std.specs.Option.{option_to_list}
 use Rattle.status_base.specs.MemoryTree.{Placed}
-use Rattle.status_base.specs.Nodes.{is_bad_path}
+use Rattle.status_base.specs.Nodes.{IsLookedBelow}
 use Rattle.status_base.specs.declared.worktree.memory.TreeError.{TreeError}
 use Rattle.status_base.specs.declared.worktree.memory.TreeError.TheVariants.{BadPath, InTheWay, Memory}
 use Rattle.status_compare.specs.declared.error.Error.TheVariants as errors
@@ -24,11 +24,12 @@ abbrev pub IsChanged : {A : Type 0} → Event → StampedWorld → Result A Refu
 IsChanged event old (Ok _) new = (refusal_of event old ≡ None) × (new ≡ after_event event old)
 IsChanged event old (Err r) new = IsRefused r event old × (new ≡ old)
 
--- the same of a write: a node is put at a path, or the refusal of a write is due, or memory is wanting
+-- the same of a write: a node is put at a path; or the refusal of a write is due; or, once what lies below is looked up,
+-- memory is wanting
 abbrev pub IsWritten : {A : Type 0} → List ℕ → List ℕ → Placed → StampedWorld → Result A Refusal → StampedWorld → Type 0
 IsWritten path bytes node old (Ok _) new = (write_refusal old path bytes ≡ None) × (new ≡ with_node old path (Some node))
 IsWritten path bytes node old (Err r) new =
-    (((r ≡ refusals.Memory) × (is_bad_path path ≡ false)) ⊎ (write_refusal old path bytes ≡ Some r)) × (new ≡ old)
+    (((r ≡ refusals.Memory) × IsLookedBelow old.tree path) ⊎ (write_refusal old path bytes ≡ Some r)) × (new ≡ old)
 
 -- the refusal of an event whose node isn't put
 abbrev pub tree_refusal : TreeError → Refusal

@@ -5,7 +5,7 @@ use Rattle.status_index.specs.declared.metadata.NodeKind.{NodeKind}
 use Rattle.status_index.specs.declared.metadata.NodeKind.TheVariants.{File, Link, Directory, Other}
 use Rattle.status_index.specs.declared.stat.Moment.{Moment}
 use Rattle.status_base.specs.MemoryTree.{Placed, has_below, has_file_above}
-use Rattle.status_base.specs.Nodes.{is_bad_path}
+use Rattle.status_base.specs.Nodes.{is_bad_path, IsLookedBelow}
 use Rattle.status_compare.specs.declared.error.Error.{Error}
 use Rattle.status_compare.specs.declared.error.Error.TheVariants as errors
 use Rattle.status_call.specs.Records.{first_fault}
@@ -90,14 +90,14 @@ abbrev pub IsShared : Event → Type 0
 IsShared (events.Run comparer chunk_size thread_limit stamp) = thread_limit ≢ Some 1
 IsShared _ = ⊥
 
--- an event that takes memory before a refusal is known, or where none is due: a write or a link looks up what is in the way of
--- its path, if that isn't bad; executability is set in a copy of the file; what is there is staged, where it is a file or
--- link; and room for a run's report is made before all else
+-- an event that takes memory before a refusal is known, or where none is due: a write or a link looks up what lies below its
+-- path, where nothing above is in the way; executability is set in a copy of the file; what is there is staged, where it is a
+-- file or link; and room for a run's report is made before all else
 abbrev pub TakesMemory : Event → StampedWorld → Type 0
 TakesMemory (events.Tick n) w = ⊥
 TakesMemory (events.TickNanos n) w = ⊥
-TakesMemory (events.Write path bytes) w = is_bad_path (bstring_bytes path) ≡ false
-TakesMemory (events.Link path target) w = is_bad_path (bstring_bytes path) ≡ false
+TakesMemory (events.Write path bytes) w = IsLookedBelow w.tree (bstring_bytes path)
+TakesMemory (events.Link path target) w = IsLookedBelow w.tree (bstring_bytes path)
 TakesMemory (events.SetExecutable path executable) w = refusal_of (events.SetExecutable path executable) w ≡ None
 TakesMemory (events.Remove path) w = ⊥
 TakesMemory (events.Stage path) w =

@@ -7,7 +7,7 @@ ghost use Rattle.std.specs.Option.{option_map};
 ghost use Rattle.std.specs.FinMap as paths;
 ghost use Rattle.bstr.specs.BStr.{bstr_bytes};
 ghost use Rattle.status_base.specs.MemoryTree.{is_no_directory, has_below, has_file_above, absence, bare_directory, planted_or_none, planted_at, planted_content, fault_without_node};
-ghost use Rattle.status_base.specs.Nodes.{placed_of, placed_entries, is_bad_path, put_fault, IsPut};
+ghost use Rattle.status_base.specs.Nodes.{placed_of, placed_entries, is_bad_path, put_fault, IsLookedBelow, IsPut};
 ghost use Rattle.status_base.specs.Points.{IsPlanted};
 ghost use Rattle.status_base.specs.declared.worktree.memory.Node.{Node as NodeValue};
 ghost use Rattle.status_base.specs.Trees.{empty_tree};
@@ -137,7 +137,8 @@ impl MemoryWorktree {
     /// Puts a node at a path, in place of the one that was there. Faults that are planted there stay.
     ///
     /// # Errors
-    /// A bad path, something in the way, or want of memory. The worktree is then as it was.
+    /// A bad path, something in the way, or want of memory, which isn't answered for a bad path or where a node above is in
+    /// the way. The worktree is then as it was.
     pub fn put(&mut self, path: BStr<'_>, node: Node) -> Result<(), TreeError>
         ensures { IsPut self.old (bstr_bytes path.entry) (placed_of node) result self.new }
     {
@@ -155,10 +156,10 @@ impl MemoryWorktree {
     /// Whether a node of a kind could be put at a path now.
     ///
     /// # Errors
-    /// What `put` would answer, or want of memory.
+    /// What `put` would answer, or want of memory, where what lies below the path is looked up.
     pub fn check_put(&self, path: BStr<'_>, kind: NodeKind) -> Result<(), TreeError>
         ensures ok { OnOk result (put_fault self.now (bstr_bytes path.entry) kind ≡ None) }
-        ensures err { IfErr result (λ e. (e ≡ TreeError.Memory) ⊎ (put_fault self.now (bstr_bytes path.entry) kind ≡ Some e)) }
+        ensures err { IfErr result (λ e. ((e ≡ TreeError.Memory) × IsLookedBelow self.now (bstr_bytes path.entry)) ⊎ (put_fault self.now (bstr_bytes path.entry) kind ≡ Some e)) }
     {
         match self.fault_of_put(path.as_bytes(), kind)? {
             Some(fault) => Err(fault),
@@ -261,7 +262,8 @@ impl MemoryWorktree {
 
     /// Why a node of a kind can't be put at a path.
     fn fault_of_put(&self, path: &[u8], kind: NodeKind) -> Result<Option<TreeError>, AllocError>
-        ensures { IfOk result (λ fault. fault ≡ put_fault self.now path.now kind) }
+        ensures fault { IfOk result (λ fault. fault ≡ put_fault self.now path.now kind) }
+        ensures late { IfErr result (λ _. IsLookedBelow self.now path.now) }
     {
         if path.is_empty() || has_abnormal_component(path) {
             return Ok(Some(TreeError::BadPath));

@@ -94,6 +94,7 @@ impl World {
     }
 
     /// Puts a file or link that is written now.
+    #[tactic(auto, using(crate::proofs::TreeLaws::free_above))]
     fn put(
         &mut self,
         path: BStr<'_>,
