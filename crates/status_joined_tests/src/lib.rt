@@ -1,0 +1,2 @@
+//! Tests of the joined call: what no clause of it says.
+#![tactic(auto)]
