@@ -8,7 +8,7 @@ the seeds a last event that can't happen. `Plain` keeps what is there and what w
 clock, no stat and no timestamp, and that the index is stored and opened again changes nothing there. Each run has to
 print just the changes that the dicts have. Beside them it may print what a stat needs: `s` behind the `c` of a change of
 content, and `update` where nothing changed. And standard error has to say `refused N: WORDS` where the last event can't
-happen, and else nothing.
+happen, and else nothing. The last line counts what the runs printed: histories that show little show nothing.
 
 STATUS_PROGRAM names the built program; without it crates/status_program/out/status_program is run. Where a history
 differs its profile stays, in the folder --keep, and the exit status is 1. It is 2 for what can't be done, with one line
@@ -16,6 +16,7 @@ on standard error.
 """
 
 import argparse
+import collections
 import json
 import os
 import random
@@ -204,6 +205,14 @@ def difference(drawn, status, output, fault):
     return None
 
 
+def counted(output):
+    """How many lines of the runs have a change, one with a size that is set to zero, and an update."""
+    words = [words for run in told_runs(output) for _, words, _ in run]
+    updates = words.count("update")
+    zeroed = sum(it.startswith("modified ") and it.endswith("s") for it in words)
+    return collections.Counter({"changes": len(words) - updates, "zeroed": zeroed, "updates": updates})
+
+
 def plain_words(words):
     """The words without the letter that says what a stat needs, which stands behind a change of content alone."""
     if words.startswith("modified ") and (words.endswith("-") or words.endswith("cs")):
@@ -218,21 +227,24 @@ def run_program(program, file):
 
 
 def compare(program, seed, events, keep):
-    """What differs in a seed's history, whose profile then stays in a folder. None where nothing does."""
+    """What differs in a seed's history, whose profile then stays in a folder, or None; and what its runs printed, as
+    `counted` has it, where nothing differs.
+    """
     drawn = Drawn(seed, events)
     name = os.path.join(keep, f"history-{seed}.json")
     with open(name, "w", encoding="utf-8") as file:
         json.dump(drawn.profile, file)
     try:
-        found = difference(drawn, *run_program(program, name))
+        ended = run_program(program, name)
+        found = difference(drawn, *ended)
     except subprocess.TimeoutExpired as late:
         found = f"no answer within {late.timeout} seconds"
     except UnicodeDecodeError:
         found = "what was printed isn't UTF-8"
     if found is None:
         os.remove(name)
-        return None
-    return f"seed {seed}: {found} ({name})"
+        return None, counted(ended[1])
+    return f"seed {seed}: {found} ({name})", collections.Counter()
 
 
 def main():
@@ -246,8 +258,11 @@ def main():
     keep = options.keep or tempfile.mkdtemp(prefix="histories-")
     os.makedirs(keep, exist_ok=True)
     seeds = range(options.first, options.first + options.seeds)
-    found = [it for it in (compare(program, seed, options.events, keep) for seed in seeds) if it]
-    print(*found, f"{options.seeds} histories of {options.events} events, {len(found)} differ", sep="\n")
+    compared = [compare(program, seed, options.events, keep) for seed in seeds]
+    found = [difference for difference, _ in compared if difference]
+    seen = sum((counts for _, counts in compared), collections.Counter())
+    printed = f"{seen['changes']} changes, {seen['zeroed']} with a zeroed size, and {seen['updates']} updates"
+    print(*found, f"{options.seeds} histories of {options.events} events, {len(found)} differ: {printed}", sep="\n")
     if not found and not options.keep:
         os.rmdir(keep)
     return int(bool(found))

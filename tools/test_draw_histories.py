@@ -1,9 +1,10 @@
 #!/usr/bin/env python3
 """Tests of draw_histories.py:  python3 tools/test_draw_histories.py
 
-Where STATUS_PROGRAM names the built program, twenty drawn histories are run through it.
+Where STATUS_PROGRAM names the built program, eighty drawn histories are run through it.
 """
 
+import collections
 import os
 import tempfile
 import unittest
@@ -106,11 +107,17 @@ class Faults(Ends):
 
 @unittest.skipUnless(PROGRAM, "no built program")
 class Comparison(unittest.TestCase):
-    def test_twenty_drawn_histories_miss_no_change(self):
+    def test_eighty_drawn_histories_miss_no_change(self):
+        seen = collections.Counter()
         with tempfile.TemporaryDirectory() as room:
-            for seed in range(20):
-                self.assertIsNone(tool.compare(PROGRAM, seed, 2000, room))
+            for seed in range(80):
+                difference, counts = tool.compare(PROGRAM, seed, 2000, room)
+                self.assertIsNone(difference)
+                self.assertGreaterEqual(counts["changes"], 100, seed)
+                seen += counts
             self.assertEqual(os.listdir(room), [])
+        # What a stat needs is seen often enough to show something, too.
+        self.assertGreaterEqual(min(seen["zeroed"], seen["updates"]), 200, seen)
 
 
 if __name__ == "__main__":
