@@ -1,0 +1,140 @@
+//! What runs report, and what they are to report.
+
+use gix_status::index::{ObjectId, Stat, Time};
+use gix_status::index_as_worktree::{Change, EntryStatus, Outcome};
+use gix_status::world::{Report, ReportRecord};
+
+/// The id of `bar`, by git.
+pub const BAR: ObjectId = ObjectId::Sha1([
+    0xba, 0x0e, 0x16, 0x2e, 0x1c, 0x47, 0x46, 0x9e, 0x3f, 0xe4, 0xb3, 0x93, 0xa8, 0xbf, 0x8c, 0x56,
+    0x9f, 0x30, 0x21, 0x16,
+]);
+
+/// What is to be reported of an entry.
+#[derive(Clone, Copy)]
+pub enum Said {
+    /// No file is there.
+    Removed,
+    /// Another content, of this id. If the flag is set the entry's size is to be 0.
+    Changed(ObjectId, bool),
+    /// The same, and another executability.
+    Modified(ObjectId, bool),
+    /// A new stat for a file of three bytes, with the seconds of its `mtime` and its `ctime`.
+    Updated(u32, u32),
+}
+
+/// What a run is to count.
+#[derive(Clone, Copy)]
+pub struct Counts {
+    /// The entries, each of which is gone through.
+    pub entries: usize,
+    /// The entries whose stat is looked at.
+    pub stats: usize,
+    /// The entries that need a new stat.
+    pub updates: usize,
+    /// The entries whose stat agrees but may hide a write.
+    pub racy: usize,
+    /// The files and links that are read.
+    pub reads: usize,
+    /// Their bytes.
+    pub bytes: u64,
+}
+
+/// The counts of a run over one entry whose stat is looked at.
+pub const STAT: Counts = Counts {
+    entries: 1,
+    stats: 1,
+    updates: 0,
+    racy: 0,
+    reads: 0,
+    bytes: 0,
+};
+
+/// The counts of a run over one entry whose file or link of three bytes is read.
+pub const READ: Counts = Counts {
+    reads: 1,
+    bytes: 3,
+    ..STAT
+};
+
+/// The same, where the entry's stat agrees but may hide a write.
+pub const RACY: Counts = Counts { racy: 1, ..READ };
+
+/// What is to be reported of an entry, with its place and its path.
+pub type Record = (usize, &'static str, Said);
+
+/// What a run is to report: the records in turn, and the counts.
+pub type Wanted = (&'static [Record], Counts);
+
+/// Whether there is a report for each that is wanted, and it is the one.
+pub fn are_reports(reports: &[Report], wanted: &[Wanted]) -> bool {
+    if reports.len() != wanted.len() {
+        return false;
+    }
+    for (report, (records, counts)) in reports.iter().zip(wanted) {
+        if report.outcome != outcome_of(*counts) || !are_records(&report.records, records) {
+            return false;
+        }
+    }
+    true
+}
+
+fn are_records(records: &[ReportRecord], wanted: &[Record]) -> bool {
+    if records.len() != wanted.len() {
+        return false;
+    }
+    for (record, wanted) in records.iter().zip(wanted) {
+        if !is_record(record, wanted) {
+            return false;
+        }
+    }
+    true
+}
+
+fn is_record(record: &ReportRecord, wanted: &Record) -> bool {
+    let (place, path, said) = *wanted;
+    record.entry_index == place
+        && record.path.as_bytes() == path.as_bytes()
+        && record.status == status_of(said)
+}
+
+// The status that says this.
+fn status_of(said: Said) -> EntryStatus<Option<ObjectId>, ()> {
+    match said {
+        Said::Removed => EntryStatus::Change(Change::Removed),
+        Said::Changed(id, to_zero) => EntryStatus::Change(modification(false, id, to_zero)),
+        Said::Modified(id, to_zero) => EntryStatus::Change(modification(true, id, to_zero)),
+        Said::Updated(mtime, ctime) => EntryStatus::NeedsUpdate(Stat {
+            mtime: second(mtime),
+            ctime: second(ctime),
+            size: 3,
+            ..Stat::default()
+        }),
+    }
+}
+
+fn modification(executable: bool, id: ObjectId, to_zero: bool) -> Change<Option<ObjectId>, ()> {
+    Change::Modification {
+        executable_bit_changed: executable,
+        content_change: Some(Some(id)),
+        set_entry_stat_size_zero: to_zero,
+    }
+}
+
+fn second(secs: u32) -> Time {
+    Time { secs, nsecs: 0 }
+}
+
+// The outcome that has these counts, and no other.
+fn outcome_of(counts: Counts) -> Outcome {
+    Outcome {
+        entries_to_process: counts.entries,
+        entries_processed: counts.entries,
+        symlink_metadata_calls: counts.stats,
+        entries_to_update: counts.updates,
+        racy_clean: counts.racy,
+        worktree_files_read: counts.reads,
+        worktree_bytes: counts.bytes,
+        ..Outcome::default()
+    }
+}

@@ -1,0 +1,88 @@
+//! The text of a stored index, and what is read of one.
+
+use gix_status::index::{IndexError, State};
+use status_stored::LoadError;
+use status_tests::given::stored::{loaded, stored};
+use std::alloc::Global;
+use std::test::Fail;
+
+// The entries `foo` at "a" and `bar` at "b", with what has no default but in `size` and `mtime`.
+const GIVEN: &str = r#"{"timestamp":[10,0],"other":null,"index":[
+{"path":"a","id":"19102815663d23f8b75a47e7a01965dcdc96468c","size":3,"mtime":[5,0],"kind":1},
+{"path":"b","id":"BA0E162E1C47469E3FE4B393A8BF8C569F302116","size":3,"mtime":[5,0]}]}"#;
+
+// The same with all keys.
+const STORED: &str = concat!(
+    r#"{"index":[{"ctime":[5,0],"dev":0,"flags":[],"gid":0,"#,
+    r#""id":"19102815663d23f8b75a47e7a01965dcdc96468c","ino":0,"mode":"100644","#,
+    r#""mtime":[5,0],"path":"a","size":3,"stage":0,"uid":0},"#,
+    r#"{"ctime":[5,0],"dev":0,"flags":[],"gid":0,"#,
+    r#""id":"ba0e162e1c47469e3fe4b393a8bf8c569f302116","ino":0,"mode":"100644","#,
+    r#""mtime":[5,0],"path":"b","size":3,"stage":0,"uid":0}],"timestamp":[10,0]}"#
+);
+
+// An entry of which each key is told, by SHA-256 the empty blob.
+const FULL: &str = concat!(
+    r#"{"index":[{"ctime":[5,7],"dev":1,"flags":["assume-valid","fsmonitor-valid"],"gid":2,"#,
+    r#""id":"473a0f4c3be8a93681a267e3b1e9a7dcda1185436fe141f7749120a303721813","ino":3,"#,
+    r#""mode":"120000","mtime":[5,999999999],"path":"é","size":4294967295,"stage":2,"#,
+    r#""uid":4}],"timestamp":[6,8]}"#
+);
+
+// Texts of indexes, and the texts that they are stored as.
+const TEXTS: [(&str, &str); 2] = [(GIVEN, STORED), (FULL, FULL)];
+
+// The index that a text says.
+fn index_of(alloc: Global, text: &str) -> Result<State, Fail> {
+    Ok(loaded(alloc, text)??)
+}
+
+// Whether the index that a text says is stored as this one.
+fn is_stored(alloc: Global, text: &str, wanted: &str) -> Result<bool, Fail> {
+    let index = index_of(alloc, text)?;
+    let text = stored(alloc, &index)?;
+    Ok(text.as_str() == wanted)
+}
+
+#[test]
+fn all_keys_are_stored_in_their_order(rt: HostRuntime) -> Result<(), Fail> {
+    for (text, wanted) in TEXTS {
+        assert!(rt; is_stored(rt.alloc(), text, wanted)?, "{wanted}");
+    }
+    Ok(())
+}
+
+// Texts that are no index, and why.
+const REFUSED: [(&str, LoadError); 5] = [
+    ("[]", LoadError::Form),
+    // No id, a stage that there isn't, and a size with a point.
+    (
+        r#"{"timestamp":[9,0],"index":[{"path":"a"}]}"#,
+        LoadError::Form,
+    ),
+    (
+        r#"{"timestamp":[9,0],"index":[{"path":"a","id":"19102815663d23f8b75a47e7a01965dcdc96468c","stage":4}]}"#,
+        LoadError::Form,
+    ),
+    (
+        r#"{"timestamp":[9,0],"index":[{"path":"a","id":"19102815663d23f8b75a47e7a01965dcdc96468c","size":1.0}]}"#,
+        LoadError::Form,
+    ),
+    (
+        r#"{"timestamp":[9,0],"index":[{"path":"","id":"19102815663d23f8b75a47e7a01965dcdc96468c"}]}"#,
+        LoadError::Index(IndexError::EmptyPath { at: 0 }),
+    ),
+];
+
+// Why a text is no index, if it isn't.
+fn refused(alloc: Global, text: &str) -> Result<Option<LoadError>, Fail> {
+    Ok(loaded(alloc, text)?.err())
+}
+
+#[test]
+fn what_is_no_index_is_refused(rt: HostRuntime) -> Result<(), Fail> {
+    for (text, error) in REFUSED {
+        assert_eq!(rt; refused(rt.alloc(), text)?, Some(error), "{text}");
+    }
+    Ok(())
+}
