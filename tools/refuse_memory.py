@@ -48,10 +48,10 @@ def compiler(found=shutil.which):
     return next(filter(None, map(found, (os.environ.get("CC") or "cc", "gcc", "clang"))), None)
 
 
-def compile_library(folder):
+def compile_library(folder, name="refuse_malloc"):
     """Compiles what is preloaded, and gives its path."""
-    library = os.path.join(folder, "refuse_malloc.so")
-    words = [compiler(), "-O2", "-fPIC", "-shared", "-o", library, os.path.join(HERE, "refuse_malloc.c")]
+    library = os.path.join(folder, f"{name}.so")
+    words = [compiler(), "-O2", "-fPIC", "-shared", "-o", library, os.path.join(HERE, f"{name}.c")]
     subprocess.run(words, check=True)
     return library
 

@@ -3,8 +3,9 @@
 `== NAME` begins a row. Below it is a profile, which the program finds as `f` in its working folder (`{folder}` in it is
 that folder's path), and then sections, each below `-- KIND`: `words` (the arguments), `nodes` (what else is in the
 folder), `lines` (what is printed), `fault` (the line on standard error), `left` (what `o` has then: the lines put
-together, and a line feed), `rooms` (sizes of outputs that are too small for the lines). Above the first row is what the
-file is about, and then sections for the rows that have none of the kind. An empty line above a row belongs to nothing.
+together, and a line feed), `rooms` (sizes of outputs that are too small for the lines), `values` (each line makes a row
+of its own, in whose profile it stands in place of `{value}`). Above the first row is what the file is about, and then
+sections for the rows that have none of the kind. An empty line above a row belongs to nothing.
 """
 
 import glob
@@ -18,6 +19,8 @@ MARK = re.compile(r"(==|--) (\S|\S.*\S)")
 # How few and how many lines a section of each kind has.
 ANY = float("inf")
 KINDS = {"words": (0, 1), "nodes": (1, ANY), "lines": (1, ANY), "fault": (1, 1), "left": (1, ANY), "rooms": (1, 1)}
+KINDS["values"] = (1, ANY)
+VALUE = "{value}"
 NODES = ("folder", "file", "link")
 
 
@@ -64,13 +67,14 @@ def read_rows(path):
 def rows_of(text):
     """The rows of a file's text."""
     (_, shared), *parts = parts_of(text)
-    names = [name for name, _ in parts]
+    rows = [row for name, sections in parts for row in rows_named(name, {**shared, **sections})]
+    names = [row.name for row in rows]
     if not names:
         raise Malformed("there is no row")
     twice = [name for name in names if names.count(name) > 1]
     if twice:
         raise Malformed(f"two rows are named {twice[0]}")
-    return [row_of(name, {**shared, **sections}) for name, sections in parts]
+    return rows
 
 
 def parts_of(text):
@@ -106,6 +110,17 @@ def begin_section(number, kind, sections):
         raise Malformed(f"line {number}: the row has two sections {kind}")
     sections[kind] = []
     return sections[kind]
+
+
+def rows_named(name, sections):
+    """The row of this name, with these sections: or a row for each of its values."""
+    profile, values = sections["profile"], sections.get("values")
+    if any(VALUE in line for line in profile) != (values is not None):
+        raise Malformed(f"{name}: {VALUE} in the profile and the section values need each other")
+    if values is None:
+        return [row_of(name, sections)]
+    put = [[line.replace(VALUE, value) for line in profile] for value in values]
+    return [row_of(f"{name}: {value}", {**sections, "profile": text}) for value, text in zip(values, put)]
 
 
 def row_of(name, sections):

@@ -11,14 +11,28 @@ import subprocess
 import tempfile
 import unittest
 from contextlib import contextmanager
+from dataclasses import replace
 from functools import partial
 
 from cases import FOO, PROGRAM, limit_files, may_read_all
+from refuse_memory import compile_library, compiler
 from row_files import Malformed, read_rows, row_files, rows_of
 
 # A profile of no entries and no nodes, and what it prints.
 NOTHING = b'{"timestamp":[9,0],"options":{"counts":true},"index":[],"worktree":[]}'
 TOTALS = b"total: to process 0, processed 0, skipped 0, lstat 0, to update 0, racy 0, read 0, bytes 0\n"
+
+# So many lists in one another, within a profile.
+LEVELS = [
+    ("", 127, "", "bad profile: hash"),
+    ("", 128, "", "not JSON"),
+    ('{"more":', 126, "}", "bad profile: timestamp"),
+    ('{"more":', 127, "}", "not JSON"),
+    ('{"index":[', 125, "]}", "bad profile: timestamp"),
+    ('{"index":[', 126, "]}", "not JSON"),
+    ('{"worktree":', 126, "}", "bad profile: timestamp"),
+    ('{"worktree":', 127, "}", "not JSON"),
+]
 
 WHOLE = """What the file is about.
 -- words
@@ -46,6 +60,14 @@ not
 usage: none
 -- rooms
 0 12
+
+== three
+{"a":{value},"b":[{value}]}
+-- values
+
+1
+-- fault
+not JSON
 """
 MALFORMED = [
     ("-- words\nstatus f\n", "there is no row"),
@@ -63,6 +85,9 @@ MALFORMED = [
     ("-- words\nstatus f\n== a\n-- fault\nb\nc\n", "a: 2 lines of the section fault"),
     ("-- words\nstatus f\n== a\n-- nodes\nb\n", "a: no node of a folder: b"),
     ('-- words\nstatus f\n== a\n-- nodes\n["socket","b"]\n', 'a: no node of a folder: ["socket","b"]'),
+    ("-- words\nstatus f\n== a\nb\n-- values\n1\n", "a: {value} in the profile and the section values need each other"),
+    ("-- words\nstatus f\n== a\n{value}\n", "a: {value} in the profile and the section values need each other"),
+    ("-- words\nstatus f\n== a\n{value}\n-- values\n1\n1\n", "two rows are named a: 1"),
     ("-- words\nstatus f\n== a\n-- lines\nb\n-- rooms\n1 2\n", "a: no output is too small by having room for 2 bytes"),
     ("-- words\nstatus f\n== a\n-- lines\nb\n-- rooms\n-1\n", "a: no output is too small by having room for -1 bytes"),
 ]
@@ -76,13 +101,19 @@ class Reader(unittest.TestCase):
                 self.assertGreater(len(read_rows(path)), 0)
 
     def test_a_row_has_the_sections_above_the_first_one_where_it_has_none_of_its_own(self):
-        one, two = rows_of(WHOLE)
+        one, two = rows_of(WHOLE)[:2]
         self.assertEqual((one.name, one.words, one.profile, one.status), ("one", ["status", "f"], "not", 1))
         self.assertEqual((one.lines, one.fault, one.left), ("", "not JSON\n", None))
         self.assertEqual((one.nodes, one.rooms), ([["folder", "d"]], []))
         self.assertEqual((two.name, two.words, two.profile, two.status), ("two", [], "{\n\n}", 2))
         self.assertEqual((two.lines, two.left), ('- added "é"\n- added "b"\n', '{"a":1,"b":2}\n'))
         self.assertEqual((two.nodes, two.rooms), ([], [0, 12]))
+
+    def test_each_value_makes_a_row(self):
+        rows = rows_of(WHOLE)[2:]
+        self.assertEqual([row.name for row in rows], ["three: ", "three: 1"])
+        self.assertEqual([row.profile for row in rows], ['{"a":,"b":[]}', '{"a":1,"b":[1]}'])
+        self.assertEqual([(row.words, row.fault) for row in rows], [(["status", "f"], "not JSON\n")] * 2)
 
     def test_a_malformed_file_is_an_error(self):
         for text, words in MALFORMED:
@@ -118,6 +149,16 @@ def folder_of(row):
         yield folder
 
 
+def behind_other_lists(row):
+    """The row with an index and a worktree that are no lists before its own. None where it has no index of its own, or
+    is of another command.
+    """
+    if row.words[:1] not in (["status"], ["refresh"]) or not re.search(r'^\{.*"index"\s*:', row.profile or "", re.DOTALL):
+        return None
+    lists = '"index":0,' + '"worktree":0,' * ('"worktree"' in row.profile)
+    return replace(row, profile=row.profile.replace("{", "{" + lists, 1))
+
+
 def run_program(folder, words, **settings):
     """How the program ends in a folder, with these arguments."""
     given = {"stdin": subprocess.DEVNULL, "stdout": subprocess.PIPE, "stderr": subprocess.PIPE, **settings}
@@ -147,6 +188,14 @@ class Rows(unittest.TestCase):
             wanted = (row.status, row.lines.encode(), row.fault.encode())
             self.assertEqual((ran.returncode, ran.stdout, ran.stderr), wanted)
             self.assert_left(folder, before, row.left)
+
+    def test_of_equal_lists_the_last_counts(self):
+        # Lists of another form are read in another way, which has to be as good.
+        rows = [(file, behind_other_lists(row)) for file, row in all_rows()]
+        for file, row in rows:
+            if row is not None:
+                with self.subTest(file=file, row=row.name):
+                    self.assert_ends_as_it_says(row)
 
     def test_an_output_that_is_too_small_is_a_failure_with_no_line(self):
         # Lines are kept until they are flushed, and then written at once. The system takes as many bytes of them as it
@@ -204,6 +253,20 @@ class Inputs(unittest.TestCase):
     def test_a_profile_that_is_no_utf_8_is_refused(self):
         self.write(b'{"hash":"\xff"}')
         self.assert_ends("status f", 1, b"", b"not JSON\n")
+
+    def test_a_byte_order_mark_and_a_tab_in_a_text_are_no_json(self):
+        entry = '{"path":"a","id":"%s","more":"\t"}' % FOO
+        for text in ("\ufeff{}", f'{{"timestamp":[9,0],"index":[{entry}],"worktree":[]}}'):
+            with self.subTest(text=text):
+                self.write(text.encode())
+                self.assert_ends("status f", 1, b"", b"not JSON\n")
+
+    def test_more_than_127_levels_are_no_json(self):
+        # A profile is itself the first level, and its index the second.
+        for front, levels, back, fault in LEVELS:
+            with self.subTest(front=front, levels=levels):
+                self.write(f"{front}{'[' * levels}{']' * levels}{back}".encode())
+                self.assert_ends("status f", 1, b"", fault.encode() + b"\n")
 
     def test_a_profile_may_come_by_standard_input(self):
         self.write(NOTHING)
@@ -295,6 +358,47 @@ class Inputs(unittest.TestCase):
         self.write_over_folder([{"path": "a", "size": 3, **clean}, {"path": "l", "mode": "120000", "size": 1, **clean}])
         totals = b"total: to process 2, processed 2, skipped 0, lstat 2, to update 0, racy 0, read 0, bytes 0\n"
         self.assert_ends("status f", 0, totals, b"")
+
+
+@unittest.skipUnless(PROGRAM and compiler(), "no built program, or no C compiler")
+class Workers(unittest.TestCase):
+    # A limit of workers, a size of pieces, a number of entries, and how many threads are started. One of the workers is the
+    # program's own thread.
+    STARTS = [
+        (None, 1, 8, 3),
+        (0, 1, 8, 3),
+        (1, 1, 8, 0),
+        (2, 1, 8, 1),
+        (3, 1, 8, 2),
+        (4294967295, 1, 100, 63),
+        (None, 4, 8, 1),
+        (None, 7, 8, 1),
+        (None, 8, 8, 0),
+        (None, 4294967295, 8, 0),
+        (None, 0, 500, 0),
+        (None, 0, 501, 1),
+    ]
+
+    def test_threads_are_started_as_the_options_say(self):
+        with tempfile.TemporaryDirectory() as folder:
+            library, file = compile_library(folder), os.path.join(folder, "f")
+            for limit, size, entries, threads in self.STARTS:
+                with self.subTest(limit=limit, size=size, entries=entries):
+                    index = [{"path": f"{number:03}", "id": FOO} for number in range(entries)]
+                    options = {"thread_limit": limit, "chunk_size": size}
+                    with open(file, "w", encoding="utf-8") as out:
+                        json.dump({"timestamp": [9, 0], "options": options, "index": index, "worktree": []}, out)
+                    self.assertEqual(self.starts(folder, library), threads)
+
+    def starts(self, folder, library):
+        """How many threads the program starts on the profile in a folder."""
+        with tempfile.TemporaryFile() as report:
+            number = report.fileno()
+            settings = {"LD_PRELOAD": library, "REFUSE_AT": "0", "REFUSE_REPORT": str(number)}
+            ran = run_program(folder, ["status", "f"], pass_fds=(number,), env=settings)
+            self.assertEqual((ran.returncode, ran.stderr), (0, b""))
+            report.seek(0)
+            return report.read().count(b"t")
 
 
 if __name__ == "__main__":
