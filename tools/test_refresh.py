@@ -4,6 +4,7 @@
 They run where STATUS_PROGRAM names the built program.
 """
 
+import errno
 import json
 import os
 import socket
@@ -14,6 +15,7 @@ import unittest
 from functools import partial
 
 from cases import FOO, HERE, PROGRAM, limit_files
+from refuse_memory import compile_library, compiler
 from small_profiles import MALFORMED, MODIFIED, RENAMES, entry, node, put_out, wrong_files
 
 ROW_1 = os.path.join(os.path.dirname(HERE), "crates", "status_program", "data", "row1.json")
@@ -206,6 +208,95 @@ class Refreshed(unittest.TestCase):
             status, out, said = self.run_program("refresh", self.file, self.out, *words)
             self.assertEqual((status, out, said[:31]), (2, "", "usage: status_program status FI"), words)
         self.assertEqual(self.left(), ["profile.json"])
+
+
+@unittest.skipUnless(PROGRAM and compiler(), "no built program, or no C compiler")
+class Failing(unittest.TestCase):
+    """Each call for the file that is written fails in turn, and leaves what was there."""
+
+    EMPTY = '{"timestamp":[9,0],"index":[],"worktree":[]}'
+    NEW = '{"index":[],"timestamp":[10,0],"worktree":[]}\n'
+    # Three calls write it.
+    MOST = "16"
+    WRITING = ["write", "write", "write", "fsync", "rename"]
+    # A lock is never open to more than the file that it replaces.
+    REPLACING = ["open", "fchmod 600", *WRITING]
+
+    @classmethod
+    def setUpClass(cls):
+        room = tempfile.TemporaryDirectory()
+        cls.addClassCleanup(room.cleanup)
+        cls.library = compile_library(room.name, "fail_call")
+        cls.file = os.path.join(room.name, "profile.json")
+        with open(cls.file, "w", encoding="utf-8") as file:
+            file.write(cls.EMPTY)
+
+    def put(self, before):
+        """A new folder, with a file that only its owner may read, or a link to one, where something is there before. Gives
+        the folder, what the program is to write, and the file that this is.
+        """
+        room = tempfile.TemporaryDirectory()
+        self.addCleanup(room.cleanup)
+        folder = os.path.realpath(room.name)
+        out = target = os.path.join(folder, "out")
+        if before == "link":
+            target = os.path.join(folder, "target")
+            os.symlink("target", out)
+        if before:
+            with open(target, "w", encoding="utf-8") as file:
+                file.write("old")
+            os.chmod(target, 0o600)
+        return folder, out, target
+
+    def run_failing(self, folder, out, at, error):
+        """How a run ends in which this call fails, and the calls that came."""
+        with tempfile.TemporaryFile() as report:
+            number = report.fileno()
+            settings = {"LD_PRELOAD": self.library, "FAIL_BELOW": folder, "FAIL_AT": at, "FAIL_ERROR": error}
+            settings |= {"FAIL_MOST": self.MOST, "FAIL_REPORT": number}
+            ran = subprocess.run(
+                [PROGRAM, "refresh", self.file, out, "10", "0"],
+                capture_output=True,
+                timeout=60,
+                pass_fds=(number,),
+                env={name: str(value) for name, value in settings.items()},
+            )
+            report.seek(0)
+            return (ran.returncode, ran.stdout.decode(), ran.stderr.decode()), report.read().decode().splitlines()
+
+    def assert_files(self, folder, out, target, before, is_written):
+        """The file has its new text or the old one, with the old permissions. A link is still one, and no lock is there."""
+        self.assertEqual(os.path.islink(out), before == "link")
+        there = {os.path.basename(out), os.path.basename(target)} if before or is_written else set()
+        self.assertEqual(set(os.listdir(folder)), there)
+        if there:
+            with open(target, encoding="utf-8") as file:
+                self.assertEqual(file.read(), self.NEW if is_written else "old")
+        if before:
+            self.assertEqual(stat.S_IMODE(os.lstat(target).st_mode), 0o600)
+
+    def assert_each_leaves_the_file(self, before, calls):
+        for error in (errno.ENOMEM, errno.ENOSPC):
+            for at in range(1, len(calls) + 2):
+                with self.subTest(before=before, error=error, at=at):
+                    folder, out, target = self.put(before)
+                    ended, came = self.run_failing(folder, out, at, error)
+                    is_written = at > len(calls)
+                    fault = "out of memory\n" if error == errno.ENOMEM else f"cannot write {out}\n"
+                    self.assertEqual(ended, (0, "", "") if is_written else (1, "", fault))
+                    # What was opened is removed again.
+                    removed = ["unlink"] * (not is_written and "open" in calls[: at - 1])
+                    self.assertEqual(came, calls[:at] + removed)
+                    self.assert_files(folder, out, target, before, is_written)
+
+    def test_a_call_that_fails_leaves_no_file_where_none_was(self):
+        self.assert_each_leaves_the_file(None, ["lstat", "open", *self.WRITING])
+
+    def test_a_call_that_fails_leaves_the_file(self):
+        self.assert_each_leaves_the_file("file", ["lstat", *self.REPLACING])
+
+    def test_a_call_that_fails_leaves_the_file_that_a_link_leads_to(self):
+        self.assert_each_leaves_the_file("link", ["lstat", "stat", "realpath", *self.REPLACING])
 
 
 if __name__ == "__main__":
