@@ -12,8 +12,11 @@ const PROFILE: &str = r#"{"hash":"sha1","timestamp":[9,0],
 {"path":"a","text":"bars","mtime":[7,0]},
 {"path":"b","text":"bar","mtime":[5,0]}]}"#;
 
+const LINES: &str = "0 modified -c- \"a\"\n";
+
+// The refreshed profile, behind what was there.
 const REFRESHED: &str = concat!(
-    r#"{"hash":"sha1","index":[{"ctime":[5,0],"dev":0,"flags":[],"gid":0,"#,
+    r#"before {"hash":"sha1","index":[{"ctime":[5,0],"dev":0,"flags":[],"gid":0,"#,
     r#""id":"19102815663d23f8b75a47e7a01965dcdc96468c","ino":0,"mode":"100644","mtime":[5,0],"path":"a","size":3,"#,
     r#""stage":0,"uid":0},{"ctime":[5,0],"dev":0,"flags":[],"gid":0,"id":"ba0e162e1c47469e3fe4b393a8bf8c569f302116","#,
     r#""ino":0,"mode":"100644","mtime":[5,0],"path":"b","size":3,"stage":0,"uid":0}],"#,
@@ -26,70 +29,54 @@ const SORTED: &str =
     r#"{"hash":"sha1","timestamp":[9,0],"options":{"sort":true},"index":[],"worktree":[]}"#;
 
 #[test]
-fn a_status_is_printed_to_any_writer(rt: HostRuntime) -> Result<(), Fail> {
+fn a_status_is_printed_to_any_writer(rt: HostRuntime) {
     let mut profile = PROFILE.as_bytes();
     let mut output = Vec::new(rt.alloc());
     let mut faults = Vec::new(rt.alloc());
     let status = run_status(&rt, "f", &mut profile, &mut output, &mut faults);
     assert_eq!(rt; status, 0);
-    assert_eq!(rt; output.as_slice(), "0 modified -c- \"a\"\n".as_bytes());
-    assert_eq!(rt; faults.as_slice(), "".as_bytes());
-    Ok(())
+    assert_eq!(rt; output.as_slice(), LINES.as_bytes());
+    assert!(rt; faults.is_empty());
 }
 
 #[test]
-fn a_refreshed_profile_is_put_behind_what_is_there(rt: HostRuntime) -> Result<(), Fail> {
-    let mut profile = PROFILE.as_bytes();
-    let mut output = Vec::new(rt.alloc());
-    let mut faults = Vec::new(rt.alloc());
-    let mut refreshed = Vec::from_slice(rt.alloc(), b"before ")?;
-    let status = run_refresh(
-        &rt,
-        "f",
-        10,
-        0,
-        &mut profile,
-        &mut output,
-        &mut faults,
-        &mut refreshed,
-    );
-    assert_eq!(rt; status, 0);
-    assert_eq!(rt; output.as_slice(), "0 modified -c- \"a\"\n".as_bytes());
-    assert_eq!(rt; &refreshed[..7], "before ".as_bytes());
-    assert_eq!(rt; &refreshed[7..], REFRESHED.as_bytes());
-    Ok(())
-}
-
-#[test]
-fn a_refresh_that_fails_leaves_what_is_there(rt: HostRuntime) -> Result<(), Fail> {
-    let mut profile = SORTED.as_bytes();
-    let mut output = Vec::new(rt.alloc());
-    let mut faults = Vec::new(rt.alloc());
-    let mut refreshed = Vec::from_slice(rt.alloc(), b"before")?;
-    let status = run_refresh(
-        &rt,
-        "f",
-        10,
-        0,
-        &mut profile,
-        &mut output,
-        &mut faults,
-        &mut refreshed,
-    );
-    assert_eq!(rt; status, 1);
-    assert_eq!(rt; faults.as_slice(), "bad profile: options\n".as_bytes());
-    assert_eq!(rt; refreshed.as_slice(), "before".as_bytes());
-    Ok(())
-}
-
-#[test]
-fn a_profile_that_cannot_be_replayed_is_refused(rt: HostRuntime) -> Result<(), Fail> {
+fn a_profile_that_cannot_be_replayed_is_refused(rt: HostRuntime) {
     let mut profile = "no profile".as_bytes();
     let mut output = Vec::new(rt.alloc());
     let mut faults = Vec::new(rt.alloc());
     let status = run_replay(&rt, "f", &mut profile, &mut output, &mut faults);
     assert_eq!(rt; status, 1);
-    assert_eq!(rt; output.as_slice(), "".as_bytes());
+    assert!(rt; output.is_empty());
     assert_eq!(rt; faults.as_slice(), "not JSON\n".as_bytes());
+}
+
+// Profiles, and what their refresh returns, prints and tells, and leaves behind `before `.
+static REFRESHES: [(&str, u8, &str, &str, &str); 2] = [
+    (PROFILE, 0, LINES, "", REFRESHED),
+    (SORTED, 1, "", "bad profile: options\n", "before "),
+];
+
+#[test]
+fn a_refreshed_profile_is_put_behind_what_is_there(rt: HostRuntime) -> Result<(), Fail> {
+    for (text, status, lines, fault, left) in &REFRESHES {
+        let mut profile = text.as_bytes();
+        let mut output = Vec::new(rt.alloc());
+        let mut faults = Vec::new(rt.alloc());
+        let mut refreshed = Vec::from_slice(rt.alloc(), b"before ")?;
+        let ended = run_refresh(
+            &rt,
+            "f",
+            10,
+            0,
+            &mut profile,
+            &mut output,
+            &mut faults,
+            &mut refreshed,
+        );
+        assert_eq!(rt; ended, *status, "at {text}");
+        assert_eq!(rt; output.as_slice(), lines.as_bytes(), "at {text}");
+        assert_eq!(rt; faults.as_slice(), fault.as_bytes(), "at {text}");
+        assert_eq!(rt; refreshed.as_slice(), left.as_bytes(), "at {text}");
+    }
     Ok(())
 }

@@ -1,4 +1,4 @@
-//! Failures, and their lines.
+//! The lines of failures that no profile causes.
 
 use bstr::BString;
 use gix_status::index::IndexError;
@@ -9,7 +9,7 @@ use gix_status::walk::WalkError;
 use gix_status::worktree::{ByteText, Fault, FindError, TreeError};
 use gix_status::world::Refusal;
 use status_cli::Failure;
-use status_profile::{Key, ProfileError};
+use status_profile::ProfileError;
 use std::alloc::{AllocError, Global};
 use std::io;
 use std::process::Abort;
@@ -35,37 +35,40 @@ static FAULTS: [(Fault, &str); 9] = [
     ),
 ];
 
-// Asserts that a failure ends the program with status 1 and this line.
-fn assert_reported_at<R: AllocGlobal + Abort>(rt: &R, name: &str, failure: Failure, line: &str) {
-    let mut faults = Vec::new(rt.alloc());
-    let status = failure.report(rt.alloc(), "d/f", &mut faults);
-    assert_eq!(rt; status, 1, "at {name}");
-    assert_eq!(rt; faults.as_slice(), line.as_bytes(), "at {name}");
-}
+const MEMORY: &str = "out of memory\n";
 
-// The same, where the line says which failure it is.
-fn assert_reported<R: AllocGlobal + Abort>(rt: &R, failure: Failure, line: &str) {
-    assert_reported_at(rt, line, failure, line);
+// Whether a failure ends the program with status 1 and this line.
+fn is_reported(alloc: Global, failure: Failure, line: &str) -> bool {
+    let mut faults = Vec::new(alloc);
+    let status = failure.report(alloc, "d/f", &mut faults);
+    status == 1 && faults.as_slice() == line.as_bytes()
 }
 
 // Asserts the line of an error of a status.
 fn assert_failed<R: AllocGlobal + Abort>(rt: &R, error: Error, line: &str) {
-    assert_reported(rt, Failure::from(error), line);
+    assert!(rt;
+        is_reported(rt.alloc(), Failure::from(error), line),
+        "{line}"
+    );
 }
 
 // Asserts the line of an error of a status with renames.
 fn assert_joined<R: AllocGlobal + Abort>(rt: &R, error: JoinedError, line: &str) {
-    assert_reported(rt, Failure::from(error), line);
+    assert!(rt;
+        is_reported(rt.alloc(), Failure::from(error), line),
+        "{line}"
+    );
 }
 
 // Asserts the line of a refused event.
 fn assert_refused<R: AllocGlobal + Abort>(rt: &R, refusal: Refusal, line: &str) {
-    assert_reported(rt, Failure::of_event(refusal, 3), line);
+    let failure = Failure::of_event(refusal, 3);
+    assert!(rt; is_reported(rt.alloc(), failure, line), "{line}");
 }
 
 // Asserts that a failure is want of memory.
 fn assert_memory<R: AllocGlobal + Abort>(rt: &R, name: &str, failure: Failure) {
-    assert_reported_at(rt, name, failure, "out of memory\n");
+    assert!(rt; is_reported(rt.alloc(), failure, MEMORY), "{name}");
 }
 
 // The error of a submodule, whose path has to be quoted.
@@ -88,16 +91,10 @@ fn each_error_of_a_status_has_its_words(rt: HostRuntime) -> Result<(), Fail> {
         assert_failed(&rt, Error::Io(*fault), line);
     }
     let submodule = submodule_error(rt.alloc())?;
-    assert_failed(
-        &rt,
-        submodule,
-        "status failed: submodule \"d/\\\"s\\\"\\n\u{fffd}\"\n",
-    );
-    assert_failed(
-        &rt,
-        Error::IllformedUtf8,
-        "status failed: ill-formed UTF-8\n",
-    );
+    let line = "status failed: submodule \"d/\\\"s\\\"\\n\u{fffd}\"\n";
+    assert_failed(&rt, submodule, line);
+    let utf8 = Error::IllformedUtf8;
+    assert_failed(&rt, utf8, "status failed: ill-formed UTF-8\n");
     assert_failed(&rt, Error::Time, "status failed: time\n");
     let missing = Error::Find(FindError::Missing);
     assert_failed(&rt, missing, "status failed: missing object\n");
@@ -144,17 +141,11 @@ fn each_error_of_a_status_with_renames_has_its_words(rt: HostRuntime) -> Result<
 }
 
 #[test]
-fn each_refusal_has_its_words(rt: HostRuntime) {
-    assert_refused(&rt, Refusal::ClockEnd, "refused 3: clock end\n");
-    assert_refused(&rt, Refusal::BadPath, "refused 3: bad path\n");
-    assert_refused(&rt, Refusal::InTheWay, "refused 3: in the way\n");
+fn each_refusal_that_no_event_meets_has_its_words(rt: HostRuntime) {
     assert_refused(&rt, Refusal::TooLarge, "refused 3: too large\n");
-    assert_refused(&rt, Refusal::NotAFile, "refused 3: not a file\n");
-    assert_refused(&rt, Refusal::StampLater, "refused 3: stamp later\n");
     assert_refused(&rt, Refusal::Interrupted, "refused 3: interrupted\n");
     let failed = Refusal::Run(Error::SpawnThread);
     assert_refused(&rt, failed, "refused 3: run failed\n");
-    assert_refused(&rt, Refusal::BadMoment, "refused 3: bad moment\n");
     assert_refused(&rt, Refusal::OtherIndex, "refused 3: other index\n");
 }
 
@@ -174,79 +165,35 @@ fn assert_memory_before<R: AllocGlobal + Abort>(rt: &R) {
 
 // Want of memory in a status, by itself and as a run.
 fn assert_memory_of_a_status<R: AllocGlobal + Abort>(rt: &R) {
-    assert_memory(rt, "a status", Failure::from(Error::Memory));
-    let fault = Error::Io(Fault::Memory);
-    assert_memory(rt, "a status' fault", Failure::from(fault));
-    let find = Error::Find(FindError::Memory);
-    assert_memory(rt, "an object", Failure::from(find));
-    let event = Failure::of_event(Refusal::Memory, 3);
-    assert_memory(rt, "an event", event);
-    let run = Failure::of_event(Refusal::Run(Error::Memory), 3);
-    assert_memory(rt, "a run", run);
-    let fault = Refusal::Run(Error::Io(Fault::Memory));
-    assert_memory(rt, "a run's fault", Failure::of_event(fault, 3));
-}
-
-// Asserts that an error of a status with renames is want of memory.
-fn assert_joined_memory<R: AllocGlobal + Abort>(rt: &R, name: &str, error: JoinedError) {
-    assert_memory(rt, name, Failure::from(error));
+    assert_failed(rt, Error::Memory, MEMORY);
+    assert_failed(rt, Error::Io(Fault::Memory), MEMORY);
+    assert_failed(rt, Error::Find(FindError::Memory), MEMORY);
+    assert_refused(rt, Refusal::Memory, MEMORY);
+    assert_refused(rt, Refusal::Run(Error::Memory), MEMORY);
+    assert_refused(rt, Refusal::Run(Error::Io(Fault::Memory)), MEMORY);
 }
 
 // Want of memory in a status with renames.
 fn assert_memory_of_renames<R: AllocGlobal + Abort>(rt: &R) {
-    assert_joined_memory(rt, "a joined status", JoinedError::Memory);
+    assert_joined(rt, JoinedError::Memory, MEMORY);
     let modifications = JoinedError::TrackedFileModifications(Error::Memory);
-    assert_joined_memory(rt, "its modifications", modifications);
-    let walk = JoinedError::DirWalk(WalkError::Memory);
-    assert_joined_memory(rt, "its walk", walk);
-    let open = JoinedError::OpenWorktreeFile(Fault::Memory);
-    assert_joined_memory(rt, "a file", open);
-    assert_joined_memory(rt, "a hash", JoinedError::HashFile(Fault::Memory));
-    assert_joined_memory(rt, "a link", JoinedError::ReadLink(Fault::Memory));
-    let convert = JoinedError::ConvertToGit(Fault::Memory);
-    assert_joined_memory(rt, "a filter", convert);
+    assert_joined(rt, modifications, MEMORY);
+    assert_joined(rt, JoinedError::DirWalk(WalkError::Memory), MEMORY);
+    assert_joined(rt, JoinedError::OpenWorktreeFile(Fault::Memory), MEMORY);
+    assert_joined(rt, JoinedError::HashFile(Fault::Memory), MEMORY);
+    assert_joined(rt, JoinedError::ReadLink(Fault::Memory), MEMORY);
+    assert_joined(rt, JoinedError::ConvertToGit(Fault::Memory), MEMORY);
     let tracker = JoinedError::RewriteTracker(TrackerError::Memory);
-    assert_joined_memory(rt, "a tracker", tracker);
+    assert_joined(rt, tracker, MEMORY);
     assert_memory(rt, "a line", Failure::Joined(JoinedError::Memory));
 }
 
 #[test]
 fn want_of_memory_has_one_line_wherever_it_is_met(rt: HostRuntime) -> Result<(), Fail> {
     let walk = walk_error(rt.alloc(), Fault::Memory)?;
-    assert_joined_memory(&rt, "a walk's fault", walk);
+    assert_joined(&rt, walk, MEMORY);
     assert_memory_before(&rt);
     assert_memory_of_a_status(&rt);
     assert_memory_of_renames(&rt);
     Ok(())
-}
-
-#[test]
-fn what_comes_after_a_refresh_has_its_line(rt: HostRuntime) -> Result<(), Fail> {
-    assert_reported(&rt, Failure::Unwritable, "cannot write d/f\n");
-    let full = Failure::of_writing(io::Error::from(io::ErrorKind::StorageFull));
-    assert_reported(&rt, full, "cannot write d/f\n");
-    let lock = String::from_str(rt.alloc(), "e/g.lock")?;
-    let locked = "cannot write d/f: e/g.lock exists; remove it if no other run is writing\n";
-    assert_reported(&rt, Failure::Locked { lock }, locked);
-    let node = "cannot write d/f: not a regular file\n";
-    assert_reported(&rt, Failure::NotRegular, node);
-    let link = "cannot write d/f: a symbolic link that leads nowhere\n";
-    assert_reported(&rt, Failure::DanglingLink, link);
-    Ok(())
-}
-
-#[test]
-fn what_comes_before_a_status_has_its_line(rt: HostRuntime) {
-    assert_reported(&rt, Failure::Unreadable, "cannot read d/f\n");
-    let no_json = Failure::from(ProfileError::NotJson);
-    assert_reported(&rt, no_json, "not JSON\n");
-    let key = Failure::from(ProfileError::Bad(Key::Timestamp));
-    assert_reported(&rt, key, "bad profile: timestamp\n");
-    let index = ProfileError::from(IndexError::EmptyPath { at: 12 });
-    let index = Failure::from(index);
-    assert_reported(&rt, index, "bad index: empty path at 12\n");
-    let node = Failure::of_node(TreeError::InTheWay, 7);
-    assert_reported(&rt, node, "bad worktree: in the way at 7\n");
-    // Where the output can't be written nothing more is printed.
-    assert_reported_at(&rt, "an output", Failure::Output, "");
 }
