@@ -1,11 +1,13 @@
 //! Tests of the parts below the status call, and of walks, renames and copies.
 //!
 //! Each module tests what no clause says: values by git or Windows, words, folders, threads, and that a call succeeds.
-//! Begin at `hash`. `pieces` and `draws` have what several tests use.
+//! Begin at `hash`. `pieces`, `draws` and `seats` have what several tests use.
 #![tactic(auto)]
 
 #[cfg(test)]
 mod board;
+#[cfg(test)]
+mod board_threads;
 #[cfg(test)]
 mod compare;
 #[cfg(test)]
@@ -30,6 +32,8 @@ mod reading;
 mod rewrites;
 #[cfg(test)]
 mod rounds;
+#[cfg(test)]
+mod seats;
 #[cfg(test)]
 mod states;
 #[cfg(test)]

@@ -2,7 +2,7 @@ use Rattle.std.proofs.Common.{ℕ, ◌-◌, ◌<◌, List, ap, sym, subst}
 use Rattle.status_board.specs.Numbers.{after_last}
 use Rattle.status_board.specs.Seats.{SeatState}
 use Rattle.status_board.proofs.Lasts.{draw_falls}
-use Rattle.status_tests.proofs.board.draw_all.Goals as goal
+use Rattle.status_parts_tests.proofs.board_threads.draw_all.Goals as goal
 
 pub loop-number-smaller : goal.loop-number-smaller
 loop-number-smaller c =
