@@ -1,0 +1,43 @@
+//! Worktrees in few words.
+
+use crate::entries::{LATER, STAGED, time};
+use bstr::BStr;
+use gix_status::worktree::{MemoryWorktree, Node, NodeKind, TreeError};
+use std::alloc::{AllocError, Global};
+
+/// The path of a node, its kind, its bytes, the length that `lstat` reports, and the second of its last change, where that
+/// is known.
+pub type GivenNode<'a> = (&'a str, NodeKind, &'a [u8], u64, Option<u32>);
+
+/// A file that was written after the entries were staged.
+pub fn later_file<'a>(path: &'a str, bytes: &'a [u8]) -> GivenNode<'a> {
+    (path, NodeKind::File, bytes, bytes.len() as u64, Some(LATER))
+}
+
+/// The worktree of these nodes.
+pub fn worktree(alloc: Global, nodes: &[GivenNode<'_>]) -> Result<MemoryWorktree, TreeError> {
+    let mut worktree = MemoryWorktree::new(alloc);
+    for given in nodes {
+        worktree.put(BStr::from(given.0), node(alloc, given)?)?;
+    }
+    Ok(worktree)
+}
+
+fn node(alloc: Global, given: &GivenNode<'_>) -> Result<Node, AllocError> {
+    let (_path, kind, bytes, len, mtime) = *given;
+    Ok(Node {
+        kind,
+        bytes: Vec::from_slice(alloc, bytes)?,
+        len,
+        executable: false,
+        mtime: match mtime {
+            Some(secs) => Some(time(secs)),
+            None => None,
+        },
+        ctime: Some(time(STAGED)),
+        dev: 0,
+        ino: 0,
+        uid: 0,
+        gid: 0,
+    })
+}

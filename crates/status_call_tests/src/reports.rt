@@ -1,0 +1,131 @@
+//! Statuses by ids, and what tests ask of their reports.
+
+use crate::contents::Content;
+use crate::entries::{LATER, stat};
+use gix_status::index::{ObjectId, State};
+use gix_status::index_as_worktree::traits::HashEq;
+use gix_status::index_as_worktree::{Change, EntryStatus, Error, Options, Outcome, Record};
+use gix_status::worktree::{Fault, Worktree};
+use status_tests::given::statuses::{StatusReport, options, request_with, status_of};
+use std::sync::Wait;
+use std::thread::Threads;
+
+/// The status by ids of all paths as they are, with pieces of so many entries and at most so many workers.
+pub fn status_by_pieces<'index, R: AllocGlobal + Threads + Wait, W: Worktree + Sync>(
+    rt: &R,
+    index: &'index State,
+    worktree: &W,
+    chunk_size: usize,
+    workers: usize,
+) -> StatusReport<'index, ObjectId, ()>
+where
+    W::File: Send,
+{
+    let options = Options {
+        chunk_size,
+        thread_limit: Some(workers),
+        ..options()
+    };
+    let request = request_with(rt.alloc(), options);
+    status_of(rt, index, worktree, HashEq, request, None)
+}
+
+/// What a record says of its entry, whose executability and size don't change.
+#[derive(Clone, Copy)]
+pub enum Says {
+    /// No file is there.
+    Removed,
+    /// The file has another content.
+    Changed(Content),
+    /// The file has the same content of three bytes, and was written after the entry was staged.
+    Updated,
+}
+
+/// The place of a record's entry, its path, and what the record says.
+pub type Wanted<'a> = (usize, &'a str, Says);
+
+/// Whether these are all the records of a status.
+pub fn are_records(records: &[Record<'_, ObjectId, ()>], wanted: &[Wanted<'_>]) -> bool {
+    if records.len() != wanted.len() {
+        return false;
+    }
+    for (record, (place, path, says)) in records.iter().zip(wanted) {
+        if !is_at(record, *place, *path) || !is_said(&record.status, *says) {
+            return false;
+        }
+    }
+    true
+}
+
+/// Whether a record is of the entry at this place and path.
+pub fn is_at<T, U>(record: &Record<'_, T, U>, place: usize, path: &str) -> bool {
+    record.entry_index == place && record.relative_path.as_bytes() == path.as_bytes()
+}
+
+fn is_said(status: &EntryStatus<ObjectId, ()>, says: Says) -> bool {
+    match says {
+        Says::Removed => is_removed(status),
+        Says::Changed(content) => is_changed(status, &content.id()),
+        Says::Updated => {
+            matches!(status, EntryStatus::NeedsUpdate(found) if *found == stat(LATER))
+        }
+    }
+}
+
+/// Whether a status is that no file is there.
+pub fn is_removed<T, U>(status: &EntryStatus<T, U>) -> bool {
+    matches!(status, EntryStatus::Change(Change::Removed))
+}
+
+/// Whether a status is another content alone, by what its comparer reports.
+pub fn is_changed<T: PartialEq, U>(status: &EntryStatus<T, U>, content: &T) -> bool {
+    match status {
+        EntryStatus::Change(
+            Change::Modification {
+                executable_bit_changed: false,
+                content_change: Some(found),
+                set_entry_stat_size_zero: false,
+            },
+        ) => *found == *content,
+        _ => false,
+    }
+}
+
+/// What it takes to find so many entries, or that they aren't there.
+pub fn found(entries: usize) -> Outcome {
+    Outcome {
+        entries_to_process: entries,
+        entries_processed: entries,
+        symlink_metadata_calls: entries,
+        ..Outcome::default()
+    }
+}
+
+/// What it takes to find so many entries, and to read so many files of so many bytes in all.
+pub fn read(entries: usize, files: usize, bytes: u64) -> Outcome {
+    Outcome {
+        worktree_files_read: files,
+        worktree_bytes: bytes,
+        ..found(entries)
+    }
+}
+
+/// Whether a status succeeded, and took this.
+pub fn is_taken(answer: &Result<Outcome, Error>, wanted: &Outcome) -> bool {
+    match answer {
+        Ok(outcome) => *outcome == *wanted,
+        Err(_) => false,
+    }
+}
+
+/// Whether a status failed by this fault of a worktree or a filter. Two faults are errors of their own.
+pub fn is_failed_by(answer: &Result<Outcome, Error>, fault: Fault) -> bool {
+    match answer {
+        Err(Error::IllformedUtf8) => fault == Fault::IllformedUtf8,
+        Err(Error::Memory) => fault == Fault::Memory,
+        Err(Error::Io(found)) => {
+            *found == fault && fault != Fault::IllformedUtf8 && fault != Fault::Memory
+        }
+        _ => false,
+    }
+}
