@@ -8,6 +8,16 @@ mod directories;
 #[cfg(test)]
 mod entries;
 #[cfg(test)]
+mod folder_listings;
+#[cfg(test)]
+mod folder_objects;
+#[cfg(test)]
+mod folder_reads;
+#[cfg(test)]
+mod folder_submodules;
+#[cfg(test)]
+mod folders;
+#[cfg(test)]
 mod listings;
 #[cfg(test)]
 mod nodes;
