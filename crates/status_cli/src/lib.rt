@@ -1,11 +1,12 @@
 //! The program's commands `status`, `replay` and `refresh`, over any reader and writers.
 //!
 //! Read `status`, `replay` and `refresh` first, a command each. Then `lines`, the text of each line, `output`, which
-//! writes it, and `failure`, why a command fails and the line that says so. `input` reads the file of a profile, and
+//! writes it, and `failure`, why a command fails, with `fault_line`, the line that says so. `input` reads the file of a profile, and
 //! `whole` writes the file of a refreshed one.
 #![tactic(auto)]
 
 mod failure;
+mod fault_line;
 mod input;
 pub mod lines;
 mod output;

@@ -1,152 +1,236 @@
-//! The lines that a status or a replay prints.
+//! The lines that a status or a replay prints. Each is put behind what a buffer has, which can be kept from line to line.
 
-ghost use Rattle.std.specs.Prelude.{◌<◌, ◌^◌};
+ghost use Rattle.std.specs.Prelude.{◌≡◌, ◌++◌, ◌∷◌, [], ◌<◌, ◌^◌, OnOk};
+ghost use Rattle.bstr.specs.BStr.{bstr_bytes};
+ghost use Rattle.json.specs.Print.{quoted};
 ghost use Rattle.status_call.specs.Outcomes.{skipped_of};
+ghost use Rattle.status_joined.specs.Entries.{reported_entry};
+ghost use Rattle.status_cli.specs.Lines.{conflict_text, letter_text, path_text, record_line, run_line, total_line};
+ghost use Rattle.status_cli.specs.Lines.{entry_line as line_of_entry};
 
-use bstr::BStr;
-use gix_status::index_as_worktree::{Change, Conflict, ConflictIndexEntry, EntryStatus, Outcome};
+use bstr::{BStr, ByteSlice as _};
+use gix_status::index_as_worktree::{Change, Conflict, EntryStatus, Outcome};
 use gix_status::index_as_worktree_with_renames::Entry;
-use serde_json::Value;
+use json::Writer;
+use status_stored::words::mode_word;
 use std::alloc::{AllocError, Global};
-use std::fmt;
+use std::io::Write as _;
+use std::{fmt, mem};
 
-/// Returns the line of a record of the entry at this index position, with its line feed.
-pub fn status_line<T: Drop, U: Drop>(
+/// Appends the line of a record: the entry's place in the index, its status and its path.
+pub fn push_record<T: Drop, U: Drop>(
+    line: &mut Vec<u8>,
     alloc: Global,
     entry_index: usize,
     path: BStr<'_>,
     status: &EntryStatus<T, U>,
-) -> Result<String, AllocError> {
-    let path = path_value(alloc, path)?;
-    let words = Words(status);
-    format!(in alloc; "{entry_index} {words} {path}\n")
+) -> Result<(), AllocError>
+    ensures { OnOk result (line.new.items ≡ line.old.items ++ record_line entry_index (bstr_bytes path.entry) status.now) }
+{
+    let words = StatusWords(status);
+    write!(line, "{entry_index} {words} ").map_err(|_| AllocError)?;
+    push_path(line, alloc, path)?;
+    end(line)
 }
 
-/// Returns the line of an entry of a status with untracked files, renames or sorted lines, with its line feed. A node that
-/// isn't in the index is untracked, and a rewrite is a rename: the program asks for no others.
-pub fn entry_line<T: Drop, U: Drop>(
+/// Appends the line of an entry of a status with untracked files, renames or sorted lines. A node that isn't in the index is
+/// untracked, and a rewrite is a rename: the program asks for no others.
+pub fn push_entry<T: Drop, U: Drop>(
+    line: &mut Vec<u8>,
     alloc: Global,
     entry: &Entry<'_, T, U>,
-) -> Result<String, AllocError> {
+) -> Result<(), AllocError>
+    ensures { OnOk result (line.new.items ≡ line.old.items ++ line_of_entry (reported_entry entry.now)) }
+{
     match entry {
         Entry::Modification {
             entry_index,
             rela_path,
             status,
             ..
-        } => status_line(alloc, *entry_index, *rela_path, status),
+        } => push_record(line, alloc, *entry_index, *rela_path, status),
         Entry::DirectoryContents { entry, .. } => {
-            let path = path_value(alloc, entry.rela_path.as_bstr())?;
-            format!(in alloc; "- added {path}\n")
+            line.extend_from_slice(b"- added ")?;
+            push_path(line, alloc, entry.rela_path.as_bstr())?;
+            end(line)
         }
         Entry::Rewrite { .. } => {
-            let source = path_value(alloc, entry.source_rela_path())?;
-            let destination = path_value(alloc, entry.destination_rela_path())?;
-            format!(in alloc; "- renamed {source} {destination}\n")
+            line.extend_from_slice(b"- renamed ")?;
+            push_path(line, alloc, entry.source_rela_path())?;
+            line.extend_from_slice(b" ")?;
+            push_path(line, alloc, entry.destination_rela_path())?;
+            end(line)
         }
     }
 }
 
-/// Returns the first line of a run of a replay, with its line feed. Runs are counted from 1.
-pub fn run_line(alloc: Global, run: usize) -> Result<String, AllocError> {
-    format!(in alloc; "run {run}\n")
-}
-
-/// Returns the line of totals of a status, with its line feed.
-pub fn total_line(alloc: Global, outcome: &Outcome) -> Result<String, AllocError>
-    requires { skipped_of outcome.now < 2 ^ 64 }
+/// Appends the first line of a run of a replay. Runs are counted from 1.
+pub fn push_run(line: &mut Vec<u8>, run: usize) -> Result<(), AllocError>
+    ensures { OnOk result (line.new.items ≡ line.old.items ++ run_line run) }
 {
-    let skipped = outcome.skipped();
-    let Outcome {
-        entries_to_process,
-        entries_processed,
-        symlink_metadata_calls,
-        entries_to_update,
-        racy_clean,
-        worktree_files_read,
-        worktree_bytes,
-        ..
-    } = outcome;
-    format!(in alloc;
-        "total: to process {entries_to_process}, processed {entries_processed}, skipped {skipped}, lstat {symlink_metadata_calls}, to update {entries_to_update}, racy {racy_clean}, read {worktree_files_read}, bytes {worktree_bytes}\n"
-    )
+    writeln!(line, "run {run}").map_err(|_| AllocError)
 }
 
-/// Returns a path as a JSON string, which is displayed as its compact text. Bytes that aren't UTF-8 are replaced.
-pub fn path_value(alloc: Global, path: BStr<'_>) -> Result<Value, AllocError> {
-    let text = String::from_utf8_lossy(alloc, path.as_bytes())?;
-    Ok(Value::String(text))
+/// Appends the line of totals of a status.
+pub fn push_totals(line: &mut Vec<u8>, outcome: &Outcome) -> Result<(), AllocError>
+    requires { skipped_of outcome.now < 2 ^ 64 }
+    ensures { OnOk result (line.new.items ≡ line.old.items ++ total_line outcome.now) }
+{
+    let considered = Considered {
+        considered: outcome.entries_to_process,
+        processed: outcome.entries_processed,
+        skipped: outcome.skipped(),
+    };
+    let work = Work(outcome);
+    writeln!(line, "{considered}{work}").map_err(|_| AllocError)
+}
+
+/// Appends a path as a JSON text, in which U+FFFD stands for what isn't UTF-8.
+pub fn push_path(line: &mut Vec<u8>, alloc: Global, path: BStr<'_>) -> Result<(), AllocError>
+    ensures { OnOk result (line.new.items ≡ line.old.items ++ path_text (bstr_bytes path.entry)) }
+{
+    let text = path.as_bytes().to_str_lossy(alloc)?;
+    push_quoted(line, alloc, text.as_str())
+}
+
+/// Appends a text as a JSON text.
+fn push_quoted(line: &mut Vec<u8>, alloc: Global, text: &str) -> Result<(), AllocError>
+    ensures { OnOk result (line.new.items ≡ line.old.items ++ quoted text.now) }
+{
+    let mut writer = Writer::new(mem::replace(line, Vec::new(alloc)));
+    let written = writer.string(text);
+    *line = writer.into_inner();
+    written
+}
+
+/// Ends a line.
+fn end(line: &mut Vec<u8>) -> Result<(), AllocError>
+    ensures { OnOk result (line.new.items ≡ line.old.items ++ 10 ∷ []) }
+{
+    line.push(b'\n')?;
+    Ok(())
+}
+
+/// How many entries were considered, processed and skipped, as the line of totals begins.
+#[derive(Clone, Copy)]
+struct Considered {
+    considered: usize,
+    processed: usize,
+    skipped: usize,
+}
+
+impl fmt::Display for Considered {
+    ghost use Rattle.std.specs.Prelude.{Some};
+    ghost use Rattle.status_cli.specs.Lines.{considered_text};
+
+    ghost output = { λ c. Some (considered_text c.considered c.processed c.skipped) };
+
+    fn fmt<W: fmt::Write>(&self, f: &mut fmt::Formatter<W>) -> fmt::Result {
+        let (considered, processed, skipped) = (self.considered, self.processed, self.skipped);
+        write!(
+            f,
+            "total: to process {considered}, processed {processed}, skipped {skipped}"
+        )
+    }
+}
+
+/// The calls of `lstat`, the entries to be updated and the racy ones, and what was read, as the line of totals goes on.
+#[derive(Clone, Copy)]
+struct Work<'a>(&'a Outcome);
+
+impl fmt::Display for Work<'_> {
+    ghost use Rattle.std.specs.Prelude.{Some};
+    ghost use Rattle.status_cli.specs.Lines.{work_text};
+
+    ghost output = { λ work. Some (work_text work.0.now) };
+
+    fn fmt<W: fmt::Write>(&self, f: &mut fmt::Formatter<W>) -> fmt::Result {
+        let Outcome {
+            symlink_metadata_calls,
+            entries_to_update,
+            racy_clean,
+            worktree_files_read,
+            worktree_bytes,
+            ..
+        } = self.0;
+        write!(
+            f,
+            ", lstat {symlink_metadata_calls}, to update {entries_to_update}, racy {racy_clean}, read {worktree_files_read}, bytes {worktree_bytes}"
+        )
+    }
 }
 
 /// The words for a status, between an entry's position and its path.
 #[derive(Drop)]
-struct Words<'a, T, U>(&'a EntryStatus<T, U>);
+struct StatusWords<'a, T, U>(&'a EntryStatus<T, U>);
 
-impl<T: Drop, U: Drop> fmt::Display for Words<'_, T, U> {
+impl<T: Drop, U: Drop> fmt::Display for StatusWords<'_, T, U> {
+    ghost use Rattle.std.specs.Prelude.{Some};
+    ghost use Rattle.status_cli.specs.Lines.{status_text};
+
+    ghost output = { λ words. Some (status_text words.0.now) };
+
     fn fmt<W: fmt::Write>(&self, f: &mut fmt::Formatter<W>) -> fmt::Result {
         match self.0 {
-            EntryStatus::Conflict { summary, entries } => {
-                let name = conflict_name(*summary);
-                let stages = Stages(entries);
-                write!(f, "conflict {name} {stages}")
-            }
-            EntryStatus::Change(change) => write_change(change, f),
+            EntryStatus::Conflict { summary, .. } => write!(
+                f,
+                "conflict {}",
+                conflict_words(*summary)
+            ),
+            EntryStatus::Change(change) => write!(f, "{}", ChangeWords(change)),
             EntryStatus::NeedsUpdate(_) => f.write_str("update"),
             EntryStatus::IntentToAdd => f.write_str("intent"),
         }
     }
 }
 
-fn write_change<T, U, W: fmt::Write>(
-    change: &Change<T, U>,
-    f: &mut fmt::Formatter<W>,
-) -> fmt::Result {
-    match change {
-        Change::Removed => f.write_str("removed"),
-        Change::TypeChange { worktree_mode } => write!(f, "type {:06o}", worktree_mode.bits()),
-        Change::Modification {
-            executable_bit_changed,
-            content_change,
-            set_entry_stat_size_zero,
-        } => {
-            let executable = letter(*executable_bit_changed, 'x');
-            let content = letter(content_change.is_some(), 'c');
-            let size = letter(*set_entry_stat_size_zero, 's');
-            write!(f, "modified {executable}{content}{size}")
+/// The words for a change.
+#[derive(Drop)]
+struct ChangeWords<'a, T, U>(&'a Change<T, U>);
+
+impl<T: Drop, U: Drop> fmt::Display for ChangeWords<'_, T, U> {
+    ghost use Rattle.std.specs.Prelude.{Some};
+    ghost use Rattle.status_cli.specs.Lines.{change_text};
+
+    ghost output = { λ words. Some (change_text words.0.now) };
+
+    fn fmt<W: fmt::Write>(&self, f: &mut fmt::Formatter<W>) -> fmt::Result {
+        match self.0 {
+            Change::Removed => f.write_str("removed"),
+            Change::TypeChange { worktree_mode } => write!(f, "type {}", mode_word(*worktree_mode)),
+            Change::Modification {
+                executable_bit_changed,
+                content_change,
+                set_entry_stat_size_zero,
+            } => {
+                let executable = letter(*executable_bit_changed, "x");
+                let content = letter(content_change.is_some(), "c");
+                let size = letter(*set_entry_stat_size_zero, "s");
+                write!(f, "modified {executable}{content}{size}")
+            }
+            Change::SubmoduleModification(_) => f.write_str("submodule"),
         }
-        Change::SubmoduleModification(_) => f.write_str("submodule"),
     }
 }
 
 /// Returns the letter, or a dash if it isn't set.
-fn letter(is_set: bool, letter: char) -> char {
-    if is_set { letter } else { '-' }
+fn letter(is_set: bool, letter: &'static str) -> &'static str
+    ensures { result.now ≡ letter_text is_set letter.now }
+{
+    if is_set { letter } else { "-" }
 }
 
-fn conflict_name(summary: Conflict) -> &'static str {
-    match summary {
-        Conflict::BothDeleted => "both-deleted",
-        Conflict::AddedByUs => "added-by-us",
-        Conflict::DeletedByThem => "deleted-by-them",
-        Conflict::AddedByThem => "added-by-them",
-        Conflict::DeletedByUs => "deleted-by-us",
-        Conflict::BothAdded => "both-added",
-        Conflict::BothModified => "both-modified",
-    }
-}
-
-/// The stages of a conflict, displayed as the digits of those that are present.
-#[derive(Clone, Copy)]
-struct Stages<'a>(&'a [Option<ConflictIndexEntry>; 3]);
-
-impl fmt::Display for Stages<'_> {
-    fn fmt<W: fmt::Write>(&self, f: &mut fmt::Formatter<W>) -> fmt::Result {
-        let entries = self.0;
-        for (entry, digit) in entries.iter().zip("123".chars()) {
-            if entry.is_some() {
-                f.write_char(digit)?;
-            }
-        }
-        Ok(())
+/// Returns a conflict's name, and the stages that it has.
+fn conflict_words(conflict: Conflict) -> &'static str
+    ensures { result.now ≡ conflict_text conflict }
+{
+    match conflict {
+        Conflict::BothDeleted => "both-deleted 1",
+        Conflict::AddedByUs => "added-by-us 2",
+        Conflict::DeletedByThem => "deleted-by-them 12",
+        Conflict::AddedByThem => "added-by-them 3",
+        Conflict::DeletedByUs => "deleted-by-us 13",
+        Conflict::BothAdded => "both-added 23",
+        Conflict::BothModified => "both-modified 123",
     }
 }

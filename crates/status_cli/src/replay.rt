@@ -1,12 +1,13 @@
 //! The replay of a profile's history.
 
 ghost use Rattle.std.specs.Prelude.{All};
-ghost use Rattle.status_world.specs.Reports.{HasSum};
+ghost use Rattle.status_world.specs.Reports.{HasSum, report_value};
+ghost use Rattle.status_cli.specs.Printing.{IsPrinted};
+ghost use Rattle.status_cli.specs.Replays.{replay_lines, report_lines, run_lines};
 
 use crate::failure::Failure;
 use crate::input::read_all;
-use crate::lines::run_line;
-use crate::output::{flush, print, print_record, print_totals};
+use crate::output::{flush, print_record, print_run, print_totals};
 use gix_status::world::{Event, Report, World};
 use status_profile::History;
 use status_stored::{ReopenedReplay, Stop, replay_reopening};
@@ -100,12 +101,27 @@ fn print_reports<O: io::Write>(
     output: &mut O,
 ) -> Result<(), Failure>
     requires { All HasSum reports.now }
+    ensures { IsPrinted (replay_lines counts reports.now) (O.contents output.old) result (O.contents output.new) }
 {
     for (at, report) in reports.iter().enumerate() {
-        print(run_line(alloc, at + 1)?.as_str(), output)?;
-        print_report(alloc, report, counts, output)?;
+        print_numbered(alloc, at + 1, report, counts, output)?;
     }
     flush(output)
+}
+
+/// Prints the report of a run, behind its number.
+fn print_numbered<O: io::Write>(
+    alloc: Global,
+    run: usize,
+    report: &Report,
+    counts: bool,
+    output: &mut O,
+) -> Result<(), Failure>
+    requires { HasSum report.now }
+    ensures { IsPrinted (run_lines counts run report.now) (O.contents output.old) result (O.contents output.new) }
+{
+    print_run(alloc, run, output)?;
+    print_report(alloc, report, counts, output)
 }
 
 /// Prints the report of a run.
@@ -116,9 +132,12 @@ fn print_report<O: io::Write>(
     output: &mut O,
 ) -> Result<(), Failure>
     requires { HasSum report.now }
+    ensures { IsPrinted (report_lines counts (report_value report.now)) (O.contents output.old) result (O.contents output.new) }
 {
+    let mut line = Vec::new(alloc);
     for record in &report.records {
         print_record(
+            &mut line,
             alloc,
             record.entry_index,
             record.path.as_bstr(),

@@ -3,7 +3,7 @@
 use bstr::BStr;
 use gix_status::index::Mode;
 use gix_status::index_as_worktree::{Change, EntryStatus, Outcome};
-use status_cli::lines::{status_line, total_line};
+use status_cli::lines::{push_record, push_totals};
 use std::alloc::Global;
 use std::test::Fail;
 
@@ -11,10 +11,9 @@ type Told = EntryStatus<(), ()>;
 
 // Whether this is the line of a record of entry 12.
 fn is_line(alloc: Global, path: &[u8], told: &Told, want: &str) -> bool {
-    match status_line(alloc, 12, BStr::new(path), told) {
-        Ok(line) => line.as_str() == want,
-        Err(_) => false,
-    }
+    let mut line = Vec::new(alloc);
+    let pushed = push_record(&mut line, alloc, 12, BStr::new(path), told);
+    pushed.is_ok() && line.as_slice() == want.as_bytes()
 }
 
 #[test]
@@ -69,9 +68,10 @@ fn totals_have_a_line(rt: HostRuntime) -> Result<(), Fail> {
         odb_objects_read: 9,
         interrupted: false,
     };
-    let line = total_line(rt.alloc(), &outcome)?;
+    let mut line = Vec::new(rt.alloc());
+    push_totals(&mut line, &outcome)?;
     let want =
         "total: to process 1, processed 2, skipped 123, lstat 4, to update 5, racy 6, read 7, bytes 18446744073709551615\n";
-    assert_eq!(rt; line.as_str(), want);
+    assert_eq!(rt; line.as_slice(), want.as_bytes());
     Ok(())
 }

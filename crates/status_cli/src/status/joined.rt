@@ -1,7 +1,10 @@
 //! The status of a profile with untracked files, renames or sorted lines.
 
-ghost use Rattle.std.specs.Prelude.{◌<◌, ◌^◌, IfOk};
+ghost use Rattle.std.specs.Prelude.{◌<◌, ◌^◌, IfOk, map};
 ghost use Rattle.status_call.specs.Outcomes.{skipped_of};
+ghost use Rattle.status_joined.specs.Entries.{reported_entry};
+ghost use Rattle.status_cli.specs.Printing.{IsPrinted};
+ghost use Rattle.status_cli.specs.Statuses.{entry_lines};
 
 use crate::failure::Failure;
 use crate::output::{flush, print_entry, print_totals};
@@ -126,9 +129,12 @@ fn print_entries<T: Drop, U: Drop, O: io::Write>(
     alloc: Global,
     entries: &[Entry<'_, T, U>],
     output: &mut O,
-) -> Result<(), Failure> {
+) -> Result<(), Failure>
+    ensures { IsPrinted (entry_lines (map reported_entry entries.now)) (O.contents output.old) result (O.contents output.new) }
+{
+    let mut line = Vec::new(alloc);
     for entry in entries {
-        print_entry(alloc, entry, output)?;
+        print_entry(&mut line, alloc, entry, output)?;
     }
     flush(output)
 }

@@ -1,9 +1,12 @@
 //! The status of a profile without untracked files, renames and sorted lines.
 
-ghost use Rattle.std.specs.Prelude.{◌≡◌, ◌<◌, ◌^◌, [], IfOk};
+ghost use Rattle.std.specs.Prelude.{◌≡◌, ◌<◌, ◌^◌, [], IfOk, map};
 ghost use Rattle.status_index.specs.States.{index_of};
 ghost use Rattle.status_call.specs.IndexChanges.{AreInside, changes_of};
 ghost use Rattle.status_call.specs.Outcomes.{skipped_of};
+ghost use Rattle.status_call.specs.RecorderVisits.{visit_of};
+ghost use Rattle.status_cli.specs.Printing.{IsPrinted};
+ghost use Rattle.status_cli.specs.Statuses.{visit_lines};
 
 use crate::failure::Failure;
 use crate::output::{flush, print_record, print_totals};
@@ -71,9 +74,13 @@ fn print_records<T: Drop, U: Drop, O: io::Write>(
     alloc: Global,
     records: &[Record<'_, T, U>],
     output: &mut O,
-) -> Result<(), Failure> {
+) -> Result<(), Failure>
+    ensures { IsPrinted (visit_lines (map visit_of records.now)) (O.contents output.old) result (O.contents output.new) }
+{
+    let mut line = Vec::new(alloc);
     for record in records {
         print_record(
+            &mut line,
             alloc,
             record.entry_index,
             record.relative_path,

@@ -1,0 +1,6 @@
+pub mod Failures
+pub mod FaultLines
+pub mod Lines
+pub mod Printing
+pub mod Replays
+pub mod Statuses
