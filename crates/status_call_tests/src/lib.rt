@@ -1,12 +1,27 @@
 //! Tests of the status call: what no clause of it says.
+//!
+//! Begin at `second_of_three`. `entries`, `nodes`, `contents`, `statuses`, `watched` and `reports` have what several tests
+//! use.
 #![tactic(auto)]
 
 #[cfg(test)]
+mod calls;
+#[cfg(test)]
+mod collectors;
+#[cfg(test)]
+mod comparers;
+#[cfg(test)]
+mod conflicts;
+#[cfg(test)]
 mod contents;
+#[cfg(test)]
+mod copies;
 #[cfg(test)]
 mod directories;
 #[cfg(test)]
 mod entries;
+#[cfg(test)]
+mod filters;
 #[cfg(test)]
 mod folder_listings;
 #[cfg(test)]
@@ -22,12 +37,22 @@ mod listings;
 #[cfg(test)]
 mod nodes;
 #[cfg(test)]
+mod orders;
+#[cfg(test)]
+mod planted;
+#[cfg(test)]
+mod refreshes;
+#[cfg(test)]
 mod refused_threads;
 #[cfg(test)]
 mod reports;
 #[cfg(test)]
 mod runs;
 #[cfg(test)]
+mod second_of_three;
+#[cfg(test)]
 mod statuses;
+#[cfg(test)]
+mod submodules;
 #[cfg(test)]
 mod watched;
