@@ -23,13 +23,12 @@ import sys
 from dataclasses import dataclass
 from pathlib import Path
 
-import library_tests
 import refuse_memory
 import row_files
 import run_tests
 
 TOP = Path(__file__).resolve().parent.parent
-KINDS = ("must-fail-edits", "proved-tests", "python-tests", "library-tests", "rows", "rows-of-library-tests")
+KINDS = ("must-fail-edits", "proved-tests", "rows-of-proved-tests", "python-tests", "rows")
 # What `rt ci` says of an edit that shows nothing. It fails at some of them alone.
 USELESS = ("BAD EDIT", "NOT TRIED", "NOT REFUSED")
 TEST = r"^ *#\[test\]\n *fn (\w+)"
@@ -65,7 +64,7 @@ def missing(program, found=shutil.which):
     compiled = refuse_memory.compiler(found) and sys.platform == "linux"
     parts = [
         (os.path.isfile(program) and os.access(program, os.X_OK), f"the built program, {program}: no row is run"),
-        (found("rt"), "rt: neither a proof nor a test of tests/ is run"),
+        (found("rt"), "rt: no proof is made"),
         (found("git"), "git: nothing is compared with git"),
         (compiled, "a C compiler (cc, gcc or clang) on Linux: no memory is refused"),
         (os.path.exists("/dev/full"), "/dev/full: no output is refused"),
@@ -126,8 +125,8 @@ def rows_there(top):
 
 
 def rows_of_tests(top):
-    """How many rows the tests in tests/*/rows have: each is written out with its name."""
-    texts = [path.read_text(encoding="utf-8") for path in top.glob("tests/*/rows/*" + library_tests.ENDING)]
+    """How many rows the tables of the crates of tests have: each is written out with its name."""
+    texts = [path.read_text(encoding="utf-8") for path in top.glob("crates/*_tests/src/**/*.rt")]
     return sum(len(re.findall(r'\bname: "', text)) for text in texts)
 
 
@@ -143,12 +142,10 @@ def counted(top, ci, tools):
         Count("must-fail-edits", "refused by the prover", len(edits_refused(ci) & edits_there(top))),
         Count("proved-tests", "in crates/*/src", len(tests_there(top))),
         Count("proved-tests", "passed", len(tests_passed(ci) & tests_there(top))),
+        Count("rows-of-proved-tests", "in crates/*_tests/src", rows_of_tests(top)),
         Count("python-tests", "passed", tools_passed(tools, "Python tests")),
-        Count("library-tests", "in tests/", len(library_tests.names(top / "tests"))),
-        Count("library-tests", "passed", tools_passed(tools, "library tests")),
         Count("rows", "in tools/rows", rows_there(top)),
         Count("rows", "passed", tools_passed(tools, "rows")),
-        Count("rows-of-library-tests", "in tests/*/rows", rows_of_tests(top)),
     ]
 
 

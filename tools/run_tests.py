@@ -49,15 +49,13 @@ class Result(unittest.TextTestResult):
 
 
 def kind_of(name):
-    """The kind of a test by its whole name: a row's has its file, and a test of tests/ the path of its module."""
-    if re.match(r"test_rows\.Rows\.test_\w+\.txt: ", name):
-        return "rows"
-    return "library tests" if re.match(r"test_library\.Library\.test_\w+::", name) else "Python tests"
+    """The kind of a test by its whole name: a row's has its file."""
+    return "rows" if re.match(r"test_rows\.Rows\.test_\w+\.txt: ", name) else "Python tests"
 
 
 def said(result):
     """What is said of a result, a line each, and how many tests failed or weren't run."""
-    kinds = collections.Counter({"Python tests": 0, "library tests": 0, "rows": 0})
+    kinds = collections.Counter({"Python tests": 0, "rows": 0})
     kinds.update(map(kind_of, result.passed))
     not_run = collections.Counter(reason for _, reason in result.skipped)
     wrong = (result.failures, result.errors, result.unexpectedSuccesses, result.expectedFailures, result.skipped)

@@ -13,7 +13,6 @@ from pathlib import Path
 
 import cases
 import gate
-import library_tests
 import run_tests
 
 FLOORS = """# The least.
@@ -21,9 +20,8 @@ FLOORS = """# The least.
 must-fail-edits 2   # edits
 proved-tests 2
 python-tests 3
-library-tests 2
 rows 2
-rows-of-library-tests 3
+rows-of-proved-tests 3
 """
 # A repository with as much evidence as its floors say.
 FILES = {
@@ -32,8 +30,8 @@ FILES = {
     "crates/high/must-fail/two.edit": "",
     "crates/high/src/lib.rt": "#[test]\nfn first(rt: HostRuntime) {\n}\n",
     "crates/high/src/deep/more.rt": "mod tests {\n    #[test]\n    fn second(rt: HostRuntime) {\n    }\n}\n",
-    "tests/status/rows/a.rt.txt": '#[test]\nfn third() {\n    Row {\n        name: "x",\n    };\n    Row { name: "y" }\n}\n',
-    "tests/joined/rows/b.rt.txt": '#[test]\nfn fourth() {\n    Row {\n        name: "z",\n    }\n}\n',
+    "crates/high_tests/src/deep/a.rt": 'static ROWS: [Row; 2] = [\n    Row {\n        name: "x",\n    },\n    Row { name: "y" },\n];\n',
+    "crates/low_tests/src/b.rt": 'const ROW: Row = Row {\n    name: "z",\n};\n',
     "tools/rows/r.txt": "-- words\nstatus f\n\n== a\n{}\n\n== b\n{}\n",
 }
 CI = """rt: must-fail low/one.edit: refused, as it must be: src/lib.rt:1:1: error
@@ -45,9 +43,8 @@ rt: ok; handles allowed: none; must-fail edits: 2 refused, 1 of them only by a l
 6 passed, 0 failed
 """
 TOOLS = """tools: 3 Python tests passed
-tools: 2 library tests passed
 tools: 2 rows passed
-tools: 7 passed, 0 failed
+tools: 5 passed, 0 failed
 """
 # What a shell needs for .ci/run, but for the program `rt` and for python3.
 COMMANDS = ("bash", "dirname", "mktemp", "nproc", "rm", "tee")
@@ -88,7 +85,7 @@ class Planted(unittest.TestCase):
 
     def test_all_that_is_there_passes(self):
         passed, failed, faults, notes = self.verdict()
-        self.assertEqual((passed, failed, faults), (13, 0, []))
+        self.assertEqual((passed, failed, faults), (11, 0, []))
         self.assertIn("must-fail-edits refused by the prover: 2", notes)
         self.assertFalse([note for note in notes if "raise the floor" in note])
 
@@ -111,7 +108,7 @@ class Planted(unittest.TestCase):
         one = CI.replace("6 passed, 0 failed", "5 passed, 1 failed")
         self.assert_fails(ci=one, ci_status=1, counted=1)
         self.assert_fails("rt ci ended with exit status 0, and its last line tells of failures", ci=one, counted=1)
-        two = TOOLS.replace("7 passed, 0 failed", "7 passed, 2 failed")
+        two = TOOLS.replace("5 passed, 0 failed", "5 passed, 2 failed")
         self.assert_fails(tools=two, tools_status=1, counted=2)
 
     def test_a_command_without_its_last_line_fails(self):
@@ -148,7 +145,6 @@ class Planted(unittest.TestCase):
 
     def test_one_test_less_of_tools_is_a_failure(self):
         self.assert_fails("python-tests passed: 2, and", tools=TOOLS.replace("3 Python", "2 Python"))
-        self.assert_fails("library-tests passed: 1, and", tools=TOOLS.replace("2 library", "1 library"))
         self.assert_fails("python-tests passed: 0, and", tools=TOOLS.replace("Python", "other"))
 
     def test_one_row_less_is_a_failure(self):
@@ -157,11 +153,12 @@ class Planted(unittest.TestCase):
         self.write("tools/rows/r.txt", FILES["tools/rows/r.txt"])
         self.assert_fails("rows passed: 1, and", tools=TOOLS.replace("2 rows", "1 rows"))
 
-    def test_one_row_or_test_of_tests_less_is_a_failure(self):
-        self.write("tests/status/rows/a.rt.txt", FILES["tests/status/rows/a.rt.txt"].replace('name: "y"', ""))
-        self.assert_fails("rows-of-library-tests in tests/*/rows: 2, and")
-        (self.top / "tests/joined/rows/b.rt.txt").unlink()
-        self.assert_fails("library-tests in tests/: 1, and", "rows-of-library-tests in tests/*/rows: 1, and")
+    def test_one_row_of_a_proved_test_less_is_a_failure(self):
+        name = "crates/high_tests/src/deep/a.rt"
+        self.write(name, FILES[name].replace('name: "y"', ""))
+        self.assert_fails("rows-of-proved-tests in crates/*_tests/src: 2, and")
+        (self.top / "crates/low_tests/src/b.rt").unlink()
+        self.assert_fails("rows-of-proved-tests in crates/*_tests/src: 1, and")
 
     def test_more_than_a_floor_is_said(self):
         self.write("tools/rows/more.txt", FILES["tools/rows/r.txt"])
@@ -204,10 +201,6 @@ class Commands(unittest.TestCase):
     def test_the_floors_of_this_repository_are_read(self):
         gate.floors_of((gate.TOP / ".ci" / "floors").read_text(encoding="utf-8"))
 
-    def test_the_exit_status_of_the_library_tests_is_seen(self):
-        self.assertIsNone(library_tests.wrong_end(0, "x"))
-        self.assertIn("exit status 4", library_tests.wrong_end(4, "test a ... ok\n"))
-
 
 class Runner(unittest.TestCase):
     def said(self, *tests):
@@ -242,11 +235,11 @@ class Runner(unittest.TestCase):
         self.assertEqual(self.said()[0][-1], "tools: 0 passed, 1 failed")
 
     def test_tests_are_counted_by_kind(self):
-        names = ("test_gate.Runner.test_x", "test_library.Library.test_a::b::c", "test_rows.Rows.test_a_b.txt: c: d")
+        names = ("test_gate.Runner.test_x", "test_rows.Rows.test_a_b.txt: c: d")
         kinds = [run_tests.kind_of(name) for name in names]
-        self.assertEqual(kinds, ["Python tests", "library tests", "rows"])
+        self.assertEqual(kinds, ["Python tests", "rows"])
         lines = self.said(lambda case: None)[0]
-        self.assertEqual([gate.tools_passed("\n".join(lines), kind) for kind in kinds], [1, 0, 0])
+        self.assertEqual([gate.tools_passed("\n".join(lines), kind) for kind in kinds], [1, 0])
 
     def test_root_can_give_away_its_right_to_read_all(self):
         if not cases.may_read_all():

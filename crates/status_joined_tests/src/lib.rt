@@ -1,2 +1,45 @@
 //! Tests of the joined call: what no clause of it says.
+//!
+//! Begin at `rows`: a row has a small index, a worktree, what is passed to the call, and what it reports. `walked`,
+//! `rewrites`, `asked`, `ids`, `refusals`, `faults` and `interrupts` are tables of such rows. `threads` has its own, and so
+//! have `filters` and `folders`. `copies` and `words` are of the call's types.
 #![tactic(auto)]
+
+#[cfg(test)]
+mod asked;
+#[cfg(test)]
+mod copies;
+#[cfg(test)]
+mod details;
+#[cfg(test)]
+mod endings;
+#[cfg(test)]
+mod entries;
+#[cfg(test)]
+mod exits;
+#[cfg(test)]
+mod faults;
+#[cfg(test)]
+mod filters;
+#[cfg(test)]
+mod folders;
+#[cfg(test)]
+mod ids;
+#[cfg(test)]
+mod interfaces;
+#[cfg(test)]
+mod interrupts;
+#[cfg(test)]
+mod lines;
+#[cfg(test)]
+mod refusals;
+#[cfg(test)]
+mod rewrites;
+#[cfg(test)]
+mod rows;
+#[cfg(test)]
+mod threads;
+#[cfg(test)]
+mod walked;
+#[cfg(test)]
+mod words;

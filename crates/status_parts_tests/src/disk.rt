@@ -1,86 +1,17 @@
 //! Folders of the disk.
 
+use crate::folders::{Node, fill, new_folder, within, writer};
 use bstr::BStr;
 use status_base::worktree::disk::{fault_of, metadata_of};
 use status_base::worktree::{DiskWorktree, Fault, Metadata, NodeKind, ReadBytes, Worktree};
 use status_index::{HashKind, ObjectId, Time, compute_stream_hash};
-use std::fs::{File, OpenFile, Permissions};
-use std::os::unix::fs::{PermissionsExt, symlink};
+use std::fs::OpenFile;
 use std::path::Path;
 use std::process::Abort;
 use std::rt::{Env, Files};
 use std::test::Fail;
-use std::time::{Duration, UNIX_EPOCH};
-use std::{env, fs, io, process};
-
-// A new folder for temporary files, of this test's own.
-fn new_folder<R: Env + Files + AllocGlobal>(rt: &R, test: &str, id: u32) -> io::Result<String> {
-    let parent = env::temp_dir(rt)?;
-    let parent = parent.as_path();
-    let folder = format!(in rt.alloc(); "{}/{test}_{id}", parent.as_str())?;
-    fs::create_dir(rt, folder.as_str())?;
-    Ok(folder)
-}
-
-// The path of a name in a folder.
-fn within<R: AllocGlobal>(rt: &R, folder: &str, name: &str) -> io::Result<String> {
-    Ok(format!(in rt.alloc(); "{folder}/{name}")?)
-}
-
-// Opens a file for writing.
-fn writer<R: Files>(rt: &R, path: &str) -> io::Result<R::File> {
-    File::options().write(true).open(rt, path)
-}
-
-// What is done at a path in a folder.
-#[derive(Clone, Copy)]
-enum Node<'a> {
-    // A file with this text.
-    File(&'a str),
-    // A link to this target.
-    Link(&'a str),
-    Folder,
-    // The file that is there was last changed at this time.
-    Changed(Duration),
-    // The node that is there has this mode.
-    Mode(u32),
-}
-
-// Has a file last changed at this time.
-fn set_time<R: Files>(rt: &R, path: &str, time: Duration) -> io::Result<()>
-where
-    R::File: Drop,
-{
-    let Some(time) = UNIX_EPOCH.checked_add(time) else {
-        return Err(io::Error::from(io::ErrorKind::InvalidInput));
-    };
-    writer(rt, path)?.set_times(fs::FileTimes::new().set_modified(time))
-}
-
-fn put<R: Files>(rt: &R, path: &str, node: Node<'_>) -> io::Result<()>
-where
-    R::File: Drop,
-{
-    match node {
-        Node::File(text) => fs::write(rt, path, text),
-        Node::Link(target) => symlink(rt, target, path),
-        Node::Folder => fs::create_dir(rt, path),
-        Node::Changed(time) => set_time(rt, path, time),
-        Node::Mode(mode) => fs::set_permissions(rt, path, Permissions::from_mode(mode)),
-    }
-}
-
-// Does these in a folder, in order.
-fn fill<R: Files + AllocGlobal>(rt: &R, folder: &str, nodes: &[(&str, Node<'_>)]) -> io::Result<()>
-where
-    R::File: Drop,
-{
-    for (name, node) in nodes {
-        let path = within(rt, folder, *name)?;
-        put(rt, path.as_str(), *node)?;
-    }
-    Ok(())
-}
+use std::time::Duration;
+use std::{fs, io, process};
 
 // What lstat reports of a node, its stamps aside.
 fn kind_and_len<W: Worktree>(worktree: &W, path: &[u8]) -> Result<(NodeKind, u64), Fault> {

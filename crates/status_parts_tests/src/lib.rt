@@ -1,7 +1,7 @@
 //! Tests of the parts below the status call, and of walks, renames and copies.
 //!
 //! Each module tests what no clause says: values by git or Windows, words, folders, threads, and that a call succeeds.
-//! Begin at `hash`. `pieces`, `draws` and `seats` have what several tests use.
+//! Begin at `hash`. `pieces`, `draws`, `folders` and `seats` have what several tests use.
 #![tactic(auto)]
 
 #[cfg(test)]
@@ -13,7 +13,11 @@ mod compare;
 #[cfg(test)]
 mod disk;
 #[cfg(test)]
+mod disk_walk;
+#[cfg(test)]
 mod draws;
+#[cfg(test)]
+mod folders;
 #[cfg(test)]
 mod hash;
 #[cfg(test)]

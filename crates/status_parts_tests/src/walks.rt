@@ -56,7 +56,8 @@ fn worktree(alloc: Global, nodes: &[(&str, NodeKind)]) -> Result<MemoryWorktree,
     Ok(worktree)
 }
 
-fn index(alloc: Global, entries: &[(&str, Mode)]) -> Result<State, IndexError> {
+/// The index of entries of these modes.
+pub(crate) fn index(alloc: Global, entries: &[(&str, Mode)]) -> Result<State, IndexError> {
     let mut list = Vec::new(alloc);
     for (path, mode) in entries {
         list.push(NewEntry {

@@ -1,0 +1,286 @@
+#!/usr/bin/env python3
+"""Runs drawn profiles of a status through the program, and compares its lines with those of a plain model.
+
+    python3 tools/draw_profiles.py --seeds 10000
+
+Seed N draws options, and an index and a worktree of a few paths and contents, so that many files are removed, changed,
+untracked or renamed. `Plain` has the lines to be printed, by the definitions of docs/FORMATS.md: it compares paths, kinds
+and contents, and trusts no stat. The program has to print these lines and no others.
+
+STATUS_PROGRAM names the built program; without it crates/status_program/out/status_program is run. Where the lines
+differ the profile stays, in the folder --keep, and the exit status is 1. It is 2 for what can't be done, with one line
+on standard error. It needs Linux.
+"""
+
+import argparse
+import hashlib
+import json
+import os
+import random
+import tempfile
+
+from draw_histories import is_below, text_of
+from quick_runs import Runner
+from shared import end, program_of
+
+# Ascending by bytes. Some are above others, and some are only the beginnings of others.
+PATHS = ["a", "a-", "a/b", "b", "d", "d.x", "d/x", "d/y", "e", "e/f/g", "f", "g/h", "q\"", "sub", "sub.x", "sub/x"]
+PATHS += ["sub/y/z", "é"]
+CONTENTS = ["", "foo", "foo", "foo", "bar", "bars"]
+PREFIXES = [""] * 6 + ["d", "d/", "s", "z"]
+# The modes of entries, and the kind of the node that an entry of each wants.
+KINDS = {"100644": "file", "100755": "file", "120000": "link", "160000": "directory"}
+CONFLICTS = {"1": "both-deleted", "2": "added-by-us", "3": "added-by-them", "12": "deleted-by-them"}
+CONFLICTS |= {"13": "deleted-by-us", "23": "both-added", "123": "both-modified"}
+# The seconds in which all was staged, in which a file was written since, and in which the index was written.
+STAGED, LATER, WRITTEN = [5, 0], [7, 0], [9, 0]
+
+
+def id_of(text, kind):
+    """git's id of a content."""
+    content = text.encode()
+    return hashlib.new(kind, b"blob %d\0" % len(content) + content).hexdigest()
+
+
+class Plain:
+    """What a status prints of a profile whose entries and nodes have all their keys."""
+
+    def __init__(self, profile):
+        self.hash, self.options, self.entries = profile["hash"], profile["options"], profile["index"]
+        self.nodes = {node["path"]: node for node in profile["worktree"]}
+
+    def is_included(self, path):
+        return path.startswith(self.options["prefix"])
+
+    def is_skipped(self, entry):
+        return "skip-worktree" in entry["flags"]
+
+    def stages(self, path):
+        """The stages of a path's entries. There are none but of a conflict."""
+        return "".join(str(it["stage"]) for it in self.entries if it["path"] == path and it["stage"])
+
+    def kind(self, path):
+        """The kind of what is at a path, if anything is."""
+        if any(is_below(it, path) for it in self.nodes):
+            return "directory"
+        return self.nodes[path]["kind"] if path in self.nodes else None
+
+    def change(self, entry):
+        """The words of a single entry's change. None where nothing is printed."""
+        kind, wanted = self.kind(entry["path"]), KINDS[entry["mode"]]
+        if kind == wanted == "directory":
+            return None
+        if kind in (None, "directory"):
+            return "removed"
+        if "intent-to-add" in entry["flags"]:
+            return "intent"
+        node = self.nodes[entry["path"]]
+        bit = self.options["executable_bit"]
+        if kind != wanted:
+            return "type " + ("120000" if kind == "link" else "100755" if bit and node["executable"] else "100644")
+        executable = "x" if bit and node["executable"] != (entry["mode"] == "100755") else "-"
+        content = "c" if id_of(node["text"], self.hash_of(entry)) != entry["id"] else "-"
+        if executable + content != "--":
+            return f"modified {executable}{content}-"
+        return "update" if node["mtime"] != entry["mtime"] else None
+
+    def hash_of(self, entry):
+        return "sha1" if len(entry["id"]) == 40 else "sha256"
+
+    def changes(self):
+        """The changes of what isn't skipped, by the places of the entries."""
+        changes = {}
+        for place, entry in enumerate(self.entries):
+            stages = self.stages(entry["path"])
+            if not self.is_included(entry["path"]) or self.is_skipped(entry):
+                continue
+            if not stages:
+                changes[place] = self.change(entry)
+            elif stages[0] == str(entry["stage"]):
+                changes[place] = f"conflict {CONFLICTS[stages]} {stages}"
+        return {place: change for place, change in changes.items() if change}
+
+    def untracked(self):
+        """The untracked paths."""
+        if not self.options["untracked"]:
+            return []
+        tracked = {entry["path"] for entry in self.entries}
+        submodules = [entry["path"] for entry in self.entries if entry["mode"] == "160000"]
+        paths = [path for path in self.nodes if self.kind(path) in ("file", "link") and self.is_included(path)]
+        return [it for it in paths if it not in tracked and not any(is_below(it, above) for above in submodules)]
+
+    def renames(self):
+        """By the new path of each rename, the place of the entry that was renamed."""
+        if not self.options["renames"]:
+            return {}
+        gone, came = {}, {}
+        for place, change in self.changes().items():
+            entry = self.entries[place]
+            if change == "removed":
+                gone.setdefault((KINDS[entry["mode"]], entry["id"]), []).append(place)
+        for path in sorted(self.untracked(), key=str.encode):
+            node = self.nodes[path]
+            if node["text"]:
+                came.setdefault((node["kind"], id_of(node["text"], self.hash)), []).append(path)
+        return dict(pair for key in gone.keys() & came.keys() for pair in zip(came[key], gone[key]))
+
+    def lines(self):
+        """All lines, in their order."""
+        renames = self.renames()
+        entries = {}
+        for place, change in self.changes().items():
+            if place not in renames.values():
+                path = self.entries[place]["path"]
+                entries[path] = f"{place} {change} {text_of(path)}"
+        nodes = {path: f"- added {text_of(path)}" for path in sorted(self.untracked(), key=str.encode)}
+        for path, place in renames.items():
+            nodes[path] = f"- renamed {text_of(self.entries[place]['path'])} {text_of(path)}"
+        lines = entries | nodes
+        paths = sorted(lines, key=str.encode) if self.options["sort"] else lines
+        return [lines[path] for path in paths] + ([self.total()] if self.options["counts"] else [])
+
+    def total(self):
+        """The total line. No entry is racy."""
+        included = [entry for entry in self.entries if self.is_included(entry["path"])]
+        considered = included or self.entries
+        later = [it for it in included if it["stage"] and self.stages(it["path"])[0] != str(it["stage"])]
+        reached = [it for it in included if not self.is_skipped(it) and not it["stage"] and not self.is_barred(it["path"])]
+        read = [self.nodes[it["path"]]["text"].encode() for it in reached if self.is_read(it)]
+        counts = {
+            "to process": len(considered),
+            "processed": len(considered) - len(later),
+            "skipped": len(self.entries) - len(included) + sum(map(self.is_skipped, included)),
+            "lstat": len(reached),
+            "to update": sum(change == "update" for change in self.changes().values()),
+            "racy": 0,
+            "read": len(read),
+            "bytes": sum(map(len, read)),
+        }
+        return "total: " + ", ".join(f"{name} {count}" for name, count in counts.items())
+
+    def is_barred(self, path):
+        """Whether a directory above a path is a link, or isn't there."""
+        parts = path.split("/")
+        return any(self.kind("/".join(parts[:count])) in (None, "link") for count in range(1, len(parts)))
+
+    def is_read(self, entry):
+        """Whether an entry's file or link is read: its stat differs, and `fast` sees no change in its length."""
+        kind = self.kind(entry["path"])
+        if entry["flags"] or kind not in ("file", "link") or kind != KINDS[entry["mode"]]:
+            return False
+        node = self.nodes[entry["path"]]
+        if len(node["text"].encode()) != entry["size"]:
+            return self.options["comparer"] == "hash"
+        return node["mtime"] != entry["mtime"]
+
+
+def drawn_profile(seed):
+    """The profile of a seed."""
+    draw = random.Random(seed)
+    kind = draw.choice(["sha1", "sha256"])
+    entries, nodes = [], []
+    for path in PATHS:
+        staged = drawn_entries(draw, path, kind)
+        node = drawn_node(draw, path, staged)
+        entries += staged
+        if node and not any(is_below(path, it["path"]) and it["kind"] != "directory" for it in nodes):
+            nodes.append(node)
+    draw.shuffle(nodes)
+    # Mostly the ids of untracked files are of the entries' kind.
+    hashes = [kind] * 7 + ["sha1", "sha256"]
+    return {
+        "hash": draw.choice(hashes),
+        "timestamp": WRITTEN,
+        "options": drawn_options(draw),
+        "index": entries,
+        "worktree": nodes,
+    }
+
+
+def drawn_options(draw):
+    names = ["untracked"] * 7 + ["renames"] * 4 + ["sort", "executable_bit", "counts"]
+    options = {name: any(draw.random() < 0.5 for _ in range(names.count(name))) for name in dict.fromkeys(names)}
+    options |= {"prefix": draw.choice(PREFIXES), "comparer": draw.choice(["hash", "fast"])}
+    return options | {"chunk_size": draw.choice([0, 1, 2]), "thread_limit": draw.choice([None, 1, 2])}
+
+
+def drawn_entries(draw, path, kind):
+    """The entries of a path: mostly one or none."""
+    if draw.random() < 0.6:
+        return []
+    mode = draw.choice(["100644"] * 4 + ["100755", "120000"])
+    text, flags = draw.choice(CONTENTS), draw.choice([[]] * 16 + [["skip-worktree"]] * 2 + [["intent-to-add"]])
+    if path == "sub" and draw.random() < 0.7:
+        mode, text = "160000", "foo"
+    stages = draw.choice(sorted(CONFLICTS)) if mode != "160000" and draw.random() < 0.1 else "0"
+    entry = {"path": path, "id": id_of(text, kind), "mode": mode, "size": len(text), "mtime": STAGED}
+    return [entry | {"stage": int(stage), "flags": flags if stages == "0" else []} for stage in stages]
+
+
+def drawn_node(draw, path, staged):
+    """What is at a path that has these entries, if anything is."""
+    kind, text, executable = "file", draw.choice(CONTENTS), draw.random() < 0.2
+    if draw.random() < 0.45:
+        return None
+    kind = draw.choice(["file"] * 5 + ["link"] * 2 + ["other", "directory"])
+    mtime = LATER
+    if staged and draw.random() < 0.3:
+        kind, executable = KINDS[staged[0]["mode"]], staged[0]["mode"] == "100755"
+        text, mtime = draw.choice(CONTENTS), draw.choice([STAGED, LATER])
+    # A file whose length is the entry's, and whose content isn't, was written since.
+    if staged and id_of(text, "sha1" if len(staged[0]["id"]) == 40 else "sha256") != staged[0]["id"]:
+        mtime = LATER
+    if kind != "file":
+        executable = False
+    if kind in ("other", "directory"):
+        text = ""
+    return {"path": path, "kind": kind, "text": text, "executable": executable, "mtime": mtime}
+
+
+def difference(profile, ended):
+    """What differs between the lines of a profile and how a run of the program ended. None where nothing does."""
+    wanted = Plain(profile).lines()
+    if (ended.status, ended.fault) != (0, b""):
+        return f"{ended.end()}, error {ended.fault!r}"
+    try:
+        lines = ended.out.decode().splitlines()
+    except UnicodeDecodeError:
+        return "what was printed isn't UTF-8"
+    if lines == wanted:
+        return None
+    return f"{sorted(set(lines) ^ set(wanted)) or 'the order differs'}"
+
+
+def compare(runner, seed, keep):
+    """What differs in a seed's profile, which then stays in a folder. None where nothing does."""
+    profile = drawn_profile(seed)
+    name = os.path.join(keep, f"profile-{seed}.json")
+    with open(name, "w", encoding="utf-8") as file:
+        json.dump(profile, file)
+    found = difference(profile, runner.run(["status", name]))
+    if found is None:
+        os.remove(name)
+        return None
+    return f"seed {seed}: {found} ({name})"
+
+
+def main():
+    parser = argparse.ArgumentParser()
+    parser.add_argument("--seeds", type=int, default=10000, help="how many seeds (10000)")
+    parser.add_argument("--first", type=int, default=0, help="the first seed (0)")
+    parser.add_argument("--keep", help="where profiles stay whose lines differ (a new folder)")
+    options = parser.parse_args()
+    program = program_of()
+    keep = options.keep or tempfile.mkdtemp(prefix="profiles-")
+    os.makedirs(keep, exist_ok=True)
+    with Runner(program) as runner:
+        seeds = range(options.first, options.first + options.seeds)
+        found = [it for it in (compare(runner, seed, keep) for seed in seeds) if it]
+    print(*found, f"{options.seeds} profiles, {len(found)} differ", sep="\n")
+    if not found and not options.keep:
+        os.rmdir(keep)
+    return int(bool(found))
+
+
+if __name__ == "__main__":
+    end(main, 2)
