@@ -1,11 +1,20 @@
 -- How what is printed follows what was printed before.
-use Rattle.std.proofs.Common.{◌≡◌, ℕ, ◌+◌, ◌-◌, List, [], ◌∷◌, ◌++◌, length, Option, Result, Ok, Err, refl, sym, ap, ◌∙◌, append_assoc, append-nil, arith, take, drop, length-drop, take_all, take-append-drop, map}
+use Rattle.std.proofs.Common.{◌≡◌, Bool, subst, ℕ, ◌+◌, ◌-◌, List, [], ◌∷◌, ◌++◌, length, Option, Result, Ok, Err, inl, inr, refl, sym, ap, ◌∙◌, append_assoc, append-nil, arith, take, drop, length-drop, take_all, take-append-drop, map}
 use Rattle.std.specs.List.{flat_map}
-use Rattle.std.specs.Result.{IsErr}
+use Rattle.std.specs.Result.{IsErrAnd, IfErr}
 use Rattle.std.proofs.lemmas.List.{map-append}
 use Rattle.std.specs.Io.KnownBytes.{Appends}
 use Rattle.std.proofs.KnownBytes.{Appends-nil, Appends-trans}
-use Rattle.status_cli.specs.Printing.{IsBegun, IsPrinted}
+use Rattle.status_call.specs.declared.index_as_worktree.types.Outcome.{Outcome}
+use Rattle.status_cli.specs.declared.failure.Failure.{Failure}
+use Rattle.status_cli.specs.declared.failure.Failure.TheVariants.{Memory}
+use Rattle.status_cli.specs.Printing.{IsBegun, IsPrinted, IsUnprinted}
+use Rattle.status_cli.specs.Statuses.{IsStatusPrinted, IsTold, answered, closing, visit_lines}
+use Rattle.status_index.specs.declared.state.State.{State}
+use Rattle.status_compare.specs.declared.error.Error.{Error}
+use Rattle.status_call.specs.Query.{Query}
+use Rattle.status_call.specs.StatusTheorem.{IsMet}
+use Rattle.status_call.specs.Visits.{Visit}
 
 -- nothing was printed
 pub none_printed : (text : List ℕ) (known : Option (List ℕ)) → IsBegun text known known
@@ -27,9 +36,9 @@ begun_more first second a b c grew more = record {
   beginning = (more.beginning.0, append_assoc first more.printed more.beginning.0 ∙ ap (λ t. first ++ t) more.beginning.1);
 }
 
-pub printed_more : {T E : Type 0} (first second : List ℕ) (a b c : Option (List ℕ)) (result : Result T E) → Appends a b first → IsPrinted second b result c → IsPrinted (first ++ second) a result c
+pub printed_more : {T : Type 0} (first second : List ℕ) (a b c : Option (List ℕ)) (result : Result T Failure) → Appends a b first → IsPrinted second b result c → IsPrinted (first ++ second) a result c
 printed_more first second a b c (Ok v) grew more = Appends-trans a b c first second grew more
-printed_more first second a b c (Err e) grew more = begun_more first second a b c grew more
+printed_more first second a b c (Err e) grew more = (begun_more first second a b c grew more.0, more.1)
 
 -- what a beginning of a text is, it is of a longer one
 pub begun_longer : (first second : List ℕ) (a b : Option (List ℕ)) → IsBegun first a b → IsBegun (first ++ second) a b
@@ -40,9 +49,9 @@ begun_longer first second a b some = record {
 }
 
 -- a text that was printed was begun
-pub printed_begun : {T E : Type 0} (text : List ℕ) (old new : Option (List ℕ)) (result : Result T E) → IsPrinted text old result new → IsBegun text old new
+pub printed_begun : {T : Type 0} (text : List ℕ) (old new : Option (List ℕ)) (result : Result T Failure) → IsPrinted text old result new → IsBegun text old new
 printed_begun text old new (Ok v) all = all_begun text old new all
-printed_begun text old new (Err e) some = some
+printed_begun text old new (Err e) some = some.0
 
 -- all that is left is its own beginning
 pub rest_taken : (xs : List ℕ) (n : ℕ) → take (length xs - n) (drop n xs) ≡ drop n xs
@@ -79,6 +88,43 @@ module _ {A B : Type 0} (line : B → List ℕ) (view : A → B) where
       rw whole (begun_longer (lines done ++ line (view x)) rest old new (begun_more (lines done) (line (view x)) old mid new before here))
 
 -- what failed printed a beginning
-pub failed_printed : {T E : Type 0} (text : List ℕ) (old new : Option (List ℕ)) (result : Result T E) → IsErr result → IsBegun text old new → IsPrinted text old result new
-failed_printed text old new (Ok v) failed begun = absurd (cc)
-failed_printed text old new (Err e) failed begun = begun
+pub failed_printed : {T : Type 0} (text : List ℕ) (old new : Option (List ℕ)) (failure : Failure) (result : Result T Failure) → IsErrAnd result (λ e. e ≡ failure) → IsBegun text old new → IsUnprinted failure → IsPrinted text old result new
+failed_printed text old new failure (Ok v) failed begun why = absurd failed
+failed_printed text old new failure (Err e) failed begun why = (begun, rw failed why)
+
+-- ---- what is told of an answer
+
+-- a beginning of the first text was printed
+pub told_early : {T : Type 0} (first second : List ℕ) (answer : Result Outcome Failure) (old new : Option (List ℕ)) (failure : Failure) (result : Result T Failure) → IsErrAnd result (λ e. e ≡ failure) → IsBegun first old new → IsUnprinted failure → IsTold (first ++ second) answer old result new
+told_early first second answer old new failure (Ok v) failed begun why = absurd failed
+told_early first second (Ok o) old new failure (Err e) failed begun why = (begun_longer first second old new begun, rw failed why)
+told_early first second (Err f) old new failure (Err e) failed begun why = inr (begun_longer first second old new begun, rw failed why)
+
+-- one text was printed, and the other tells of the answer
+pub told_behind : {T : Type 0} (first second : List ℕ) (answer : Result Outcome Failure) (a b c : Option (List ℕ)) (result : Result T Failure) → Appends a b first → IsTold second answer b result c → IsTold (first ++ second) answer a result c
+told_behind first second (Ok o) a b c result grew told = printed_more first second a b c result grew told
+told_behind first second (Err f) a b c (Ok v) grew told = told
+told_behind first second (Err f) a b c (Err e) grew (inl all) = inl (Appends-trans a b c first second grew all.0, all.1)
+told_behind first second (Err f) a b c (Err e) grew (inr some) = inr (begun_more first second a b c grew some.0, some.1)
+
+-- a failure is handed on
+pub told_failed : (T : Type 0) {U : Type 0} (text : List ℕ) (answer : Result Outcome Failure) (old new : Option (List ℕ)) (failure : Failure) (result : Result U Failure) → IsErrAnd result (λ e. e ≡ failure) → IsTold {T = T} text answer old (Err failure) new → IsTold text answer old result new
+told_failed T text answer old new failure (Ok v) failed told = absurd failed
+told_failed T text (Ok o) old new failure (Err e) failed told = (told.0, rw failed told.1)
+told_failed T text (Err f) old new failure (Err e) failed told = rw failed told
+
+-- all was told, and then memory ran out, or it didn't
+pub told_then : (T : Type 0) {U : Type 0} (text : List ℕ) (answer : Result Outcome Failure) (old new : Option (List ℕ)) (v : T) (result : Result U Failure) → IfErr result IsUnprinted → IsTold {T = T} text answer old (Ok v) new → IsTold text answer old result new
+told_then T text (Ok o) old new v (Ok u) why told = told
+told_then T text (Ok o) old new v (Err e) why told = (all_begun text old new told, why)
+told_then T text (Err f) old new v result why told = absurd told
+
+-- what is told of a status that reported to a collector without a record
+pub printed_status : {T U A : Type 0} (query : Query T U) (index : State) (counts : Bool) (none visits : List (Visit T U)) (answer : Result Outcome Error) (old new : Option (List ℕ)) (result : Result A Failure)
+    → none ≡ [] → IsMet query index none answer visits → IsTold (visit_lines visits ++ closing counts (answered answer)) (answered answer) old result new → IsStatusPrinted query index counts old result new
+printed_status query index counts none visits answer old new result empty met told =
+    record { visits = visits; answer = answer; met = subst (λ start. IsMet query index start answer visits) empty met; told = told }
+
+pub memory_unprinted : {T : Type 0} (result : Result T Failure) → IsErrAnd result (λ e. e ≡ Memory) → IfErr result IsUnprinted
+memory_unprinted (Ok v) failed = tt
+memory_unprinted (Err e) failed = inr failed

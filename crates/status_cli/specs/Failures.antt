@@ -16,7 +16,10 @@ use Rattle.status_walk.specs.declared.walk.WalkError.{WalkError}
 use Rattle.status_walk.specs.declared.walk.WalkError.TheVariants as walks
 use Rattle.status_world.specs.declared.world.refusal.Refusal.{Refusal}
 use Rattle.status_world.specs.declared.world.refusal.Refusal.TheVariants as refusals
+use Rattle.status_index.specs.declared.state.IndexError.{IndexError}
+use Rattle.status_index.specs.declared.state.IndexError.TheVariants as index_errors
 use Rattle.status_profile.specs.declared.error.ProfileError.{ProfileError}
+use Rattle.status_profile.specs.declared.error.ProfileError.TheVariants as profiles
 use Rattle.status_cli.specs.declared.failure.Failure.{Failure}
 use Rattle.status_cli.specs.declared.failure.Failure.TheVariants as failures
 
@@ -60,6 +63,16 @@ abbrev pub is_memory_refusal : Refusal → Bool
 is_memory_refusal refusals.Memory = true
 is_memory_refusal (refusals.Run error) = is_memory_error error
 is_memory_refusal _ = false
+
+-- of a text that isn't a profile
+abbrev pub failure_of_index : IndexError → Failure
+failure_of_index index_errors.Memory = failures.Memory
+failure_of_index e = failures.Profile (profiles.Index e)
+
+abbrev pub failure_of_profile : ProfileError → Failure
+failure_of_profile profiles.Memory = failures.Memory
+failure_of_profile (profiles.Index e) = failure_of_index e
+failure_of_profile e = failures.Profile e
 
 abbrev pub failure_of_status : Error → Failure
 failure_of_status e = if is_memory_error e then failures.Memory else failures.Status e

@@ -110,7 +110,8 @@ names_submodule (failures.Status error) = is_submodule_fault error
 names_submodule (failures.Joined (joined.TrackedFileModifications error)) = is_submodule_fault error
 names_submodule _ = false
 
--- the line of a failure, over the file of this name. Where the output can't be written there is none
+-- the line of a failure, over the file of this name, of failures as `Failures` makes them: want of memory is named alone. Where
+-- the output can't be written there is none
 abbrev pub failure_line : List ℕ → Failure → List ℕ
 failure_line name failures.Unreadable = line (codes "cannot read " ∷ name ∷ [])
 failure_line name (failures.Profile error) = line (profile_error_text error ∷ [])

@@ -1,6 +1,5 @@
 -- The bytes of each line that the program prints for a record, an entry, a run and a status.
-use Rattle.std.specs.Prelude.{ℕ, Bool, true, false, List, [], ◌∷◌, ◌++◌, codes, decimal, is_some, if◌then◌else◌}
-use Rattle.std.specs.List.{flat_map}
+use Rattle.std.specs.Prelude.{ℕ, Bool, List, [], ◌∷◌, ◌++◌, codes, decimal, is_some, if◌then◌else◌}
 use Rattle.std.specs.Str.Lossy.{utf8_lossy}
 use Rattle.json.specs.Print.{quoted}
 use Rattle.status_call.specs.declared.index_as_worktree.types.Change.{Change}
@@ -13,7 +12,7 @@ use Rattle.status_call.specs.declared.index_as_worktree.types.Outcome.{Outcome}
 use Rattle.status_call.specs.Outcomes.{skipped_of}
 use Rattle.status_call.specs.Visits.{Visit}
 use Rattle.status_stored.specs.Words.{mode_digits}
-use Rattle.status_joined.specs.Items.{Item, Reported, modification, contents, rewrite, path_of}
+use Rattle.status_joined.specs.Items.{Reported, modification, contents, rewrite, path_of}
 
 -- texts one after the other
 abbrev pub spell : List (List ℕ) → List ℕ

@@ -1,20 +1,26 @@
 -- What an output holds after a text was printed to it, or a part of one.
-use Rattle.std.specs.Prelude.{ℕ, List, map, Option, Result, Ok, Err}
+use Rattle.std.specs.Prelude.{◌≡◌, ◌⊎◌, ℕ, List, map, Option, Result, Ok, Err}
 use Rattle.std.specs.Borrow.{Bor}
 use Rattle.std.specs.List.{flat_map}
 use Rattle.std.specs.Io.KnownBytes.{Appends}
 use Rattle.status_call.specs.StatusTheorem.{IsBeginning}
+use Rattle.status_cli.specs.declared.failure.Failure.{Failure}
+use Rattle.status_cli.specs.declared.failure.Failure.TheVariants.{Output, Memory}
 
--- what an output is known to hold grew by a beginning of a text
+-- what an output is known to hold grew by a beginning of a text. Nothing is said of an output whose bytes aren't known
 pub record IsBegun (text : List ℕ) (old new : Option (List ℕ)) : Type 0 where
   pub printed : List ℕ
   pub grew : Appends old new printed
   pub beginning : IsBeginning printed text
 
--- it grew by a text, or on an error by a beginning of it
-abbrev pub IsPrinted : {T E : Type 0} → List ℕ → Option (List ℕ) → Result T E → Option (List ℕ) → Type 0
+-- the output can't be written, or there is no memory for a line
+abbrev pub IsUnprinted : Failure → Type 0
+IsUnprinted failure = (failure ≡ Output) ⊎ (failure ≡ Memory)
+
+-- it grew by a text; or, where the output can't be written or memory runs out, by a beginning of it
+abbrev pub IsPrinted : {T : Type 0} → List ℕ → Option (List ℕ) → Result T Failure → Option (List ℕ) → Type 0
 IsPrinted text old (Ok _) new = Appends old new text
-IsPrinted text old (Err _) new = IsBegun text old new
+IsPrinted text old (Err failure) new = IsBegun text old new × IsUnprinted failure
 
 -- texts one after the other
 abbrev pub spelled : List (Bor (List ℕ)) → List ℕ

@@ -3,6 +3,7 @@
 ghost use Rattle.std.specs.Prelude.{◌≡◌};
 ghost use Rattle.status_cli.specs.Failures.{failure_of_event, failure_of_node, failure_of_start, is_memory_error, is_memory_joined, is_memory_refusal};
 
+use gix_status::index::IndexError;
 use gix_status::index_as_worktree::Error;
 use gix_status::index_as_worktree_with_renames::Error as JoinedError;
 use gix_status::tracker::TrackerError;
@@ -156,12 +157,15 @@ impl From<AllocError> for Failure {
 
 impl From<ProfileError> for Failure {
     ghost use Rattle.std.specs.Prelude.{◌≡◌};
-    ghost use Rattle.status_cli.specs.declared.failure.Failure.TheVariants.{Profile};
+    ghost use Rattle.status_cli.specs.Failures.{failure_of_profile};
 
-    ghost from_gives = { λ e f. f ≡ Profile e };
+    ghost from_gives = { λ e f. f ≡ failure_of_profile e };
 
     fn from(error: ProfileError) -> Failure {
-        Failure::Profile(error)
+        match error {
+            ProfileError::Memory | ProfileError::Index(IndexError::Memory) => Failure::Memory,
+            error => Failure::Profile(error),
+        }
     }
 }
 

@@ -33,7 +33,7 @@ impl Failure {
         1
     }
 
-    /// Writes the failure in one line. If the output can't be written, nothing is.
+    /// Writes the failure in one line. For a failure of the output nothing is written.
     fn print<E: io::Write>(&self, alloc: Global, name: &str, faults: &mut E) -> Result<(), Failure>
         ensures { names_submodule self.now ≡ false → IsPrinted (failure_line name.now self.now) (E.contents faults.old) result (E.contents faults.new) }
     {

@@ -1,4 +1,5 @@
 //! The lines that a status or a replay prints. Each is put behind what a buffer has, which can be kept from line to line.
+//! After an error the buffer may have anything.
 
 ghost use Rattle.std.specs.Prelude.{◌≡◌, ◌++◌, ◌∷◌, [], ◌<◌, ◌^◌, OnOk};
 ghost use Rattle.bstr.specs.BStr.{bstr_bytes};
@@ -71,7 +72,8 @@ pub fn push_run(line: &mut Vec<u8>, run: usize) -> Result<(), AllocError>
     writeln!(line, "run {run}").map_err(|_| AllocError)
 }
 
-/// Appends the line of totals of a status.
+/// Appends the line of totals of a status. The counts of its skipped entries have a sum that fits, as in each outcome of a
+/// status.
 pub fn push_totals(line: &mut Vec<u8>, outcome: &Outcome) -> Result<(), AllocError>
     requires { skipped_of outcome.now < 2 ^ 64 }
     ensures { OnOk result (line.new.items ≡ line.old.items ++ total_line outcome.now) }

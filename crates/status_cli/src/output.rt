@@ -1,12 +1,12 @@
 //! Writing lines to the output. On an error a beginning of what was to be written is written.
 
-ghost use Rattle.std.specs.Prelude.{◌<◌, ◌^◌, []};
+ghost use Rattle.std.specs.Prelude.{◌<◌, ◌^◌, [], IfOk};
 ghost use Rattle.bstr.specs.BStr.{bstr_bytes};
 ghost use Rattle.status_call.specs.Outcomes.{skipped_of};
 ghost use Rattle.status_joined.specs.Entries.{reported_entry};
 ghost use Rattle.status_cli.specs.Lines.{entry_line, record_line, run_line};
 ghost use Rattle.status_cli.specs.Printing.{IsPrinted, spelled};
-ghost use Rattle.status_cli.specs.Statuses.{totals_text};
+ghost use Rattle.status_cli.specs.Statuses.{IsTold, closing, totals_text};
 
 use crate::failure::Failure;
 use crate::lines::{push_entry, push_record, push_run, push_totals};
@@ -71,6 +71,24 @@ pub fn print_totals<O: io::Write>(
     let mut line = Vec::new(alloc);
     push_totals(&mut line, outcome)?;
     print(&line, output)
+}
+
+/// Writes what comes behind the records of a status: its totals, if the profile has the option `counts`. Then all is flushed.
+///
+/// # Errors
+/// The status's failure, or that of the output.
+pub fn print_closing<O: io::Write>(
+    alloc: Global,
+    answer: Result<Outcome, Failure>,
+    counts: bool,
+    output: &mut O,
+) -> Result<(), Failure>
+    requires { IfOk answer (λ o. skipped_of o < 2 ^ 64) }
+    ensures { IsTold (closing counts answer) answer (O.contents output.old) result (O.contents output.new) }
+{
+    let outcome = answer?;
+    print_totals(alloc, &outcome, counts, output)?;
+    flush(output)
 }
 
 /// Writes these parts, one after the other.

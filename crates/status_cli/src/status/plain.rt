@@ -3,27 +3,33 @@
 ghost use Rattle.std.specs.Prelude.{◌≡◌, ◌<◌, ◌^◌, [], IfOk, map};
 ghost use Rattle.status_index.specs.States.{index_of};
 ghost use Rattle.status_call.specs.IndexChanges.{AreInside, changes_of};
+ghost use Rattle.status_call.specs.Inputs.{settings, usual};
 ghost use Rattle.status_call.specs.Outcomes.{skipped_of};
 ghost use Rattle.status_call.specs.RecorderVisits.{visit_of};
 ghost use Rattle.status_cli.specs.Printing.{IsPrinted};
-ghost use Rattle.status_cli.specs.Statuses.{visit_lines};
+ghost use Rattle.status_cli.specs.Statuses.{IsStatusPrinted, answered, visit_lines};
 
 use crate::failure::Failure;
-use crate::output::{flush, print_record, print_totals};
+use crate::output::{flush, print_closing, print_record};
 use crate::status::profile_status::{Changes, ProfileStatus};
 use gix_status::index_as_worktree::traits::CompareBlobs;
 use gix_status::index_as_worktree::{
-    ApplyChange, Record, Recorder, index_as_worktree_with_defaults,
+    ApplyChange, Error, Outcome, Record, Recorder, index_as_worktree_with_defaults,
 };
-use gix_status::worktree::{Pathspec, Worktree};
+use gix_status::worktree::{MemoryObjects, NoFilter, NoLister, NoSubmodules, Pathspec, Worktree};
+use status_call::index_as_worktree::inputs::{Ask, Inputs};
 use std::alloc::Global;
 use std::io;
 use std::sync::Wait;
 use std::thread::Threads;
 
+/// A worktree, a comparer and a pathspec beside the usual interfaces.
+type Usual<'w, W, C, P> = Inputs<'w, W, C, NoSubmodules, MemoryObjects, P, NoFilter, NoLister>;
+
 /// Prints a status of these paths by this comparer, and returns the changes that it asks for if they are wanted. If the
 /// status fails, the records before the fault are printed.
 pub fn print_plain<
+    'a,
     R: AllocGlobal + Threads + Wait,
     W: Worktree + Sync,
     K: Drop,
@@ -32,7 +38,7 @@ pub fn print_plain<
     O: io::Write,
 >(
     rt: &R,
-    status: ProfileStatus<'_, W, K>,
+    status: ProfileStatus<'a, W, K>,
     pathspec: P,
     compare: C,
     output: &mut O,
@@ -40,7 +46,9 @@ pub fn print_plain<
 where
     W::File: Send,
     C::Output: Send,
-    ensures { IfOk result (λ changes. AreInside changes.items (index_of status.entry.index.now)) }
+    ensures inside { IfOk result (λ changes. AreInside changes.items (index_of status.entry.index.now)) }
+    ensures printed { IsStatusPrinted (⟦<Usual<'a, W, C, P> as Ask>⟧.query (usual status.entry.worktree compare pathspec) (settings status.entry.options.status status.entry.index.now))
+        status.entry.index.now status.entry.options.counts (O.contents output.old) result (O.contents output.new) }
 {
     let alloc = rt.alloc();
     let options = status.options;
@@ -56,17 +64,18 @@ where
         options.status,
     );
     print_records(alloc, recorder.records.as_slice(), output)?;
-    match answer {
-        Ok(outcome) => {
-            print_totals(alloc, &outcome, options.counts, output)?;
-            flush(output)?;
-        }
-        Err(error) => return Err(Failure::from(error)),
-    }
+    print_closing(alloc, with_failure(answer), options.counts, output)?;
     match status.changes {
         Changes::Returned => Ok(recorder.changes()?),
         Changes::Dropped => Ok(Vec::new(alloc)),
     }
+}
+
+/// Returns what a status answered, with the failure of an error.
+fn with_failure(answer: Result<Outcome, Error>) -> Result<Outcome, Failure>
+    ensures { result ≡ answered answer }
+{
+    Ok(answer?)
 }
 
 /// Prints a line for each record.

@@ -1,7 +1,6 @@
 use Rattle.std.proofs.Common.{◌≡◌, ◌∙◌, ◌+◌, ◌++◌, ◌∷◌, [], List, sym, ap, subst, map, take}
 use Rattle.std.proofs.lemmas.List.{take_all, take_more}
 use Rattle.std.specs.List.{flat_map}
-use Rattle.std.specs.Io.KnownBytes.{Appends}
 use Rattle.status_world.specs.Reports.{reported_value}
 use Rattle.status_world.specs.declared.world.report.ReportRecord.{ReportRecord}
 use Rattle.status_cli.specs.Replays.{reported_line}
@@ -15,9 +14,10 @@ returns-in_err-print_record g c =
     let next : take (at + 1) items ≡ take at items ++ one ∷ [] =
     subst (λ (l : List ReportRecord). take (at + 1) l ≡ take at l ++ one ∷ []) c.deref-record-items.ensures.value
     (take_more _ at one c.loop-record-test.true ∙ ap (λ d. take at c.deref-record-items.result.now ++ d ∷ []) (sym c.record-item.is)) in
-    failed_printed _ _ _ c.from_residual.result c.from_residual.ensures.0
+    failed_printed _ _ _ _ c.from_residual.result c.from_residual.ensures.1
     (begun_longer (flat_map reported_line (map reported_value items)) (totals_text c.args.counts report.outcome) _ _
-    (begun_next reported_line reported_value items at (take at items) one _ _ _ next c.loop-record.invariant (rw c.as_bstr.ensures at c.in_err-print_record.ensures)))
+    (begun_next reported_line reported_value items at (take at items) one _ _ _ next c.loop-record.invariant (rw c.as_bstr.ensures at c.in_err-print_record.ensures.0)))
+    c.in_err-print_record.ensures.1
 
 pub loop-record-preserved : goal.loop-record-preserved
 loop-record-preserved g c =

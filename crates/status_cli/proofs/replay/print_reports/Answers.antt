@@ -9,8 +9,9 @@ pub returns-in_err-print_numbered : goal.returns-in_err-print_numbered
 returns-in_err-print_numbered g c =
     let reports = c.args.reports.now in let at = c.loop-at.at in let report = c.index-reports-at.result in
     let next : take (at + 1) reports ≡ take at reports ++ report ∷ [] = take_more _ at report c.loop-at-test.true ∙ ap (λ d. take at reports ++ d ∷ []) (sym c.index-reports-at.is) in
-    failed_printed _ _ _ c.from_residual.result c.from_residual.ensures.0
-    (begun_run c.args.counts reports at report _ _ _ c.loop-at-test.true next c.loop-at.invariant c.in_err-print_numbered.ensures)
+    failed_printed _ _ _ _ c.from_residual.result c.from_residual.ensures.1
+    (begun_run c.args.counts reports at report _ _ _ c.loop-at-test.true next c.loop-at.invariant c.in_err-print_numbered.ensures.0)
+    c.in_err-print_numbered.ensures.1
 
 pub loop-at-preserved : goal.loop-at-preserved
 loop-at-preserved g c =

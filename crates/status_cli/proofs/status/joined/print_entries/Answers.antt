@@ -10,8 +10,9 @@ pub returns-in_err-print_entry : goal.returns-in_err-print_entry
 returns-in_err-print_entry g c =
     let entries = c.args.entries.now in let at = c.loop-entry.entry-index in let entry = c.entry-item.result in
     let next : take (at + 1) entries ≡ take at entries ++ entry ∷ [] = take_more _ at entry c.loop-entry-test.true ∙ ap (λ d. take at entries ++ d ∷ []) (sym c.entry-item.is) in
-    failed_printed _ _ _ c.from_residual.result c.from_residual.ensures.0
-    (begun_next entry_line reported_entry entries at (take at entries) entry _ _ _ next c.loop-entry.invariant c.in_err-print_entry.ensures)
+    failed_printed _ _ _ _ c.from_residual.result c.from_residual.ensures.1
+    (begun_next entry_line reported_entry entries at (take at entries) entry _ _ _ next c.loop-entry.invariant c.in_err-print_entry.ensures.0)
+    c.in_err-print_entry.ensures.1
 
 pub loop-entry-preserved : goal.loop-entry-preserved
 loop-entry-preserved g c =
