@@ -27,9 +27,9 @@ ONE_PIECE = ("malformed",)
 FEWEST = {
     "modified": 45,
     "conflict": 56,
-    "renames": 76,
-    "listed": 89,
-    "folder": 69,
+    "renames": 68,
+    "listed": 77,
+    "folder": 57,
     "refreshed": 149,
     "refreshed_over": 149,
     "reopened": 746,
