@@ -185,7 +185,6 @@ fn assert_memory_of_renames<R: AllocGlobal + Abort>(rt: &R) {
     assert_joined(rt, JoinedError::ConvertToGit(Fault::Memory), MEMORY);
     let tracker = JoinedError::RewriteTracker(TrackerError::Memory);
     assert_joined(rt, tracker, MEMORY);
-    assert_memory(rt, "a line", Failure::Joined(JoinedError::Memory));
 }
 
 #[test]
