@@ -130,7 +130,7 @@ fn calls<R: AllocGlobal + Threads + Wait>(
     Ok(is_ended(&report, end).then_some(calls))
 }
 
-// R12.5: one read gives bytes, and one fails.
+// One read gives bytes, and one fails.
 #[test]
 fn a_read_that_fails_is_not_tried_again(rt: HostRuntime) -> Result<(), Fail> {
     let fault = Fault::Interrupted;

@@ -75,7 +75,7 @@ where
     Ok(is_ended && is_change(&report.records, &content))
 }
 
-// R3.3: the entry's size is the low 32 bits of the file's.
+// The entry has the low half of the file's length, so that alone doesn't settle it.
 #[test]
 fn sizes_are_compared_by_their_low_32_bits(rt: HostRuntime) -> Result<(), Fail> {
     let (path, kind, bytes, _len, mtime) = later_file("a", b"foo");
@@ -95,7 +95,7 @@ fn a_file_whose_size_decides_is_not_opened(rt: HostRuntime) -> Result<(), Fail> 
     Ok(())
 }
 
-// R3.6, if the blob is there.
+// The blob is there.
 #[test]
 fn a_comparer_may_read_the_blob(rt: HostRuntime) -> Result<(), Fail> {
     let file = later_file("a", b"bars");
@@ -120,7 +120,7 @@ fn is_one_removal<T, U>(records: &[Record<'_, T, U>]) -> bool {
     }
 }
 
-// R3.6, if it isn't.
+// The blob isn't there.
 #[test]
 fn the_records_before_a_missing_blob_are_reported(rt: HostRuntime) -> Result<(), Fail> {
     let index = index(

@@ -126,7 +126,7 @@ fn the_last_of_a_stage_is_kept_among_three_entries(rt: HostRuntime) -> Result<()
     Ok(())
 }
 
-// Row 6 and R11.7.
+// Four places that are no place of an entry.
 #[test]
 fn nothing_is_found_past_the_end(rt: HostRuntime) -> Result<(), Fail> {
     let index = index(rt.alloc(), &SIDES)?;
@@ -210,7 +210,7 @@ const PIECES: [PieceRow; 3] = [
         5,
     ),
     (
-        "R2.3",
+        "an entry of stage 0, and then a conflict of its path",
         &[
             ("f", 0, Mode::File, Content::Foo),
             ("f", 1, Mode::File, Content::Foo),

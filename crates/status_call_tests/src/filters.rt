@@ -97,7 +97,6 @@ fn is_converted<R: AllocGlobal + Threads + Wait, T: ToGit + Send>(
     Ok(is_ended && are_records(&report.records, wanted))
 }
 
-// R3.4.
 #[test]
 fn what_a_filter_stores_is_compared_and_counted(rt: HostRuntime) -> Result<(), Fail> {
     let entries = [("a", 0, Mode::File, Content::Line)];

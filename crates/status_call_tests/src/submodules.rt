@@ -63,7 +63,6 @@ fn is_failed_at_sub(answer: &Result<Outcome, Error>, wanted: &[u8]) -> bool {
     }
 }
 
-// R2.4.
 #[test]
 fn submodules_speak_for_themselves(rt: HostRuntime) -> Result<(), Fail> {
     assert!(rt; is_submodule_reported(&rt, Ok(None))?);

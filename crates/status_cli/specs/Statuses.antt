@@ -5,10 +5,13 @@ use Rattle.std.specs.Io.KnownBytes.{Appends}
 use Rattle.status_index.specs.declared.state.State.{State}
 use Rattle.status_compare.specs.declared.error.Error.{Error}
 use Rattle.status_call.specs.declared.index_as_worktree.types.Outcome.{Outcome}
+use Rattle.status_call.specs.Inputs.{settings}
 use Rattle.status_call.specs.Query.{Query}
 use Rattle.status_call.specs.StatusTheorem.{IsMet}
 use Rattle.status_call.specs.Visits.{Visit}
 use Rattle.status_joined.specs.Items.{Reported}
+use Rattle.status_call.specs.declared.index_as_worktree.inputs.Settings.{Settings}
+use Rattle.status_profile.specs.declared.options.ProfileOptions.{ProfileOptions}
 use Rattle.status_cli.specs.declared.failure.Failure.{Failure}
 use Rattle.status_cli.specs.Failures.{failure_of_status}
 use Rattle.status_cli.specs.Lines.{entry_line, total_line, visit_line}
@@ -49,3 +52,7 @@ pub record IsStatusPrinted {T U A : Type 0} (query : Query T U) (index : State) 
   pub answer : Result Outcome Error
   pub met : IsMet query index [] answer visits
   pub told : IsTold (visit_lines visits ++ closing counts (answered answer)) (answered answer) old result new
+
+-- the same of a profile's index and options, by what was handed in
+abbrev pub IsPlainPrinted : {I T U A : Type 0} → (I → Settings → Query T U) → I → ProfileOptions → State → Option (List ℕ) → Result A Failure → Option (List ℕ) → Type 0
+IsPlainPrinted query given options index = IsStatusPrinted (query given (settings options.status index)) index options.counts

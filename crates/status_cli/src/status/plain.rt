@@ -3,11 +3,11 @@
 ghost use Rattle.std.specs.Prelude.{◌≡◌, ◌<◌, ◌^◌, [], IfOk, map};
 ghost use Rattle.status_index.specs.States.{index_of};
 ghost use Rattle.status_call.specs.IndexChanges.{AreInside, changes_of};
-ghost use Rattle.status_call.specs.Inputs.{settings, usual};
+ghost use Rattle.status_call.specs.Inputs.{usual};
 ghost use Rattle.status_call.specs.Outcomes.{skipped_of};
 ghost use Rattle.status_call.specs.RecorderVisits.{visit_of};
 ghost use Rattle.status_cli.specs.Printing.{IsPrinted};
-ghost use Rattle.status_cli.specs.Statuses.{IsStatusPrinted, answered, visit_lines};
+ghost use Rattle.status_cli.specs.Statuses.{IsPlainPrinted, answered, visit_lines};
 
 use crate::failure::Failure;
 use crate::output::{flush, print_closing, print_record};
@@ -47,8 +47,8 @@ where
     W::File: Send,
     C::Output: Send,
     ensures inside { IfOk result (λ changes. AreInside changes.items (index_of status.entry.index.now)) }
-    ensures printed { IsStatusPrinted (⟦<Usual<'a, W, C, P> as Ask>⟧.query (usual status.entry.worktree compare pathspec) (settings status.entry.options.status status.entry.index.now))
-        status.entry.index.now status.entry.options.counts (O.contents output.old) result (O.contents output.new) }
+    ensures printed { IsPlainPrinted ⟦<Usual<'a, W, C, P> as Ask>⟧.query (usual status.entry.worktree compare pathspec)
+        status.entry.options status.entry.index.now (O.contents output.old) result (O.contents output.new) }
 {
     let alloc = rt.alloc();
     let options = status.options;
