@@ -1,10 +1,20 @@
 -- How the lines of runs follow one another.
-use Rattle.std.proofs.Common.{◌≡◌, ℕ, ◌+◌, ◌<◌, Bool, List, [], ◌∷◌, ◌++◌, length, Option, sym, ap, ◌∙◌, append_assoc, append-nil, arith, take, drop, length-take, take-append-drop}
+use Rattle.std.proofs.Common.{◌≡◌, None, inl, inr, subst, map, Result, Ok, Err, OnOk, ℕ, ◌+◌, ◌<◌, Bool, List, [], ◌∷◌, ◌++◌, length, Option, sym, ap, ◌∙◌, append_assoc, append-nil, arith, take, drop, length-take, take-append-drop}
 use Rattle.std.specs.Io.KnownBytes.{Appends}
 use Rattle.std.proofs.KnownBytes.{Appends-trans}
+use Rattle.std.specs.Prelude.{Vec}
+use Rattle.std.specs.Result.{IsErrAnd}
+use Rattle.std.specs.declared.alloc.Global.{Global}
+use Rattle.status_stored.specs.Reopening.{IsReopenedReplay}
+use Rattle.status_stored.specs.declared.stop.Stop.{Stop}
+use Rattle.status_world.specs.Reports.{report_value}
+use Rattle.status_world.specs.StampedWorld.{StampedWorld}
+use Rattle.status_world.specs.declared.world.event.Event.{Event}
 use Rattle.status_world.specs.declared.world.report.Report.{Report}
+use Rattle.status_profile.specs.declared.history.History.{History}
+use Rattle.status_cli.specs.declared.failure.Failure.{Failure}
 use Rattle.status_cli.specs.Printing.{IsBegun}
-use Rattle.status_cli.specs.Replays.{replay_lines, run_lines, runs_behind}
+use Rattle.status_cli.specs.Replays.{IsHistoryPrinted, IsReplayed, IsSomePrinted, replay_lines, run_lines, runs_behind, start_of}
 use Rattle.status_cli.proofs.Printed.{begun_longer, begun_more}
 
 runs-append : (counts : Bool) (before : ℕ) (xs ys : List Report) → runs_behind counts before (xs ++ ys) ≡ runs_behind counts before xs ++ runs_behind counts (before + length xs) ys
@@ -34,3 +44,32 @@ begun_run counts reports at report old mid new inside next before here =
     ∙ runs-append counts 0 done (drop (at + 1) reports)
     ∙ ap (λ t. t ++ rest) (ap (replay_lines counts) next ∙ one_more counts reports at report inside) in
     rw whole (begun_longer _ rest old new (begun_more _ _ old mid new before here))
+
+-- ---- a whole history
+
+pub never_ok : {T : Type 0} (P : Type 0) (result : Result T Failure) (failure : Failure) → IsErrAnd result (λ e. e ≡ failure) → OnOk result P
+never_ok P (Ok v) failure failed = absurd failed
+never_ok P (Err e) failure failed = tt
+
+pub replay_printed : {A : Type 0} (h : History) (w final : StampedWorld) (stretches : List (Vec Event Global)) (reports : List Report) (stopped : Option Stop) (old new : Option (List ℕ)) (result : Result A Failure)
+    → w ≡ start_of h → stretches ≡ h.stretches.items → IsReopenedReplay w stretches final (map report_value reports) stopped
+    → IsBegun (replay_lines h.options.counts reports) old new → OnOk result ((stopped ≡ None) × Appends old new (replay_lines h.options.counts reports)) → IsHistoryPrinted h old result new
+replay_printed h w final stretches reports stopped old new result started same replay begun ok = inr (record {
+  final = final;
+  reports = reports;
+  stopped = stopped;
+  replay = subst (λ v. IsReopenedReplay v h.stretches.items final (map report_value reports) stopped) started (subst (λ l. IsReopenedReplay w l final (map report_value reports) stopped) same replay);
+  begun = begun;
+  ok = ok;
+})
+
+pub some_replayed : {A : Type 0} (v : A) (old new : Option (List ℕ)) → IsSomePrinted {A = A} old (Ok v) new → IsReplayed old new
+some_replayed v old new (inl refused) = absurd (cc)
+some_replayed v old new (inr (h, inl refused)) = absurd (cc)
+some_replayed v old new (inr (h, inr whole)) = record {
+  history = h;
+  final = whole.final;
+  reports = whole.reports;
+  replay = subst (λ stopped. IsReopenedReplay (start_of h) h.stretches.items whole.final (map report_value whole.reports) stopped) whole.ok.0 whole.replay;
+  printed = whole.ok.1;
+}

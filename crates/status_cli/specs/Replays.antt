@@ -1,9 +1,17 @@
 -- What is printed of a replay.
-use Rattle.std.specs.Prelude.{ℕ, ◌+◌, Bool, List, [], ◌∷◌, ◌++◌}
+use Rattle.std.specs.Prelude.{◌≡◌, ◌⊎◌, ℕ, ◌+◌, Bool, List, [], ◌∷◌, ◌++◌, map, Option, None, Result, OnOk}
+use Rattle.std.specs.Io.KnownBytes.{Appends}
 use Rattle.std.specs.List.{flat_map}
+use Rattle.std.specs.Result.{IsErr}
+use Rattle.status_stored.specs.Reopening.{IsReopenedReplay}
+use Rattle.status_stored.specs.declared.stop.Stop.{Stop}
 use Rattle.status_world.specs.Reports.{Reported, RunReport, report_value}
 use Rattle.status_world.specs.declared.world.report.Report.{Report}
+use Rattle.status_world.specs.StampedWorld.{StampedWorld, empty_world}
+use Rattle.status_profile.specs.declared.history.History.{History}
+use Rattle.status_cli.specs.declared.failure.Failure.{Failure}
 use Rattle.status_cli.specs.Lines.{record_line, run_line}
+use Rattle.status_cli.specs.Printing.{IsBegun}
 use Rattle.status_cli.specs.Statuses.{totals_text}
 
 abbrev pub reported_line : Reported → List ℕ
@@ -24,3 +32,33 @@ runs_behind counts before (report ∷ reports) = run_lines counts (before + 1) r
 
 abbrev pub replay_lines : Bool → List Report → List ℕ
 replay_lines counts reports = runs_behind counts 0 reports
+
+-- the world that a history begins with
+abbrev pub start_of : History → StampedWorld
+start_of h = empty_world h.hash h.options.stat h.options.executable_bit h.clock h.timestamp
+
+-- the events were replayed, with what stopped that, if anything; the lines of the reports were printed, or a beginning of them, and
+-- where the command came through all of them, and nothing stopped the replay
+pub record IsReplayPrinted {A : Type 0} (h : History) (old : Option (List ℕ)) (result : Result A Failure) (new : Option (List ℕ)) : Type 0 where
+  pub final : StampedWorld
+  pub reports : List Report
+  pub stopped : Option Stop
+  pub replay : IsReopenedReplay (start_of h) h.stretches.items final (map report_value reports) stopped
+  pub begun : IsBegun (replay_lines h.options.counts reports) old new
+  pub ok : OnOk result ((stopped ≡ None) × Appends old new (replay_lines h.options.counts reports))
+
+-- the same, or nothing was printed of a history that can't begin so
+abbrev pub IsHistoryPrinted : {A : Type 0} → History → Option (List ℕ) → Result A Failure → Option (List ℕ) → Type 0
+IsHistoryPrinted h old result new = (IsErr result × (new ≡ old)) ⊎ IsReplayPrinted h old result new
+
+-- a text was read as some history, and this was printed of it; or it wasn't read, and nothing was printed
+abbrev pub IsSomePrinted : {A : Type 0} → Option (List ℕ) → Result A Failure → Option (List ℕ) → Type 0
+IsSomePrinted old result new = (IsErr result × (new ≡ old)) ⊎ ((h : History) × IsHistoryPrinted h old result new)
+
+-- just the lines of all reports of some history were printed, whose replay came to its end
+pub record IsReplayed (old new : Option (List ℕ)) : Type 0 where
+  pub history : History
+  pub final : StampedWorld
+  pub reports : List Report
+  pub replay : IsReopenedReplay (start_of history) history.stretches.items final (map report_value reports) None
+  pub printed : Appends old new (replay_lines history.options.counts reports)

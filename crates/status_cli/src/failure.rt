@@ -1,6 +1,7 @@
 //! Why a command fails.
 
-ghost use Rattle.std.specs.Prelude.{◌≡◌};
+ghost use Rattle.std.specs.Prelude.{◌≡◌, ◌≢◌};
+ghost use Rattle.std.specs.IoError.{error_kind};
 ghost use Rattle.status_cli.specs.Failures.{failure_of_event, failure_of_node, failure_of_start, is_memory_error, is_memory_joined, is_memory_refusal};
 
 use gix_status::index::IndexError;
@@ -12,7 +13,7 @@ use gix_status::worktree::{Fault, FindError, TreeError};
 use gix_status::world::Refusal;
 use status_profile::ProfileError;
 use std::alloc::AllocError;
-use std::io;
+use std::io::{self, ErrorKind};
 
 /// Why a command fails.
 #[derive(Debug, Drop)]
@@ -60,17 +61,23 @@ pub enum Failure {
 
 impl Failure {
     /// Returns the failure to open or read the profile's file.
-    pub fn of_reading(error: io::Error) -> Failure {
+    pub fn of_reading(error: io::Error) -> Failure
+        ensures memory { error_kind error ≡ ErrorKind.OutOfMemory → result ≡ Failure.Memory }
+        ensures other { error_kind error ≢ ErrorKind.OutOfMemory → result ≡ Failure.Unreadable }
+    {
         match error.kind() {
-            io::ErrorKind::OutOfMemory => Failure::Memory,
+            ErrorKind::OutOfMemory => Failure::Memory,
             _ => Failure::Unreadable,
         }
     }
 
     /// Returns the failure to write the file of a refreshed profile.
-    pub fn of_writing(error: io::Error) -> Failure {
+    pub fn of_writing(error: io::Error) -> Failure
+        ensures memory { error_kind error ≡ ErrorKind.OutOfMemory → result ≡ Failure.Memory }
+        ensures other { error_kind error ≢ ErrorKind.OutOfMemory → result ≡ Failure.Unwritable }
+    {
         match error.kind() {
-            io::ErrorKind::OutOfMemory => Failure::Memory,
+            ErrorKind::OutOfMemory => Failure::Memory,
             _ => Failure::Unwritable,
         }
     }

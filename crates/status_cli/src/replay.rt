@@ -1,9 +1,10 @@
 //! The replay of a profile's history.
 
-ghost use Rattle.std.specs.Prelude.{All};
+ghost use Rattle.std.specs.Prelude.{◌≡◌, ◌⊎◌, All, IfOk};
 ghost use Rattle.status_world.specs.Reports.{HasSum, report_value};
 ghost use Rattle.status_cli.specs.Printing.{IsPrinted};
-ghost use Rattle.status_cli.specs.Replays.{replay_lines, report_lines, run_lines};
+ghost use Rattle.status_cli.specs.Replays.{IsHistoryPrinted, IsReplayed, IsSomePrinted};
+ghost use Rattle.status_cli.specs.Replays.{replay_lines, report_lines, run_lines, start_of};
 
 use crate::failure::Failure;
 use crate::input::read_all;
@@ -27,7 +28,11 @@ pub fn run_replay<R: AllocGlobal + Threads + Wait, I: io::Read, O: io::Write, E:
     profile: &mut I,
     output: &mut O,
     faults: &mut E,
-) -> u8 {
+) -> u8
+    ensures status { (result ≡ 0) ⊎ (result ≡ 1) }
+    ensures printed { result ≡ 0 → IsReplayed (O.contents output.old) (O.contents output.new) }
+    ensures quiet { result ≡ 0 → E.contents faults.new ≡ E.contents faults.old }
+{
     match print_replay(rt, profile, output) {
         Ok(()) => 0,
         Err(failure) => failure.report(rt.alloc(), name, faults),
@@ -38,11 +43,25 @@ fn print_replay<R: AllocGlobal + Threads + Wait, I: io::Read, O: io::Write>(
     rt: &R,
     profile: &mut I,
     output: &mut O,
-) -> Result<(), Failure> {
+) -> Result<(), Failure>
+    ensures { IsSomePrinted (O.contents output.old) result (O.contents output.new) }
+{
     let alloc = rt.alloc();
     let text = read_all(alloc, profile)?;
     let history = History::from_json(alloc, text.as_slice())?;
-    let world = begin(alloc, &history)?;
+    print_history(rt, alloc, &history, output)
+}
+
+/// Replays a history's events, and prints the reports of its runs.
+fn print_history<R: Threads + Wait, O: io::Write>(
+    rt: &R,
+    alloc: Global,
+    history: &History,
+    output: &mut O,
+) -> Result<(), Failure>
+    ensures { IsHistoryPrinted history.now (O.contents output.old) result (O.contents output.new) }
+{
+    let world = begin(alloc, history)?;
     let ReopenedReplay {
         reports,
         stopped,
@@ -80,7 +99,9 @@ fn first_place(stretches: &[Vec<Event>], stretch: usize) -> usize {
 }
 
 /// Makes the world that a history starts with.
-fn begin(alloc: Global, history: &History) -> Result<World, Failure> {
+fn begin(alloc: Global, history: &History) -> Result<World, Failure>
+    ensures { IfOk result (λ world. world ≡ start_of history.now) }
+{
     let options = history.options;
     World::new(
         alloc,
