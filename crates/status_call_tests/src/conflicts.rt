@@ -111,7 +111,7 @@ fn doubled(alloc: Global, index: &State) -> Result<Vec<Entry>, AllocError> {
     Ok(entries)
 }
 
-// Row 18.
+// Of two entries of a stage the last counts.
 #[test]
 fn the_last_of_a_stage_is_kept_among_three_entries(rt: HostRuntime) -> Result<(), Fail> {
     let stages = [

@@ -53,6 +53,7 @@ pub record IsStatusPrinted {T U A : Type 0} (query : Query T U) (index : State) 
   pub met : IsMet query index [] answer visits
   pub told : IsTold (visit_lines visits ++ closing counts (answered answer)) (answered answer) old result new
 
--- the same of a profile's index and options, by what was handed in
-abbrev pub IsPlainPrinted : {I T U A : Type 0} → (I → Settings → Query T U) → I → ProfileOptions → State → Option (List ℕ) → Result A Failure → Option (List ℕ) → Type 0
-IsPlainPrinted query given options index = IsStatusPrinted (query given (settings options.status index)) index options.counts
+-- the same of a profile's index and options, by what was handed in and by the meaning of its output
+abbrev pub IsPlainShown : {I T U A V : Type 0} → (I → Settings → Query T U) → I → ProfileOptions → State → (V → Option (List ℕ)) → V → Result A Failure → V → Type 0
+IsPlainShown query given options index contents old result new =
+    IsStatusPrinted (query given (settings options.status index)) index options.counts (contents old) result (contents new)

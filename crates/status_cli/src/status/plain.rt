@@ -7,7 +7,7 @@ ghost use Rattle.status_call.specs.Inputs.{usual};
 ghost use Rattle.status_call.specs.Outcomes.{skipped_of};
 ghost use Rattle.status_call.specs.RecorderVisits.{visit_of};
 ghost use Rattle.status_cli.specs.Printing.{IsPrinted};
-ghost use Rattle.status_cli.specs.Statuses.{IsPlainPrinted, answered, visit_lines};
+ghost use Rattle.status_cli.specs.Statuses.{IsPlainShown, answered, visit_lines};
 
 use crate::failure::Failure;
 use crate::output::{flush, print_closing, print_record};
@@ -47,8 +47,8 @@ where
     W::File: Send,
     C::Output: Send,
     ensures inside { IfOk result (λ changes. AreInside changes.items (index_of status.entry.index.now)) }
-    ensures printed { IsPlainPrinted ⟦<Usual<'a, W, C, P> as Ask>⟧.query (usual status.entry.worktree compare pathspec)
-        status.entry.options status.entry.index.now (O.contents output.old) result (O.contents output.new) }
+    ensures printed { IsPlainShown ⟦<Usual<'a, W, C, P> as Ask>⟧.query (usual status.entry.worktree compare pathspec)
+        status.entry.options status.entry.index.now O.contents output.old result output.new }
 {
     let alloc = rt.alloc();
     let options = status.options;
