@@ -1,5 +1,8 @@
 #!/usr/bin/env python3
-"""Tests of the pages' links and examples, and of the pictures of their figures:  python3 tools/test_docs.py"""
+"""Tests of the pages' links, examples and words, and of the pictures of their figures:  python3 tools/test_docs.py
+
+Words to avoid have ceilings in tools/words.txt. `python3 tools/test_docs.py --list` prints the places of each.
+"""
 
 import glob
 import os
@@ -22,13 +25,75 @@ def anchors(page):
     return {re.sub(r"[^\w\- ]", "", heading.lower()).replace(" ", "-") for heading in headings}
 
 
-class Docs(unittest.TestCase):
-    def pages(self):
-        paths = [os.path.join(TOP, "README.md"), *glob.glob(os.path.join(TOP, "docs", "*.md"))]
-        return {os.path.relpath(path, TOP): text_of(path) for path in paths}
+def texts_of(*patterns):
+    """The files of the repository that these patterns name, by their paths."""
+    found = [path for pattern in patterns for path in glob.glob(os.path.join(TOP, pattern), recursive=True)]
+    return {path: text_of(path) for path in sorted(os.path.relpath(path, TOP) for path in found)}
 
+
+def pages():
+    """The pages of the repository, by their paths."""
+    return texts_of("README.md", "CONTRIBUTING.md", "docs/*.md")
+
+
+# Words
+
+
+def lines_of_comments(text, mark):
+    """The comments of a file of code, with the numbers of their lines. `mark` begins a comment."""
+    for number, line in enumerate(text.splitlines(), 1):
+        comment = re.search(rf"(?:^|\s){mark}(?:\s(.*))?$", line)
+        if comment:
+            yield number, comment[1] or ""
+
+
+def paragraphs(lines):
+    """Joins lines of text, with their numbers, into paragraphs, by the number of the first line. Code is left out."""
+    texts, fence, first, before = {}, "", None, None
+    for number, line in ((number, line.strip()) for number, line in lines):
+        if line.startswith("```"):
+            fence = "" if fence else line
+        is_text = line and not line.startswith("```") and fence in ("", "```mermaid")
+        if is_text and first is not None and number == before + 1:
+            texts[first] += " " + line
+        elif is_text:
+            first, texts[number] = number, line
+        else:
+            first = None
+        before = number
+    return {number: re.sub(r"`[^`]*`", "``", text) for number, text in texts.items()}
+
+
+def written():
+    """The paragraphs of all pages and of the comments of all crates, by files and lines."""
+    lines = {path: enumerate(page.splitlines(), 1) for path, page in pages().items()}
+    for ending, mark in (("rt", "//[/!]?"), ("antt", "--")):
+        files = texts_of(f"crates/*/src/**/*.{ending}", f"crates/*/specs/**/*.{ending}", f"crates/*/proofs/**/*.{ending}")
+        lines.update({path: lines_of_comments(text, mark) for path, text in files.items()})
+    parts = {path: paragraphs(of_file) for path, of_file in lines.items()}
+    return {f"{path}:{number}": text for path, part in parts.items() for number, text in part.items()}
+
+
+def ceilings():
+    """The rows of tools/words.txt: the most places, the words as a regular expression, and what to write instead."""
+    lines = [line for line in text_of("tools", "words.txt").splitlines() if line and not line.startswith("#")]
+    rows = [re.fullmatch(r"(\d+)  +(.*?\S)  +(\S.*)", line).groups() for line in lines]
+    return [(int(most), words, instead) for most, words, instead in rows]
+
+
+def places(words, texts):
+    """Where these words are written: a file and a line for each time."""
+    return [place for place, text in texts.items() for _ in re.findall(words, text)]
+
+
+def count_words(text):
+    """How many words a page has: all between blanks and the marks of tables that have a letter or a digit."""
+    return len(re.findall(r"[^\s|]*\w[^\s|]*", text))
+
+
+class Docs(unittest.TestCase):
     def test_links_lead_to_files_and_headings(self):
-        for name, page in self.pages().items():
+        for name, page in pages().items():
             for link in re.findall(r"\]\(([^)\s]+)\)", page):
                 if re.match(r"\w+://", link):
                     continue
@@ -39,10 +104,9 @@ class Docs(unittest.TestCase):
                     if heading:
                         self.assertIn(heading, anchors(text_of(target)))
 
-    def test_the_index_page_names_each_page(self):
-        named = set(re.findall(r"^- \[[^]]*\]\(([^)]+)\)", text_of("docs", "README.md"), re.M))
-        there = {os.path.basename(path) for path in glob.glob(os.path.join(TOP, "docs", "*.md"))} - {"README.md"}
-        self.assertEqual(named, there | {"../README.md"})
+    def test_the_readme_names_each_page(self):
+        named = set(re.findall(r"\]\(docs/([^)#]+\.md)\)", text_of("README.md")))
+        self.assertEqual(named, {os.path.basename(path) for path in pages() if path.startswith("docs/")})
 
     def test_the_examples_for_callers_are_quoted_from_what_is_proved(self):
         page = text_of("docs", "CALLERS.md")
@@ -67,9 +131,11 @@ class Docs(unittest.TestCase):
 
     def test_the_files_of_a_change_are_there(self):
         page = text_of("docs", "ARCHITECTURE.md")
-        table = page[page.index("| Change |") :].partition("\n\n")[0]
+        table = page[page.index("|Change|Files|") :].partition("\n\n")[0]
+        rows = re.findall(r"^\|[^|]*\|(`[^|]*)\|[^|]*\|$", table, re.M)
+        self.assertEqual(len(rows), table.count("\n") - 1)
         folder = ""
-        for files in re.findall(r"^\|[^|]*\| (`[^|]*)\|[^|]*\|$", table, re.M):
+        for files in rows:
             for path in re.findall(r"`([^`]+\.\w+)`", files):
                 with self.subTest(files=files, path=path):
                     top = path.split("/")[0] in ("docs", "tests", "tools", "bench", "README.md")
@@ -95,5 +161,46 @@ class Docs(unittest.TestCase):
         self.assertEqual((ran.returncode, ran.stderr), (0, ""))
 
 
+class Words(unittest.TestCase):
+    def test_words_to_avoid_are_written_no_more_often(self):
+        texts = written()
+        for most, words, instead in ceilings():
+            if words == "(any word)":
+                continue
+            there = places(words, texts)
+            with self.subTest(words=words):
+                message = f"at {len(there)} places, and at most {most}; write: {instead}; see --list"
+                self.assertLessEqual(len(there), most, message)
+            if len(there) < most:
+                print(f"tools/words.txt: lower {most} to {len(there)}: {words}")
+
+    def test_the_pages_have_no_more_words(self):
+        most = next(most for most, words, _ in ceilings() if words == "(any word)")
+        counts = {path: count_words(page) for path, page in pages().items()}
+        self.assertLessEqual(sum(counts.values()), most, counts)
+
+    def test_comments_are_found(self):
+        text = "//! One\nfn f() {} // two\n    /// three\nlet url = \"https://four\";\n//\n"
+        self.assertEqual(list(lines_of_comments(text, "//[/!]?")), [(1, "One"), (2, "two"), (3, "three"), (5, "")])
+        self.assertEqual(list(lines_of_comments("-- one\nx = y --z\n--\n", "--")), [(1, "one"), (3, "")])
+
+    def test_paragraphs_are_joined_without_code(self):
+        page = "want\nof `want of` memory\n\n```rust\nwhere the\n```\n- one\n```mermaid\ntwo\n```\n"
+        joined = {1: "want of `` memory", 7: "- one", 9: "two"}
+        self.assertEqual(paragraphs(enumerate(page.splitlines(), 1)), joined)
+        self.assertEqual(paragraphs([(1, "one"), (3, "two"), (4, "three")]), {1: "one", 3: "two three"})
+
+    def test_words_are_counted_wherever_they_are(self):
+        texts = {"a:1": "Just where it stands, stands it.", "b:2": "It understands."}
+        self.assertEqual(places(r"\bstands\b", texts), ["a:1", "a:1"])
+        self.assertEqual(count_words("| a | `b` and|c |\n|---|---|\n- d's, 1.\n"), 6)
+
+
 if __name__ == "__main__":
-    unittest.main()
+    if sys.argv[1:] == ["--list"]:
+        everything = written()
+        for limit, expression, _ in ceilings():
+            for place in places(expression, everything) if limit and expression != "(any word)" else []:
+                print(f"{expression}: {place}")
+    else:
+        unittest.main()
