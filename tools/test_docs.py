@@ -20,7 +20,7 @@ def text_of(*path):
 
 
 def anchors(page):
-    """What a link may name behind a page: its headings in small letters, with dashes and without marks."""
+    """The headings of a page as a link names them: in small letters, with dashes and without marks."""
     headings = re.findall(r"^#+ (.*)$", page, re.M)
     return {re.sub(r"[^\w\- ]", "", heading.lower()).replace(" ", "-") for heading in headings}
 
@@ -54,12 +54,13 @@ def paragraphs(lines):
         if line.startswith("```"):
             fence = "" if fence else line
         is_text = line and not line.startswith("```") and fence in ("", "```mermaid")
-        if is_text and first is not None and number == before + 1:
-            texts[first] += " " + line
-        elif is_text:
+        is_new = first is None or number != before + 1 or re.match(r"- |\d+\. |\||#", line)
+        if not is_text:
+            first = None
+        elif is_new:
             first, texts[number] = number, line
         else:
-            first = None
+            texts[first] += " " + line
         before = number
     return {number: re.sub(r"`[^`]*`", "``", text) for number, text in texts.items()}
 
@@ -68,7 +69,7 @@ def written():
     """The paragraphs of all pages and of the comments of all crates, by files and lines."""
     lines = {path: enumerate(page.splitlines(), 1) for path, page in pages().items()}
     for ending, mark in (("rt", "//[/!]?"), ("antt", "--")):
-        files = texts_of(f"crates/*/src/**/*.{ending}", f"crates/*/specs/**/*.{ending}", f"crates/*/proofs/**/*.{ending}")
+        files = texts_of(*(f"crates/*/{folder}/**/*.{ending}" for folder in ("src", "specs", "proofs")))
         lines.update({path: lines_of_comments(text, mark) for path, text in files.items()})
     parts = {path: paragraphs(of_file) for path, of_file in lines.items()}
     return {f"{path}:{number}": text for path, part in parts.items() for number, text in part.items()}
@@ -185,8 +186,8 @@ class Words(unittest.TestCase):
         self.assertEqual(list(lines_of_comments("-- one\nx = y --z\n--\n", "--")), [(1, "one"), (3, "")])
 
     def test_paragraphs_are_joined_without_code(self):
-        page = "want\nof `want of` memory\n\n```rust\nwhere the\n```\n- one\n```mermaid\ntwo\n```\n"
-        joined = {1: "want of `` memory", 7: "- one", 9: "two"}
+        page = "want\nof `want of` memory\n\n```rust\nwhere the\n```\n- one\n  two\n- three\n```mermaid\nfour\n```\n"
+        joined = {1: "want of `` memory", 7: "- one two", 9: "- three", 11: "four"}
         self.assertEqual(paragraphs(enumerate(page.splitlines(), 1)), joined)
         self.assertEqual(paragraphs([(1, "one"), (3, "two"), (4, "three")]), {1: "one", 3: "two three"})
 
