@@ -147,13 +147,16 @@ class Docs(unittest.TestCase):
                     folder = os.path.dirname(there[0])
 
     def test_the_definitions_are_in_the_files_that_are_named(self):
-        page = text_of("docs", "DEFINITIONS.md")
-        for crate, part in re.findall(r"^## (status_\w+)\n(.*?)(?=^## |\Z)", page, re.M | re.S):
+        page = text_of("docs", "PROOFS.md")
+        parts = re.findall(r"^### (status_\w+)\n(.*?)(?=^##|\Z)", page, re.M | re.S)
+        there = {path.split(os.sep)[-2] for path in glob.glob(os.path.join(TOP, "crates", "*", "specs"))}
+        self.assertEqual({crate for crate, _ in parts}, there - {"status_tests"})
+        for crate, part in parts:
             for files, words in re.findall(r"^\| (`[^|]*?) \| ([^|]*) \|", part, re.M):
                 with self.subTest(crate=crate, files=files):
                     names = re.findall(r"`(\w+)`", files)
                     texts = [text_of("crates", crate, "specs", name + ".antt") for name in names]
-                    for word in re.findall(r"`(\w+)`(?! \(`status)", words):
+                    for word in re.findall(r"`(\w+)`", words):
                         self.assertRegex("\n".join(texts), rf"\b{word}\b")
 
     def test_the_pictures_have_the_figures_of_the_page(self):
