@@ -110,7 +110,7 @@ class Docs(unittest.TestCase):
         self.assertEqual(named, {os.path.basename(path) for path in pages() if path.startswith("docs/")})
 
     def test_the_examples_for_callers_are_quoted_from_what_is_proved(self):
-        page = text_of("docs", "CALLERS.md")
+        page = text_of("docs", "GUIDE.md")
         examples = re.findall(r"^```rust\n(.*?)^```$.*?\]\(([^)\s]+)\)", page, re.M | re.S)
         self.assertGreater(len(examples), 0)
         self.assertEqual(len(examples), page.count("```rust"))
