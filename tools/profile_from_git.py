@@ -26,13 +26,20 @@ kinds of files for which git has no mode. An entry whose node the program can't 
 left out. Notes say where that is so (unseen.py).
 """
 
-import argparse
-import json
 import os
-import re
-import shlex
+import sys
 
-from repository import git, line_of, setting, top_of
+from index_entries import (
+    ASSUME_VALID,
+    FSMONITOR_VALID,
+    INTENT_TO_ADD,
+    LENGTH,
+    SKIP_WORKTREE,
+    STAGES,
+    UP_TO_DATE,
+    entries_of,
+)
+from repository import Repository
 from shared import Refused, end, say
 from unseen import unseen_of
 
@@ -41,25 +48,41 @@ COMPARABLE = ["-c", "core.trustctime=false", "-c", "core.checkStat=minimal", "-c
 COMPARABLE += ["-c", "core.fsmonitor=false"]
 STATUS = ["status", "--porcelain", "--untracked-files=no", "--no-renames", "--ignore-submodules=dirty"]
 
-ENTRY = re.compile(
-    rb"(?P<mode>[0-7]{6}) (?P<id>[0-9a-f]{40}|[0-9a-f]{64}) (?P<stage>[0-3])\t(?P<path>[^\0]+)\0"
-    rb"  ctime: (?P<ctime>\d+):(?P<ctime_nsecs>\d+)\n"
-    rb"  mtime: (?P<mtime>\d+):(?P<mtime_nsecs>\d+)\n"
-    rb"  dev: (?P<dev>\d+)\tino: (?P<ino>\d+)\n"
-    rb"  uid: (?P<uid>\d+)\tgid: (?P<gid>\d+)\n"
-    rb"  size: (?P<size>\d+)\tflags: (?P<flags>[0-9a-f]+)\n"
-)
-
-MODES = {"100644", "100755", "120000", "160000", "040000"}
+FILE = 0o100644
+MODES = {FILE, 0o100755, 0o120000, 0o160000, 0o040000}
 
 # The bits of a flag in git's memory.
 FLAGS = {
-    "uptodate": 1 << 18,
-    "skip-worktree": 1 << 30,
-    "assume-valid": 1 << 15,
-    "fsmonitor-valid": 1 << 21,
-    "intent-to-add": 1 << 29,
+    "uptodate": UP_TO_DATE,
+    "skip-worktree": SKIP_WORKTREE,
+    "assume-valid": ASSUME_VALID,
+    "fsmonitor-valid": FSMONITOR_VALID,
+    "intent-to-add": INTENT_TO_ADD,
 }
+
+# What JSON writes otherwise within a text.
+ESCAPES = {"\\": "\\\\", '"': '\\"', **{chr(code): f"\\u{code:04x}" for code in range(1, 32)}}
+
+
+class Profile:
+    """A repository's index, and what the program needs besides to compare it with the worktree."""
+
+    def __init__(self, repository, counts=False):
+        """Reads the index of a repository. With `counts` the program prints its total line, too."""
+        self.repository = repository
+        self.folder = text(os.fsencode(repository.top), "the folder's path")
+        self.timestamp, self.entries = entries_of(repository)
+        self.options = {"symlink": repository.is_set("core.symlinks"), "trust_ctime": False, "check_stat": False}
+        if counts:
+            self.options["counts"] = True
+
+    def json(self, left_out=()):
+        """Returns the profile as JSON text, without the entries of some paths."""
+        seconds, nanoseconds = self.timestamp
+        options = ",".join(f'"{name}":{"true" if value else "false"}' for name, value in self.options.items())
+        entries = ",".join(texts_of(self.entries.without(left_out)))
+        front = f'{{"hash":"{self.repository.kind}","timestamp":[{seconds},{nanoseconds}],"options":{{{options}}}'
+        return f'{front},"index":[{entries}],"folder":"{escaped(self.folder)}"}}'.encode()
 
 
 def text(raw, what):
@@ -70,80 +93,41 @@ def text(raw, what):
         raise Refused(f"{what} isn't UTF-8: {raw!r}") from None
 
 
-def number(raw, what):
-    """A number of 32 bits."""
-    value = int(raw)
-    if not 0 <= value < 1 << 32:
-        raise Refused(f"{what} is no number of 32 bits: {value}")
-    return value
+def escaped(words):
+    """A text as it is between the quotes of JSON."""
+    for character, written in ESCAPES.items():
+        words = words.replace(character, written)
+    return words
 
 
-def entry_of(found):
-    """The profile's entry. What is the default isn't written."""
-    path = text(found["path"], "a path")
-    mode = found["mode"].decode()
-    if mode not in MODES:
-        raise Refused(f"a mode that is none of git's five: {mode} at {path!r}")
-    entry = {"path": path, "id": found["id"].decode()}
-    if mode != "100644":
-        entry["mode"] = mode
-    if found["stage"] != b"0":
-        entry["stage"] = int(found["stage"])
-    for name in ("size", "dev", "ino", "uid", "gid"):
-        value = number(found[name], f"the {name} of {path!r}")
-        if value:
-            entry[name] = value
-    for name in ("mtime", "ctime"):
-        stamp = [number(found[part], f"the {name} of {path!r}") for part in (name, f"{name}_nsecs")]
-        if stamp != [0, 0] or name == "ctime":
-            entry[name] = stamp
-    bits = int(found["flags"], 16)
-    flags = [name for name, bit in FLAGS.items() if bits & bit]
-    if flags:
-        entry["flags"] = flags
-    return entry
+def texts_of(entries):
+    """The entries as JSON texts."""
+    texts = []
+    for path, (_, mtime, _, mode, size, name, bits) in zip(written_paths(entries.paths), entries.records):
+        if mode == FILE and bits <= LENGTH:
+            texts.append(f'{{"path":"{path}","id":"{name.hex()}","size":{size},"mtime":[{mtime},0]}}')
+        else:
+            more = more_of(path, mode, bits)
+            texts.append(f'{{"path":"{path}","id":"{name.hex()}"{more},"size":{size},"mtime":[{mtime},0]}}')
+    return texts
 
 
-def entries_of(listed):
-    """The entries that `git ls-files --stage --debug -z` lists."""
-    entries, at = [], 0
-    while at < len(listed):
-        found = ENTRY.match(listed, at)
-        if not found:
-            raise Refused(f"git ls-files prints what isn't known here, at byte {at}")
-        entries.append(entry_of(found))
-        at = found.end()
-    return entries
-
-
-def moment_of(index):
-    """When the index was written. None where there is none."""
+def written_paths(paths):
+    """Paths as they are between the quotes of JSON."""
     try:
-        secs, nsecs = divmod(os.stat(index).st_mtime_ns, 10**9)
-    except FileNotFoundError:
-        return None
-    return [number(secs, "the time of the index"), nsecs]
+        return escaped(b"\0".join(paths).decode()).split("\0")
+    except UnicodeDecodeError:
+        return [escaped(text(path, "a path")) for path in paths]
 
 
-def profile_of(folder, counts=False):
-    """The profile of the repository whose worktree a folder is in, and what of it the program doesn't see."""
-    top = top_of(folder)
-    named = text(os.fsencode(top), "the folder's path")
-    kind = line_of(folder, "rev-parse", "--show-object-format")
-    if kind not in ("sha1", "sha256"):
-        raise Refused(f"ids of the kind {kind}")
-    index = line_of(top, "rev-parse", "--path-format=absolute", "--git-path", "index")
-    before = moment_of(index)
-    entries = entries_of(git(top, "ls-files", "--stage", "--debug", "-z"))
-    if moment_of(index) != before:
-        raise Refused("the index was written meanwhile")
-    timestamp = before or [0, 0]
-    unseen = unseen_of(top, timestamp, entries)
-    options = {"symlink": setting(top, "core.symlinks", "true"), "trust_ctime": False, "check_stat": False}
-    if counts:
-        options["counts"] = True
-    kept = [entry for entry in entries if entry["path"] not in unseen.left_out]
-    return {"hash": kind, "timestamp": timestamp, "options": options, "index": kept, "folder": named}, unseen
+def more_of(path, mode, bits):
+    """What isn't the default of an entry's mode, stage and flags, as JSON."""
+    if mode not in MODES:
+        raise Refused(f"a mode that is none of git's five: {mode:06o} at {path!r}")
+    stage, flags = bits & STAGES, [f'"{name}"' for name, bit in FLAGS.items() if bits & bit]
+    more = f',"mode":"{mode:06o}"' if mode != FILE else ""
+    more += f',"stage":{stage >> 12}' if stage else ""
+    return more + (f',"flags":[{",".join(flags)}]' if flags else "")
 
 
 def comparable(folder):
@@ -152,15 +136,20 @@ def comparable(folder):
 
 
 def main():
+    import argparse
+    import shlex
+
     parser = argparse.ArgumentParser(description="Prints the profile of a git repository's index, over its real folder.")
     parser.add_argument("--counts", action="store_true", help="have the program print its total line too")
     parser.add_argument("folder", nargs="?", default=".", help="a folder of the repository's worktree")
     arguments = parser.parse_args()
-    profile, unseen = profile_of(arguments.folder, arguments.counts)
-    print(json.dumps(profile, separators=(",", ":")), flush=True)
+    profile = Profile(Repository(arguments.folder), arguments.counts)
+    unseen = unseen_of(profile)
+    sys.stdout.buffer.write(profile.json(unseen.left_out) + b"\n")
+    sys.stdout.flush()
     for note in unseen.notes():
         say(f"note: {note}")
-    say(f"compare with: {shlex.join(comparable(profile['folder']))}")
+    say(f"compare with: {shlex.join(comparable(profile.folder))}")
     return 0
 
 

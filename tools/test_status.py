@@ -17,8 +17,10 @@ from unittest import mock
 
 import status as tool
 from cases import PROGRAM, Case, run_tool
-from profile_from_git import COMPARABLE
-from repository import quoted
+from profile_from_git import COMPARABLE, Profile
+from repository import Repository, quoted
+from shared import how_to_build
+from untracked import untracked
 
 # Names that sort otherwise by bytes than by components, and names that git quotes.
 NAMES = ["a", "a-", "a0", "b c", "d\te", "f\ng", 'h"i', "j\\k", "\x01l\x7f", "é", "\u2028m", "\x85n", "\U00010000"]
@@ -329,7 +331,7 @@ class Untracked(Case):
     """The tool's own half, which needs no program."""
 
     def assert_as_git(self):
-        found = tool.untracked(tool.profile_of(self.top)[0], set())
+        found = untracked(Profile(Repository(self.top)), set())
         lines = [line for line in git_lines(self, "-uall") if line.startswith("?? ")]
         self.assertEqual(sorted(f"?? {quoted(path)}" for path in found), lines)
         return [path.decode() for path in found]
@@ -374,9 +376,9 @@ class Faults(Case):
         return ran.stdout.decode()
 
     def test_a_program_that_is_not_built_is_named_with_how_to_build_it(self):
-        self.refused("build it by (cd crates/status_program && rt run", program=self.path("none"))
+        self.refused(f"build it by {how_to_build()}", program=self.path("none"))
         self.write("none", "")
-        self.refused("build it by (cd crates/status_program && rt run", program=self.path("none"))
+        self.refused(f"build it by {how_to_build()}", program=self.path("none"))
 
     def test_a_program_that_cannot_be_run_is_refused(self):
         self.write("text", "foo")
