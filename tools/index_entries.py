@@ -17,8 +17,8 @@ SHORT = struct.Struct(">H")
 WIDTHS = {"sha1": 20, "sha256": 32}
 # The parts of a record, in the order of the file: the seconds of ctime and mtime, inode, mode, size, id, and bits.
 RECORDS = {width: struct.Struct(f">I4xI8xII8xI{width}sH") for width in WIDTHS.values()}
-MODE, ID, BITS = 3, 5, 6
-# The bits of git's flags, as in git's memory. The lowest twelve are the length of the path, or all are set if it is longer.
+MODE, BITS = 3, 6
+# The bits of git's flags, as in git's memory. The lowest twelve are the length of the path: all are set if it is longer.
 LENGTH, STAGES, EXTENDED, ASSUME_VALID = (1 << 12) - 1, 3 << 12, 1 << 14, 1 << 15
 UP_TO_DATE, FSMONITOR_VALID, INTENT_TO_ADD, SKIP_WORKTREE = 1 << 18, 1 << 21, 1 << 29, 1 << 30
 KNOWN = STAGES | ASSUME_VALID | UP_TO_DATE | FSMONITOR_VALID | INTENT_TO_ADD | SKIP_WORKTREE
@@ -29,13 +29,19 @@ class NotPlain(Exception):
 
 
 class Entries:
-    """The entries of an index, in order: a list of their paths, and a list of as many records."""
+    """The entries of an index, in order: a list of their paths, and a list of as many records.
+
+    `joined` has the paths with a NUL between two of them.
+    """
 
     def __init__(self, paths, records):
-        self.paths, self.records = paths, records
+        self.paths, self.records, self.joined = paths, records, b"\0".join(paths)
 
     def __iter__(self):
         return zip(self.paths, self.records)
+
+    def __str__(self):
+        return "1 entry" if len(self.paths) == 1 else f"{len(self.paths)} entries"
 
     def without(self, left_out):
         """Returns the entries whose paths aren't left out."""
@@ -76,7 +82,7 @@ def read(content, width):
     if count * RECORDS[width].size > end:
         raise NotPlain
     entries, at = (read_shortened if version == 4 else read_padded)(content, width, count)
-    if b"\0".join(entries.paths).count(b"\0") >= max(count, 1):
+    if not all(entries.paths) or entries.joined.count(b"\0") >= max(count, 1):
         raise NotPlain
     check_extensions(content, at, end)
     return entries
@@ -89,11 +95,13 @@ def read_padded(content, width, count):
     for _ in range(count):
         record = unpack(content, at)
         start = at + size
-        length = record[-1]
+        length = record[BITS]
         if length > LENGTH:
             record, start = with_all_bits(record, content, start)
             length &= LENGTH
         end = start + length if length < LENGTH else content.index(b"\0", start)
+        if content[end]:
+            raise NotPlain
         paths.append(content[start:end])
         records.append(record)
         at += (end - at + 8) & ~7
@@ -106,14 +114,17 @@ def read_shortened(content, width, count):
     unpack, size = RECORDS[width].unpack_from, RECORDS[width].size
     for _ in range(count):
         record = unpack(content, at)
+        length = record[BITS] & LENGTH
         at += size
-        if record[-1] > LENGTH:
+        if record[BITS] > LENGTH:
             record, at = with_all_bits(record, content, at)
         removed, at = varint_at(content, at)
         if removed > len(path):
             raise NotPlain
         end = content.index(b"\0", at)
         path = path[: len(path) - removed] + content[at:end]
+        if min(len(path), LENGTH) != length:
+            raise NotPlain
         paths.append(path)
         records.append(record)
         at = end + 1
@@ -122,7 +133,7 @@ def read_shortened(content, width, count):
 
 def with_all_bits(record, content, at):
     """Returns a record with the bits that the place after it may have, and where the path begins."""
-    bits = record[-1] & ~LENGTH
+    bits = record[BITS] & ~LENGTH
     if bits & EXTENDED:
         bits |= SHORT.unpack_from(content, at)[0] << 16
         at += SHORT.size
@@ -130,7 +141,7 @@ def with_all_bits(record, content, at):
     # In a sparse checkout git compares such an entry too, if its file is there.
     if bits & ~KNOWN or bits & SKIP_WORKTREE:
         raise NotPlain
-    return (*record[:-1], bits), at
+    return (*record[:BITS], bits), at
 
 
 def varint_at(content, at):

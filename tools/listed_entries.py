@@ -24,7 +24,8 @@ def entries_in(listed):
         mode, name, stage, path, ctime, mtime, inode, size, flags = found.groups()
         bits = int(flags, 16) & KNOWN | int(stage) << 12
         paths.append(path)
-        records.append((int(ctime), int(mtime), int(inode), int(mode, 8), int(size), bytes.fromhex(name.decode()), bits))
+        numbers = (int(ctime), int(mtime), int(inode), int(mode, 8), int(size))
+        records.append((*numbers, bytes.fromhex(name.decode()), bits))
         at = found.end()
     if at != len(listed):
         raise Refused(f"git ls-files prints what isn't known here, at byte {at}")

@@ -1,5 +1,7 @@
 """The lines of `git status --porcelain`: from the program's lines, and from git's own."""
 
+import sys
+
 from profile_from_git import COMPARABLE, STATUS
 from repository import git, quoted
 from shared import Refused
@@ -60,27 +62,31 @@ def unknown(line):
     return Refused(f"the program prints what isn't known here: {line.decode(errors='replace')}")
 
 
-def line_of(columns, path):
-    return f"{columns} {quoted(path)}\n"
+def print_found(found, with_updates):
+    """Prints the lines of columns and paths. Returns whether something differs, which an update doesn't."""
+    differing = [it for it in found if it[0] != UPDATE]
+    lines = [f"{columns} {quoted(path)}\n" for columns, path in (found if with_updates else differing)]
+    sys.stdout.write("".join(lines))
+    return bool(differing)
 
 
-def told_by_git(top, with_untracked, left_out):
-    """What git says of each path, without the first column of what is no conflict."""
-    told, words = {}, [*STATUS, "-z"] + ["--untracked-files=all"] * with_untracked
+def statuses_of_git(top, with_untracked, left_out):
+    """Returns git's columns by their paths. Only a conflict has the first column."""
+    statuses, words = {}, [*STATUS, "-z"] + ["--untracked-files=all"] * with_untracked
     for line in git(top, *words, settings=COMPARABLE).split(b"\0")[:-1]:
         columns, path = line[:2].decode(), line[3:]
         columns = columns if columns in (*CONFLICTS.values(), UNTRACKED) else " " + columns[1]
         if columns != "  " and path not in left_out:
-            told[path] = columns
-    return told
+            statuses[path] = columns
+    return statuses
 
 
-def print_compared(found, told):
-    """Prints the paths at which the program and git differ, and gives how many these are."""
+def print_compared(found, wanted):
+    """Prints the paths at which the program and git differ. Returns how many there are."""
     found = {path: columns for columns, path in found if columns != UPDATE}
-    differing = sorted(path for path in found.keys() | told.keys() if found.get(path) != told.get(path))
+    differing = sorted(path for path in found.keys() | wanted.keys() if found.get(path) != wanted.get(path))
     for path in differing:
-        print(f"program {found.get(path, '  ')}  git {told.get(path, '  ')}  {quoted(path)}")
+        print(f"program {found.get(path, '  ')}  git {wanted.get(path, '  ')}  {quoted(path)}")
     if not differing:
         print(f"as git: {len(found)} path" + "s" * (len(found) != 1))
     return len(differing)

@@ -78,5 +78,6 @@ def content_of(file):
 
 
 def fault_of(said, status):
-    """Returns in one line what a program printed to standard error, or how it failed without that. Empty if it didn't."""
-    return " ".join(said.decode(errors="replace").split()) or (f"it ended with status {status}" if status else "")
+    """Returns in one line what a program printed to standard error, or its exit status if that isn't 0."""
+    words = " ".join(said.decode(errors="replace").split())
+    return words or (f"it ended with status {status}" if status else "")

@@ -3,27 +3,27 @@
 
     python3 tools/profile_from_git.py [--counts] [FOLDER] > profile.json
 
-FOLDER is in the repository's worktree; without it the working folder is taken. Nothing is written but the profile, to
-standard output, and what the program doesn't see there and the git command to compare with, to standard error. What a
-profile can't say is refused with a line on standard error and the exit status 1, and so is a fault of git's or of the
-output's. It needs git.
+FOLDER is any folder of the worktree; without it the current folder is taken. The profile goes to standard output. What
+the program doesn't see there goes to standard error, with the git command to compare with. If git fails, the output
+can't be written, or a profile can't have something, the exit status is 1, with one line on standard error. It needs git.
 
 Over a folder the program sees a file's kind, its length and when its content last changed. So the profile has
-`trust_ctime` and `check_stat` off, and git needs the same settings: it must not compare the time of the last change of
-metadata (core.trustctime=false), nor inode, owner and nanoseconds (core.checkStat=minimal), nor the executable bit
-(core.fileMode=false). The second letter of each of git's lines then says what the program reports:
+`trust_ctime` and `check_stat` off, and of a stat only the size and the seconds of the mtime: nothing else is compared.
+git needs the same settings. It must not compare the time of the last change of metadata (core.trustctime=false), nor
+inode, owner and nanoseconds (core.checkStat=minimal), nor the executable bit (core.fileMode=false). The second letter
+of each of git's lines then is what the program reports:
 
     git            program                          git            program
     M              modified -c- or -cs              D              removed
     T              type                             A (intent)     intent
     two letters of a conflict: conflict             no line        no line, or update (only the stat differs)
 
-The program prints `-cs` where the content changed and the stat agrees. Such a stat is racy: the file's time isn't before
+The program prints `-cs` if the content changed and the stat agrees. Such a stat is racy: the file's time isn't before
 that of the index, in seconds.
 
-What the program doesn't know differs: conversions (line ends and filters), the heads and contents of submodules, and the
-kinds of files for which git has no mode. An entry whose node the program can't read, which would end the whole status, is
-left out. Notes say where that is so (unseen.py).
+Some things differ, since the program doesn't know them: conversions (line ends and filters), the heads and contents of
+submodules, and the kinds of files for which git has no mode. An entry whose node the program can't read would end the
+whole status, so it is left out. Notes name these cases (unseen.py).
 """
 
 import os
@@ -62,15 +62,16 @@ FLAGS = {
 
 # What JSON writes otherwise within a text.
 ESCAPES = {"\\": "\\\\", '"': '\\"', **{chr(code): f"\\u{code:04x}" for code in range(1, 32)}}
+ESCAPED = "".join(ESCAPES).encode()
 
 
 class Profile:
-    """A repository's index, and what the program needs besides to compare it with the worktree."""
+    """A repository's index, and what else the program needs to compare it with the worktree."""
 
     def __init__(self, repository, counts=False):
         """Reads the index of a repository. With `counts` the program prints its total line, too."""
         self.repository = repository
-        self.folder = text(os.fsencode(repository.top), "the folder's path")
+        self.folder = written(os.fsencode(repository.top), "the folder's path")
         self.timestamp, self.entries = entries_of(repository)
         self.options = {"symlink": repository.is_set("core.symlinks"), "trust_ctime": False, "check_stat": False}
         if counts:
@@ -82,28 +83,30 @@ class Profile:
         options = ",".join(f'"{name}":{"true" if value else "false"}' for name, value in self.options.items())
         entries = ",".join(texts_of(self.entries.without(left_out)))
         front = f'{{"hash":"{self.repository.kind}","timestamp":[{seconds},{nanoseconds}],"options":{{{options}}}'
-        return f'{front},"index":[{entries}],"folder":"{escaped(self.folder)}"}}'.encode()
+        return f'{front},"index":[{entries}],"folder":"{self.folder}"}}'.encode()
 
 
 def text(raw, what):
-    """Bytes as text, which JSON has to be."""
+    """Returns bytes as text, which JSON has to be."""
     try:
         return raw.decode()
     except UnicodeDecodeError:
         raise Refused(f"{what} isn't UTF-8: {raw!r}") from None
 
 
-def escaped(words):
-    """A text as it is between the quotes of JSON."""
-    for character, written in ESCAPES.items():
-        words = words.replace(character, written)
+def written(raw, what):
+    """Returns bytes as a text between the quotes of JSON."""
+    words = text(raw, what)
+    if len(raw.translate(None, ESCAPED)) < len(raw):
+        for character, escape in ESCAPES.items():
+            words = words.replace(character, escape)
     return words
 
 
 def texts_of(entries):
-    """The entries as JSON texts."""
+    """Returns the entries as JSON texts."""
     texts = []
-    for path, (_, mtime, _, mode, size, name, bits) in zip(written_paths(entries.paths), entries.records):
+    for path, (_, mtime, _, mode, size, name, bits) in zip(written_paths(entries), entries.records):
         if mode == FILE and bits <= LENGTH:
             texts.append(f'{{"path":"{path}","id":"{name.hex()}","size":{size},"mtime":[{mtime},0]}}')
         else:
@@ -112,16 +115,16 @@ def texts_of(entries):
     return texts
 
 
-def written_paths(paths):
-    """Paths as they are between the quotes of JSON."""
+def written_paths(entries):
+    """Returns the paths of entries as texts between the quotes of JSON."""
     try:
-        return escaped(b"\0".join(paths).decode()).split("\0")
-    except UnicodeDecodeError:
-        return [escaped(text(path, "a path")) for path in paths]
+        return written(entries.joined, "the index").split("\0")
+    except Refused:
+        return [written(path, "a path") for path in entries.paths]
 
 
 def more_of(path, mode, bits):
-    """What isn't the default of an entry's mode, stage and flags, as JSON."""
+    """Returns as JSON an entry's mode, stage and flags, without what is the default."""
     if mode not in MODES:
         raise Refused(f"a mode that is none of git's five: {mode:06o} at {path!r}")
     stage, flags = bits & STAGES, [f'"{name}"' for name, bit in FLAGS.items() if bits & bit]
@@ -131,7 +134,7 @@ def more_of(path, mode, bits):
 
 
 def comparable(folder):
-    """The git command whose answer the program's is compared with."""
+    """Returns the git command whose output is to be compared with the program's."""
     return ["git", "--no-optional-locks", "-C", folder, *COMPARABLE, *STATUS]
 
 
@@ -139,7 +142,8 @@ def main():
     import argparse
     import shlex
 
-    parser = argparse.ArgumentParser(description="Prints the profile of a git repository's index, over its real folder.")
+    description = "Prints the profile of a git repository's index, over its real folder."
+    parser = argparse.ArgumentParser(description=description)
     parser.add_argument("--counts", action="store_true", help="have the program print its total line too")
     parser.add_argument("folder", nargs="?", default=".", help="a folder of the repository's worktree")
     arguments = parser.parse_args()
@@ -149,7 +153,7 @@ def main():
     sys.stdout.flush()
     for note in unseen.notes():
         say(f"note: {note}")
-    say(f"compare with: {shlex.join(comparable(profile.folder))}")
+    say(f"compare with: {shlex.join(comparable(profile.repository.top))}")
     return 0
 
 

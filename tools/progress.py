@@ -1,4 +1,4 @@
-"""Shows on a terminal what a tool is doing, if it takes longer than a second."""
+"""Shows on a terminal what a tool is doing, if that takes longer than a second."""
 
 import _thread
 import sys
@@ -8,47 +8,42 @@ import time
 class Progress:
     """A line on standard error, if that is a terminal. It is there while a `with` block runs, from a second on.
 
-    `doing` is what the line says, and may be changed meanwhile.
+    `doing` is what the line says. It may be changed meanwhile.
     """
 
-    def __init__(self, name, doing):
-        self.name, self.doing = name, doing
-        self.running, self.shown = _thread.allocate_lock(), _thread.allocate_lock()
-        self.width, self.is_stopped = 0, False
+    def __init__(self, doing):
+        self.doing, self.width = doing, 0
+        # The first is free once the block has ended, and the second once the line is gone. (The module threading isn't
+        # used: its import takes as long as git's status of 5,000 files.)
+        self.block, self.line = _thread.allocate_lock(), _thread.allocate_lock()
 
     def __enter__(self):
-        self.began = time.monotonic()
-        self.is_stopped = sys.stderr is None or not sys.stderr.isatty()
-        if not self.is_stopped:
-            self.running.acquire()
-            self.shown.acquire()
-            _thread.start_new_thread(self.show, ())
+        if sys.stderr is not None and sys.stderr.isatty():
+            self.block.acquire()
+            self.line.acquire()
+            _thread.start_new_thread(self.show, (time.monotonic(),))
         return self
 
     def __exit__(self, *_):
-        self.stop()
+        if self.block.locked():
+            self.block.release()
+            self.line.acquire()
 
-    def stop(self):
-        """Takes the line away for good. Later calls do nothing."""
-        if not self.is_stopped:
-            self.is_stopped = True
-            self.running.release()
-            self.shown.acquire()
-
-    def show(self):
-        """Shows the line each second, in a thread, until the block ends."""
-        while not self.running.acquire(timeout=1):
-            seconds = int(time.monotonic() - self.began)
-            self.write(f"{self.name}: {self.doing}, {seconds} second{'s' * (seconds != 1)}")
-        if self.width:
-            self.write("")
-        self.shown.release()
-
-    def write(self, line):
-        """Writes a line over the one before."""
+    def show(self, began):
+        """Writes the line each second until the block ends, and then takes it away."""
         try:
-            sys.stderr.write("\r" + line.ljust(self.width) + "\r" * (not line))
-            sys.stderr.flush()
-        except OSError:
+            while not self.block.acquire(timeout=1):
+                self.write(f"{self.doing}: {int(time.monotonic() - began)} s")
+            if self.width:
+                self.write("")
+        except (OSError, ValueError):
+            # The terminal is gone. Other output to it will fail too, and say so.
             pass
-        self.width = len(line)
+        finally:
+            self.line.release()
+
+    def write(self, text):
+        """Writes a text over the one before. After an empty one the cursor is where it was at first."""
+        sys.stderr.write("\r" + text.ljust(self.width) + "\r" * (not text))
+        sys.stderr.flush()
+        self.width = len(text)

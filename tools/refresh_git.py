@@ -57,7 +57,7 @@ RECORD = re.compile(
 
 def nodes_of(profile, left_out):
     """What lstat says of each path of a profile at which a node is compared with the entry."""
-    top, links, nodes = os.fsencode(profile.folder), {}, {}
+    top, links, nodes = os.fsencode(profile.repository.top), {}, {}
     for path, record in profile.entries.without(left_out):
         node = None if is_passed_over(record) else node_at(top, path, links)
         if node:
@@ -159,7 +159,7 @@ def refreshed(program, index, profile, left_out):
     nodes = nodes_of(profile, left_out)
     words, stored, moment = refresh(program, profile, left_out)
     updated = {path for path, word in words.items() if word == UPDATED}
-    looked_at = (updated & nodes.keys()) - converted(profile.folder, updated)
+    looked_at = (updated & nodes.keys()) - converted(profile.repository.top, updated)
     settled = {path: nodes[path] for path in looked_at if is_as_stored(nodes[path], stored[path])}
     doubtful = (updated - settled.keys()) | left_out.keys()
     zeroed = {path for path in doubtful if is_racy(index, path)}

@@ -43,7 +43,7 @@ def git(folder, *words, settings=(), given=b"", also=()):
 
 
 def line_of(folder, *words):
-    """The one line that git prints, as a path or a word."""
+    """Returns the one line that git prints, as a path or a word."""
     return os.fsdecode(git(folder, *words).removesuffix(b"\n"))
 
 
@@ -72,7 +72,7 @@ class Repository:
 
 
 def described(folder):
-    """Returns what git says of a folder in one call: the top of its worktree, the kind of ids, and the index's path."""
+    """Returns what one call of git prints for a folder: the worktree's top, the kind of ids, and the index's path."""
     words = ["--is-bare-repository", "--show-toplevel", "--show-object-format"]
     words += ["--path-format=absolute", "--git-path", "index"]
     with start_git(folder, "rev-parse", *words) as running:
@@ -82,13 +82,13 @@ def described(folder):
         raise Refused(f"{folder} is a bare repository: it has no worktree")
     if status == 0 and len(lines) == 5:
         return [os.fsdecode(line) for line in lines[1:4]]
-    # Something is wrong, which git says again, or a path has a line feed.
+    # Either something is wrong, and git says so again, or a path has a line feed.
     top = line_of(folder, "rev-parse", "--show-toplevel")
     return top, line_of(top, "rev-parse", "--show-object-format"), line_of(top, "rev-parse", *words[3:])
 
 
 def settings_of(listed):
-    """The values that `git config -z --get-regexp` lists, by their names. Of several the last counts."""
+    """Returns the values that `git config -z --get-regexp` lists, by their names. The last value of a name counts."""
     pairs = (setting.partition(b"\n") for setting in listed.split(b"\0")[:-1])
     return {name.decode(): value if is_given else b"true" for name, is_given, value in pairs}
 
@@ -99,7 +99,7 @@ def setting(folder, name):
 
 
 def quoted(path):
-    """A path's bytes as `git status --porcelain` prints them: in quotes if there is an odd byte or a space."""
+    """Returns a path's bytes as `git status --porcelain` prints them: in quotes if there is an odd byte or a space."""
     if not path.translate(None, PLAIN):
         return path.decode("ascii")
     text = b"".join(map(ESCAPED.__getitem__, path)).decode("ascii")

@@ -17,10 +17,11 @@ class Refused(Exception):
 
 
 def program_of(named=None):
-    """The path of the built program: the named one, else that of STATUS_PROGRAM, else that of this checkout."""
+    """Returns the path of the built program: the named one, or that of STATUS_PROGRAM, or that of this checkout."""
     path = os.path.abspath(named or os.environ.get("STATUS_PROGRAM") or BUILT)
     if not os.path.isfile(path) or not os.access(path, os.X_OK):
-        raise Refused(f"there is no built program at {path}: build it by {how_to_build()}, or name one by STATUS_PROGRAM")
+        how = f"build it by {how_to_build()}, or name one by STATUS_PROGRAM"
+        raise Refused(f"there is no built program at {path}: {how}")
     return path
 
 
@@ -32,7 +33,7 @@ def how_to_build():
 
 
 def say(line):
-    """Prints a line to standard error, where that can be written."""
+    """Prints a line to standard error, if that can be written."""
     try:
         if sys.stderr is not None:
             print(line, file=sys.stderr, flush=True)
@@ -40,8 +41,8 @@ def say(line):
         pass
 
 
-def end(main, fault):
-    """Ends the process with the status that `main` gives. What it can't do is one line, and the status `fault`."""
+def end(main, fault, leave=sys.exit):
+    """Ends the process by `leave`, with the status that `main` returns. A failure is one line, and the status `fault`."""
     try:
         if sys.stdout is None:
             raise Refused("standard output is closed")
@@ -52,29 +53,29 @@ def end(main, fault):
         say(f"refused: {refusal}")
     except OSError as error:
         status = fault
-        say(f"refused: {told(error)}")
+        say(f"refused: {words_of(error)}")
     except KeyboardInterrupt:
         status = 130
     forget_output()
-    sys.exit(status)
+    leave(status)
 
 
 def status_of(main):
-    """The status that `main` gives, also where the parser of its arguments ends it."""
+    """Returns the status of `main`, also if the parser of its arguments ends it."""
     try:
         return main()
     except SystemExit as ended:
         return ended.code
 
 
-def told(error):
-    """An error of the system in words, with the file's name where it has one."""
+def words_of(error):
+    """Returns an error of the system in words, with the file's name if it has one."""
     words = error.strerror or str(error)
     return f"{error.filename}: {words}" if error.filename else f"the output can't be written: {words}"
 
 
 def forget_output():
-    """Lets nothing be written any more: what is left would fail again at the process's end."""
+    """Drops output that can't be written. Otherwise it would fail again at the process's end."""
     try:
         sys.stdout.flush()
     except (AttributeError, OSError):

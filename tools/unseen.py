@@ -3,7 +3,17 @@
 import os
 import stat
 
-from index_entries import ASSUME_VALID, BITS, FSMONITOR_VALID, INTENT_TO_ADD, MODE, SKIP_WORKTREE, STAGES, UP_TO_DATE
+from index_entries import (
+    ASSUME_VALID,
+    BITS,
+    FSMONITOR_VALID,
+    INTENT_TO_ADD,
+    LENGTH,
+    MODE,
+    SKIP_WORKTREE,
+    STAGES,
+    UP_TO_DATE,
+)
 from repository import printed_by, quoted, start_git
 
 CONVERSIONS = {b"text", b"eol", b"crlf", b"filter", b"ident", b"working-tree-encoding"}
@@ -17,14 +27,14 @@ MASK = (1 << 32) - 1
 
 
 class Unseen:
-    """How many entries have something that isn't seen; and why which entries are left out, by their paths."""
+    """How many entries have something that isn't seen. `left_out` has the reason for each path that is left out."""
 
     def __init__(self):
         self.conversions = self.executable = self.repositories = self.restored = self.submodules = 0
         self.left_out = {}
 
     def notes(self):
-        """A line for each kind that there is, and for each entry that is left out."""
+        """Returns a line for each kind that there is, and for each entry that is left out."""
         lines = []
         if self.conversions:
             lines.append(f"git converts {files(self.conversions)}, as attributes or settings say, and the program none")
@@ -48,38 +58,45 @@ def files(count):
 
 def unseen_of(profile):
     """Returns what isn't seen of a profile's entries."""
-    found, repository = Unseen(), profile.repository
-    paths = {path for path, record in profile.entries if record[MODE] not in (LINK, SUBMODULE)}
+    found, repository, entries = Unseen(), profile.repository, profile.entries
     if converts_lines(repository):
-        found.conversions = len(paths)
-        look_at_nodes(found, profile)
+        add_nodes(found, profile)
+        found.conversions = len(files_among(set(entries.paths), entries))
         return found
-    with start_git(repository.top, "check-attr", "-z", "--all", "--stdin", given=b"\0".join(paths)) as asked:
-        look_at_nodes(found, profile)
+    # The paths are in order, so that git reads the attributes of a folder once.
+    with start_git(repository.top, "check-attr", "-z", "--all", "--stdin", given=entries.joined) as asked:
+        add_nodes(found, profile)
         listed = printed_by(asked, "check-attr")
-    found.conversions = len({path for path, _, _ in conversions_in(listed)})
+    found.conversions = len(files_among({path for path, _, _ in conversions_in(listed)}, entries))
     return found
 
 
+def files_among(paths, entries):
+    """Returns those of some paths that are files: at a link and at a submodule nothing is converted."""
+    if not paths:
+        return paths
+    return {path for path, record in entries if path in paths and record[MODE] not in (LINK, SUBMODULE)}
+
+
 def converts_lines(repository):
-    """Whether git converts line ends where no attribute says so: by `input`, or by what git takes as true."""
-    said = repository.settings.get("core.autocrlf", b"")
-    return said.lower() == b"input" or repository.is_set("core.autocrlf")
+    """Whether git converts line ends without an attribute: if the setting is `input`, or what git takes as true."""
+    value = repository.settings.get("core.autocrlf", b"")
+    return value.lower() == b"input" or repository.is_set("core.autocrlf")
 
 
 def conversions_in(listed):
     """Returns the path, the name and the value of each attribute that converts, of those that `check-attr -z` lists."""
-    said = listed.split(b"\0")
-    attributes = zip(said[0::3], said[1::3], said[2::3])
+    parts = listed.split(b"\0")
+    attributes = zip(parts[0::3], parts[1::3], parts[2::3])
     return [it for it in attributes if it[1] in CONVERSIONS and it[2] not in (b"unspecified", b"unset")]
 
 
-def look_at_nodes(found, profile):
-    """Adds what isn't seen of an entry's node, since it isn't as it was when the entry was stored."""
+def add_nodes(found, profile):
+    """Adds what isn't seen of the files and links, to what was found."""
     top, links = os.fsencode(profile.repository.top), {}
     modes_count = profile.repository.is_set("core.filemode")
-    found.submodules, others = others_at(top, profile.entries)
-    for path, record, node in others:
+    found.submodules, changed = changed_nodes(top, profile.entries)
+    for path, record, node in changed:
         if is_behind_link(top, path, links):
             continue
         why = unreadable(top, path, record, node)
@@ -93,36 +110,36 @@ def look_at_nodes(found, profile):
             found.restored += is_restored(profile.timestamp, record, node)
 
 
-def others_at(top, entries):
-    """Returns how many entries are submodules, and the entries whose nodes may have something that isn't seen.
+def changed_nodes(top, entries):
+    """Returns how many entries are submodules, and the entries whose nodes changed, with what lstat returns.
 
-    This is called for each file of a repository: what lstat returns is compared by its places, which is faster.
+    Missing nodes aren't returned, nor files that have only another length, or another time that the program can read.
+    The numbers of lstat are taken by their positions, since their names take longer.
     """
-    submodules, others = 0, []
+    submodules, changed = 0, []
     lstat, folder = os.lstat, os.open(top, getattr(os, "O_PATH", os.O_RDONLY))
     try:
         for path, record in entries:
             ctime, mtime, inode, mode, _, _, bits = record
-            if mode == SUBMODULE:
-                submodules += 1
-                continue
-            if bits & PASSED_OVER:
-                continue
+            if bits > LENGTH or mode == SUBMODULE:
+                submodules += mode == SUBMODULE
+                if bits & PASSED_OVER or mode == SUBMODULE:
+                    continue
             try:
                 node = lstat(path, dir_fd=folder)
             except OSError:
                 continue
             if not (node[0] ^ mode) & COMPARED:
-                changed = node[8]
-                if changed != mtime:
-                    if 0 <= changed <= MASK:
+                seconds = node[8]
+                if seconds != mtime:
+                    if 0 <= seconds <= MASK:
                         continue
                 elif node[9] == ctime and node[1] & MASK == inode:
                     continue
-            others.append((path, record, node))
+            changed.append((path, record, node))
     finally:
         os.close(folder)
-    return submodules, others
+    return submodules, changed
 
 
 def is_passed_over(record):
@@ -131,7 +148,10 @@ def is_passed_over(record):
 
 
 def node_at(top, path, links):
-    """What lstat says of a path. None where nothing is, or a link is on the way. `links` has what is known of those."""
+    """Returns what lstat reports of a path, or None if there is nothing, or a link is on the way.
+
+    `links` has what is known of the directories.
+    """
     if is_behind_link(top, path, links):
         return None
     try:
@@ -154,7 +174,7 @@ def is_behind_link(top, path, links):
 
 
 def unreadable(top, path, record, node):
-    """Why the program can't read a node at all, which would end its whole status. None where it can."""
+    """Returns why the program can't read a node, which would end its whole status, or None if it can."""
     if stat.S_ISDIR(node.st_mode) or record[BITS] & INTENT_TO_ADD:
         return None
     if not 0 <= node.st_mtime_ns < 10**9 << 32:

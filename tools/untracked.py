@@ -30,7 +30,7 @@ def untracked(profile, left_out):
 
 
 def nodes_in(top, front, fold):
-    """The paths of the directories, files and links in a directory, but for `.git`. A directory's ends in a slash."""
+    """Yields the paths of directories, files and links in a directory, without `.git`. A directory's ends in a slash."""
     try:
         nodes = list(os.scandir(os.path.join(top, front)))
     except OSError as error:
