@@ -23,8 +23,7 @@ def compared(program, profile):
 
 def start(program, profile, left_out=()):
     """Starts the program over a profile, without the entries of some paths."""
-    text = profile.json(left_out)
     try:
-        return Running([program, "status", "/dev/stdin"], text)
+        return Running([program, "status", "/dev/stdin"], profile.json(left_out))
     except OSError as error:
         raise Refused(f"{program} can't be run: {error.strerror}") from None

@@ -43,6 +43,11 @@ class Entries:
     def __str__(self):
         return "1 entry" if len(self.paths) == 1 else f"{len(self.paths)} entries"
 
+    def in_parts(self, length):
+        """Yields the entries, so many at a time."""
+        for at in range(0, len(self.paths), length):
+            yield Entries(self.paths[at : at + length], self.records[at : at + length])
+
     def without(self, left_out):
         """Returns the entries whose paths aren't left out."""
         if not left_out:

@@ -13,15 +13,16 @@ KILL = 9
 class Running:
     """A program that was started. At the end of a `with` block it is ended, if it still runs."""
 
-    def __init__(self, command, given=b""):
-        """Starts a command, whose standard input has the bytes `given`. Raises an OSError if it can't be run."""
-        self.process = None
-        self.files = [file_with(given), file_with(b""), file_with(b"")]
-        places = enumerate(self.files)
-        actions = [(os.POSIX_SPAWN_DUP2, file, place) for place, file in places]
+    def __init__(self, command, given=()):
+        """Starts a command, whose standard input has the parts `given`. Raises an OSError if it can't be run."""
+        self.process, self.files = None, []
         try:
+            for parts in (given, (), ()):
+                self.files.append(new_file())
+                write(self.files[-1], parts)
+            actions = [(os.POSIX_SPAWN_DUP2, file, place) for place, file in enumerate(self.files)]
             self.process = os.posix_spawnp(command[0], command, os.environ, file_actions=actions)
-        except OSError:
+        except BaseException:
             self.close()
             raise
 
@@ -50,14 +51,13 @@ class Running:
             os.close(self.files.pop())
 
 
-def file_with(content):
-    """Returns the descriptor of a new file without a name. It has a content, and is read from the beginning."""
-    file = new_file()
-    rest = memoryview(content)
-    while rest:
-        rest = rest[os.write(file, rest) :]
+def write(file, parts):
+    """Writes parts to a new file, by its descriptor. It is then read from its beginning."""
+    for part in parts:
+        rest = memoryview(part)
+        while rest:
+            rest = rest[os.write(file, rest) :]
     os.lseek(file, 0, os.SEEK_SET)
-    return file
 
 
 def new_file():

@@ -48,6 +48,8 @@ COMPARABLE = ["-c", "core.trustctime=false", "-c", "core.checkStat=minimal", "-c
 COMPARABLE += ["-c", "core.fsmonitor=false"]
 STATUS = ["status", "--porcelain", "--untracked-files=no", "--no-renames", "--ignore-submodules=dirty"]
 
+# How many entries are made to text at a time. All at once take longer, since they need more memory.
+PART = 2000
 FILE = 0o100644
 MODES = {FILE, 0o100755, 0o120000, 0o160000, 0o040000}
 
@@ -78,12 +80,16 @@ class Profile:
             self.options["counts"] = True
 
     def json(self, left_out=()):
-        """Returns the profile as JSON text, without the entries of some paths."""
+        """Yields the profile as JSON text, in parts, without the entries of some paths."""
         seconds, nanoseconds = self.timestamp
         options = ",".join(f'"{name}":{"true" if value else "false"}' for name, value in self.options.items())
-        entries = ",".join(texts_of(self.entries.without(left_out)))
         front = f'{{"hash":"{self.repository.kind}","timestamp":[{seconds},{nanoseconds}],"options":{{{options}}}'
-        return f'{front},"index":[{entries}],"folder":"{self.folder}"}}'.encode()
+        yield f'{front},"index":['.encode()
+        comma = ""
+        for entries in self.entries.without(left_out).in_parts(PART):
+            yield (comma + ",".join(texts_of(entries))).encode()
+            comma = ","
+        yield f'],"folder":"{self.folder}"}}'.encode()
 
 
 def text(raw, what):
@@ -149,7 +155,7 @@ def main():
     arguments = parser.parse_args()
     profile = Profile(Repository(arguments.folder), arguments.counts)
     unseen = unseen_of(profile)
-    sys.stdout.buffer.write(profile.json(unseen.left_out) + b"\n")
+    sys.stdout.buffer.write(b"".join(profile.json(unseen.left_out)) + b"\n")
     sys.stdout.flush()
     for note in unseen.notes():
         say(f"note: {note}")

@@ -70,7 +70,7 @@ def refresh(program, profile, left_out):
     with tempfile.TemporaryDirectory() as room:
         given, left = os.path.join(room, "profile.json"), os.path.join(room, "left.json")
         with open(given, "wb") as file:
-            file.write(profile.json(left_out))
+            file.writelines(profile.json(left_out))
         # Files get the time of the clock's last tick. What is written from now on has no earlier one.
         moment = min(os.stat(given).st_mtime_ns, time.time_ns())
         lines = run(program, given, left, moment)

@@ -22,7 +22,7 @@ def start_git(folder, *words, settings=(), given=b""):
     """Starts git in a folder, under settings. It runs while the tool does something else."""
     command = ["git", "--no-optional-locks", "-C", folder, "-c", "core.fsmonitor=false", *settings, *words]
     try:
-        return Running(command, given)
+        return Running(command, [given])
     except FileNotFoundError:
         raise Refused("git isn't installed") from None
 

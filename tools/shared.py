@@ -20,7 +20,7 @@ def program_of(named=None):
     """Returns the path of the built program: the named one, or that of STATUS_PROGRAM, or that of this checkout."""
     path = os.path.abspath(named or os.environ.get("STATUS_PROGRAM") or BUILT)
     if not os.path.isfile(path) or not os.access(path, os.X_OK):
-        how = f"build it by {how_to_build()}, or name one by STATUS_PROGRAM"
+        how = f"build it by {how_to_build()}, with the rt of the Rattle kit, or name one by STATUS_PROGRAM"
         raise Refused(f"there is no built program at {path}: {how}")
     return path
 

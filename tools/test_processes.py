@@ -12,8 +12,8 @@ import processes as tool
 MEGABYTE = 1 << 20
 
 
-def running(lines, given=b""):
-    """A program of Python's lines."""
+def running(lines, *given):
+    """A program of Python's lines, which can read these parts."""
     return tool.Running([sys.executable, "-c", "import os, sys\n" + lines], given)
 
 
@@ -27,13 +27,13 @@ class Processes(unittest.TestCase):
         before = open_files()
         self.addCleanup(lambda: self.assertEqual(open_files(), before))
 
-    def ended(self, lines, given=b""):
-        with running(lines, given) as it:
+    def ended(self, lines, *given):
+        with running(lines, *given) as it:
             return it.ended()
 
     def test_a_program_reads_what_is_given_and_prints(self):
         copy = "sys.stdout.write(sys.stdin.read()); sys.stderr.write('said')"
-        self.assertEqual(self.ended(copy, b"given"), (b"given", b"said", 0))
+        self.assertEqual(self.ended(copy, b"given ", b"", b"parts"), (b"given parts", b"said", 0))
         self.assertEqual(self.ended(copy), (b"", b"said", 0))
         self.assertEqual(self.ended("sys.stdout.write(open('/dev/stdin').read())", b"given")[0], b"given")
 
@@ -65,13 +65,21 @@ class Processes(unittest.TestCase):
             with self.assertRaises(OSError):
                 tool.Running([name])
 
+    def test_parts_that_cannot_be_made_leave_nothing(self):
+        def parts():
+            yield b"one"
+            raise KeyError
+
+        with self.assertRaises(KeyError):
+            tool.Running(["cat"], parts())
+
     def test_a_system_without_files_in_memory_has_others(self):
         with mock.patch.object(tool.os, "memfd_create", create=True):
             del tool.os.memfd_create
             self.assertEqual(self.ended("os.write(1, os.read(0, 9))", b"given"), (b"given", b"", 0))
 
     def test_standard_files_may_be_closed(self):
-        lines = "import processes; it = processes.Running(['/bin/sh', '-c', 'cat; echo said >&2'], b'given')\n"
+        lines = "import processes; it = processes.Running(['/bin/sh', '-c', 'cat; echo said >&2'], [b'given'])\n"
         lines += "assert it.ended() == (b'given', b'said\\n', 0), it.files"
         folder = os.path.dirname(tool.__file__)
         for closed in ("", "0<&-", "2>&-", "0<&- 2>&-", "0<&- 1>&- 2>&-"):

@@ -9,10 +9,12 @@ import os
 import shlex
 import shutil
 import socket
+import struct
 import subprocess
 import tempfile
 import time
 import unittest
+from unittest import mock
 
 import listed_entries
 import profile_from_git as tool
@@ -28,7 +30,7 @@ def profile_of(folder, counts=False):
     """The profile of a repository as the program reads it, and what isn't seen."""
     profile = tool.Profile(Repository(folder), counts)
     found = unseen.unseen_of(profile)
-    return json.loads(profile.json(found.left_out)), found
+    return json.loads(b"".join(profile.json(found.left_out))), found
 
 
 class Profiles(Case):
@@ -77,6 +79,24 @@ class Profiles(Case):
         wanted = {"assumed": ["assume-valid"], "skipped": ["skip-worktree"], "intended": ["intent-to-add"], odd: None}
         self.assertEqual(flags, wanted)
         self.assertEqual([stage for name, stage in entries if name == "f"], [1, 2, 3])
+
+    def test_entries_are_in_their_order_however_many_are_made_to_text_at_a_time(self):
+        for name in ("a", "b c", 'd"e\\', "é", "z"):
+            self.write(name, "foo")
+        self.git("add", ".")
+        whole = profile_of(self.top)[0]
+        self.assertEqual([entry["path"] for entry in whole["index"]], ["a", "b c", 'd"e\\', "z", "é"])
+        for part in (1, 2, 5, 6):
+            with mock.patch.object(tool, "PART", part):
+                self.assertEqual(profile_of(self.top)[0], whole)
+
+    def test_a_mode_of_none_of_the_five_is_refused(self):
+        self.git("update-index", "--add", "--cacheinfo", f"100644,{FOO},a")
+        with open(self.path(".git/index"), "r+b") as file:
+            file.seek(12 + 24)
+            file.write(struct.pack(">I", 0o100664))
+        with self.assertRaisesRegex(tool.Refused, "a mode that is none of git's five: 100664 at 'a'"):
+            profile_of(self.top)
 
     def test_an_empty_repository_has_an_empty_index(self):
         profile, _ = profile_of(self.top)

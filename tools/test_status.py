@@ -8,10 +8,12 @@ names.
 import io
 import json
 import os
+import pty
 import random
 import re
 import shlex
 import shutil
+import signal
 import stat
 import subprocess
 import sys
@@ -403,6 +405,38 @@ class Printed(Case):
         ran = self.ran(program=self.program("grep -q odd /dev/stdin && exec sleep 60", """echo '0 removed "a"'"""))
         self.assertEqual((ran.stdout, ran.returncode), (b" D a\n", 0))
         self.assertIn(b"note: left out, since the link's target isn't UTF-8: odd\n", ran.stderr)
+
+    def test_an_interrupt_ends_the_program_too(self):
+        ran, reader = self.started("exec sleep 60")
+        process = int(reader.readline())
+        ran.send_signal(signal.SIGINT)
+        self.assertEqual((ran.communicate(timeout=20), ran.returncode), ((b"", b""), 130))
+        with self.assertRaises(ProcessLookupError):
+            os.kill(process, 0)
+
+    def started(self, *lines, stderr=subprocess.PIPE):
+        """The tool, which was started, and what reads the number of the program's process."""
+        pipe = os.path.join(self.room, "pipe")
+        os.mkfifo(pipe)
+        settings = {**os.environ, "STATUS_PROGRAM": self.program(f"echo $$ > {pipe}", *lines)}
+        command = [sys.executable, tool.__file__, self.top]
+        ran = subprocess.Popen(command, stdout=subprocess.PIPE, stderr=stderr, env=settings)
+        self.addCleanup(ran.wait)
+        self.addCleanup(ran.kill)
+        reader = open(pipe, encoding="ascii")
+        self.addCleanup(reader.close)
+        return ran, reader
+
+    def test_a_terminal_shows_what_takes_long(self):
+        self.write("a", "foo")
+        self.git("add", "a")
+        main, side = pty.openpty()
+        self.addCleanup(os.close, main)
+        ran, reader = self.started("sleep 1.5", """echo '0 removed "a"'""", stderr=side)
+        os.close(side)
+        self.assertEqual(reader.readline().strip().isdigit(), True)
+        self.assertEqual((ran.communicate(timeout=20)[0], ran.returncode), (b" D a\n", 0))
+        self.assertRegex(os.read(main, 1000), rb"^(\rcomparing 1 entry: [1-9] s)+\r {22}\r$")
 
     def test_paths_of_lines_are_quoted_as_git_quotes_them(self):
         names = {*(folder + name for folder in FOLDERS for name in NAMES), "update", "0 removed", "\x7f"}
