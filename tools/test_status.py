@@ -24,6 +24,7 @@ from unittest import mock
 import arguments
 import porcelain
 import status as tool
+import time_status
 import unseen
 from cases import FOO, PROGRAM, Case, run_tool
 from profile_from_git import COMPARABLE, Profile
@@ -506,6 +507,16 @@ class Quick(Case):
         self.assertEqual(len(lines), 3, lines)
         for line, word in zip(lines, ("check-attr", "config", "rev-parse")):
             self.assertIn(f" {word} ", line)
+
+    def test_it_is_timed_next_to_git(self):
+        times = {"git status": [(2, 4), (8, 5), (3, 9)], "status.py": [(9, 12), (6, 40), (7, 20)]}
+        rows = [("git status", 2, 3, 4, 5, 1, 1), ("status.py", 6, 7, 12, 20, 3, 3)]
+        self.assertEqual(list(time_status.rows_of(times)), rows)
+        program = program_at(os.path.join(self.room, "program"), "exit 0")
+        ran = run_tool("time_status.py", "--runs", "2", self.top, STATUS_PROGRAM=program)
+        self.assertEqual((ran.stderr, ran.returncode), (b"", 0))
+        self.assertRegex(ran.stdout, rb"^.* elapsed .*\ngit status( +[0-9.]+){4} +1.00 +1.00\nstatus.py( +[0-9.]+){6}\n$")
+        self.assert_refused(run_tool("time_status.py", self.room, STATUS_PROGRAM=program), 2, "ended with status 128")
 
     def test_simple_arguments_are_read_as_argparse_reads_them(self):
         options = {"--one": "", "--two-words": ""}
