@@ -62,7 +62,7 @@ FLAGS = {
     "intent-to-add": INTENT_TO_ADD,
 }
 
-# What JSON writes otherwise within a text.
+# The characters that JSON writes with a backslash, and how. A path has no NUL.
 ESCAPES = {"\\": "\\\\", '"': '\\"', **{chr(code): f"\\u{code:04x}" for code in range(1, 32)}}
 ESCAPED = "".join(ESCAPES).encode()
 
@@ -145,6 +145,7 @@ def comparable(folder):
 
 
 def main():
+    # status.py imports this module too, and needs neither.
     import argparse
     import shlex
 
