@@ -33,11 +33,11 @@ def limit_files(size):
     resource.setrlimit(resource.RLIMIT_FSIZE, (size, size))
 
 
-def run_tool(tool, *words, stdout=subprocess.PIPE, **settings):
-    """What a tool prints when it is run by itself, with these settings in its environment."""
+def run_tool(tool, *words, stdout=subprocess.PIPE, folder=None, **settings):
+    """What a tool prints when it is run by itself, in a folder, with these settings in its environment."""
     command = [sys.executable, os.path.join(HERE, tool), *words]
     environment = {**os.environ, "PYTHONUNBUFFERED": "", **settings}
-    return subprocess.run(command, stdout=stdout, stderr=subprocess.PIPE, env=environment, timeout=60)
+    return subprocess.run(command, stdout=stdout, stderr=subprocess.PIPE, env=environment, timeout=60, cwd=folder)
 
 
 class Ends(unittest.TestCase):

@@ -11,7 +11,8 @@ import stat
 import struct
 from dataclasses import dataclass, field
 
-from shared import Refused, held_signals, ignore_signals
+from shared import Refused
+from signals import held_signals, ignore_signals
 
 HEADER = struct.Struct(">4sII")
 EXTENSION = struct.Struct(">4sI")

@@ -3,36 +3,43 @@
 
     python3 tools/profile_from_git.py [--counts] [FOLDER] > profile.json
 
-FOLDER is in the repository's worktree; without it the working folder is taken. Nothing is written but the profile, to
-standard output, and what the program doesn't see there and the git command to compare with, to standard error. What a
-profile can't say is refused with a line on standard error and the exit status 1, and so is a fault of git's or of the
-output's. It needs git.
+FOLDER is any folder of the worktree; without it the current folder is taken. The profile goes to standard output. What
+the program doesn't see there goes to standard error, with the git command to compare with. If git fails, the output
+can't be written, or a profile can't have something, the exit status is 1, with one line on standard error. It needs git.
 
 Over a folder the program sees a file's kind, its length and when its content last changed. So the profile has
-`trust_ctime` and `check_stat` off, and git needs the same settings: it must not compare the time of the last change of
-metadata (core.trustctime=false), nor inode, owner and nanoseconds (core.checkStat=minimal), nor the executable bit
-(core.fileMode=false). The second letter of each of git's lines then says what the program reports:
+`trust_ctime` and `check_stat` off, and of a stat only the size and the seconds of the mtime: nothing else is compared.
+git needs the same settings. It must not compare the time of the last change of metadata (core.trustctime=false), nor
+inode, owner and nanoseconds (core.checkStat=minimal), nor the executable bit (core.fileMode=false). The second letter
+of each of git's lines then is what the program reports:
 
     git            program                          git            program
     M              modified -c- or -cs              D              removed
     T              type                             A (intent)     intent
     two letters of a conflict: conflict             no line        no line, or update (only the stat differs)
 
-The program prints `-cs` where the content changed and the stat agrees. Such a stat is racy: the file's time isn't before
+The program prints `-cs` if the content changed and the stat agrees. Such a stat is racy: the file's time isn't before
 that of the index, in seconds.
 
-What the program doesn't know differs: conversions (line ends and filters), the heads and contents of submodules, and the
-kinds of files for which git has no mode. An entry whose node the program can't read, which would end the whole status, is
-left out. Notes say where that is so (unseen.py).
+Some things differ, since the program doesn't know them: conversions (line ends and filters), the heads and contents of
+submodules, and the kinds of files for which git has no mode. An entry whose node the program can't read would end the
+whole status, so it is left out. Notes name these cases (unseen.py).
 """
 
-import argparse
-import json
 import os
-import re
-import shlex
+import sys
 
-from repository import git, line_of, setting, top_of
+from index_entries import (
+    ASSUME_VALID,
+    FSMONITOR_VALID,
+    INTENT_TO_ADD,
+    LENGTH,
+    SKIP_WORKTREE,
+    STAGES,
+    UP_TO_DATE,
+    entries_of,
+)
+from repository import Repository
 from shared import Refused, end, say
 from unseen import unseen_of
 
@@ -41,126 +48,119 @@ COMPARABLE = ["-c", "core.trustctime=false", "-c", "core.checkStat=minimal", "-c
 COMPARABLE += ["-c", "core.fsmonitor=false"]
 STATUS = ["status", "--porcelain", "--untracked-files=no", "--no-renames", "--ignore-submodules=dirty"]
 
-ENTRY = re.compile(
-    rb"(?P<mode>[0-7]{6}) (?P<id>[0-9a-f]{40}|[0-9a-f]{64}) (?P<stage>[0-3])\t(?P<path>[^\0]+)\0"
-    rb"  ctime: (?P<ctime>\d+):(?P<ctime_nsecs>\d+)\n"
-    rb"  mtime: (?P<mtime>\d+):(?P<mtime_nsecs>\d+)\n"
-    rb"  dev: (?P<dev>\d+)\tino: (?P<ino>\d+)\n"
-    rb"  uid: (?P<uid>\d+)\tgid: (?P<gid>\d+)\n"
-    rb"  size: (?P<size>\d+)\tflags: (?P<flags>[0-9a-f]+)\n"
-)
-
-MODES = {"100644", "100755", "120000", "160000", "040000"}
+# How many entries are made to text at a time. All at once take longer, since they need more memory.
+PART = 2000
+FILE = 0o100644
+MODES = {FILE, 0o100755, 0o120000, 0o160000, 0o040000}
 
 # The bits of a flag in git's memory.
 FLAGS = {
-    "uptodate": 1 << 18,
-    "skip-worktree": 1 << 30,
-    "assume-valid": 1 << 15,
-    "fsmonitor-valid": 1 << 21,
-    "intent-to-add": 1 << 29,
+    "uptodate": UP_TO_DATE,
+    "skip-worktree": SKIP_WORKTREE,
+    "assume-valid": ASSUME_VALID,
+    "fsmonitor-valid": FSMONITOR_VALID,
+    "intent-to-add": INTENT_TO_ADD,
 }
+
+# The characters that JSON writes with a backslash, and how. A path has no NUL.
+ESCAPES = {"\\": "\\\\", '"': '\\"', **{chr(code): f"\\u{code:04x}" for code in range(1, 32)}}
+ESCAPED = "".join(ESCAPES).encode()
+
+
+class Profile:
+    """A repository's index, and what else the program needs to compare it with the worktree."""
+
+    def __init__(self, repository, counts=False):
+        """Reads the index of a repository. With `counts` the program prints its total line, too."""
+        self.repository = repository
+        self.folder = written(os.fsencode(repository.top), "the folder's path")
+        self.timestamp, self.entries = entries_of(repository)
+        self.options = {"symlink": repository.is_set("core.symlinks"), "trust_ctime": False, "check_stat": False}
+        if counts:
+            self.options["counts"] = True
+
+    def json(self, left_out=()):
+        """Yields the profile as JSON text, in parts, without the entries of some paths."""
+        seconds, nanoseconds = self.timestamp
+        options = ",".join(f'"{name}":{"true" if value else "false"}' for name, value in self.options.items())
+        front = f'{{"hash":"{self.repository.kind}","timestamp":[{seconds},{nanoseconds}],"options":{{{options}}}'
+        yield f'{front},"index":['.encode()
+        comma = ""
+        for entries in self.entries.without(left_out).in_parts(PART):
+            yield (comma + ",".join(texts_of(entries))).encode()
+            comma = ","
+        yield f'],"folder":"{self.folder}"}}'.encode()
 
 
 def text(raw, what):
-    """Bytes as text, which JSON has to be."""
+    """Returns bytes as text, which JSON has to be."""
     try:
         return raw.decode()
     except UnicodeDecodeError:
         raise Refused(f"{what} isn't UTF-8: {raw!r}") from None
 
 
-def number(raw, what):
-    """A number of 32 bits."""
-    value = int(raw)
-    if not 0 <= value < 1 << 32:
-        raise Refused(f"{what} is no number of 32 bits: {value}")
-    return value
+def written(raw, what):
+    """Returns bytes as a text between the quotes of JSON."""
+    words = text(raw, what)
+    if len(raw.translate(None, ESCAPED)) < len(raw):
+        for character, escape in ESCAPES.items():
+            words = words.replace(character, escape)
+    return words
 
 
-def entry_of(found):
-    """The profile's entry. What is the default isn't written."""
-    path = text(found["path"], "a path")
-    mode = found["mode"].decode()
-    if mode not in MODES:
-        raise Refused(f"a mode that is none of git's five: {mode} at {path!r}")
-    entry = {"path": path, "id": found["id"].decode()}
-    if mode != "100644":
-        entry["mode"] = mode
-    if found["stage"] != b"0":
-        entry["stage"] = int(found["stage"])
-    for name in ("size", "dev", "ino", "uid", "gid"):
-        value = number(found[name], f"the {name} of {path!r}")
-        if value:
-            entry[name] = value
-    for name in ("mtime", "ctime"):
-        stamp = [number(found[part], f"the {name} of {path!r}") for part in (name, f"{name}_nsecs")]
-        if stamp != [0, 0] or name == "ctime":
-            entry[name] = stamp
-    bits = int(found["flags"], 16)
-    flags = [name for name, bit in FLAGS.items() if bits & bit]
-    if flags:
-        entry["flags"] = flags
-    return entry
+def texts_of(entries):
+    """Returns the entries as JSON texts."""
+    texts = []
+    for path, (_, mtime, _, mode, size, name, bits) in zip(written_paths(entries), entries.records):
+        if mode == FILE and bits <= LENGTH:
+            texts.append(f'{{"path":"{path}","id":"{name.hex()}","size":{size},"mtime":[{mtime},0]}}')
+        else:
+            more = more_of(path, mode, bits)
+            texts.append(f'{{"path":"{path}","id":"{name.hex()}"{more},"size":{size},"mtime":[{mtime},0]}}')
+    return texts
 
 
-def entries_of(listed):
-    """The entries that `git ls-files --stage --debug -z` lists."""
-    entries, at = [], 0
-    while at < len(listed):
-        found = ENTRY.match(listed, at)
-        if not found:
-            raise Refused(f"git ls-files prints what isn't known here, at byte {at}")
-        entries.append(entry_of(found))
-        at = found.end()
-    return entries
-
-
-def moment_of(index):
-    """When the index was written. None where there is none."""
+def written_paths(entries):
+    """Returns the paths of entries as texts between the quotes of JSON."""
     try:
-        secs, nsecs = divmod(os.stat(index).st_mtime_ns, 10**9)
-    except FileNotFoundError:
-        return None
-    return [number(secs, "the time of the index"), nsecs]
+        return written(entries.joined, "the index").split("\0")
+    except Refused:
+        return [written(path, "a path") for path in entries.paths]
 
 
-def profile_of(folder, counts=False):
-    """The profile of the repository whose worktree a folder is in, and what of it the program doesn't see."""
-    top = top_of(folder)
-    named = text(os.fsencode(top), "the folder's path")
-    kind = line_of(folder, "rev-parse", "--show-object-format")
-    if kind not in ("sha1", "sha256"):
-        raise Refused(f"ids of the kind {kind}")
-    index = line_of(top, "rev-parse", "--path-format=absolute", "--git-path", "index")
-    before = moment_of(index)
-    entries = entries_of(git(top, "ls-files", "--stage", "--debug", "-z"))
-    if moment_of(index) != before:
-        raise Refused("the index was written meanwhile")
-    timestamp = before or [0, 0]
-    unseen = unseen_of(top, timestamp, entries)
-    options = {"symlink": setting(top, "core.symlinks", "true"), "trust_ctime": False, "check_stat": False}
-    if counts:
-        options["counts"] = True
-    kept = [entry for entry in entries if entry["path"] not in unseen.left_out]
-    return {"hash": kind, "timestamp": timestamp, "options": options, "index": kept, "folder": named}, unseen
+def more_of(path, mode, bits):
+    """Returns as JSON an entry's mode, stage and flags, without what is the default."""
+    if mode not in MODES:
+        raise Refused(f"a mode that is none of git's five: {mode:06o} at {path!r}")
+    stage, flags = bits & STAGES, [f'"{name}"' for name, bit in FLAGS.items() if bits & bit]
+    more = f',"mode":"{mode:06o}"' if mode != FILE else ""
+    more += f',"stage":{stage >> 12}' if stage else ""
+    return more + (f',"flags":[{",".join(flags)}]' if flags else "")
 
 
 def comparable(folder):
-    """The git command whose answer the program's is compared with."""
+    """Returns the git command whose output is to be compared with the program's."""
     return ["git", "--no-optional-locks", "-C", folder, *COMPARABLE, *STATUS]
 
 
 def main():
-    parser = argparse.ArgumentParser(description="Prints the profile of a git repository's index, over its real folder.")
+    # status.py imports this module too, and needs neither.
+    import argparse
+    import shlex
+
+    description = "Prints the profile of a git repository's index, over its real folder."
+    parser = argparse.ArgumentParser(description=description)
     parser.add_argument("--counts", action="store_true", help="have the program print its total line too")
     parser.add_argument("folder", nargs="?", default=".", help="a folder of the repository's worktree")
     arguments = parser.parse_args()
-    profile, unseen = profile_of(arguments.folder, arguments.counts)
-    print(json.dumps(profile, separators=(",", ":")), flush=True)
+    profile = Profile(Repository(arguments.folder), arguments.counts)
+    unseen = unseen_of(profile)
+    sys.stdout.buffer.write(b"".join(profile.json(unseen.left_out)) + b"\n")
+    sys.stdout.flush()
     for note in unseen.notes():
         say(f"note: {note}")
-    say(f"compare with: {shlex.join(comparable(profile['folder']))}")
+    say(f"compare with: {shlex.join(comparable(profile.repository.top))}")
     return 0
 
 

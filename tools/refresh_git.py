@@ -36,15 +36,16 @@ import argparse
 import json
 import os
 import re
-import subprocess
 import tempfile
 import time
 
 import index_file
-from profile_from_git import profile_of
-from repository import git, line_of, top_of
-from shared import Refused, end, end_by_signals, program_of, say
-from unseen import CONVERSIONS, is_passed_over, node_at
+from processes import Running, fault_of
+from profile_from_git import Profile
+from repository import Repository, git
+from shared import Refused, end, program_of, say
+from signals import end_by_signals
+from unseen import conversions_in, is_passed_over, node_at, unseen_of
 
 UPDATED, SMUDGED = "update", "size 0"
 # A line of the program: the entry's place, its record with the letters of a change, and its path.
@@ -54,23 +55,22 @@ RECORD = re.compile(
 )
 
 
-def nodes_of(profile):
+def nodes_of(profile, left_out):
     """What lstat says of each path of a profile at which a node is compared with the entry."""
-    top, links, nodes = os.fsencode(profile["folder"]), {}, {}
-    for entry in profile["index"]:
-        path = entry["path"].encode()
-        node = None if is_passed_over(entry) else node_at(top, path, links)
+    top, links, nodes = os.fsencode(profile.repository.top), {}, {}
+    for path, record in profile.entries.without(left_out):
+        node = None if is_passed_over(record) else node_at(top, path, links)
         if node:
             nodes[path] = node
     return nodes
 
 
-def refresh(program, profile):
+def refresh(program, profile, left_out):
     """What the program says of a profile's entries, the times and lengths that it stores, and when it began."""
     with tempfile.TemporaryDirectory() as room:
         given, left = os.path.join(room, "profile.json"), os.path.join(room, "left.json")
-        with open(given, "w", encoding="utf-8") as file:
-            json.dump(profile, file)
+        with open(given, "wb") as file:
+            file.writelines(profile.json(left_out))
         # Files get the time of the clock's last tick. What is written from now on has no earlier one.
         moment = min(os.stat(given).st_mtime_ns, time.time_ns())
         lines = run(program, given, left, moment)
@@ -87,13 +87,13 @@ def run(program, given, left, moment):
     """The lines that the program prints while it refreshes a profile."""
     command = [program, "refresh", given, left, *(str(part) for part in divmod(moment, 10**9))]
     try:
-        ran = subprocess.run(command, stdin=subprocess.DEVNULL, capture_output=True)
+        with Running(command) as running:
+            printed, said, status = running.ended()
     except OSError as error:
         raise Refused(f"{program} can't be run: {error.strerror}") from None
-    if ran.returncode != 0:
-        fault = " ".join(ran.stderr.decode(errors="replace").split())
-        raise Refused(f"the program ended early: {fault or f'it ended with status {ran.returncode}'}")
-    return ran.stdout.decode(errors="replace").split("\n")[:-1]
+    if status != 0:
+        raise Refused(f"the program ended early: {fault_of(said, status)}")
+    return printed.decode(errors="replace").split("\n")[:-1]
 
 
 def words_of(lines, entries):
@@ -118,11 +118,10 @@ def converted(top, paths):
     """
     found, of_lines, by_itself = set(), set(), set()
     asked = b"".join(path + b"\0" for path in paths)
-    said = git(top, "check-attr", "-z", "--stdin", *CONVERSIONS, given=asked).split(b"\0")
-    for path, name, value in zip(said[0::3], said[1::3], said[2::3]):
+    for path, name, value in conversions_in(git(top, "check-attr", "-z", "--all", "--stdin", given=asked)):
         if (name, value) == (b"text", b"auto"):
             by_itself.add(path)
-        elif value not in (b"unspecified", b"unset"):
+        else:
             (of_lines if name in (b"text", b"eol") else found).add(path)
     return found | of_lines - by_itself
 
@@ -157,12 +156,12 @@ def stats_to_store(index, nodes, zeroed):
 
 def refreshed(program, index, profile, left_out):
     """The stats that change in an index as the program says, when it began, and the line that tells of them."""
-    nodes = nodes_of(profile)
-    words, stored, moment = refresh(program, profile)
+    nodes = nodes_of(profile, left_out)
+    words, stored, moment = refresh(program, profile, left_out)
     updated = {path for path, word in words.items() if word == UPDATED}
-    looked_at = (updated & nodes.keys()) - converted(profile["folder"], updated)
+    looked_at = (updated & nodes.keys()) - converted(profile.repository.top, updated)
     settled = {path: nodes[path] for path in looked_at if is_as_stored(nodes[path], stored[path])}
-    doubtful = (updated - settled.keys()) | left_out
+    doubtful = (updated - settled.keys()) | left_out.keys()
     zeroed = {path for path in doubtful if is_racy(index, path)}
     zeroed |= {path for path, word in words.items() if word == SMUDGED}
     stats = stats_to_store(index, settled, zeroed)
@@ -183,13 +182,14 @@ def arguments_of():
 def main():
     arguments = arguments_of()
     program = program_of(arguments.program)
-    top = top_of(arguments.repository)
-    path = line_of(top, "rev-parse", "--path-format=absolute", "--git-path", "index")
-    index = index_file.index_at(path, line_of(top, "rev-parse", "--show-object-format"))
-    profile, unseen = profile_of(top)
+    repository = Repository(arguments.repository)
+    # It is read before the profile is made: if it is written between the two, it isn't replaced.
+    index = index_file.index_at(repository.index, repository.kind)
+    profile = Profile(repository)
+    unseen = unseen_of(profile)
     for note in unseen.notes():
         say(f"note: {note}")
-    stats, moment, line = refreshed(program, index, profile, {path.encode() for path in unseen.left_out})
+    stats, moment, line = refreshed(program, index, profile, unseen.left_out)
     if stats and not arguments.dry_run:
         index_file.replace(index, index.with_stats(stats), moment, lambda: print(line, flush=True))
     else:

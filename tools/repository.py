@@ -1,56 +1,106 @@
-"""A git repository, as git tells of it."""
+"""A git repository, as git describes it."""
 
 import os
-import re
-import subprocess
 
+from processes import Running
 from shared import Refused
 
-# What C has a letter for. git writes other bytes as three octal digits.
-LETTERS = {7: b"a", 8: b"b", 9: b"t", 10: b"n", 11: b"v", 12: b"f", 13: b"r", 34: b'"', 92: b"\\"}
+# The bytes of a path that git doesn't put in quotes.
+PLAIN = bytes(byte for byte in range(0x21, 0x7F) if byte not in b'"\\')
+# Each byte as git writes it between quotes. C has a letter for some; the other odd ones are three octal digits.
+ESCAPED = [bytes([byte]) if byte == 0x20 or byte in PLAIN else b"\\%03o" % byte for byte in range(256)]
+for byte, letter in zip(b'\a\b\t\n\v\f\r"\\', b'abtnvfr"\\'):
+    ESCAPED[byte] = b"\\%c" % letter
+# The settings that the tools ask for, and their defaults.
+DEFAULTS = {"core.symlinks": True, "core.filemode": True, "core.autocrlf": False, "core.ignorecase": False}
+# What a setting that is true or false may be. git also takes numbers.
+TRUTH = {b"true": True, b"yes": True, b"on": True, b"1": True}
+TRUTH |= {b"false": False, b"no": False, b"off": False, b"0": False, b"": False}
 
 
-def git(folder, *words, settings=(), given=None, also=()):
-    """What git prints, under settings. `also` has the exit statuses beside 0 that are no failure."""
+def start_git(folder, *words, settings=(), given=b""):
+    """Starts git in a folder, under settings. It runs while the tool does something else."""
     command = ["git", "--no-optional-locks", "-C", folder, "-c", "core.fsmonitor=false", *settings, *words]
     try:
-        ran = subprocess.run(command, input=given, capture_output=True)
+        return Running(command, [given])
     except FileNotFoundError:
         raise Refused("git isn't installed") from None
-    if ran.returncode != 0 and ran.returncode not in also:
-        said = " ".join(ran.stderr.decode(errors="replace").split())
-        raise Refused(f"git {words[0]}: {said or f'exit status {ran.returncode}'}")
-    return ran.stdout
+
+
+def printed_by(running, word, also=()):
+    """Waits for git. Returns what it printed. `also` has the exit statuses other than 0 that are no failure."""
+    printed, said, status = running.ended()
+    if status != 0 and status not in also:
+        words = " ".join(said.decode(errors="replace").split())
+        raise Refused(f"git {word}: {words or f'exit status {status}'}")
+    return printed
+
+
+def git(folder, *words, settings=(), given=b"", also=()):
+    """Runs git in a folder, under settings. Returns what it prints. `also` is as for `printed_by`."""
+    with start_git(folder, *words, settings=settings, given=given) as running:
+        return printed_by(running, words[0], also)
 
 
 def line_of(folder, *words):
-    """The one line that git prints, as a path or a word."""
+    """Returns the one line that git prints, as a path or a word."""
     return os.fsdecode(git(folder, *words).removesuffix(b"\n"))
 
 
-def setting(folder, name, otherwise):
-    """A setting of git's that is true or false."""
-    said = git(folder, "config", "--type=bool", "--default", otherwise, name).strip()
-    return said == b"true"
+class Repository:
+    """A repository with a worktree: where its top and its index are, the kind of its ids, and its settings."""
+
+    def __init__(self, folder):
+        """Takes a folder of the worktree."""
+        if not os.path.isdir(folder):
+            raise Refused(f"{folder} is no folder")
+        names = "|".join(name.removeprefix("core.") for name in DEFAULTS)
+        with start_git(folder, "config", "-z", "--get-regexp", rf"^core\.({names})$") as config:
+            self.top, self.kind, self.index = described(folder)
+            self.settings = settings_of(printed_by(config, "config", also=[1]))
+        if not os.path.isdir(self.top):
+            raise Refused(f"the worktree {self.top} is no folder")
+        if self.kind not in ("sha1", "sha256"):
+            raise Refused(f"ids of the kind {self.kind}")
+
+    def is_set(self, name):
+        """Whether a setting of DEFAULTS is true."""
+        if name not in self.settings:
+            return DEFAULTS[name]
+        known = TRUTH.get(self.settings[name].lower())
+        return setting(self.top, name) if known is None else known
 
 
-def top_of(folder):
-    """The top of the worktree that a folder is in."""
-    if not os.path.isdir(folder):
-        raise Refused(f"{folder} is no folder")
-    if line_of(folder, "rev-parse", "--is-bare-repository") == "true":
+def described(folder):
+    """Returns what one call of git prints for a folder: the worktree's top, the kind of ids, and the index's path."""
+    words = ["--is-bare-repository", "--show-toplevel", "--show-object-format"]
+    words += ["--path-format=absolute", "--git-path", "index"]
+    with start_git(folder, "rev-parse", *words) as running:
+        printed, said, status = running.ended()
+    lines = printed.split(b"\n")
+    if lines[0] == b"true":
         raise Refused(f"{folder} is a bare repository: it has no worktree")
+    if status == 0 and len(lines) == 5:
+        return [os.fsdecode(line) for line in lines[1:4]]
+    # Either something is wrong, and git says so again, or a path has a line feed.
     top = line_of(folder, "rev-parse", "--show-toplevel")
-    if not os.path.isdir(top):
-        raise Refused(f"the worktree {top} is no folder")
-    return top
+    return top, line_of(top, "rev-parse", "--show-object-format"), line_of(top, "rev-parse", *words[3:])
+
+
+def settings_of(listed):
+    """Returns the values that `git config -z --get-regexp` lists, by their names. The last value of a name counts."""
+    pairs = (setting.partition(b"\n") for setting in listed.split(b"\0")[:-1])
+    return {name.decode(): value if is_given else b"true" for name, is_given, value in pairs}
+
+
+def setting(folder, name):
+    """Whether a setting is true, as git reads it."""
+    return git(folder, "config", "--type=bool", name).strip() == b"true"
 
 
 def quoted(path):
-    """A path's bytes as `git status --porcelain` prints them: in quotes where there is an odd byte or a space."""
-    text = re.sub(rb'[\x00-\x1f"\\\x7f-\xff]', lambda found: escaped(found[0][0]), path).decode("ascii")
-    return f'"{text}"' if b" " in path or len(text) != len(path) else text
-
-
-def escaped(byte):
-    return b"\\" + (LETTERS.get(byte) or b"%03o" % byte)
+    """Returns a path's bytes as `git status --porcelain` prints them: in quotes if there is an odd byte or a space."""
+    if not path.translate(None, PLAIN):
+        return path.decode("ascii")
+    text = b"".join(map(ESCAPED.__getitem__, path)).decode("ascii")
+    return f'"{text}"'

@@ -1,15 +1,15 @@
-"""What the tools share: where the built program is, what they refuse, and how they end, also by signals."""
+"""What the tools share: where the built program is, what they refuse, and how they end.
 
-import contextlib
+A tool imports few modules before it knows that it needs them: most take as long as git's status of 2,000 files.
+"""
+
 import os
-import signal
 import sys
 
 TOP = os.path.dirname(os.path.dirname(os.path.abspath(__file__)))
-BUILT = os.path.join(TOP, "crates", "status_program", "out", "status_program")
-BUILD = "(cd crates/status_program && rt run -- status data/row1.json)"
-# The signals by which a user ends a tool, or the system does.
-SIGNALS = {signal.SIGINT, signal.SIGTERM, signal.SIGHUP}
+CRATE = os.path.join(TOP, "crates", "status_program")
+BUILT = os.path.join(CRATE, "out", "status_program")
+BUILD = "rt run -- status data/row1.json"
 
 
 class Refused(Exception):
@@ -17,15 +17,23 @@ class Refused(Exception):
 
 
 def program_of(named=None):
-    """The path of the built program: the named one, else that of STATUS_PROGRAM, else that of this checkout."""
+    """Returns the path of the built program: the named one, or that of STATUS_PROGRAM, or that of this checkout."""
     path = os.path.abspath(named or os.environ.get("STATUS_PROGRAM") or BUILT)
     if not os.path.isfile(path) or not os.access(path, os.X_OK):
-        raise Refused(f"there is no built program at {path}: build it by {BUILD}, or name one by STATUS_PROGRAM")
+        how = f"build it by {how_to_build()}, with the rt of the Rattle kit, or name one by STATUS_PROGRAM"
+        raise Refused(f"there is no built program at {path}: {how}")
     return path
 
 
+def how_to_build():
+    """Returns the command that builds the program of this checkout, from any folder."""
+    import shlex
+
+    return f"(cd {shlex.quote(CRATE)} && {BUILD})"
+
+
 def say(line):
-    """Prints a line to standard error, where that can be written."""
+    """Prints a line to standard error, if that can be written."""
     try:
         if sys.stderr is not None:
             print(line, file=sys.stderr, flush=True)
@@ -33,8 +41,8 @@ def say(line):
         pass
 
 
-def end(main, fault):
-    """Ends the process with the status that `main` gives. What it can't do is one line, and the status `fault`."""
+def end(main, fault, leave=sys.exit):
+    """Ends the process by `leave`, with the status that `main` returns. A failure is one line, and the status `fault`."""
     try:
         if sys.stdout is None:
             raise Refused("standard output is closed")
@@ -45,72 +53,31 @@ def end(main, fault):
         say(f"refused: {refusal}")
     except OSError as error:
         status = fault
-        say(f"refused: {told(error)}")
+        say(f"refused: {words_of(error)}")
     except KeyboardInterrupt:
         status = 130
     forget_output()
-    sys.exit(status)
+    leave(status)
 
 
 def status_of(main):
-    """The status that `main` gives, also where the parser of its arguments ends it."""
+    """Returns the status of `main`, also if the parser of its arguments ends it."""
     try:
         return main()
     except SystemExit as ended:
         return ended.code
 
 
-def told(error):
-    """An error of the system in words, with the file's name where it has one."""
+def words_of(error):
+    """Returns an error of the system in words, with the file's name if it has one."""
     words = error.strerror or str(error)
     return f"{error.filename}: {words}" if error.filename else f"the output can't be written: {words}"
 
 
 def forget_output():
-    """Lets nothing be written any more: what is left would fail again at the process's end."""
+    """Drops output that can't be written. Otherwise it would fail again at the process's end."""
     try:
         sys.stdout.flush()
     except (AttributeError, OSError):
         nowhere = os.open(os.devnull, os.O_WRONLY)
         os.dup2(nowhere, 1)
-
-
-def end_by_signals():
-    """Lets each of the signals end the tool by a KeyboardInterrupt, unless it was started with that signal ignored."""
-    for number in SIGNALS:
-        if signal.getsignal(number) != signal.SIG_IGN:
-            signal.signal(number, interrupt)
-
-
-def interrupt(*_):
-    """Handles a signal. Later ones are ignored, so that they don't cut off the cleaning up."""
-    ignore_signals()
-    raise KeyboardInterrupt
-
-
-def ignore_signals():
-    """Ignores the signals from now on, also those that are held, if `end_by_signals` was called."""
-    for number in SIGNALS:
-        if signal.getsignal(number) is interrupt:
-            signal.signal(number, signal.SIG_IGN)
-
-
-@contextlib.contextmanager
-def held_signals():
-    """Holds the signals in a block. Its value is a function for a block within, in which they come through again."""
-    before = signal.pthread_sigmask(signal.SIG_BLOCK, ())
-
-    @contextlib.contextmanager
-    def let_through():
-        signal.pthread_sigmask(signal.SIG_SETMASK, before)
-        try:
-            yield
-        finally:
-            signal.pthread_sigmask(signal.SIG_BLOCK, SIGNALS)
-
-    try:
-        # A signal that came just before is raised here, when the mask is already set.
-        signal.pthread_sigmask(signal.SIG_BLOCK, SIGNALS)
-        yield let_through
-    finally:
-        signal.pthread_sigmask(signal.SIG_SETMASK, before)

@@ -9,23 +9,33 @@ import os
 import shlex
 import shutil
 import socket
+import struct
 import subprocess
 import tempfile
 import time
 import unittest
+from unittest import mock
 
+import listed_entries
 import profile_from_git as tool
 import unseen
 from cases import FOO, PROGRAM, Case, run_tool
-from repository import quoted
+from repository import Repository, quoted
 
 # git's letters for the program's words. None where git prints no line.
 LETTERS = {"removed": "D", "modified": "M", "type": "T", "intent": "A", "update": None}
 
 
+def profile_of(folder, counts=False):
+    """The profile of a repository as the program reads it, and what isn't seen."""
+    profile = tool.Profile(Repository(folder), counts)
+    found = unseen.unseen_of(profile)
+    return json.loads(b"".join(profile.json(found.left_out))), found
+
+
 class Profiles(Case):
     def entries(self):
-        return {(it["path"], it.get("stage", 0)): it for it in tool.profile_of(self.top)[0]["index"]}
+        return {(it["path"], it.get("stage", 0)): it for it in profile_of(self.top)[0]["index"]}
 
     def test_an_entry_has_what_lstat_reported(self):
         self.write("a", "foo")
@@ -36,23 +46,22 @@ class Profiles(Case):
         found = os.lstat(self.path("a"))
         entry = entries["a", 0]
         self.assertEqual((entry["id"], entry["mode"], entry["size"]), (FOO, "100755", 3))
-        self.assertEqual(entry["mtime"], list(divmod(found.st_mtime_ns, 10**9)))
-        self.assertEqual(entry["ctime"], list(divmod(found.st_ctime_ns, 10**9)))
-        self.assertEqual(entry["ino"], found.st_ino & 0xFFFFFFFF)
-        self.assertEqual((entry.get("uid", 0), entry.get("gid", 0)), (found.st_uid, found.st_gid))
+        self.assertEqual(entry["mtime"], [found.st_mtime_ns // 10**9, 0])
         self.assertEqual(entries["l", 0]["mode"], "120000")
+        # What the options leave out of the comparison isn't in the profile.
+        self.assertEqual(list(entry), ["path", "id", "mode", "size", "mtime"])
 
     def test_the_folder_the_moment_and_the_options_are_those_of_the_repository(self):
         self.write("d/a", "foo")
         self.git("add", ".")
-        profile, found = tool.profile_of(self.path("d"))
+        profile, found = profile_of(self.path("d"))
         self.assertEqual((profile["folder"], profile["hash"], found.notes()), (self.top, "sha1", []))
         written = os.stat(self.path(".git/index")).st_mtime_ns
         self.assertEqual(profile["timestamp"], list(divmod(written, 10**9)))
         wanted = {"symlink": True, "trust_ctime": False, "check_stat": False}
         self.assertEqual(profile["options"], wanted)
         self.git("config", "core.symlinks", "false")
-        self.assertEqual(tool.profile_of(self.top, True)[0]["options"], {**wanted, "symlink": False, "counts": True})
+        self.assertEqual(profile_of(self.top, True)[0]["options"], {**wanted, "symlink": False, "counts": True})
 
     def test_flags_stages_and_names_are_kept(self):
         odd = "d/tab\tline\n\"é\x01"
@@ -71,8 +80,26 @@ class Profiles(Case):
         self.assertEqual(flags, wanted)
         self.assertEqual([stage for name, stage in entries if name == "f"], [1, 2, 3])
 
+    def test_entries_are_in_their_order_however_many_are_made_to_text_at_a_time(self):
+        for name in ("a", "b c", 'd"e\\', "é", "z"):
+            self.write(name, "foo")
+        self.git("add", ".")
+        whole = profile_of(self.top)[0]
+        self.assertEqual([entry["path"] for entry in whole["index"]], ["a", "b c", 'd"e\\', "z", "é"])
+        for part in (1, 2, 5, 6):
+            with mock.patch.object(tool, "PART", part):
+                self.assertEqual(profile_of(self.top)[0], whole)
+
+    def test_a_mode_of_none_of_the_five_is_refused(self):
+        self.git("update-index", "--add", "--cacheinfo", f"100644,{FOO},a")
+        with open(self.path(".git/index"), "r+b") as file:
+            file.seek(12 + 24)
+            file.write(struct.pack(">I", 0o100664))
+        with self.assertRaisesRegex(tool.Refused, "a mode that is none of git's five: 100664 at 'a'"):
+            profile_of(self.top)
+
     def test_an_empty_repository_has_an_empty_index(self):
-        profile, _ = tool.profile_of(self.top)
+        profile, _ = profile_of(self.top)
         self.assertEqual((profile["index"], profile["timestamp"]), ([], [0, 0]))
 
     def test_a_profile_can_be_printed_in_any_encoding(self):
@@ -99,7 +126,7 @@ class Profiles(Case):
 
 class Unseen(Case):
     def unseen(self):
-        return tool.profile_of(self.top)[1]
+        return profile_of(self.top)[1]
 
     def test_conversions_are_counted(self):
         for name in ("a.txt", "b.txt", "c"):
@@ -179,7 +206,7 @@ class Unseen(Case):
             wanted.insert(2, "late")  # The file system has no such time.
         if os.stat(self.path("early")).st_mtime >= 0:
             wanted.insert(1, "early")
-        profile, found = tool.profile_of(self.top)
+        profile, found = profile_of(self.top)
         self.assertEqual([entry["path"] for entry in profile["index"]], wanted)
         self.assertIn("left out, since the link's target isn't UTF-8: odd", found.notes())
 
@@ -248,14 +275,14 @@ class Refusals(Case):
 
     def test_an_unknown_listing_is_refused(self):
         with self.assertRaisesRegex(tool.Refused, "isn't known"):
-            tool.entries_of(b"100644 x\n")
+            listed_entries.entries_in(b"100644 x\n")
 
 
 @unittest.skipUnless(PROGRAM, "no built program")
 class Comparison(Case):
     def lines(self):
         """What the program prints."""
-        profile, _ = tool.profile_of(self.top)
+        profile, _ = profile_of(self.top)
         with tempfile.NamedTemporaryFile("w", suffix=".json") as file:
             json.dump(profile, file)
             file.flush()

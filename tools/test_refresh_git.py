@@ -9,6 +9,7 @@ is run; those of stored stats need the built program, which STATUS_PROGRAM names
 import hashlib
 import io
 import os
+import re
 import shlex
 import signal
 import struct
@@ -22,7 +23,7 @@ from unittest import mock
 import index_file
 import refresh_git as tool
 from cases import FOO, PROGRAM, may_read_all, run_tool
-from profile_from_git import entries_of
+from shared import how_to_build
 from test_status import FOLDERS, NAMES, Drawn, git_lines, kept
 
 THEN = 1_600_000_000
@@ -60,6 +61,12 @@ sys.path.insert(0, {folder!r})
 sys.argv = {words!r}
 runpy.run_path(sys.argv[0], run_name="__main__")
 """
+# An entry as `git ls-files --stage --debug -z` lists it.
+LISTED = re.compile(
+    r"[0-7]{6} [0-9a-f]+ (?P<stage>[0-3])\t(?P<path>[^\0]+)\0"
+    r"  ctime: (?P<ctime>\d+:\d+)\n  mtime: (?P<mtime>\d+:\d+)\n  dev: (?P<dev>\d+)\tino: (?P<ino>\d+)\n"
+    r"  uid: (?P<uid>\d+)\tgid: (?P<gid>\d+)\n  size: (?P<size>\d+)\tflags: (?P<flags>[0-9a-f]+)\n"
+)
 ODD = [folder + name for folder in dict.fromkeys(FOLDERS) for name in NAMES if folder + name + "/" not in FOLDERS]
 LONG = ["n" * 200 + "/" + "m" * 200, "n" * 200 + "x"]
 
@@ -109,16 +116,17 @@ class Refreshes(Drawn):
 
     def stats(self):
         """What the index has of each path at stage 0."""
-        entries = entries_of(self.git("ls-files", "--stage", "--debug", "-z"))
-        return {entry["path"]: entry for entry in entries if "stage" not in entry}
+        listed = self.git("ls-files", "--stage", "--debug", "-z").decode()
+        entries = [found.groupdict() for found in LISTED.finditer(listed)]
+        return {entry["path"]: entry for entry in entries if entry["stage"] == "0"}
 
     def assert_stored(self, name):
         """The index has all that lstat says of a file."""
         node, stat = os.lstat(self.path(name)), self.stats()[name]
         for part in ("mtime", "ctime"):
-            self.assertEqual(stat[part], list(divmod(getattr(node, f"st_{part}_ns"), 10**9)))
+            self.assertEqual(stat[part], "%d:%d" % divmod(getattr(node, f"st_{part}_ns"), 10**9))
         for part in ("dev", "ino", "uid", "gid", "size"):
-            self.assertEqual(stat.get(part, 0), getattr(node, f"st_{part}") & 0xFFFFFFFF)
+            self.assertEqual(int(stat[part]), getattr(node, f"st_{part}") & 0xFFFFFFFF)
 
     def read_by_git(self):
         """The paths of the files that `git status` reads, told by a filter that writes them down."""
@@ -242,7 +250,7 @@ class Stored(Refreshes):
         before = self.stats()
         self.assert_line(1, 1)
         self.assertEqual((self.listed(), self.listed(*minimal)), (["a"], ["a"]))
-        del before["a"]["size"]
+        before["a"]["size"] = "0"
         self.assertEqual(self.stats(), before)
         self.assert_line(0, 0)
 
@@ -536,7 +544,7 @@ class Faults(Refreshes):
         self.put_index(index)
 
     def test_a_program_that_is_not_built_or_cannot_be_run_is_refused(self):
-        self.refused("build it by (cd crates/status_program && rt run", program=self.path("none"))
+        self.refused(f"build it by {how_to_build()}", program=self.path("none"))
         self.write("text", "foo")
         os.chmod(self.path("text"), 0o755)
         self.refused("can't be run", program=self.path("text"))

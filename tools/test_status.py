@@ -6,19 +6,31 @@ names.
 """
 
 import io
+import json
 import os
+import pty
 import random
+import re
+import shlex
 import shutil
+import signal
 import stat
 import subprocess
+import sys
 import unittest
 from contextlib import redirect_stderr, redirect_stdout
 from unittest import mock
 
+import arguments
+import porcelain
 import status as tool
-from cases import PROGRAM, Case, run_tool
-from profile_from_git import COMPARABLE
-from repository import quoted
+import time_status
+import unseen
+from cases import FOO, PROGRAM, Case, run_tool
+from profile_from_git import COMPARABLE, Profile
+from repository import Repository, quoted
+from shared import Refused, how_to_build
+from untracked import untracked
 
 # Names that sort otherwise by bytes than by components, and names that git quotes.
 NAMES = ["a", "a-", "a0", "b c", "d\te", "f\ng", 'h"i', "j\\k", "\x01l\x7f", "é", "\u2028m", "\x85n", "\U00010000"]
@@ -310,6 +322,14 @@ class Comparison(Drawn):
         self.assert_unwritten(2, "status.py", self.top, STATUS_PROGRAM=PROGRAM)
 
 
+def program_at(path, *lines):
+    """Writes a program of lines of a shell. Returns its path."""
+    with open(path, "w", encoding="utf-8") as file:
+        file.write("\n".join(["#!/bin/sh", *lines, ""]))
+    os.chmod(path, 0o755)
+    return path
+
+
 def kept(top):
     """What each file of a folder holds, and when it was written."""
     found = {}
@@ -325,11 +345,226 @@ def kept(top):
     return found
 
 
+class Printed(Case):
+    """What the tool makes of the program's lines, with programs of the test's own in place of the built one."""
+
+    def program(self, *lines):
+        return program_at(os.path.join(self.room, "program"), *lines)
+
+    def ran(self, *words, program=None, folder=None, **settings):
+        """How the tool ends, run by itself. Without words it is run in the repository."""
+        settings = {"STATUS_PROGRAM": program or self.program("exit 0"), **settings}
+        return run_tool("status.py", *words, folder=folder or self.top, **settings)
+
+    def assert_prints(self, printed, status, *words, **more):
+        ran = self.ran(*words, **more)
+        self.assertEqual((ran.stdout.decode(), ran.stderr.decode(), ran.returncode), (printed, "", status))
+
+    def test_the_exit_status_is_that_of_git_diff_exit_code(self):
+        self.assert_prints("", 0, "--exit-code")
+        for line, printed in (('0 removed "a"', " D a\n"), ('0 conflict both-added 23 "a"', "AA a\n")):
+            changed = self.program(f"echo '{line}'")
+            self.assert_prints(printed, 0, program=changed)
+            self.assert_prints(printed, 1, "--exit-code", program=changed)
+        updated = self.program("""echo '0 update "a"'""")
+        self.assert_prints("", 0, "--exit-code", program=updated)
+        self.assert_prints(" ~ a\n", 0, "--exit-code", "--updates", program=updated)
+        self.write("new", "foo")
+        self.assert_prints("?? new\n", 0, "--untracked", program=updated)
+        self.assert_prints("?? new\n", 1, "--exit-code", "--untracked", program=updated)
+        # A fault has another status, whatever was printed.
+        self.assertEqual(self.ran("--exit-code", program=self.program("exit 1")).returncode, 2)
+
+    def test_it_runs_from_any_folder_of_the_worktree(self):
+        self.write("d/e/a", "foo")
+        os.symlink("d", self.path("link"))
+        program = self.program("""echo '0 removed "d/e/a"'""")
+        for folder, words in ((self.path("d/e"), []), (self.path("d/e"), ["../.."]), (self.room, ["top/d"])):
+            self.assert_prints(" D d/e/a\n", 0, *words, program=program, folder=folder)
+        self.assert_prints(" D d/e/a\n", 0, self.path("link"), program=program, folder="/")
+        self.assert_refused(self.ran(self.path("d/e/a"), program=program), 2, "d/e/a is no folder")
+        self.assert_refused(self.ran(program=program, folder=self.path(".git")), 2, "must be run in a work tree")
+        # A program is named from the folder in which the tool runs.
+        self.assert_prints(" D d/e/a\n", 0, "--program", "../program", program="/none")
+
+    def test_the_program_reads_the_profile_that_is_printed(self):
+        for name in NAMES:
+            self.write(name, "foo")
+        self.git("add", "-A")
+        copied = os.path.join(self.room, "copied")
+        copy = f'[ "$1 $2 $#" = "status /dev/stdin 2" ] && cat "$2" > {copied}'
+        self.assert_prints("", 0, program=self.program(copy))
+        printed = run_tool("profile_from_git.py", self.top).stdout
+        with open(copied, "rb") as file:
+            self.assertEqual(file.read(), printed.removesuffix(b"\n"))
+
+    def test_the_program_runs_again_without_what_it_cannot_read(self):
+        os.symlink(b"\xff", self.path("odd"))
+        self.write("a", "foo")
+        self.git("add", "a", "odd")
+        # The first run would take too long. It isn't awaited.
+        ran = self.ran(program=self.program("grep -q odd /dev/stdin && exec sleep 60", """echo '0 removed "a"'"""))
+        self.assertEqual((ran.stdout, ran.returncode), (b" D a\n", 0))
+        self.assertIn(b"note: left out, since the link's target isn't UTF-8: odd\n", ran.stderr)
+
+    def test_an_interrupt_ends_the_program_too(self):
+        ran, reader = self.started("exec sleep 60")
+        process = int(reader.readline())
+        ran.send_signal(signal.SIGINT)
+        self.assertEqual((ran.communicate(timeout=20), ran.returncode), ((b"", b""), 130))
+        with self.assertRaises(ProcessLookupError):
+            os.kill(process, 0)
+
+    def started(self, *lines, stderr=subprocess.PIPE):
+        """The tool, which was started, and what reads the number of the program's process."""
+        pipe = os.path.join(self.room, "pipe")
+        os.mkfifo(pipe)
+        settings = {**os.environ, "STATUS_PROGRAM": self.program(f"echo $$ > {pipe}", *lines)}
+        command = [sys.executable, tool.__file__, self.top]
+        ran = subprocess.Popen(command, stdout=subprocess.PIPE, stderr=stderr, env=settings)
+        self.addCleanup(ran.wait)
+        self.addCleanup(ran.kill)
+        reader = open(pipe, encoding="ascii")
+        self.addCleanup(reader.close)
+        return ran, reader
+
+    def test_a_terminal_shows_what_takes_long(self):
+        self.write("a", "foo")
+        self.git("add", "a")
+        main, side = pty.openpty()
+        self.addCleanup(os.close, main)
+        ran, reader = self.started("sleep 1.5", """echo '0 removed "a"'""", stderr=side)
+        os.close(side)
+        self.assertEqual(reader.readline().strip().isdigit(), True)
+        self.assertEqual((ran.communicate(timeout=20)[0], ran.returncode), (b" D a\n", 0))
+        self.assertRegex(os.read(main, 1000), rb"^(\rcomparing 1 entry: [1-9] s)+\r {22}\r$")
+
+    def test_paths_of_lines_are_quoted_as_git_quotes_them(self):
+        names = {*(folder + name for folder in FOLDERS for name in NAMES), "update", "0 removed", "\x7f"}
+        names = sorted(names)
+        texts = [json.dumps(name, ensure_ascii=False) for name in names]
+        printed = "".join(f"{place} removed {text}\n" for place, text in enumerate(texts))
+        wanted = [(" D", name.encode()) for name in names]
+        self.assertEqual(porcelain.statuses_of(printed.encode()), wanted)
+        # With a control character, which JSON has escaped, no line is plain.
+        plain = [line for line in printed.split("\n") if "\\" not in line]
+        self.assertEqual(porcelain.statuses_of("\n".join(plain).encode()), [it for it in wanted if is_plain(it[1])])
+        for line in (b'0 removed "a\tb"\n', b'0 removed "a\0"\n', b'0 removed "\xff"\n', b'0 removed "\\ud800"\n'):
+            with self.assertRaisesRegex(Refused, "the program prints what isn't known here"):
+                porcelain.statuses_of(line)
+
+    def test_the_example_of_the_help_is_what_is_printed(self):
+        printed = run_tool("status.py", "--help").stdout.decode()
+        command = r"^    \$ python3 (tools/status.py (--exit-code) ~/repository; .*)\n"
+        example = re.search(command + r"((?:    .*\n)+)", printed, re.M)
+        self.assertIn('echo "exit status $?"', example[1])
+        names = [line.strip().split(" ", 1)[1] for line in example[3].splitlines()[:-1]]
+        for name in names:
+            self.write(name, "foo")
+        self.git("add", ".")
+        for name in names[::2]:
+            os.remove(self.path(name))
+        os.symlink("foo", self.path(names[0]))
+        self.write(names[1], "longer")
+        lines = ['0 type 120000 "LICENSE-MIT"', '1 modified -c- "README.md"', '2 removed "crates.txt"']
+        program = PROGRAM or self.program(*(f"echo '{line}'" for line in lines))
+        ran = self.ran(example[2], program=program)
+        lines = [*ran.stdout.decode().splitlines(), f"exit status {ran.returncode}"]
+        self.assertEqual(["    " + line for line in lines], example[3].splitlines())
+
+
+def is_plain(path):
+    return not any(byte in b'"\\' or byte < 32 for byte in path)
+
+
+class Quick(Case):
+    """What takes time is left out: modules whose import is slow, and processes."""
+
+    def test_no_slow_module_is_imported(self):
+        for name in ("a", "b c"):
+            self.write(name, "foo")
+        self.git("add", ".")
+        program = program_at(os.path.join(self.room, "program"), """printf '0 removed "a"\\n1 update "b c"\\n'""")
+        command = [sys.executable, "-E", "-s", "-S", "-X", "importtime", tool.__file__, "--updates", self.top]
+        settings = {**os.environ, "STATUS_PROGRAM": program}
+        ran = subprocess.run(command, capture_output=True, check=True, text=True, env=settings)
+        self.assertEqual(ran.stdout, ' D a\n ~ "b c"\n')
+        imported = {line.split("|")[-1].strip() for line in ran.stderr.splitlines()}
+        self.assertIn("porcelain", imported)
+        slow = {"argparse", "collections", "dataclasses", "enum", "functools", "hashlib", "json", "re", "shlex"}
+        self.assertEqual(imported & (slow | {"subprocess", "tempfile", "threading", "typing"}), set())
+
+    def test_git_is_asked_three_times(self):
+        self.write("d/a", "foo")
+        self.git("add", ".")
+        asked, real = os.path.join(self.room, "asked"), shutil.which("git")
+        program_at(os.path.join(self.room, "git"), f'echo "$@" >> {asked}', f'exec {real} "$@"')
+        program = program_at(os.path.join(self.room, "program"), "exit 0")
+        path = os.pathsep.join([self.room, os.environ["PATH"]])
+        self.assertEqual(run_tool("status.py", self.top, STATUS_PROGRAM=program, PATH=path).returncode, 0)
+        with open(asked, encoding="utf-8") as file:
+            lines = sorted(file)
+        self.assertEqual(len(lines), 3, lines)
+        for line, word in zip(lines, ("check-attr", "config", "rev-parse")):
+            self.assertIn(f" {word} ", line)
+
+    def test_it_is_timed_next_to_git(self):
+        times = {"git status": [(2, 4), (8, 5), (3, 9)], "status.py": [(9, 12), (6, 40), (7, 20)]}
+        rows = [("git status", 2, 3, 4, 5, 1, 1), ("status.py", 6, 7, 12, 20, 3, 3)]
+        self.assertEqual(list(time_status.rows_of(times)), rows)
+        program = program_at(os.path.join(self.room, "program"), "exit 0")
+        ran = run_tool("time_status.py", "--runs", "2", self.top, STATUS_PROGRAM=program)
+        self.assertEqual((ran.stderr, ran.returncode), (b"", 0))
+        self.assertRegex(ran.stdout, rb"^.* elapsed .*\ngit status( +[0-9.]+){4} +1.00 +1.00\nstatus.py( +[0-9.]+){6}\n$")
+        self.assert_refused(run_tool("time_status.py", self.room, STATUS_PROGRAM=program), 2, "ended with status 128")
+
+    def test_simple_arguments_are_read_as_argparse_reads_them(self):
+        options = {"--one": "", "--two-words": ""}
+        for words in ([], ["x"], ["--one"], ["x", "--two-words"], ["--one", "--two-words", "--one", "", "--one"]):
+            with mock.patch.object(arguments, "parsed", side_effect=AssertionError):
+                found = arguments.arguments_of(words, options, "")
+            by_argparse = arguments.parsed(words, options, "")
+            for name in ("one", "two_words", "program", "repository"):
+                self.assertEqual(getattr(found, name), getattr(by_argparse, name), (words, name))
+        for words in (["--", "--one"], ["--program", "p", "x"], ["--program=p"], ["--tw"], ["-"]):
+            with mock.patch.object(arguments, "parsed", return_value=words):
+                self.assertIs(arguments.arguments_of(words, options, ""), words)
+
+    def test_what_is_as_stored_is_not_looked_at_again(self):
+        names = ["a", "d/b", "d/e/c"]
+        for name in names:
+            self.write(name, "foo")
+        os.chmod(self.path("a"), 0o755)
+        self.git("add", ".")
+        self.write("intended", "foo")
+        self.git("add", "-N", "intended")
+        os.symlink("a", self.path("link"))
+        self.git("add", "link")
+        self.git("update-index", "--add", "--cacheinfo", f"160000,{FOO},sub")
+        self.assertEqual(self.looked_at(), (1, ["link"]))
+        os.utime(self.path("a"), (5, 5))
+        self.write("d/b", "longer")
+        os.utime(self.path("d/b"), (6, 6))
+        self.assertEqual(self.looked_at(), (1, ["link"]))
+        # Another mode, another inode with the time put back, and a time that the program can't read.
+        os.chmod(self.path("a"), 0o644)
+        found = os.stat(self.path("d/e/c"))
+        self.write("c", "foo")
+        os.rename(self.path("c"), self.path("d/e/c"))
+        os.utime(self.path("d/e/c"), ns=(found.st_mtime_ns, found.st_mtime_ns))
+        os.utime(self.path("d/b"), (-6, -6))
+        self.assertEqual(self.looked_at(), (1, ["a", "d/b", "d/e/c", "link"]))
+
+    def looked_at(self):
+        submodules, changed = unseen.changed_nodes(os.fsencode(self.top), Profile(Repository(self.top)).entries)
+        return submodules, [path.decode() for path, _, _ in changed]
+
+
 class Untracked(Case):
     """The tool's own half, which needs no program."""
 
     def assert_as_git(self):
-        found = tool.untracked(tool.profile_of(self.top)[0], set())
+        found = untracked(Profile(Repository(self.top)), set())
         lines = [line for line in git_lines(self, "-uall") if line.startswith("?? ")]
         self.assertEqual(sorted(f"?? {quoted(path)}" for path in found), lines)
         return [path.decode() for path in found]
@@ -361,11 +596,7 @@ class Faults(Case):
     """What the tool says where something is wrong, with programs of the test's own in place of the built one."""
 
     def program(self, *lines):
-        name = os.path.join(self.room, "program")
-        with open(name, "w", encoding="utf-8") as file:
-            file.write("\n".join(["#!/bin/sh", *lines, ""]))
-        os.chmod(name, 0o755)
-        return name
+        return program_at(os.path.join(self.room, "program"), *lines)
 
     def refused(self, words, *arguments, program=None, **settings):
         program = program or self.program("exit 0")
@@ -374,9 +605,13 @@ class Faults(Case):
         return ran.stdout.decode()
 
     def test_a_program_that_is_not_built_is_named_with_how_to_build_it(self):
-        self.refused("build it by (cd crates/status_program && rt run", program=self.path("none"))
+        self.refused(f"build it by {how_to_build()}", program=self.path("none"))
         self.write("none", "")
-        self.refused("build it by (cd crates/status_program && rt run", program=self.path("none"))
+        self.refused(f"build it by {how_to_build()}", program=self.path("none"))
+        # The command is right in any folder.
+        words = shlex.split(how_to_build().strip("()"))
+        self.assertEqual((words[0], words[2:5]), ("cd", ["&&", "rt", "run"]))
+        self.assertTrue(os.path.isfile(os.path.join(words[1], "src", "main.rt")))
 
     def test_a_program_that_cannot_be_run_is_refused(self):
         self.write("text", "foo")

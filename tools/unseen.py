@@ -2,26 +2,39 @@
 
 import os
 import stat
-from dataclasses import dataclass, field
 
-from repository import git, quoted, setting
+from index_entries import (
+    ASSUME_VALID,
+    BITS,
+    FSMONITOR_VALID,
+    INTENT_TO_ADD,
+    LENGTH,
+    MODE,
+    SKIP_WORKTREE,
+    STAGES,
+    UP_TO_DATE,
+)
+from repository import printed_by, quoted, start_git
 
-CONVERSIONS = ["text", "eol", "crlf", "filter", "ident", "working-tree-encoding"]
+CONVERSIONS = {b"text", b"eol", b"crlf", b"filter", b"ident", b"working-tree-encoding"}
+# The bits of an entry with which no node is compared.
+PASSED_OVER = STAGES | UP_TO_DATE | SKIP_WORKTREE | ASSUME_VALID | FSMONITOR_VALID
+EXECUTABLE, LINK, SUBMODULE = 0o100755, 0o120000, 0o160000
+# The bits of a mode in which an entry and its file agree: the type, and whether the owner may run it.
+COMPARED = 0o170100
+# The numbers of a stat are stored with so many bits.
+MASK = (1 << 32) - 1
 
 
-@dataclass
 class Unseen:
-    """How many entries have something that isn't seen; and why which entries are left out, by their paths."""
+    """How many entries have something that isn't seen. `left_out` has the reason for each path that is left out."""
 
-    conversions: int = 0
-    executable: int = 0
-    repositories: int = 0
-    restored: int = 0
-    submodules: int = 0
-    left_out: dict = field(default_factory=dict)
+    def __init__(self):
+        self.conversions = self.executable = self.repositories = self.restored = self.submodules = 0
+        self.left_out = {}
 
     def notes(self):
-        """A line for each kind that there is, and for each entry that is left out."""
+        """Returns a line for each kind that there is, and for each entry that is left out."""
         lines = []
         if self.conversions:
             lines.append(f"git converts {files(self.conversions)}, as attributes or settings say, and the program none")
@@ -35,7 +48,7 @@ class Unseen:
             lines.append(f"{kept}: an edit that put the time back isn't seen there")
         if self.submodules:
             lines.append(f"of submodules ({self.submodules}) neither heads nor contents are compared")
-        left_out = (f"left out, since {why}: {quoted(path.encode())}" for path, why in self.left_out.items())
+        left_out = (f"left out, since {why}: {quoted(path)}" for path, why in self.left_out.items())
         return [*lines, *left_out]
 
 
@@ -43,86 +56,140 @@ def files(count):
     return f"{count} file" + "s" * (count != 1)
 
 
-def unseen_of(top, timestamp, entries):
-    """What isn't seen of these entries of an index that was written at a moment."""
-    found = Unseen(converted(top, entries))
-    modes_count, links, top = setting(top, "core.fileMode", "true"), {}, os.fsencode(top)
-    for entry in entries:
-        if entry.get("mode") == "160000":
-            found.submodules += 1
-            continue
-        node = None if is_passed_over(entry) else node_at(top, entry["path"].encode(), links)
-        if node is None:
-            continue
-        why = unreadable(top, entry, node)
-        if why:
-            found.left_out[entry["path"]] = why
-        elif stat.S_ISDIR(node.st_mode):
-            found.repositories += os.path.lexists(os.path.join(top, entry["path"].encode(), b".git"))
-        elif stat.S_ISREG(node.st_mode) and entry.get("mode") != "120000":
-            is_executable = entry.get("mode") == "100755"
-            found.executable += modes_count and bool(node.st_mode & 0o100) != is_executable
-            found.restored += is_restored(timestamp, entry, node)
+def unseen_of(profile):
+    """Returns what isn't seen of a profile's entries."""
+    found, repository, entries = Unseen(), profile.repository, profile.entries
+    if converts_lines(repository):
+        add_nodes(found, profile)
+        found.conversions = len(files_among(set(entries.paths), entries))
+        return found
+    # The paths are in order, so that git reads the attributes of a folder once.
+    with start_git(repository.top, "check-attr", "-z", "--all", "--stdin", given=entries.joined) as asked:
+        add_nodes(found, profile)
+        listed = printed_by(asked, "check-attr")
+    found.conversions = len(files_among({path for path, _, _ in conversions_in(listed)}, entries))
     return found
 
 
-def is_passed_over(entry):
+def files_among(paths, entries):
+    """Returns those of some paths that are files: at a link and at a submodule nothing is converted."""
+    if not paths:
+        return paths
+    return {path for path, record in entries if path in paths and record[MODE] not in (LINK, SUBMODULE)}
+
+
+def converts_lines(repository):
+    """Whether git converts line ends without an attribute: if the setting is `input`, or what git takes as true."""
+    value = repository.settings.get("core.autocrlf", b"")
+    return value.lower() == b"input" or repository.is_set("core.autocrlf")
+
+
+def conversions_in(listed):
+    """Returns the path, the name and the value of each attribute that converts, of those that `check-attr -z` lists."""
+    parts = listed.split(b"\0")
+    attributes = zip(parts[0::3], parts[1::3], parts[2::3])
+    return [it for it in attributes if it[1] in CONVERSIONS and it[2] not in (b"unspecified", b"unset")]
+
+
+def add_nodes(found, profile):
+    """Adds what isn't seen of the files and links, to what was found."""
+    top, links = os.fsencode(profile.repository.top), {}
+    modes_count = profile.repository.is_set("core.filemode")
+    found.submodules, changed = changed_nodes(top, profile.entries)
+    for path, record, node in changed:
+        if is_behind_link(top, path, links):
+            continue
+        why = unreadable(top, path, record, node)
+        if why:
+            found.left_out[path] = why
+        elif stat.S_ISDIR(node.st_mode):
+            found.repositories += os.path.lexists(os.path.join(top, path, b".git"))
+        elif stat.S_ISREG(node.st_mode) and record[MODE] != LINK:
+            is_executable = record[MODE] == EXECUTABLE
+            found.executable += modes_count and bool(node.st_mode & 0o100) != is_executable
+            found.restored += is_restored(profile.timestamp, record, node)
+
+
+def changed_nodes(top, entries):
+    """Returns how many entries are submodules, and the entries whose nodes changed, with what lstat returns.
+
+    Missing nodes aren't returned, nor files that have only another length, or another time that the program can read.
+    The numbers of lstat are taken by their positions, since their names take longer.
+    """
+    submodules, changed = 0, []
+    lstat, folder = os.lstat, os.open(top, getattr(os, "O_PATH", os.O_RDONLY))
+    try:
+        for path, record in entries:
+            ctime, mtime, inode, mode, _, _, bits = record
+            if bits > LENGTH or mode == SUBMODULE:
+                submodules += mode == SUBMODULE
+                if bits & PASSED_OVER or mode == SUBMODULE:
+                    continue
+            try:
+                node = lstat(path, dir_fd=folder)
+            except OSError:
+                continue
+            if not (node[0] ^ mode) & COMPARED:
+                seconds = node[8]
+                if seconds != mtime:
+                    if 0 <= seconds <= MASK:
+                        continue
+                elif node[9] == ctime and node[1] & MASK == inode:
+                    continue
+            changed.append((path, record, node))
+    finally:
+        os.close(folder)
+    return submodules, changed
+
+
+def is_passed_over(record):
     """Whether no node is compared with an entry."""
-    flags = set(entry.get("flags", []))
-    return bool(entry.get("stage") or flags & {"uptodate", "skip-worktree", "assume-valid", "fsmonitor-valid"})
+    return bool(record[BITS] & PASSED_OVER)
 
 
 def node_at(top, path, links):
-    """What lstat says of a path. None where nothing is, or a link is on the way. `links` has what is known of those."""
-    at = path.find(b"/")
-    while at >= 0:
-        directory = path[:at]
-        if directory not in links:
-            links[directory] = os.path.islink(os.path.join(top, directory))
-        if links[directory]:
-            return None
-        at = path.find(b"/", at + 1)
+    """Returns what lstat reports of a path, or None if there is nothing, or a link is on the way.
+
+    `links` has what is known of the directories.
+    """
+    if is_behind_link(top, path, links):
+        return None
     try:
         return os.lstat(os.path.join(top, path))
     except OSError:
         return None
 
 
-def unreadable(top, entry, node):
-    """Why the program can't read a node at all, which would end its whole status. None where it can."""
-    if stat.S_ISDIR(node.st_mode) or "intent-to-add" in entry.get("flags", []):
+def is_behind_link(top, path, links):
+    """Whether a link is on the way to a path. `links` has what is known of the directories."""
+    at = path.find(b"/")
+    while at >= 0:
+        directory = path[:at]
+        if directory not in links:
+            links[directory] = os.path.islink(os.path.join(top, directory))
+        if links[directory]:
+            return True
+        at = path.find(b"/", at + 1)
+    return False
+
+
+def unreadable(top, path, record, node):
+    """Returns why the program can't read a node, which would end its whole status, or None if it can."""
+    if stat.S_ISDIR(node.st_mode) or record[BITS] & INTENT_TO_ADD:
         return None
     if not 0 <= node.st_mtime_ns < 10**9 << 32:
         return "its time is before 1970, or after 32-bit seconds"
-    if entry.get("mode") == "120000" and stat.S_ISLNK(node.st_mode):
+    if record[MODE] == LINK and stat.S_ISLNK(node.st_mode):
         try:
-            os.readlink(os.path.join(top, entry["path"].encode())).decode()
+            os.readlink(os.path.join(top, path)).decode()
         except UnicodeDecodeError:
             return "the link's target isn't UTF-8"
     return None
 
 
-def is_restored(timestamp, entry, node):
+def is_restored(timestamp, record, node):
     """Whether a file is believed for its length and its time, though ctime or inode aren't the index's."""
-    changed, length = entry.get("mtime", [0, 0])[0], entry.get("size", 0)
-    if (node.st_mtime_ns // 10**9, node.st_size & 0xFFFFFFFF) != (changed, length) or changed >= timestamp[0]:
+    ctime, mtime, inode, _, size, _, _ = record
+    if (node.st_mtime_ns // 10**9, node.st_size & MASK) != (mtime, size) or mtime >= timestamp[0]:
         return False
-    kept = (entry["ctime"][0], entry.get("ino", 0))
-    return (node.st_ctime_ns // 10**9 & 0xFFFFFFFF, node.st_ino & 0xFFFFFFFF) != kept
-
-
-def converts_lines(folder):
-    """Whether git converts line ends where no attribute says so: by `input`, or by what git takes as true."""
-    said = git(folder, "config", "--default", "false", "core.autocrlf").strip()
-    return said.lower() == b"input" or setting(folder, "core.autocrlf", "false")
-
-
-def converted(folder, entries):
-    """How many paths git converts before it stores them."""
-    paths = {entry["path"] for entry in entries if entry.get("mode") not in ("120000", "160000")}
-    if converts_lines(folder):
-        return len(paths)
-    asked = b"".join(path.encode() + b"\0" for path in paths)
-    said = git(folder, "check-attr", "-z", "--stdin", *CONVERSIONS, given=asked).split(b"\0")
-    found = {path for path, value in zip(said[0::3], said[2::3]) if value not in (b"unspecified", b"unset")}
-    return len(found)
+    return (node.st_ctime_ns // 10**9 & MASK, node.st_ino & MASK) != (ctime, inode)
