@@ -14,7 +14,7 @@ use Rattle.status_world.specs.declared.world.report.Report.{Report}
 use Rattle.status_profile.specs.declared.history.History.{History}
 use Rattle.status_cli.specs.declared.failure.Failure.{Failure}
 use Rattle.status_cli.specs.Printing.{IsBegun}
-use Rattle.status_cli.specs.Replays.{IsHistoryPrinted, IsReplayed, IsSomePrinted, replay_lines, run_lines, runs_behind, start_of}
+use Rattle.status_cli.specs.Replays.{IsHistoryPrinted, IsReplayed, IsReplayText, replay_lines, run_lines, runs_behind, start_of}
 use Rattle.status_cli.proofs.Printed.{begun_longer, begun_more}
 
 runs-append : (counts : Bool) (before : ℕ) (xs ys : List Report) → runs_behind counts before (xs ++ ys) ≡ runs_behind counts before xs ++ runs_behind counts (before + length xs) ys
@@ -63,11 +63,13 @@ replay_printed h w final stretches reports stopped old new result started same r
   ok = ok;
 })
 
-pub some_replayed : {A : Type 0} (v : A) (old new : Option (List ℕ)) → IsSomePrinted {A = A} old (Ok v) new → IsReplayed old new
-some_replayed v old new (inl refused) = absurd (cc)
-some_replayed v old new (inr (h, inl refused)) = absurd (cc)
-some_replayed v old new (inr (h, inr whole)) = record {
+pub some_replayed : {A : Type 0} (v : A) (text : List ℕ) (old new : Option (List ℕ)) → IsReplayText {A = A} text old (Ok v) new → IsReplayed text old new
+some_replayed v text old new (inl (inl unread)) = absurd unread.0
+some_replayed v text old new (inl (inr (e, read, failed, same))) = absurd failed
+some_replayed v text old new (inr (h, read, inl refused)) = let never : ⊥ = cc in absurd never
+some_replayed v text old new (inr (h, read, inr whole)) = record {
   history = h;
+  read = read;
   final = whole.final;
   reports = whole.reports;
   replay = subst (λ stopped. IsReopenedReplay (start_of h) h.stretches.items whole.final (map report_value whole.reports) stopped) whole.ok.0 whole.replay;

@@ -1,14 +1,18 @@
 -- What is printed of a replay.
-use Rattle.std.specs.Prelude.{◌≡◌, ◌⊎◌, ℕ, ◌+◌, Bool, List, [], ◌∷◌, ◌++◌, map, Option, None, Result, OnOk}
+use Rattle.std.specs.Prelude.{◌≡◌, ◌⊎◌, ℕ, ◌+◌, Bool, List, [], ◌∷◌, ◌++◌, map, Option, None, Result, Ok, Err, OnOk}
 use Rattle.std.specs.Io.KnownBytes.{Appends}
 use Rattle.std.specs.List.{flat_map}
-use Rattle.std.specs.Result.{IsErr}
+use Rattle.std.specs.Result.{IsErr, IsErrAnd}
 use Rattle.status_stored.specs.Reopening.{IsReopenedReplay}
 use Rattle.status_stored.specs.declared.stop.Stop.{Stop}
 use Rattle.status_world.specs.Reports.{Reported, RunReport, report_value}
 use Rattle.status_world.specs.declared.world.report.Report.{Report}
 use Rattle.status_world.specs.StampedWorld.{StampedWorld, empty_world}
+use Rattle.status_profile.specs.declared.error.ProfileError.{ProfileError}
 use Rattle.status_profile.specs.declared.history.History.{History}
+use Rattle.status_profile.specs.Histories.{IsHistoryRead}
+use Rattle.status_cli.specs.Failures.{failure_of_profile}
+use Rattle.status_cli.specs.ProfileStatuses.{IsUnreadPrinted}
 use Rattle.status_cli.specs.declared.failure.Failure.{Failure}
 use Rattle.status_cli.specs.Lines.{record_line, run_line}
 use Rattle.status_cli.specs.Printing.{IsBegun}
@@ -51,13 +55,17 @@ pub record IsReplayPrinted {A : Type 0} (h : History) (old : Option (List ℕ)) 
 abbrev pub IsHistoryPrinted : {A : Type 0} → History → Option (List ℕ) → Result A Failure → Option (List ℕ) → Type 0
 IsHistoryPrinted h old result new = (IsErr result × (new ≡ old)) ⊎ IsReplayPrinted h old result new
 
--- a text was read as some history, and this was printed of it; or it wasn't read, and nothing was printed
-abbrev pub IsSomePrinted : {A : Type 0} → Option (List ℕ) → Result A Failure → Option (List ℕ) → Type 0
-IsSomePrinted old result new = (IsErr result × (new ≡ old)) ⊎ ((h : History) × IsHistoryPrinted h old result new)
+-- a text was read as a history, and this was printed of it; or it says none, and the command fails for this reason; or it can't be
+-- read. In both of these nothing was printed
+abbrev pub IsReplayText : {A : Type 0} → List ℕ → Option (List ℕ) → Result A Failure → Option (List ℕ) → Type 0
+IsReplayText text old result new =
+    (IsUnreadPrinted old result new ⊎ ((e : ProfileError) × IsHistoryRead text (Err e) × IsErrAnd result (λ f. f ≡ failure_of_profile e) × (new ≡ old)))
+    ⊎ ((h : History) × IsHistoryRead text (Ok h) × IsHistoryPrinted h old result new)
 
--- just the lines of all reports of some history were printed, whose replay came to its end
-pub record IsReplayed (old new : Option (List ℕ)) : Type 0 where
+-- just the lines of all reports of the history that a text says were printed, and its replay came to its end
+pub record IsReplayed (text : List ℕ) (old new : Option (List ℕ)) : Type 0 where
   pub history : History
+  pub read : IsHistoryRead text (Ok history)
   pub final : StampedWorld
   pub reports : List Report
   pub replay : IsReopenedReplay (start_of history) history.stretches.items final (map report_value reports) None

@@ -1,11 +1,14 @@
 //! The refresh of a profile's index.
 
+ghost use Rattle.std.specs.Prelude.{◌≡◌, ◌⊎◌, Ok, IfSome, OnOk};
+ghost use Rattle.status_cli.specs.ProfileStatuses.{IsReadPrinted};
+
 use crate::failure::Failure;
 use crate::input::read_all;
 use crate::status::{Changes, IndexChanges, print_profile};
 use gix_status::index::Moment;
 use gix_status::index_as_worktree::apply_changes;
-use status_profile::{Profile, text_with_index};
+use status_profile::{Kind, MemberTexts, Profile};
 use std::io;
 use std::rt::Files;
 use std::sync::Wait;
@@ -34,6 +37,10 @@ pub fn run_refresh<
 where
     R::File: Send,
     R::Dir: Send,
+    ensures status { (result ≡ 0) ⊎ (result ≡ 1) }
+    ensures printed { result ≡ 0 → IfSome (I.remaining profile.old) (λ text. IsReadPrinted {A = Unit {0}} Kind.Plain text (O.contents output.old) (Ok tt) (O.contents output.new)) }
+    ensures quiet { result ≡ 0 → E.contents faults.new ≡ E.contents faults.old }
+    ensures kept { result ≡ 1 → refreshed.new.items ≡ refreshed.old.items }
 {
     match refresh(rt, Moment { secs, nsecs }, profile, output) {
         Ok(text) => match refreshed.extend_from_slice(text.as_bytes()) {
@@ -54,10 +61,13 @@ fn refresh<R: AllocGlobal + Files + Sync + Threads + Wait, I: io::Read, O: io::W
 where
     R::File: Send,
     R::Dir: Send,
+    ensures { OnOk result (IfSome (I.remaining profile.old) (λ text. IsReadPrinted {A = Unit {0}} Kind.Plain text (O.contents output.old) (Ok tt) (O.contents output.new))) }
 {
     let alloc = rt.alloc();
     let text = read_all(alloc, profile)?;
-    let profile = Profile::plain_from_json(alloc, text.as_slice())?;
+    let profile = Profile::from_json(alloc, text.as_slice(), Kind::Plain)?;
+    let members = MemberTexts::from_json(alloc, text.as_slice())?;
+    drop(text);
     let IndexChanges { mut index, changes } = print_profile(
         rt,
         profile,
@@ -66,5 +76,5 @@ where
     )?;
     apply_changes(&mut index, &changes);
     index.set_timestamp(timestamp);
-    Ok(text_with_index(alloc, text.as_slice(), &index)?)
+    Ok(members.with_index(alloc, &index)?)
 }

@@ -1,9 +1,10 @@
 //! The replay of a profile's history.
 
-ghost use Rattle.std.specs.Prelude.{◌≡◌, ◌⊎◌, All, IfOk};
+ghost use Rattle.std.specs.Prelude.{◌≡◌, ◌⊎◌, All, IfOk, IfSome};
 ghost use Rattle.status_world.specs.Reports.{HasSum, report_value};
 ghost use Rattle.status_cli.specs.Printing.{IsPrinted};
-ghost use Rattle.status_cli.specs.Replays.{IsHistoryPrinted, IsReplayed, IsSomePrinted};
+ghost use Rattle.status_cli.specs.ProfileStatuses.{IsFailed};
+ghost use Rattle.status_cli.specs.Replays.{IsHistoryPrinted, IsReplayed, IsReplayText};
 ghost use Rattle.status_cli.specs.Replays.{replay_lines, report_lines, run_lines, start_of};
 
 use crate::failure::Failure;
@@ -30,7 +31,9 @@ pub fn run_replay<R: AllocGlobal + Threads + Wait, I: io::Read, O: io::Write, E:
     faults: &mut E,
 ) -> u8
     ensures status { (result ≡ 0) ⊎ (result ≡ 1) }
-    ensures printed { result ≡ 0 → IsReplayed (O.contents output.old) (O.contents output.new) }
+    ensures printed { result ≡ 0 → IfSome (I.remaining profile.old) (λ text. IsReplayed text (O.contents output.old) (O.contents output.new)) }
+    ensures failed { result ≡ 1 → IfSome (I.remaining profile.old) (λ text. IsFailed (λ failure. IsReplayText text
+        (O.contents output.old) failure (O.contents output.new)) name.now (E.contents faults.old) (E.contents faults.new)) }
     ensures quiet { result ≡ 0 → E.contents faults.new ≡ E.contents faults.old }
 {
     match print_replay(rt, profile, output) {
@@ -44,7 +47,7 @@ fn print_replay<R: AllocGlobal + Threads + Wait, I: io::Read, O: io::Write>(
     profile: &mut I,
     output: &mut O,
 ) -> Result<(), Failure>
-    ensures { IsSomePrinted (O.contents output.old) result (O.contents output.new) }
+    ensures { IfSome (I.remaining profile.old) (λ text. IsReplayText text (O.contents output.old) result (O.contents output.new)) }
 {
     let alloc = rt.alloc();
     let text = read_all(alloc, profile)?;

@@ -1,6 +1,12 @@
 //! The status of a profile's index against its worktree.
 
-ghost use Rattle.std.specs.Prelude.{IfOk};
+ghost use Rattle.std.specs.Prelude.{◌≡◌, ◌⊎◌, Ok, IfOk, IfSome, Some, false, map};
+ghost use Rattle.status_base.specs.Trees.{empty_tree};
+ghost use Rattle.status_call.specs.Inputs.{usual};
+ghost use Rattle.status_profile.specs.Nodes.{node_value};
+ghost use Rattle.status_profile.specs.Options.{is_joined, option_values};
+ghost use Rattle.status_cli.specs.ProfileStatuses.{IsFailed, IsPlacePrinted, IsPrintedOver, IsProfilePrinted, IsReadPrinted, IsTextPrinted, planted};
+ghost use Rattle.status_cli.specs.Statuses.{IsPlainShown};
 ghost use Rattle.status_index.specs.States.{index_of};
 ghost use Rattle.status_call.specs.IndexChanges.{AreInside};
 
@@ -13,16 +19,19 @@ use crate::failure::Failure;
 use crate::input::read_all;
 use crate::status::joined::print_joined;
 use crate::status::no_walk::NoWalk;
-use crate::status::plain::print_plain;
+use crate::status::plain::{Usual, print_plain};
 use crate::status::profile_status::ProfileStatus;
 pub use crate::status::profile_status::{Changes, IndexChanges};
 use bstr::BString;
+use gix_status::index::{HashKind, State};
 use gix_status::index_as_worktree::ApplyChange;
 use gix_status::walk::{UntrackedWalk, Walk};
 use gix_status::worktree::{
     AllPaths, DiskWorktree, MemoryWorktree, Node, Pathspec, Prefix, Worktree,
 };
-use status_profile::{Place, Profile};
+use gix_status::world::Comparer;
+use status_call::index_as_worktree::inputs::Ask;
+use status_profile::{Kind, Place, Profile, ProfileOptions};
 use std::alloc::Global;
 use std::io;
 use std::path::Path;
@@ -44,6 +53,11 @@ pub fn run_status<
 where
     R::File: Send,
     R::Dir: Send,
+    ensures status { (result ≡ 0) ⊎ (result ≡ 1) }
+    ensures printed { result ≡ 0 → IfSome (I.remaining profile.old) (λ text. IsReadPrinted {A = Unit {0}} Kind.Any text (O.contents output.old) (Ok tt) (O.contents output.new)) }
+    ensures failed { result ≡ 1 → IfSome (I.remaining profile.old) (λ text. IsFailed (λ failure. IsTextPrinted Kind.Any text
+        (O.contents output.old) failure (O.contents output.new)) name.now (E.contents faults.old) (E.contents faults.new)) }
+    ensures quiet { result ≡ 0 → E.contents faults.new ≡ E.contents faults.old }
 {
     match print_status(rt, profile, output) {
         Ok(()) => 0,
@@ -59,9 +73,10 @@ fn print_status<R: AllocGlobal + Files + Sync + Threads + Wait, I: io::Read, O: 
 where
     R::File: Send,
     R::Dir: Send,
+    ensures { IfSome (I.remaining profile.old) (λ text. IsTextPrinted Kind.Any text (O.contents output.old) result (O.contents output.new)) }
 {
     let text = read_all(rt.alloc(), profile)?;
-    let profile = Profile::from_json(rt.alloc(), text.as_slice())?;
+    let profile = Profile::from_json(rt.alloc(), text.as_slice(), Kind::Any)?;
     print_profile(rt, profile, Changes::Dropped, output)?;
     Ok(())
 }
@@ -76,49 +91,75 @@ pub fn print_profile<R: AllocGlobal + Files + Sync + Threads + Wait, O: io::Writ
 where
     R::File: Send,
     R::Dir: Send,
-    ensures { IfOk result (λ r. AreInside r.changes.items (index_of r.index)) }
+    ensures inside { IfOk result (λ r. AreInside r.changes.items (index_of r.index)) }
+    ensures printed { IsProfilePrinted profile (O.contents output.old) result (O.contents output.new) }
 {
-    let alloc = rt.alloc();
     let Profile {
         hash,
         options,
         index,
         place,
     } = profile;
-    let changes = match place {
+    let changes = print_place(rt, &index, hash, options, place, changes, output)?;
+    Ok(IndexChanges { index, changes })
+}
+
+/// Prints the status of an index against the worktree that is at a place.
+fn print_place<R: AllocGlobal + Files + Sync + Threads + Wait, O: io::Write>(
+    rt: &R,
+    index: &State,
+    hash: HashKind,
+    options: ProfileOptions,
+    place: Place,
+    changes: Changes,
+    output: &mut O,
+) -> Result<Vec<ApplyChange>, Failure>
+where
+    R::File: Send,
+    R::Dir: Send,
+    ensures inside { IfOk result (λ changes. AreInside changes.items (index_of index.now)) }
+    ensures printed { IsPlacePrinted place options index.now (O.contents output.old) result (O.contents output.new) }
+{
+    let alloc = rt.alloc();
+    match place {
         Place::Nodes(nodes) => {
+            let worktree = plant(alloc, nodes)?;
             let status = ProfileStatus {
-                index: &index,
-                worktree: &plant(alloc, nodes)?,
+                index,
+                worktree: &worktree,
                 walk: UntrackedWalk::new(alloc),
                 hash,
                 options,
                 changes,
             };
-            print_prefixed(rt, status, output)?
+            print_prefixed(rt, status, output)
         }
         Place::Folder(folder) => {
+            let worktree = DiskWorktree::new(rt, Path::new(folder.as_str()))?;
             let status = ProfileStatus {
-                index: &index,
-                worktree: &DiskWorktree::new(rt, Path::new(folder.as_str()))?,
+                index,
+                worktree: &worktree,
                 walk: NoWalk,
                 hash,
                 options,
                 changes,
             };
-            print_prefixed(rt, status, output)?
+            print_prefixed(rt, status, output)
         }
-    };
-    Ok(IndexChanges { index, changes })
+    }
 }
 
 /// Makes the worktree of these nodes.
-fn plant(alloc: Global, nodes: Vec<(BString, Node)>) -> Result<MemoryWorktree, Failure> {
+fn plant(alloc: Global, nodes: Vec<(BString, Node)>) -> Result<MemoryWorktree, Failure>
+    ensures { IfOk result (λ tree. planted empty_tree (map node_value nodes.items) ≡ Some tree) }
+{
     let mut worktree = MemoryWorktree::new(alloc);
-    for (at, (path, node)) in nodes.into_iter().enumerate() {
-        worktree
-            .put(path.as_bstr(), node)
-            .map_err(|error| Failure::of_node(error, at))?;
+    let mut at: usize = 0;
+    for (path, node) in nodes {
+        if let Err(error) = worktree.put(path.as_bstr(), node) {
+            return Err(Failure::of_node(error, at));
+        }
+        at = at.saturating_add(1);
     }
     Ok(worktree)
 }
@@ -132,7 +173,9 @@ fn print_prefixed<
 >(rt: &R, status: ProfileStatus<'_, W, K>, output: &mut O) -> Result<Vec<ApplyChange>, Failure>
 where
     W::File: Send,
-    ensures { IfOk result (λ changes. AreInside changes.items (index_of status.entry.index.now)) }
+    ensures inside { IfOk result (λ changes. AreInside changes.items (index_of status.entry.index.now)) }
+    ensures printed { IsPrintedOver W.modelled W.lstat_of W.open_of W.target_of status.entry.worktree.now status.entry.options status.entry.index.now
+        (O.contents output.old) result (O.contents output.new) }
 {
     let prefix = status.options.prefix.as_bstr();
     if prefix.as_bytes().is_empty() {
@@ -144,6 +187,7 @@ where
 
 /// Prints a status of these paths, with untracked files, renames or sorted lines if the options have one of them.
 fn print_paths<
+    'a,
     R: AllocGlobal + Threads + Wait,
     W: Worktree + Sync,
     K: Walk<W> + Send + Drop,
@@ -151,13 +195,15 @@ fn print_paths<
     O: io::Write,
 >(
     rt: &R,
-    status: ProfileStatus<'_, W, K>,
+    status: ProfileStatus<'a, W, K>,
     pathspec: P,
     output: &mut O,
 ) -> Result<Vec<ApplyChange>, Failure>
 where
     W::File: Send,
-    ensures { IfOk result (λ changes. AreInside changes.items (index_of status.entry.index.now)) }
+    ensures inside { IfOk result (λ changes. AreInside changes.items (index_of status.entry.index.now)) }
+    ensures printed { is_joined (option_values status.entry.options) ≡ false → IsPlainShown ⟦<Usual<'a, W, Comparer, P> as Ask>⟧.query
+        (usual status.entry.worktree status.entry.options.comparer pathspec) status.entry.options status.entry.index.now O.contents output.old result output.new }
 {
     let comparer = status.options.comparer;
     if status.options.is_joined() {

@@ -1,5 +1,8 @@
 //! Why a profile isn't read.
 
+ghost use Rattle.std.specs.Prelude.{◌≡◌};
+ghost use Rattle.status_profile.specs.Failures.{error_under};
+
 use gix_status::index::IndexError;
 use hex::FromHexError;
 use std::alloc::{AllocError, AllocFailed};
@@ -57,6 +60,11 @@ pub enum ProfileError {
 }
 
 impl From<AllocError> for ProfileError {
+    ghost use Rattle.std.specs.Prelude.{◌≡◌};
+    ghost use Rattle.status_profile.specs.declared.error.ProfileError.TheVariants.{Memory};
+
+    ghost from_gives = { λ _ e. e ≡ Memory };
+
     fn from(_error: AllocError) -> ProfileError {
         ProfileError::Memory
     }
@@ -72,7 +80,38 @@ impl From<serde_json::Error> for ProfileError {
     }
 }
 
+impl From<json::Error> for ProfileError {
+    ghost use Rattle.std.specs.Prelude.{◌≡◌};
+    ghost use Rattle.status_profile.specs.Failures.{error_of_json};
+
+    ghost from_gives = { λ error e. e ≡ error_of_json error };
+
+    fn from(error: json::Error) -> ProfileError {
+        match error {
+            json::Error::OutOfMemory => ProfileError::Memory,
+            json::Error::Invalid | json::Error::TooLong | json::Error::DuplicateKey =>
+                ProfileError::NotJson,
+        }
+    }
+}
+
+impl From<json::Invalid> for ProfileError {
+    ghost use Rattle.std.specs.Prelude.{◌≡◌};
+    ghost use Rattle.status_profile.specs.declared.error.ProfileError.TheVariants.{NotJson};
+
+    ghost from_gives = { λ _ e. e ≡ NotJson };
+
+    fn from(_invalid: json::Invalid) -> ProfileError {
+        ProfileError::NotJson
+    }
+}
+
 impl From<IndexError> for ProfileError {
+    ghost use Rattle.std.specs.Prelude.{◌≡◌};
+    ghost use Rattle.status_profile.specs.Failures.{error_of_index};
+
+    ghost from_gives = { λ refusal e. e ≡ error_of_index refusal };
+
     fn from(error: IndexError) -> ProfileError {
         match error {
             IndexError::Memory => ProfileError::Memory,
@@ -90,12 +129,11 @@ pub enum FieldError {
     Memory,
 }
 
-/// What taking a field answers.
-pub type FieldTaken = Result<(), FieldError>;
-
 impl FieldError {
     /// Returns the error of a profile with this field under `key`.
-    pub fn under(self, key: Key) -> ProfileError {
+    pub fn under(self, key: Key) -> ProfileError
+        ensures { result ≡ error_under key self }
+    {
         match self {
             FieldError::Form => ProfileError::Bad(key),
             FieldError::Memory => ProfileError::Memory,
@@ -104,18 +142,33 @@ impl FieldError {
 }
 
 impl From<AllocError> for FieldError {
+    ghost use Rattle.std.specs.Prelude.{◌≡◌};
+    ghost use Rattle.status_profile.specs.declared.error.FieldError.TheVariants.{Memory};
+
+    ghost from_gives = { λ _ e. e ≡ Memory };
+
     fn from(_error: AllocError) -> FieldError {
         FieldError::Memory
     }
 }
 
 impl<T: Drop> From<AllocFailed<T>> for FieldError {
+    ghost use Rattle.std.specs.Prelude.{◌≡◌};
+    ghost use Rattle.status_profile.specs.declared.error.FieldError.TheVariants.{Memory};
+
+    ghost from_gives = { λ _ e. e ≡ Memory };
+
     fn from(_refused: AllocFailed<T>) -> FieldError {
         FieldError::Memory
     }
 }
 
 impl From<FromHexError> for FieldError {
+    ghost use Rattle.std.specs.Prelude.{◌≡◌};
+    ghost use Rattle.status_profile.specs.Failures.{error_of_digits};
+
+    ghost from_gives = { λ error e. e ≡ error_of_digits error };
+
     fn from(error: FromHexError) -> FieldError {
         match error {
             FromHexError::OutOfMemory => FieldError::Memory,

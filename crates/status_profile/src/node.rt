@@ -1,15 +1,23 @@
 //! The worktree of a profile.
 
-use crate::error::{FieldError, FieldTaken};
-use crate::field::{Fields, text_of};
-use crate::key::ItemKey;
-use crate::list::{Items, List};
-use crate::stat::StatFields;
-use crate::value::{FieldValue, Word};
+ghost use Rattle.std.specs.Prelude.{Option, option_and_then};
+ghost use Rattle.json.specs.Json.{Json};
+ghost use Rattle.json.specs.Value.{value_view};
+ghost use Rattle.status_index.specs.declared.metadata.NodeKind.TheVariants.{File};
+ghost use Rattle.status_profile.specs.Forms.{Reads, json_at, or_default};
+ghost use Rattle.status_profile.specs.Nodes.{bytes_of, digits_in, node_in, node_value, nodes_in, place_in, place_value};
+ghost use Rattle.status_profile.specs.Held.{nodes_value};
+ghost use Rattle.status_profile.specs.Words.{kind_in};
+
+use crate::error::FieldError;
+use crate::form::{required, text_of, text_or_empty, truth_or};
+use crate::items::Items;
+use crate::stat::stat_of;
+use crate::word::kind_of;
 use bstr::BString;
 use gix_status::worktree::{Node, NodeKind};
+use json::Value;
 use std::alloc::Global;
-use std::mem;
 
 /// Where a profile's worktree is.
 #[derive(Debug, Drop)]
@@ -20,111 +28,99 @@ pub enum Place {
     Folder(String),
 }
 
-/// Reads where the worktree is. If the profile has a folder, the nodes are ignored.
-pub fn read_place(
-    alloc: Global,
-    profile: Fields<'_>,
-    nodes: List<Nodes>,
-) -> Result<Place, FieldError> {
-    match profile.get("folder") {
-        Some(folder) => Ok(Place::Folder(String::from_str(alloc, text_of(folder)?)?)),
-        None => Ok(Place::Nodes(nodes?.nodes)),
-    }
-}
-
 /// The nodes of a profile with their paths.
 #[derive(Drop)]
 pub struct Nodes {
     nodes: Vec<(BString, Node)>,
-    /// The node that is being read.
-    fields: NodeFields,
-}
-
-/// The fields of a node, as far as they are read.
-#[derive(Drop)]
-struct NodeFields {
-    path: Option<BString>,
-    kind: NodeKind,
-    bytes: Vec<u8>,
-    has_hex: bool,
-    executable: bool,
-    stat: StatFields,
-}
-
-impl NodeFields {
-    /// No field is read.
-    fn none(alloc: Global) -> NodeFields {
-        NodeFields {
-            path: None,
-            kind: NodeKind::File,
-            bytes: Vec::new(alloc),
-            has_hex: false,
-            executable: false,
-            stat: StatFields::default(),
-        }
-    }
-
-    /// Returns the node with its path.
-    fn into_node(self) -> Result<(BString, Node), FieldError> {
-        let path = self.path.ok_or(FieldError::Form)?;
-        let stat = self.stat.of_size(0);
-        let node = Node {
-            kind: self.kind,
-            len: self.bytes.len() as u64,
-            bytes: self.bytes,
-            executable: self.executable,
-            mtime: Some(stat.mtime),
-            ctime: Some(stat.ctime),
-            dev: stat.dev,
-            ino: stat.ino,
-            uid: stat.uid,
-            gid: stat.gid,
-        };
-        Ok((path, node))
-    }
 }
 
 impl Items for Nodes {
+    ghost use Rattle.std.specs.Prelude.{is_some};
+    ghost use Rattle.status_profile.specs.Nodes.{node_in};
+    ghost use Rattle.status_profile.specs.Held.{HoldsNodes};
+
+    ghost holds = { HoldsNodes };
+
+    ghost fits = { λ j. is_some (node_in j) };
+
     fn none(alloc: Global) -> Nodes {
         Nodes {
             nodes: Vec::new(alloc),
-            fields: NodeFields::none(alloc),
         }
     }
 
-    fn set<V: FieldValue>(&mut self, alloc: Global, key: ItemKey, value: &mut V) -> FieldTaken {
-        let fields = &mut self.fields;
-        match key {
-            ItemKey::Path => fields.path = Some(BString::from(value.text(alloc)?)),
-            ItemKey::Kind => fields.kind = value.word()?,
-            ItemKey::Hex => {
-                fields.bytes = hex::decode(alloc, value.text(alloc)?)?;
-                fields.has_hex = true;
-            }
-            // A text after digits is ignored. Among a JSON value's members the digits come first.
-            ItemKey::Text if fields.has_hex => value.pass(alloc)?,
-            ItemKey::Text => fields.bytes = value.text(alloc)?.into_bytes(),
-            ItemKey::Executable => fields.executable = value.truth()?,
-            _ => fields.stat.set(alloc, key, value)?,
-        }
-        Ok(())
-    }
-
-    fn end(&mut self, alloc: Global) -> Result<(), FieldError> {
-        let fields = mem::replace(&mut self.fields, NodeFields::none(alloc));
-        self.nodes.push(fields.into_node()?)?;
+    fn push(&mut self, alloc: Global, item: &Value<'_>) -> Result<(), FieldError> {
+        self.nodes.push(read_node(alloc, item)?)?;
         Ok(())
     }
 }
 
-impl Word for NodeKind {
-    fn of_word(word: &str) -> Option<NodeKind> {
-        match word {
-            "file" => Some(NodeKind::File),
-            "link" => Some(NodeKind::Link),
-            "directory" => Some(NodeKind::Directory),
-            "other" => Some(NodeKind::Other),
-            _ => None,
-        }
+/// Reads a node and its path. Other keys than those of a node are ignored.
+#[tactic(auto, unfolding(crate::specs::Nodes::node_in))]
+fn read_node(alloc: Global, value: &Value<'_>) -> Result<(BString, Node), FieldError>
+    ensures { Reads node_value result (node_in (value_view value.now)) }
+{
+    let path = text_of(required(value.get("path"))?)?;
+    let kind = kind_or_file(value.get("kind"))?;
+    let bytes = read_bytes(alloc, value.get("hex"), value.get("text"))?;
+    let executable = truth_or(value.get("executable"), false)?;
+    let stat = stat_of(value, 0)?;
+    let node = Node {
+        kind,
+        len: bytes.len() as u64,
+        bytes,
+        executable,
+        mtime: Some(stat.mtime),
+        ctime: Some(stat.ctime),
+        dev: stat.dev,
+        ino: stat.ino,
+        uid: stat.uid,
+        gid: stat.gid,
+    };
+    Ok((BString::from_slice(alloc, path.as_bytes())?, node))
+}
+
+/// Reads the kind of a node, which is that of a file if it is missing.
+fn kind_or_file(value: Option<&Value<'_>>) -> Result<NodeKind, FieldError>
+    ensures { Reads (λ k. k) result (or_default kind_in File (json_at value.entry)) }
+{
+    match value {
+        Some(kind) => kind_of(kind),
+        None => Ok(NodeKind::File),
+    }
+}
+
+/// Reads the bytes of a node from its digits, or from its text if there are none.
+fn read_bytes(
+    alloc: Global,
+    hex: Option<&Value<'_>>,
+    text: Option<&Value<'_>>,
+) -> Result<Vec<u8>, FieldError>
+    ensures { Reads (λ bytes. bytes.items) result (bytes_of (json_at hex.entry) (json_at text.entry)) }
+{
+    match hex {
+        Some(digits) => read_digits(alloc, digits),
+        None => Ok(Vec::from_slice(alloc, text_or_empty(text)?.as_bytes())?),
+    }
+}
+
+/// Reads bytes from pairs of hexadecimal digits.
+fn read_digits(alloc: Global, value: &Value<'_>) -> Result<Vec<u8>, FieldError>
+    ensures { Reads (λ bytes. bytes.items) result (digits_in (value_view value.now)) }
+{
+    Ok(hex::decode(alloc, text_of(value)?)?)
+}
+
+/// Returns where a worktree is. If there is a folder, the nodes are ignored.
+pub fn read_place(
+    alloc: Global,
+    folder: Option<&Value<'_>>,
+    nodes: Result<Nodes, FieldError>,
+) -> Result<Place, FieldError>
+    ensures { (list : Option Json) → Reads nodes_value nodes (option_and_then nodes_in list) → Reads place_value result (place_in (json_at folder.entry) list) }
+{
+    match folder {
+        Some(folder) => Ok(Place::Folder(String::from_str(alloc, text_of(folder)?)?)),
+        None => Ok(Place::Nodes(nodes?.nodes)),
     }
 }

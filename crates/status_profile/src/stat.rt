@@ -1,40 +1,27 @@
-//! The stamps and the owner of a file, in the fields of an entry or of a node.
+//! The stat of an entry or a node.
 
-use crate::error::FieldTaken;
-use crate::key::ItemKey;
-use crate::value::FieldValue;
+ghost use Rattle.json.specs.Value.{value_view};
+ghost use Rattle.status_profile.specs.Forms.{Reads};
+ghost use Rattle.status_profile.specs.Stats.{stat_in};
+
+use crate::error::FieldError;
+use crate::form::{number_or_zero, time_or};
 use gix_status::index::{Stat, Time};
-use std::alloc::Global;
+use json::Value;
 
-/// The fields of a stat, as far as they are read.
-#[derive(Clone, Copy, Default)]
-pub struct StatFields {
-    /// All but the ctime.
-    stat: Stat,
-    ctime: Option<Time>,
-}
-
-impl StatFields {
-    /// Takes a field. A field with another key is ignored.
-    pub fn set<V: FieldValue>(&mut self, alloc: Global, key: ItemKey, value: &mut V) -> FieldTaken {
-        match key {
-            ItemKey::Mtime => self.stat.mtime = value.stamp()?,
-            ItemKey::Ctime => self.ctime = Some(value.stamp()?),
-            ItemKey::Dev => self.stat.dev = value.number()?,
-            ItemKey::Ino => self.stat.ino = value.number()?,
-            ItemKey::Uid => self.stat.uid = value.number()?,
-            ItemKey::Gid => self.stat.gid = value.number()?,
-            _ => value.pass(alloc)?,
-        }
-        Ok(())
-    }
-
-    /// Returns the stat of a file of this size. If the ctime is missing, it is the mtime.
-    pub fn of_size(self, size: u32) -> Stat {
-        Stat {
-            ctime: self.ctime.unwrap_or(self.stat.mtime),
-            size,
-            ..self.stat
-        }
-    }
+/// Reads the stat of a file of this size from an entry or a node. If the ctime is missing, it is the mtime.
+#[tactic(auto, unfolding(crate::specs::Stats::stat_in))]
+pub fn stat_of(value: &Value<'_>, size: u32) -> Result<Stat, FieldError>
+    ensures { Reads (λ stat. stat) result (stat_in size (value_view value.now)) }
+{
+    let mtime = time_or(value.get("mtime"), Time { secs: 0, nsecs: 0 })?;
+    Ok(Stat {
+        mtime,
+        ctime: time_or(value.get("ctime"), mtime)?,
+        dev: number_or_zero(value.get("dev"))?,
+        ino: number_or_zero(value.get("ino"))?,
+        uid: number_or_zero(value.get("uid"))?,
+        gid: number_or_zero(value.get("gid"))?,
+        size,
+    })
 }

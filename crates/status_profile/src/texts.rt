@@ -8,26 +8,38 @@ use status_stored::{StoreError, store_one};
 use std::alloc::{AllocError, Global};
 use std::collections::BTreeMap;
 
-/// Returns the text of a profile with another index, and with all other keys unchanged. At most one entry or node is in
-/// memory as a JSON value.
-pub fn text_with_index(alloc: Global, text: &[u8], index: &State) -> Result<String, ProfileError> {
-    let Texts(mut members) = serde_json::from_slice(alloc, text)?;
-    let Moment { secs, nsecs } = index.timestamp();
-    let timestamp = format!(in alloc; "[{secs},{nsecs}]")?;
-    put_member(alloc, &mut members, "index", String::new(alloc))?;
-    put_member(alloc, &mut members, "timestamp", timestamp)?;
-    object_with_index(alloc, members, index)
+/// The compact texts of a profile's members, by key. If a key is repeated, its last member counts.
+#[derive(Drop)]
+pub struct MemberTexts(BTreeMap<String, String>);
+
+impl MemberTexts {
+    /// Reads the members of a profile from JSON text, with at most one entry or node in memory as a JSON value.
+    ///
+    /// # Errors
+    /// The text isn't JSON, or has a number outside of a float's range, or nests more than 127 deep. Or memory ran out.
+    pub fn from_json(alloc: Global, text: &[u8]) -> Result<MemberTexts, ProfileError> {
+        Ok(serde_json::from_slice(alloc, text)?)
+    }
+
+    /// Returns the text of the profile with another index, and with all other keys unchanged.
+    ///
+    /// # Errors
+    /// Memory ran out.
+    pub fn with_index(self, alloc: Global, index: &State) -> Result<String, ProfileError> {
+        let MemberTexts(mut members) = self;
+        let Moment { secs, nsecs } = index.timestamp();
+        let timestamp = format!(in alloc; "[{secs},{nsecs}]")?;
+        put_member(alloc, &mut members, "index", String::new(alloc))?;
+        put_member(alloc, &mut members, "timestamp", timestamp)?;
+        object_with_index(alloc, members, index)
+    }
 }
 
-/// The compact texts of an object's members, by key. If a key is repeated, its last member counts.
-#[derive(Drop)]
-struct Texts(BTreeMap<String, String>);
-
-impl<'de> Deserialize<'de> for Texts {
+impl<'de> Deserialize<'de> for MemberTexts {
     fn deserialize<F: Format>(
         alloc: Global,
         from: &mut Deserializer<'de, '_, F>,
-    ) -> Result<Texts, F::Error> {
+    ) -> Result<MemberTexts, F::Error> {
         let mut texts = BTreeMap::new(alloc);
         from.begin_map()?;
         for _ in 0..u64::MAX {
@@ -40,7 +52,7 @@ impl<'de> Deserialize<'de> for Texts {
                 return Err(from.no_memory());
             }
         }
-        Ok(Texts(texts))
+        Ok(MemberTexts(texts))
     }
 }
 

@@ -24,7 +24,7 @@ use std::sync::Wait;
 use std::thread::Threads;
 
 /// A worktree, a comparer and a pathspec beside the usual interfaces.
-type Usual<'w, W, C, P> = Inputs<'w, W, C, NoSubmodules, MemoryObjects, P, NoFilter, NoLister>;
+pub type Usual<'w, W, C, P> = Inputs<'w, W, C, NoSubmodules, MemoryObjects, P, NoFilter, NoLister>;
 
 /// Prints a status of these paths by this comparer, and returns the changes that it asks for if they are wanted. If the
 /// status fails, the records before the fault are printed.

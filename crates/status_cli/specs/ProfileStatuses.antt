@@ -1,0 +1,90 @@
+-- What is printed of a profile's status.
+use Rattle.std.specs.Prelude.{◌≡◌, ◌⊎◌, nat_eq, ℕ, Bool, true, false, List, [], ◌∷◌, map, Option, Some, None, Result, Ok, Err, ⊤}
+use Rattle.std.specs.FinMap as paths
+use Rattle.std.specs.List.{starts_with}
+use Rattle.std.specs.Result.{IsErr, IsErrAnd}
+use Rattle.status_index.specs.Content.{Content}
+use Rattle.status_index.specs.States.{timestamp_of}
+use Rattle.status_index.specs.declared.fault.Fault.{Fault}
+use Rattle.status_index.specs.declared.id.ObjectId.{ObjectId}
+use Rattle.status_index.specs.declared.metadata.Metadata.{Metadata}
+use Rattle.status_index.specs.declared.stat.Moment.{Moment}
+use Rattle.status_index.specs.declared.state.State.{State}
+use Rattle.status_base.specs.MemoryTree.{Placed, Tree, lstat_in, open_in, target_in}
+use Rattle.status_base.specs.Nodes.{put_fault}
+use Rattle.status_base.specs.Trees.{empty_tree}
+use Rattle.status_base.specs.declared.worktree.memory.TreeError.{TreeError}
+use Rattle.status_call.specs.Query.{Query}
+use Rattle.status_world.specs.RunStatus.{status_query}
+use Rattle.status_world.specs.StampedWorld.{compared_by, counted_by}
+use Rattle.status_profile.specs.Forms.{◌>>=◌}
+use Rattle.status_profile.specs.Nodes.{node_value}
+use Rattle.status_profile.specs.Options.{OptionValues, is_joined, option_values}
+use Rattle.status_profile.specs.Profiles.{IsRead}
+use Rattle.status_profile.specs.declared.node.Place.{Place}
+use Rattle.status_profile.specs.declared.node.Place.TheVariants as places
+use Rattle.status_profile.specs.declared.options.Kind.{Kind}
+use Rattle.status_profile.specs.declared.options.ProfileOptions.{ProfileOptions}
+use Rattle.status_profile.specs.declared.profile.Profile.{Profile}
+use Rattle.status_profile.specs.declared.error.ProfileError.{ProfileError}
+use Rattle.status_cli.specs.declared.failure.Failure.{Failure}
+use Rattle.status_cli.specs.declared.failure.Failure.TheVariants.{Unreadable, Memory}
+use Rattle.status_cli.specs.Failures.{failure_of_profile}
+use Rattle.status_cli.specs.FaultLines.{failure_line, names_submodule}
+use Rattle.status_cli.specs.Printing.{IsBegun}
+use Rattle.status_cli.specs.Statuses.{IsStatusPrinted}
+
+-- what a status by a profile's options depends on, over a worktree that returns this: all paths that begin with the prefix
+abbrev pub options_query : OptionValues → Moment → Bool → (List ℕ → Result Metadata Fault) → (List ℕ → Result Content Fault) → (List ℕ → Result (List ℕ) Fault) → Query (Option ObjectId) (Unit {0})
+options_query o timestamp modelled lstat opened linked =
+    record (status_query o.status timestamp modelled lstat opened linked (compared_by o.comparer) (counted_by o.comparer)) {
+      prefix = o.prefix;
+      included = λ path _. starts_with nat_eq path o.prefix;
+    }
+
+-- the text of a profile can't be read, and nothing was printed
+abbrev pub IsUnreadPrinted : {A : Type 0} → Option (List ℕ) → Result A Failure → Option (List ℕ) → Type 0
+IsUnreadPrinted old result new = IsErrAnd result (λ f. (f ≡ Unreadable) ⊎ (f ≡ Memory)) × (new ≡ old)
+
+-- a tree with one more node, unless the node can't be put there
+abbrev pub with_placed : Tree → List ℕ × Placed → Option TreeError → Option Tree
+with_placed tree node None = Some (record tree { nodes = paths.insert tree.nodes node.0 node.1 })
+with_placed tree node (Some e) = None
+
+-- a tree with nodes that are put one after the other, if each can be put
+abbrev pub planted : Tree → List (List ℕ × Placed) → Option Tree
+planted tree [] = Some tree
+planted tree (node ∷ nodes) = with_placed tree node (put_fault tree node.0 node.1.metadata.kind) >>= (λ more. planted more nodes)
+
+-- of a plain status over any worktree, the lines of the status were printed; or nothing, since the command failed before
+abbrev pub IsPrintedOver : {W A : Type 0} → (W → Bool) → (W → List ℕ → Result Metadata Fault) → (W → List ℕ → Result Content Fault) → (W → List ℕ → Result (List ℕ) Fault) → W → ProfileOptions → State
+    → Option (List ℕ) → Result A Failure → Option (List ℕ) → Type 0
+IsPrintedOver modelled lstat opened linked w options index old result new =
+    is_joined (option_values options) ≡ false
+    → (IsErr result × (new ≡ old)) ⊎ IsStatusPrinted (options_query (option_values options) (timestamp_of index) (modelled w) (lstat w) (opened w) (linked w)) index options.counts old result new
+
+-- the same over the tree of a profile's nodes; nothing is said of a folder
+abbrev pub IsPlacePrinted : {A : Type 0} → Place → ProfileOptions → State → Option (List ℕ) → Result A Failure → Option (List ℕ) → Type 0
+IsPlacePrinted (places.Folder path) options index old result new = ⊤
+IsPlacePrinted (places.Nodes nodes) options index old result new =
+    (IsErr result × (new ≡ old))
+    ⊎ ((tree : Tree) × (planted empty_tree (map node_value nodes.items) ≡ Some tree) × IsPrintedOver (λ (t : Tree). true) lstat_in open_in target_in tree options index old result new)
+
+abbrev pub IsProfilePrinted : {A : Type 0} → Profile → Option (List ℕ) → Result A Failure → Option (List ℕ) → Type 0
+IsProfilePrinted p old result new = IsPlacePrinted p.place p.options p.index old result new
+
+-- a text was read as a profile, and this was printed of it
+abbrev pub IsReadPrinted : {A : Type 0} → Kind → List ℕ → Option (List ℕ) → Result A Failure → Option (List ℕ) → Type 0
+IsReadPrinted kind text old result new = (p : Profile) × IsRead kind text (Ok p) × IsProfilePrinted p old result new
+
+-- a text was read as a profile, and this was printed of it; or it says none, and the command fails for this reason; or it can't be
+-- read. In both of these nothing was printed
+abbrev pub IsTextPrinted : {A : Type 0} → Kind → List ℕ → Option (List ℕ) → Result A Failure → Option (List ℕ) → Type 0
+IsTextPrinted kind text old result new =
+    (IsUnreadPrinted old result new ⊎ ((e : ProfileError) × IsRead kind text (Err e) × IsErrAnd result (λ f. f ≡ failure_of_profile e) × (new ≡ old)))
+    ⊎ IsReadPrinted kind text old result new
+
+-- of a command that ended with exit status 1: a beginning of one fault line was written, and this was printed before it. The line of
+-- a submodule's fault isn't defined
+abbrev pub IsFailed : (Result (Unit {0}) Failure → Type 0) → List ℕ → Option (List ℕ) → Option (List ℕ) → Type 0
+IsFailed Printed name old new = (f : Failure) × Printed (Err f) × (names_submodule f ≡ false → IsBegun (failure_line name f) old new)

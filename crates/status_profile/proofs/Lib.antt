@@ -1,0 +1,11 @@
+pub mod Eaches
+pub mod Fronts
+pub mod Held
+pub mod Histories
+pub mod Keys
+pub mod Lengths
+pub mod MemberSteps
+pub mod Numbers
+pub mod Stamps
+pub mod Stretches
+pub mod Tokens

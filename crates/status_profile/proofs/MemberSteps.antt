@@ -1,0 +1,100 @@
+-- The members that were read, with one more.
+use Rattle.std.proofs.Common.{◌≡◌, ℕ, Bool, true, false, cond, List, [], ◌∷◌, ◌++◌, Option, Some, None, Result, Ok, Err, is_some, refl, ap, ◌∙◌}
+use Rattle.std.specs.Prelude.{codes}
+use Rattle.std.specs.Str.{bytes_eq}
+use Rattle.std.proofs.lemmas.Slice.Eq.{bytes_eq-Decides}
+use Rattle.json.specs.Token.{Token}
+use Rattle.json.specs.Json.{Json, Items, Members as MembersOf, null, boolean, number, string, array, object, no_members, member, parse_map}
+use Rattle.json.specs.Find.{as_object, get_member, later_or}
+use Rattle.status_profile.specs.declared.entry.Entries.{Entries}
+use Rattle.status_profile.specs.declared.error.FieldError.{FieldError}
+use Rattle.status_profile.specs.declared.error.FieldError.TheVariants.{Form, Memory}
+use Rattle.status_profile.specs.declared.members.Members.{Members}
+use Rattle.status_profile.specs.declared.node.Nodes.{Nodes}
+use Rattle.status_profile.specs.Entries.{entries_in, entry_in}
+use Rattle.status_profile.specs.Forms.{◌>>=◌, Reads, each, is_object}
+use Rattle.status_profile.specs.Held.{AreEntriesRead, HoldsEntries, HoldsNodes, nodes_value}
+use Rattle.status_profile.specs.Members.{HasMembers, with_member}
+use Rattle.status_profile.specs.Nodes.{node_in, nodes_in}
+use Rattle.status_profile.specs.Steps.{IsValueRead}
+use Rattle.status_profile.proofs.Eaches.{each_misfit}
+
+pub entries_read : (js : Option Items) (list : Result Entries FieldError) → IsValueRead HoldsEntries (λ j. is_some (entry_in j)) js list → AreEntriesRead list (js >>= each entry_in)
+entries_read None list h = rw h refl
+entries_read (Some js) (Ok e) h = rw (h.same, h.read.1) h.read.2
+entries_read (Some js) (Err Form) h = rw h.same (each_misfit entry_in h.values h.read)
+entries_read (Some js) (Err Memory) h = absurd h.read
+
+pub nodes_read : (js : Option Items) (list : Result Nodes FieldError) → IsValueRead HoldsNodes (λ j. is_some (node_in j)) js list → Reads nodes_value list (js >>= each node_in)
+nodes_read None list h = rw h refl
+nodes_read (Some js) (Ok n) h = rw h.same h.read
+nodes_read (Some js) (Err Form) h = rw h.same (each_misfit node_in h.values h.read)
+nodes_read (Some js) (Err Memory) h = absurd h.read
+
+false_unless : (b : Bool) → (b ≡ true → ⊥) → b ≡ false
+false_unless true h = absurd (h refl)
+false_unless false h = refl
+
+pub unequal : (a b : List ℕ) → (a ≡ b → ⊥) → bytes_eq a b ≡ false
+unequal a b h = false_unless (bytes_eq a b) (λ t. h ((bytes_eq-Decides a b).0 t))
+
+module _ (m : Members) (g : List ℕ → Option Json) (h : HasMembers m g) (j : Json) where
+  pub set_entries : (list : Result Entries FieldError) → AreEntriesRead list (entries_in j) → HasMembers (record m { entries = list }) (with_member (codes "index") j g)
+  set_entries list read = record { hash = h.hash; timestamp = h.timestamp; options = h.options; folder = h.folder; entries = read; nodes = h.nodes }
+
+  pub set_nodes : (list : Result Nodes FieldError) → Reads nodes_value list (nodes_in j) → HasMembers (record m { nodes = list }) (with_member (codes "worktree") j g)
+  set_nodes list read = record { hash = h.hash; timestamp = h.timestamp; options = h.options; folder = h.folder; entries = h.entries; nodes = read }
+
+  pub pass_member : (key : List ℕ) → bytes_eq key (codes "hash") ≡ false → bytes_eq key (codes "timestamp") ≡ false → bytes_eq key (codes "options") ≡ false → bytes_eq key (codes "folder") ≡ false
+      → bytes_eq key (codes "index") ≡ false → bytes_eq key (codes "worktree") ≡ false → HasMembers m (with_member key j g)
+  pass_member key a b c d e f = record { hash = rw a h.hash; timestamp = rw b h.timestamp; options = rw c h.options; folder = rw d h.folder; entries = rw e h.entries; nodes = rw f h.nodes }
+
+pub same_members : (m : Members) (f g : List ℕ → Option Json) → ((name : List ℕ) → f name ≡ g name) → HasMembers m f → HasMembers m g
+same_members m f g same h = record {
+  hash = rw (← same (codes "hash")) h.hash;
+  timestamp = rw (← same (codes "timestamp")) h.timestamp;
+  options = rw (← same (codes "options")) h.options;
+  folder = rw (← same (codes "folder")) h.folder;
+  entries = rw (← same (codes "index")) h.entries;
+  nodes = rw (← same (codes "worktree")) h.nodes;
+}
+
+-- these members, and then the others
+abbrev pub members_onto : List (List ℕ × Json) → MembersOf → MembersOf
+members_onto [] ms = ms
+members_onto (x ∷ xs) ms = member x.0 x.1 (members_onto xs ms)
+
+members_onto-push : (xs : List (List ℕ × Json)) (k : List ℕ) (j : Json) (ms : MembersOf) → members_onto xs (member k j ms) ≡ members_onto (xs ++ (k, j) ∷ []) ms
+members_onto-push [] k j ms = refl
+members_onto-push (x ∷ xs) k j ms = ap (member x.0 x.1) (members_onto-push xs k j ms)
+
+pub no_member_before : (r : Option (MembersOf × List Token)) → r ≡ parse_map (members_onto []) r
+no_member_before None = refl
+no_member_before (Some p) = refl
+
+pub one_more_member : (xs : List (List ℕ × Json)) (k : List ℕ) (j : Json) (r : Option (MembersOf × List Token)) → parse_map (members_onto xs) (parse_map (member k j) r) ≡ parse_map (members_onto (xs ++ (k, j) ∷ [])) r
+one_more_member xs k j None = refl
+one_more_member xs k j (Some p) = ap (λ ms. Some (ms, p.1)) (members_onto-push xs k j p.0)
+
+later_none : (c : Option Json) → later_or c None ≡ c
+later_none None = refl
+later_none (Some j) = refl
+
+later_assoc : (a b c : Option Json) → later_or a (later_or b c) ≡ later_or (later_or a b) c
+later_assoc None b c = refl
+later_assoc (Some j) b c = refl
+
+-- what is found among members with one more
+pub found_with : (xs : List (List ℕ × Json)) (k : List ℕ) (j : Json) (name : List ℕ) → with_member k j (λ n. get_member n (members_onto xs no_members)) name ≡ get_member name (members_onto (xs ++ (k, j) ∷ []) no_members)
+found_with [] k j name = later_none _
+found_with (x ∷ xs) k j name =
+    later_assoc (cond (bytes_eq k name) (Some j) None) (get_member name (members_onto xs no_members)) (cond (bytes_eq x.0 name) (Some x.1) None)
+    ∙ ap (λ o. later_or o (cond (bytes_eq x.0 name) (Some x.1) None)) (found_with xs k j name)
+
+pub no_object : (j : Json) → as_object j ≡ None → is_object j ≡ false
+no_object null e = refl
+no_object (boolean b) e = refl
+no_object (number s) e = refl
+no_object (string s) e = refl
+no_object (array js) e = refl
+no_object (object ms) e = let never : ⊥ = cc in absurd never

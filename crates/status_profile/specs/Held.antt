@@ -1,0 +1,45 @@
+-- What the items of a list that were read hold.
+use Rattle.std.specs.Prelude.{◌≡◌, ℕ, List, map, Option, Some, None, Result, Ok, Err}
+use Rattle.json.specs.Json.{Json}
+use Rattle.json.specs.Value.{items_of}
+use Rattle.status_index.specs.declared.state.IndexError.{IndexError}
+use Rattle.status_index.specs.Entries.{IndexEntry, IsRefusal, said_of}
+use Rattle.status_index.specs.States.{index_of}
+use Rattle.status_base.specs.MemoryTree.{Placed}
+use Rattle.status_profile.specs.declared.entry.Entries.{Entries}
+use Rattle.status_profile.specs.declared.entry.Entry.{Entry}
+use Rattle.status_profile.specs.declared.error.FieldError.{FieldError}
+use Rattle.status_profile.specs.declared.error.FieldError.TheVariants.{Form, Memory}
+use Rattle.status_profile.specs.declared.node.Nodes.{Nodes}
+use Rattle.status_profile.specs.Entries.{entry_in}
+use Rattle.status_profile.specs.Forms.{each}
+use Rattle.status_profile.specs.Nodes.{node_in, node_value}
+
+abbrev pub entry_value : Entry → IndexEntry
+entry_value e = said_of e.path.now e.stat e.id e.flags e.mode
+
+-- an index has all of these entries; or those before a refused one, which is refused for this reason
+abbrev pub HasIndex : List IndexEntry → Option IndexError → List IndexEntry → Type 0
+HasIndex front None es = front ≡ es
+HasIndex front (Some e) es = IsRefusal es e
+
+abbrev pub HasEntries : Entries → List IndexEntry → Type 0
+HasEntries e es = HasIndex (index_of e.index) e.refusal es
+
+-- the entries of these values
+abbrev pub HoldsEntries : Entries → List Json → Type 0
+HoldsEntries e xs = (es : List IndexEntry) × (each entry_in (items_of xs) ≡ Some es) × HasEntries e es
+
+abbrev pub nodes_value : Nodes → List (List ℕ × Placed)
+nodes_value n = map node_value n.nodes.items
+
+-- the nodes of these values
+abbrev pub HoldsNodes : Nodes → List Json → Type 0
+HoldsNodes n xs = each node_in (items_of xs) ≡ Some (nodes_value n)
+
+-- what was read of a list of entries: those that it says, or that it has another form
+abbrev pub AreEntriesRead : Result Entries FieldError → Option (List IndexEntry) → Type 0
+AreEntriesRead (Ok e) (Some es) = HasEntries e es
+AreEntriesRead (Ok e) None = ⊥
+AreEntriesRead (Err Form) said = said ≡ None
+AreEntriesRead (Err Memory) said = ⊥

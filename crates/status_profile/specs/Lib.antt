@@ -1,0 +1,14 @@
+pub mod Entries
+pub mod Events
+pub mod Failures
+pub mod Forms
+pub mod Held
+pub mod Histories
+pub mod Members
+pub mod Nodes
+pub mod Options
+pub mod Parts
+pub mod Profiles
+pub mod Stats
+pub mod Steps
+pub mod Words

@@ -1,0 +1,51 @@
+-- The words of a profile that name a value.
+use Rattle.std.specs.Prelude.{ℕ, List, codes, Option, Some, None, if◌then◌else◌}
+use Rattle.std.specs.Str.{bytes_eq}
+use Rattle.json.specs.Json.{Json}
+use Rattle.json.specs.Find.{as_str}
+use Rattle.status_index.specs.declared.id.HashKind.{HashKind}
+use Rattle.status_index.specs.declared.id.HashKind.TheVariants.{Sha1, Sha256}
+use Rattle.status_index.specs.declared.id.ObjectId.{ObjectId}
+use Rattle.status_index.specs.declared.metadata.NodeKind.{NodeKind}
+use Rattle.status_index.specs.declared.metadata.NodeKind.TheVariants as kinds
+use Rattle.status_index.specs.declared.mode.Mode.{Mode}
+use Rattle.status_stored.specs.Words.{id_named, mode_named}
+use Rattle.status_world.specs.declared.world.event.Comparer.{Comparer}
+use Rattle.status_world.specs.declared.world.event.Comparer.TheVariants.{Hash, Fast}
+use Rattle.status_profile.specs.Forms.{◌>>=◌}
+
+-- how ids are made
+abbrev pub hash_named : List ℕ → Option HashKind
+hash_named word =
+    if bytes_eq word (codes "sha1") then Some Sha1
+    else (if bytes_eq word (codes "sha256") then Some Sha256 else None)
+
+-- how files are compared
+abbrev pub comparer_named : List ℕ → Option Comparer
+comparer_named word =
+    if bytes_eq word (codes "hash") then Some Hash
+    else (if bytes_eq word (codes "fast") then Some Fast else None)
+
+-- what a node is
+abbrev pub kind_named : List ℕ → Option NodeKind
+kind_named word =
+    if bytes_eq word (codes "file") then Some kinds.File
+    else (if bytes_eq word (codes "link") then Some kinds.Link
+    else (if bytes_eq word (codes "directory") then Some kinds.Directory
+    else (if bytes_eq word (codes "other") then Some kinds.Other
+    else None)))
+
+abbrev pub hash_in : Json → Option HashKind
+hash_in j = as_str j >>= hash_named
+
+abbrev pub comparer_in : Json → Option Comparer
+comparer_in j = as_str j >>= comparer_named
+
+abbrev pub kind_in : Json → Option NodeKind
+kind_in j = as_str j >>= kind_named
+
+abbrev pub mode_in : Json → Option Mode
+mode_in j = as_str j >>= mode_named
+
+abbrev pub id_in : Json → Option ObjectId
+id_in j = as_str j >>= id_named
