@@ -12,8 +12,8 @@ JSON value, as tokens or as bytes. How a run has to end:
 - with status 0 nothing is on standard error; with 1 one of the lines that docs/FORMATS.md has, want of memory and
   refused threads aside; with 2, which only other arguments give, the usage;
 - standard output has lines of the forms there, places ascend, runs are numbered, and a total line ends its run;
-- `not JSON` is said just where Python's reader refuses the text too, or where it has what no text can be: half of a
-  surrogate pair, a number past the range of floats, or more than 127 levels.
+- `not JSON` is printed exactly if Python's reader refuses the text too, or if the text has half of a surrogate pair, or
+  more than 128 levels; by `refresh` also if it has a number outside of a float's range, or 128 levels.
 
 Prints the seeds of other ends, and how often each exit status and fault line came. The exit status is 0 where no run
 ended otherwise, 1 where one did, and 2 where nothing was run.
@@ -40,8 +40,9 @@ DATA = os.path.join(TOP, "crates", "status_program", "data")
 USAGE = "usage: status_program status FILE | replay FILE | refresh FILE OUT SECS NSECS\n"
 # How many seeds a process is given at once.
 CHUNK = 100
-# How deep the program's reader goes.
-MOST_LEVELS = 127
+# How deep the program's reader goes, and its writer.
+MOST_LEVELS = 128
+MOST_LEVELS_WRITTEN = 127
 
 FAULT = r"not found|not a directory|permission denied|interrupted|unexpected end|not normal|time|other 0"
 MOMENTS = r"stamp later|bad moment"
@@ -127,20 +128,37 @@ def levels(text):
     return most
 
 
-READER = json.JSONDecoder(
-    object_pairs_hook=check_pairs, parse_float=plain_number, parse_int=plain_number, parse_constant=refuse_constant
-)
+def any_number(text):
+    return 0
+
+
+def decoder(number):
+    return json.JSONDecoder(
+        object_pairs_hook=check_pairs, parse_float=number, parse_int=number, parse_constant=refuse_constant
+    )
+
+
+READER, WRITER = decoder(any_number), decoder(plain_number)
+
+
+def is_text(content, reader, most_levels):
+    try:
+        text = content.decode()
+        value = reader.decode(text)
+        check_item(value)
+    except (ValueError, RecursionError):
+        return False
+    return levels(text) <= most_levels
 
 
 def is_json(content):
     """Whether the program's reader has to take this for JSON."""
-    try:
-        text = content.decode()
-        value = READER.decode(text)
-        check_item(value)
-    except (ValueError, RecursionError):
-        return False
-    return levels(text) <= MOST_LEVELS
+    return is_text(content, READER, MOST_LEVELS)
+
+
+def is_rewritable(content):
+    """Whether `refresh` has to write this again, if it is a profile."""
+    return is_text(content, WRITER, MOST_LEVELS_WRITTEN)
 
 
 def wrong_lines(command, status, out):
@@ -163,6 +181,13 @@ def wrong_lines(command, status, out):
     return "a status that failed has a total line" if closed and status == 1 and command != "replay" else None
 
 
+def is_other_opinion(case, status, is_refused):
+    """Whether the program takes for JSON what isn't, or the other way round."""
+    if case.command == "refresh" and is_json(case.content) and not is_rewritable(case.content):
+        return status == 0
+    return is_refused == is_json(case.content)
+
+
 def wrong(case, ended):
     """What is wrong with how a run ended, if anything."""
     if ended.status not in (0, 1, 2):
@@ -180,7 +205,7 @@ def wrong(case, ended):
         return "another line on standard error"
     if fault.startswith("cannot read ") != case.is_missing:
         return "a file that is there can't be read, or one that isn't is read"
-    if not case.is_missing and (fault == "not JSON\n") == is_json(case.content):
+    if not case.is_missing and is_other_opinion(case, ended.status, fault == "not JSON\n"):
         return "another opinion of what JSON is"
     return wrong_lines(case.command, ended.status, out)
 

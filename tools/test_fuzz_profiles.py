@@ -90,15 +90,26 @@ class Judging(unittest.TestCase):
 
 class Json(unittest.TestCase):
     def test_json_is_that_of_the_standard(self):
-        deep = b"[" * 127 + b"]" * 127
-        good = [b"{}", b" [1, -0, 1.5e-3]\n", b'"\\ud83d\\ude00"', b"1e308", b"9" * 300, b'"' + b"[" * 200 + b'"', deep]
+        deep = b"[" * 128 + b"]" * 128
+        good = [b"{}", b" [1, -0, 1.5e-3]\n", b'"\\ud83d\\ude00"', b"1e308", b"9" * 300, b"1e400", b"9" * 400, b'"' + b"[" * 200 + b'"', deep]
         for text in good:
             self.assertTrue(tool.is_json(text), text)
         bad = [b"", b"{", b"[1,]", b"01", b"+1", b".5", b"NaN", b"-Infinity", b"'a'", b'"\t"', b'"\\x"']
         bad += [b"\xef\xbb\xbf{}", b"{} {}", b'"\xff"', b'"\xed\xa0\x80"', b'"\\ud800"', b'{"\\udc00":1}']
-        bad += [b'{"a":"\\ud800","a":1}', b"1e400", b"9" * 400, b"[" + deep + b"]", b"[" * 5000 + b"]" * 5000]
+        bad += [b'{"a":"\\ud800","a":1}', b"[" + deep + b"]", b"[" * 5000 + b"]" * 5000]
         for text in [*bad, b"\x0c1", b"\xc2\xa01"]:
             self.assertFalse(tool.is_json(text), text)
+
+
+    def test_what_is_written_again_has_numbers_in_range_and_fewer_levels(self):
+        self.assertTrue(tool.is_rewritable(b"[" * 127 + b"1e308" + b"]" * 127))
+        for text in (b"1e400", b"-" + b"9" * 400, b"[" * 128 + b"]" * 128, b"{"):
+            self.assertFalse(tool.is_rewritable(text), text)
+
+    def test_a_refresh_may_refuse_what_it_cannot_write_again(self):
+        for status, out, fault, is_right in ((1, "", "not JSON\n", True), (1, "", "bad profile: hash\n", True), (0, "", "", False)):
+            case = tool.Case("refresh", b"1e400", ())
+            self.assertEqual(tool.is_other_opinion(case, status, fault == "not JSON\n"), not is_right)
 
 
 class Seeds(unittest.TestCase):

@@ -24,14 +24,14 @@ TOTALS = b"total: to process 0, processed 0, skipped 0, lstat 0, to update 0, ra
 
 # So many lists in one another, within a profile.
 LEVELS = [
-    ("", 127, "", "bad profile: hash"),
-    ("", 128, "", "not JSON"),
-    ('{"more":', 126, "}", "bad profile: timestamp"),
-    ('{"more":', 127, "}", "not JSON"),
-    ('{"index":[', 125, "]}", "bad profile: timestamp"),
-    ('{"index":[', 126, "]}", "not JSON"),
-    ('{"worktree":', 126, "}", "bad profile: timestamp"),
-    ('{"worktree":', 127, "}", "not JSON"),
+    ("", 128, "", "bad profile: hash"),
+    ("", 129, "", "not JSON"),
+    ('{"more":', 127, "}", "bad profile: timestamp"),
+    ('{"more":', 128, "}", "not JSON"),
+    ('{"index":[', 126, "]}", "bad profile: timestamp"),
+    ('{"index":[', 127, "]}", "not JSON"),
+    ('{"worktree":', 127, "}", "bad profile: timestamp"),
+    ('{"worktree":', 128, "}", "not JSON"),
 ]
 
 WHOLE = """What the file is about.
@@ -261,7 +261,7 @@ class Inputs(unittest.TestCase):
                 self.write(text.encode())
                 self.assert_ends("status f", 1, b"", b"not JSON\n")
 
-    def test_more_than_127_levels_are_no_json(self):
+    def test_more_than_128_levels_are_no_json(self):
         # A profile is itself the first level, and its index the second.
         for front, levels, back, fault in LEVELS:
             with self.subTest(front=front, levels=levels):

@@ -345,6 +345,15 @@ def kept(top):
     return found
 
 
+def is_running(process):
+    """Whether a process is there that hasn't ended. One that nobody waits for stays there as a zombie."""
+    try:
+        with open(f"/proc/{process}/stat", encoding="utf-8") as file:
+            return file.read().rpartition(") ")[2][0] != "Z"
+    except FileNotFoundError:
+        return False
+
+
 class Printed(Case):
     """What the tool makes of the program's lines, with programs of the test's own in place of the built one."""
 
@@ -412,8 +421,7 @@ class Printed(Case):
         process = int(reader.readline())
         ran.send_signal(signal.SIGINT)
         self.assertEqual((ran.communicate(timeout=20), ran.returncode), ((b"", b""), 130))
-        with self.assertRaises(ProcessLookupError):
-            os.kill(process, 0)
+        self.assertFalse(is_running(process))
 
     def started(self, *lines, stderr=subprocess.PIPE):
         """The tool, which was started, and what reads the number of the program's process."""

@@ -1,4 +1,4 @@
--- What a command printed, as one part of it hands its answer on to the next.
+-- The output of a command whose parts pass their results on.
 use Rattle.std.proofs.Common.{◌≡◌, Bool, true, ℕ, List, Option, Some, None, Result, Ok, Err, inl, inr, refl, sym, subst, ◌∙◌}
 use Rattle.std.specs.Prelude.{◌⊎◌, IfSome}
 use Rattle.std.specs.Result.{IsErr, IsErrAnd}

@@ -63,7 +63,7 @@ IsPrintedOver modelled lstat opened linked w options index old result new =
     is_joined (option_values options) ≡ false
     → (IsErr result × (new ≡ old)) ⊎ IsStatusPrinted (options_query (option_values options) (timestamp_of index) (modelled w) (lstat w) (opened w) (linked w)) index options.counts old result new
 
--- the same over the tree of a profile's nodes; nothing is said of a folder
+-- the same over the tree of a profile's nodes; of a folder nothing is claimed
 abbrev pub IsPlacePrinted : {A : Type 0} → Place → ProfileOptions → State → Option (List ℕ) → Result A Failure → Option (List ℕ) → Type 0
 IsPlacePrinted (places.Folder path) options index old result new = ⊤
 IsPlacePrinted (places.Nodes nodes) options index old result new =

@@ -25,7 +25,7 @@ reported_line r = record_line r.entry_index r.path r.status
 abbrev pub report_lines : Bool → RunReport → List ℕ
 report_lines counts r = flat_map reported_line r.records ++ totals_text counts r.outcome
 
--- the same behind its number
+-- the same after its number
 abbrev pub run_lines : Bool → ℕ → Report → List ℕ
 run_lines counts run report = run_line run ++ report_lines counts (report_value report)
 
@@ -41,8 +41,8 @@ replay_lines counts reports = runs_behind counts 0 reports
 abbrev pub start_of : History → StampedWorld
 start_of h = empty_world h.hash h.options.stat h.options.executable_bit h.clock h.timestamp
 
--- the events were replayed, with what stopped that, if anything; the lines of the reports were printed, or a beginning of them, and
--- where the command came through all of them, and nothing stopped the replay
+-- the events were replayed, with what stopped that, if anything; the lines of the reports were printed, or a beginning of them; all
+-- of them if the command succeeded, and then nothing stopped the replay
 pub record IsReplayPrinted {A : Type 0} (h : History) (old : Option (List ℕ)) (result : Result A Failure) (new : Option (List ℕ)) : Type 0 where
   pub final : StampedWorld
   pub reports : List Report
@@ -62,7 +62,7 @@ IsReplayText text old result new =
     (IsUnreadPrinted old result new ⊎ ((e : ProfileError) × IsHistoryRead text (Err e) × IsErrAnd result (λ f. f ≡ failure_of_profile e) × (new ≡ old)))
     ⊎ ((h : History) × IsHistoryRead text (Ok h) × IsHistoryPrinted h old result new)
 
--- just the lines of all reports of the history that a text says were printed, and its replay came to its end
+-- exactly the lines of all reports of the history that a text says were printed, and its replay ended
 pub record IsReplayed (text : List ℕ) (old new : Option (List ℕ)) : Type 0 where
   pub history : History
   pub read : IsHistoryRead text (Ok history)

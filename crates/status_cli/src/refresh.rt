@@ -15,7 +15,7 @@ use std::sync::Wait;
 use std::thread::Threads;
 
 /// Reads a profile, prints its status as `run_status` does, applies to the index the changes that it asks for, and sets
-/// the index's timestamp to these seconds and nanoseconds. Then it puts the profile with that index behind `refreshed`, as
+/// the index's timestamp to these seconds and nanoseconds. Then it appends the profile with that index to `refreshed`, as
 /// compact text and a line feed. All other keys are unchanged. `name` is the name of the profile's file.
 ///
 /// Returns the exit status: 0, or 1 after a failure, which is one line on `faults`. Then `refreshed` is unchanged.

@@ -133,7 +133,7 @@ fn print_reports<O: io::Write>(
     flush(output)
 }
 
-/// Prints the report of a run, behind its number.
+/// Prints the report of a run, after its number.
 fn print_numbered<O: io::Write>(
     alloc: Global,
     run: usize,

@@ -1,4 +1,4 @@
--- Items and members behind those that were read.
+-- Items and members after those that were read.
 use Rattle.std.proofs.Common.{◌≡◌, ◌≢◌, Bool, List, [], ◌∷◌, ◌++◌, Option, Some, None, Result, Ok, Err, IfErr, IfOk, refl, ap, ◌∙◌}
 use Rattle.json.specs.Token.{Token}
 use Rattle.json.specs.Json.{Json, Items, array, no_items, item, parse_map}
@@ -31,7 +31,7 @@ pub one_more : (xs : List Json) (x : Json) (r : Option (Items × List Token)) �
 one_more xs x None = refl
 one_more xs x (Some p) = ap (λ js. Some (js, p.1)) (items_onto-push xs x p.0)
 
--- without want of memory, the items are read
+-- the items are read, unless memory ran out
 module _ {T : Type 0} (holds : T → List Json → Type 0) (fits : Json → Bool) where
   pub read_unless_memory : (xs : List Json) (r : Result T FieldError) → AreItems holds fits xs r → (r ≡ Err Memory → ⊥) → AreRead holds fits xs r
   read_unless_memory xs (Ok items) h never = h

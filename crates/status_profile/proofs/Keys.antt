@@ -32,7 +32,7 @@ reads_under key shown said (Ok x) r e h = rw e h
 reads_under key shown said (Err Form) r e h = rw e (refl, h)
 reads_under key shown said (Err Memory) r e h = rw e tt
 
--- entries that are read are said
+-- the entries that were read are those that the value says
 pub entries_said : (r : Result Entries FieldError) (e : Entries) (said : Option (List IndexEntry)) → result_under keys.Index r ≡ Ok e → AreEntriesRead r said → AreSaid e said
 entries_said (Ok d) e (Some es) h read = subst (λ (q : Result Entries ProfileError). IfOk q (λ x. HasEntries x es)) h read
 entries_said (Ok d) e None h read = absurd read

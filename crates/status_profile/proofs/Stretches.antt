@@ -10,7 +10,7 @@ use Rattle.std.specs.declared.alloc.Global.{Global}
 use Rattle.status_world.specs.declared.world.event.Event.{Event}
 use Rattle.status_profile.specs.Events.{EventValue, event_of, event_value, is_reopening, stretch_values, stretches_from}
 
--- these stretches, and behind them those of the events and the items that are left
+-- these stretches, and after them those of the events and the items that are left
 abbrev pub stretches_onto : List (List EventValue) → List EventValue → Items → Option (List (List EventValue))
 stretches_onto stretches events js = option_map (λ rest. stretches ++ rest) (stretches_from events js)
 

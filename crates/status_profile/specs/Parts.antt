@@ -18,7 +18,7 @@ ReadsUnder key shown (Err Memory) said = ⊤
 ReadsUnder key shown (Err NotJson) said = ⊥
 ReadsUnder key shown (Err (Index e)) said = ⊥
 
--- the entries are held that are said
+-- the entries that a value says are held
 abbrev pub AreSaid : Entries → Option (List IndexEntry) → Type 0
 AreSaid e None = ⊥
 AreSaid e (Some es) = HasEntries e es

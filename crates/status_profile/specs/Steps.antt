@@ -43,7 +43,7 @@ AreItems holds fits xs (Ok items) = holds items xs
 AreItems holds fits xs (Err Form) = IsMisfit fits xs
 AreItems holds fits xs (Err Memory) = ⊤
 
--- the same without want of memory
+-- the same, if memory didn't run out
 abbrev pub AreRead : {T : Type 0} → (T → List Json → Type 0) → (Json → Bool) → List Json → Result T FieldError → Type 0
 AreRead holds fits xs (Ok items) = holds items xs
 AreRead holds fits xs (Err Form) = IsMisfit fits xs

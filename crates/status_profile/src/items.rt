@@ -121,7 +121,7 @@ fn if_memory<T: Drop>(list: ItemsRead<T>) -> Result<ItemsRead<T>, ProfileError>
     }
 }
 
-/// What a value begins with.
+/// The beginning of a value.
 #[derive(Clone, Copy)]
 pub enum Begun {
     /// The bracket of a list.

@@ -89,7 +89,7 @@ pub fn mode_of(value: &Value<'_>) -> Result<Mode, FieldError>
     }
 }
 
-/// Reads an id. The number of hexadecimal digits gives its kind.
+/// Reads an id. Its kind follows from the number of hexadecimal digits.
 pub fn id_of(value: &Value<'_>) -> Result<ObjectId, FieldError>
     ensures { Reads (λ id. id) result (id_in (value_view value.now)) }
 {
