@@ -1,7 +1,7 @@
 -- The output of a command whose parts pass their results on.
-use Rattle.std.proofs.Common.{◌≡◌, Bool, true, ℕ, List, Option, Some, None, Result, Ok, Err, inl, inr, refl, sym, subst, ◌∙◌}
+use Rattle.std.proofs.Common.{map, ◌≡◌, Bool, true, ℕ, List, Option, Some, None, Result, Ok, Err, inl, inr, refl, sym, subst, ◌∙◌}
 use Rattle.std.specs.Prelude.{◌⊎◌, IfSome}
-use Rattle.std.specs.Result.{IsErr, IsErrAnd}
+use Rattle.std.specs.Result.{IsErrAnd}
 use Rattle.status_base.specs.MemoryTree.{lstat_in, open_in, target_in}
 use Rattle.status_call.specs.declared.index_as_worktree.types.Outcome.{Outcome}
 use Rattle.status_call.specs.Query.{Query}
@@ -12,9 +12,11 @@ use Rattle.status_index.specs.declared.state.State.{State}
 use Rattle.status_profile.specs.declared.node.Place.{Place}
 use Rattle.status_profile.specs.declared.node.Place.TheVariants as places
 use Rattle.status_profile.specs.declared.options.ProfileOptions.{ProfileOptions}
+use Rattle.status_profile.specs.Nodes.{node_value}
 use Rattle.status_cli.specs.declared.failure.Failure.{Failure}
+use Rattle.status_cli.specs.declared.failure.Failure.TheVariants.{Memory}
 use Rattle.status_cli.specs.Statuses.{IsStatusPrinted, IsTold}
-use Rattle.status_cli.specs.ProfileStatuses.{IsPlacePrinted, IsPrintedOver}
+use Rattle.status_cli.specs.ProfileStatuses.{IsPlacePrinted, IsPrintedOver, IsUnplanted}
 
 -- both succeeded, or both failed for one reason
 abbrev pub AreAlike : {A B : Type 0} → Result A Failure → Result B Failure → Type 0
@@ -39,18 +41,18 @@ told_alike text answer old new (Err e) (Ok y) same h = absurd same
 told_alike text (Ok o) old new (Err e) (Err f) same h = rw (← same) h
 told_alike text (Err d) old new (Err e) (Err f) same h = rw (← same) h
 
-failed_too : {A B : Type 0} (r : Result A Failure) (s : Result B Failure) → AreAlike r s → IsErr r → IsErr s
-failed_too (Ok x) (Ok y) same h = let never : ⊥ = cc in absurd never
-failed_too (Ok x) (Err f) same h = refl
-failed_too (Err e) (Ok y) same h = absurd same
-failed_too (Err e) (Err f) same h = refl
+failed_too : {A B : Type 0} (P : Failure → Type 0) (r : Result A Failure) (s : Result B Failure) → AreAlike r s → IsErrAnd r P → IsErrAnd s P
+failed_too P (Ok x) (Ok y) same h = h
+failed_too P (Ok x) (Err f) same h = absurd same
+failed_too P (Err e) (Ok y) same h = absurd same
+failed_too P (Err e) (Err f) same h = subst P same h
 
 pub status_alike : {T U A B : Type 0} (query : Query T U) (index : State) (counts : Bool) (old new : Option (List ℕ)) (r : Result A Failure) (s : Result B Failure) → AreAlike r s → IsStatusPrinted query index counts old r new → IsStatusPrinted query index counts old s new
-status_alike query index counts old new r s same h = record { visits = h.visits; answer = h.answer; met = h.met; told = told_alike _ _ old new r s same h.told }
+status_alike query index counts old new r s same h = record { visits = h.visits; answer = h.answer; met = h.met; whole = h.whole; told = told_alike _ _ old new r s same h.told }
 
 module _ {A B : Type 0} (r : Result A Failure) (s : Result B Failure) (same : AreAlike r s) (old new : Option (List ℕ)) where
-  shown_alike : {T U : Type 0} (query : Query T U) (index : State) (counts : Bool) → (IsErr r × (new ≡ old)) ⊎ IsStatusPrinted query index counts old r new → (IsErr s × (new ≡ old)) ⊎ IsStatusPrinted query index counts old s new
-  shown_alike query index counts (inl p) = inl (failed_too r s same p.0, p.1)
+  shown_alike : {T U : Type 0} (query : Query T U) (index : State) (counts : Bool) → (IsErrAnd r (λ f. f ≡ Memory) × (new ≡ old)) ⊎ IsStatusPrinted query index counts old r new → (IsErrAnd s (λ f. f ≡ Memory) × (new ≡ old)) ⊎ IsStatusPrinted query index counts old s new
+  shown_alike query index counts (inl p) = inl (failed_too (λ f. f ≡ Memory) r s same p.0, p.1)
   shown_alike query index counts (inr h) = inr (status_alike query index counts old new r s same h)
 
   over_alike : {W : Type 0} (modelled : W → Bool) (lstat : W → List ℕ → Result Metadata Fault) (opened : W → List ℕ → Result Content Fault) (linked : W → List ℕ → Result (List ℕ) Fault) (w : W) (options : ProfileOptions) (index : State)
@@ -59,7 +61,7 @@ module _ {A B : Type 0} (r : Result A Failure) (s : Result B Failure) (same : Ar
 
   pub place_alike : (place : Place) (options : ProfileOptions) (index : State) → IsPlacePrinted place options index old r new → IsPlacePrinted place options index old s new
   place_alike (places.Folder path) options index h = tt
-  place_alike (places.Nodes nodes) options index (inl p) = inl (failed_too r s same p.0, p.1)
+  place_alike (places.Nodes nodes) options index (inl p) = inl (failed_too (IsUnplanted (map node_value nodes.items)) r s same p.0, p.1)
   place_alike (places.Nodes nodes) options index (inr p) = inr (p.0, p.1, over_alike (λ t. true) lstat_in open_in target_in p.0 options index p.2)
 
 -- what holds of the text that was read holds of the reader's, if that is known

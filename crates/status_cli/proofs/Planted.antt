@@ -1,5 +1,6 @@
 -- Trees of nodes, and the paths of a profile's status.
-use Rattle.std.proofs.Common.{◌≡◌, arith, nat_eq, ℕ, Bool, List, [], ◌∷◌, ◌++◌, Option, Some, None, Result, true, ◌==◌, length, refl, sym, ap, subst}
+use Rattle.std.proofs.Common.{◌≡◌, arith, nat_eq, ℕ, Bool, List, [], ◌∷◌, ◌++◌, Option, Some, None, Result, Ok, Err, true, ◌==◌, length, refl, sym, ap, subst, inl, inr, ◌∙◌}
+use Rattle.std.specs.Prelude.{◌⊎◌}
 use Rattle.std.proofs.lemmas.Bool.{eqb-true}
 use Rattle.std.specs.FinMap as paths
 use Rattle.std.specs.List.{starts_with}
@@ -14,29 +15,31 @@ use Rattle.status_base.specs.Nodes.{put_fault}
 use Rattle.status_call.specs.Query.{Query}
 use Rattle.status_world.specs.RunStatus.{status_query}
 use Rattle.status_world.specs.StampedWorld.{compared_by, counted_by}
-use Rattle.status_profile.specs.Forms.{◌>>=◌}
 use Rattle.status_profile.specs.declared.options.ProfileOptions.{ProfileOptions}
 use Rattle.status_cli.specs.declared.failure.Failure.{Failure}
-use Rattle.status_cli.specs.ProfileStatuses.{planted, with_placed}
+use Rattle.status_base.specs.Trees.{empty_tree}
+use Rattle.status_base.specs.declared.worktree.memory.TreeError.{TreeError}
+use Rattle.status_base.specs.declared.worktree.memory.TreeError.TheVariants.{Memory}
+use Rattle.status_cli.specs.Failures.{failure_of_node}
+use Rattle.status_cli.specs.ProfileStatuses.{IsUnplanted, planted}
 use Rattle.status_cli.specs.Statuses.{IsStatusPrinted}
 
 pub none_long : (xs : List ℕ) → (length xs == 0) ≡ true → xs ≡ []
 none_long [] e = refl
 none_long (x ∷ xs) e = let never : length (x ∷ xs) ≡ 0 = eqb-true _ _ e in absurd (omega arith)
 
--- a node that was put
-pub planted_one : (old new : Tree) (node : List ℕ × Placed) → put_fault old node.0 node.1.metadata.kind ≡ None → new ≡ record old { nodes = paths.insert old.nodes node.0 node.1 } → planted old (node ∷ []) ≡ Some new
-planted_one old new node free put = rw free (ap Some (sym put))
+-- a node is put, and then the others
+pub planted_next : (old new : Tree) (node : List ℕ × Placed) (nodes : List (List ℕ × Placed)) → put_fault old node.0 node.1.metadata.kind ≡ None → new ≡ record old { nodes = paths.insert old.nodes node.0 node.1 } → planted old (node ∷ nodes) ≡ planted new nodes
+planted_next old new node nodes free put = rw free (ap (λ t. planted t nodes) (sym put))
 
-next_planted : (o : Option Tree) (nodes : List (List ℕ × Placed)) (x : List ℕ × Placed) (u : Tree) → ((t : Tree) → planted t nodes ≡ Some u → planted t (nodes ++ x ∷ []) ≡ planted u (x ∷ [])) → (o >>= (λ more. planted more nodes)) ≡ Some u
-    → (o >>= (λ more. planted more (nodes ++ x ∷ []))) ≡ planted u (x ∷ [])
-next_planted None nodes x u more h = let never : ⊥ = cc in absurd never
-next_planted (Some t) nodes x u more h = more t h
+-- a node can't be put
+planted_fault : (tree : Tree) (node : List ℕ × Placed) (nodes : List (List ℕ × Placed)) (e : TreeError) → put_fault tree node.0 node.1.metadata.kind ≡ Some e → planted tree (node ∷ nodes) ≡ Err e
+planted_fault tree node nodes e fault = rw fault refl
 
--- nodes that can be put, and one more
-pub planted-push : (tree : Tree) (nodes : List (List ℕ × Placed)) (x : List ℕ × Placed) (u : Tree) → planted tree nodes ≡ Some u → planted tree (nodes ++ x ∷ []) ≡ planted u (x ∷ [])
-planted-push tree [] x u h = ap (λ o. o >>= (λ t. planted t (x ∷ []))) h
-planted-push tree (n ∷ nodes) x u h = next_planted (with_placed tree n (put_fault tree n.0 n.1.metadata.kind)) nodes x u (λ t. planted-push t nodes x u) h
+pub unplanted : {L : Type 0} (all : List (List ℕ × Placed)) (tree : Tree) (node : List ℕ × Placed) (nodes : List (List ℕ × Placed)) (e : TreeError) (at : ℕ) (failure : Failure) → failure ≡ failure_of_node e at → planted empty_tree all ≡ planted tree (node ∷ nodes)
+    → ((e ≡ Memory) × L) ⊎ (put_fault tree node.0 node.1.metadata.kind ≡ Some e) → IsUnplanted all failure
+unplanted all tree node nodes e at failure is left (inl memory) = inl (is ∙ ap (λ x. failure_of_node x at) memory.0)
+unplanted all tree node nodes e at failure is left (inr fault) = inr (e, left ∙ planted_fault tree node nodes e fault, at, is)
 
 module _ (options : ProfileOptions) (index : State) (modelled : Bool) (lstat : List ℕ → Result Metadata Fault) (opened : List ℕ → Result Content Fault) (linked : List ℕ → Result (List ℕ) Fault) where
   abbrev query_at : List ℕ → Query (Option ObjectId) (Unit {0})

@@ -1,5 +1,5 @@
 -- How what is printed follows what was printed before.
-use Rattle.std.proofs.Common.{◌≡◌, Bool, subst, ℕ, ◌+◌, ◌-◌, List, [], ◌∷◌, ◌++◌, length, Option, Result, Ok, Err, inl, inr, refl, sym, ap, ◌∙◌, append_assoc, append-nil, arith, take, drop, length-drop, take_all, take-append-drop, map}
+use Rattle.std.proofs.Common.{◌≡◌, Bool, false, IfOk, subst, ℕ, ◌+◌, ◌-◌, List, [], ◌∷◌, ◌++◌, length, Option, Result, Ok, Err, inl, inr, refl, sym, ap, ◌∙◌, append_assoc, append-nil, arith, take, drop, length-drop, take_all, take-append-drop, map}
 use Rattle.std.specs.List.{flat_map}
 use Rattle.std.specs.Result.{IsErrAnd, IfErr}
 use Rattle.std.proofs.lemmas.List.{map-append}
@@ -121,9 +121,9 @@ told_then T text (Err f) old new v result why told = absurd told
 
 -- what is told of a status that reported to a collector without a record
 pub printed_status : {T U A : Type 0} (query : Query T U) (index : State) (counts : Bool) (none visits : List (Visit T U)) (answer : Result Outcome Error) (old new : Option (List ℕ)) (result : Result A Failure)
-    → none ≡ [] → IsMet query index none answer visits → IsTold (visit_lines visits ++ closing counts (answered answer)) (answered answer) old result new → IsStatusPrinted query index counts old result new
-printed_status query index counts none visits answer old new result empty met told =
-    record { visits = visits; answer = answer; met = subst (λ start. IsMet query index start answer visits) empty met; told = told }
+    → none ≡ [] → IsMet query index none answer visits → IfOk answer (λ o. o.interrupted ≡ false) → IsTold (visit_lines visits ++ closing counts (answered answer)) (answered answer) old result new → IsStatusPrinted query index counts old result new
+printed_status query index counts none visits answer old new result empty met whole told =
+    record { visits = visits; answer = answer; met = subst (λ start. IsMet query index start answer visits) empty met; whole = whole; told = told }
 
 pub memory_unprinted : {T : Type 0} (result : Result T Failure) → IsErrAnd result (λ e. e ≡ Memory) → IfErr result IsUnprinted
 memory_unprinted (Ok v) failed = tt

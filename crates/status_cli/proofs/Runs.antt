@@ -1,5 +1,5 @@
 -- How the lines of runs follow one another.
-use Rattle.std.proofs.Common.{◌≡◌, None, inl, inr, subst, map, Result, Ok, Err, OnOk, ℕ, ◌+◌, ◌<◌, Bool, List, [], ◌∷◌, ◌++◌, length, Option, sym, ap, ◌∙◌, append_assoc, append-nil, arith, take, drop, length-take, take-append-drop}
+use Rattle.std.proofs.Common.{◌≡◌, None, inl, inr, subst, map, Result, Ok, Err, refl, ℕ, ◌+◌, ◌<◌, Bool, List, [], ◌∷◌, ◌++◌, length, Option, sym, ap, ◌∙◌, append_assoc, append-nil, arith, take, drop, length-take, take-append-drop}
 use Rattle.std.specs.Io.KnownBytes.{Appends}
 use Rattle.std.proofs.KnownBytes.{Appends-trans}
 use Rattle.std.specs.Prelude.{Vec}
@@ -7,14 +7,15 @@ use Rattle.std.specs.Result.{IsErrAnd}
 use Rattle.std.specs.declared.alloc.Global.{Global}
 use Rattle.status_stored.specs.Reopening.{IsReopenedReplay}
 use Rattle.status_stored.specs.declared.stop.Stop.{Stop}
+use Rattle.status_world.specs.Refusals.{start_refusal}
 use Rattle.status_world.specs.Reports.{report_value}
 use Rattle.status_world.specs.StampedWorld.{StampedWorld}
 use Rattle.status_world.specs.declared.world.event.Event.{Event}
 use Rattle.status_world.specs.declared.world.report.Report.{Report}
 use Rattle.status_profile.specs.declared.history.History.{History}
 use Rattle.status_cli.specs.declared.failure.Failure.{Failure}
-use Rattle.status_cli.specs.Printing.{IsBegun}
-use Rattle.status_cli.specs.Replays.{IsHistoryPrinted, IsReplayed, IsReplayText, replay_lines, run_lines, runs_behind, start_of}
+use Rattle.status_cli.specs.Printing.{IsBegun, IsUnprinted}
+use Rattle.status_cli.specs.Replays.{IsHistoryPrinted, IsNoStart, IsReplayed, IsReplayText, IsReplayTold, replay_lines, run_lines, runs_behind, start_of}
 use Rattle.status_cli.proofs.Printed.{begun_longer, begun_more}
 
 runs-append : (counts : Bool) (before : ℕ) (xs ys : List Report) → runs_behind counts before (xs ++ ys) ≡ runs_behind counts before xs ++ runs_behind counts (before + length xs) ys
@@ -47,31 +48,38 @@ begun_run counts reports at report old mid new inside next before here =
 
 -- ---- a whole history
 
-pub never_ok : {T : Type 0} (P : Type 0) (result : Result T Failure) (failure : Failure) → IsErrAnd result (λ e. e ≡ failure) → OnOk result P
-never_ok P (Ok v) failure failed = absurd failed
-never_ok P (Err e) failure failed = tt
+-- a beginning of the lines was printed
+pub told_begun : {T : Type 0} (text : List ℕ) (stopped : Option Stop) (old new : Option (List ℕ)) (result : Result T Failure) (failure : Failure) → IsErrAnd result (λ e. e ≡ failure) → IsBegun text old new → IsUnprinted failure → IsReplayTold text stopped old result new
+told_begun text stopped old new (Ok v) failure failed begun why = absurd failed
+told_begun text stopped old new (Err e) failure failed begun why = inr (begun, rw failed why)
+
+-- the history can't begin so
+pub not_started : {A : Type 0} (h : History) (old : Option (List ℕ)) (result : Result A Failure) (failure : Failure) → IsErrAnd result (λ e. e ≡ failure) → IsNoStart h failure → IsHistoryPrinted h old result old
+not_started h old (Ok v) failure failed why = absurd failed
+not_started h old (Err e) failure failed why = inl (rw failed why, refl)
 
 pub replay_printed : {A : Type 0} (h : History) (w final : StampedWorld) (stretches : List (Vec Event Global)) (reports : List Report) (stopped : Option Stop) (old new : Option (List ℕ)) (result : Result A Failure)
-    → w ≡ start_of h → stretches ≡ h.stretches.items → IsReopenedReplay w stretches final (map report_value reports) stopped
-    → IsBegun (replay_lines h.options.counts reports) old new → OnOk result ((stopped ≡ None) × Appends old new (replay_lines h.options.counts reports)) → IsHistoryPrinted h old result new
-replay_printed h w final stretches reports stopped old new result started same replay begun ok = inr (record {
+    → start_refusal h.clock h.timestamp ≡ None → w ≡ start_of h → stretches ≡ h.stretches.items → IsReopenedReplay w stretches final (map report_value reports) stopped
+    → IsReplayTold (replay_lines h.options.counts reports) stopped old result new → IsHistoryPrinted h old result new
+replay_printed h w final stretches reports stopped old new result start started same replay told = inr (record {
+  start = start;
   final = final;
   reports = reports;
   stopped = stopped;
   replay = subst (λ v. IsReopenedReplay v h.stretches.items final (map report_value reports) stopped) started (subst (λ l. IsReopenedReplay w l final (map report_value reports) stopped) same replay);
-  begun = begun;
-  ok = ok;
+  told = told;
 })
 
 pub some_replayed : {A : Type 0} (v : A) (text : List ℕ) (old new : Option (List ℕ)) → IsReplayText {A = A} text old (Ok v) new → IsReplayed text old new
 some_replayed v text old new (inl (inl unread)) = absurd unread.0
 some_replayed v text old new (inl (inr (e, read, failed, same))) = absurd failed
-some_replayed v text old new (inr (h, read, inl refused)) = let never : ⊥ = cc in absurd never
+some_replayed v text old new (inr (h, read, inl refused)) = absurd refused.0
 some_replayed v text old new (inr (h, read, inr whole)) = record {
   history = h;
   read = read;
+  start = whole.start;
   final = whole.final;
   reports = whole.reports;
-  replay = subst (λ stopped. IsReopenedReplay (start_of h) h.stretches.items whole.final (map report_value whole.reports) stopped) whole.ok.0 whole.replay;
-  printed = whole.ok.1;
+  replay = subst (λ stopped. IsReopenedReplay (start_of h) h.stretches.items whole.final (map report_value whole.reports) stopped) whole.told.0 whole.replay;
+  printed = whole.told.1;
 }

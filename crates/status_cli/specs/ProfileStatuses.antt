@@ -2,7 +2,7 @@
 use Rattle.std.specs.Prelude.{◌≡◌, ◌⊎◌, nat_eq, ℕ, Bool, true, false, List, [], ◌∷◌, map, Option, Some, None, Result, Ok, Err, ⊤}
 use Rattle.std.specs.FinMap as paths
 use Rattle.std.specs.List.{starts_with}
-use Rattle.std.specs.Result.{IsErr, IsErrAnd}
+use Rattle.std.specs.Result.{IsErrAnd}
 use Rattle.status_index.specs.Content.{Content}
 use Rattle.status_index.specs.States.{timestamp_of}
 use Rattle.status_index.specs.declared.fault.Fault.{Fault}
@@ -17,7 +17,6 @@ use Rattle.status_base.specs.declared.worktree.memory.TreeError.{TreeError}
 use Rattle.status_call.specs.Query.{Query}
 use Rattle.status_world.specs.RunStatus.{status_query}
 use Rattle.status_world.specs.StampedWorld.{compared_by, counted_by}
-use Rattle.status_profile.specs.Forms.{◌>>=◌}
 use Rattle.status_profile.specs.Nodes.{node_value}
 use Rattle.status_profile.specs.Options.{OptionValues, is_joined, option_values}
 use Rattle.status_profile.specs.Profiles.{IsRead}
@@ -29,7 +28,7 @@ use Rattle.status_profile.specs.declared.profile.Profile.{Profile}
 use Rattle.status_profile.specs.declared.error.ProfileError.{ProfileError}
 use Rattle.status_cli.specs.declared.failure.Failure.{Failure}
 use Rattle.status_cli.specs.declared.failure.Failure.TheVariants.{Unreadable, Memory}
-use Rattle.status_cli.specs.Failures.{failure_of_profile}
+use Rattle.status_cli.specs.Failures.{failure_of_node, failure_of_profile}
 use Rattle.status_cli.specs.FaultLines.{failure_line, names_submodule}
 use Rattle.status_cli.specs.Printing.{IsBegun}
 use Rattle.status_cli.specs.Statuses.{IsStatusPrinted}
@@ -46,29 +45,38 @@ options_query o timestamp modelled lstat opened linked =
 abbrev pub IsUnreadPrinted : {A : Type 0} → Option (List ℕ) → Result A Failure → Option (List ℕ) → Type 0
 IsUnreadPrinted old result new = IsErrAnd result (λ f. (f ≡ Unreadable) ⊎ (f ≡ Memory)) × (new ≡ old)
 
--- a tree with one more node, unless the node can't be put there
-abbrev pub with_placed : Tree → List ℕ × Placed → Option TreeError → Option Tree
-with_placed tree node None = Some (record tree { nodes = paths.insert tree.nodes node.0 node.1 })
-with_placed tree node (Some e) = None
+-- the next step, unless the one before failed
+abbrev pub and_then : {A B E : Type 0} → Result A E → (A → Result B E) → Result B E
+and_then (Ok x) next = next x
+and_then (Err e) next = Err e
 
--- a tree with nodes that are put one after the other, if each can be put
-abbrev pub planted : Tree → List (List ℕ × Placed) → Option Tree
-planted tree [] = Some tree
-planted tree (node ∷ nodes) = with_placed tree node (put_fault tree node.0 node.1.metadata.kind) >>= (λ more. planted more nodes)
+-- a tree with one more node, unless there is a fault
+abbrev pub with_placed : Tree → List ℕ × Placed → Option TreeError → Result Tree TreeError
+with_placed tree node None = Ok (record tree { nodes = paths.insert tree.nodes node.0 node.1 })
+with_placed tree node (Some e) = Err e
 
--- of a plain status over any worktree, the lines of the status were printed; or nothing, since the command failed before
+-- a tree with nodes that are put one after the other, or the fault of the first that can't be put
+abbrev pub planted : Tree → List (List ℕ × Placed) → Result Tree TreeError
+planted tree [] = Ok tree
+planted tree (node ∷ nodes) = and_then (with_placed tree node (put_fault tree node.0 node.1.metadata.kind)) (λ more. planted more nodes)
+
+-- the command fails for the first node that can't be put, or for want of memory. Of the node's place nothing is claimed
+abbrev pub IsUnplanted : List (List ℕ × Placed) → Failure → Type 0
+IsUnplanted nodes failure = (failure ≡ Memory) ⊎ ((e : TreeError) × (planted empty_tree nodes ≡ Err e) × (at : ℕ) × (failure ≡ failure_of_node e at))
+
+-- of a plain status over any worktree, the lines of the status were printed; or nothing, for want of memory
 abbrev pub IsPrintedOver : {W A : Type 0} → (W → Bool) → (W → List ℕ → Result Metadata Fault) → (W → List ℕ → Result Content Fault) → (W → List ℕ → Result (List ℕ) Fault) → W → ProfileOptions → State
     → Option (List ℕ) → Result A Failure → Option (List ℕ) → Type 0
 IsPrintedOver modelled lstat opened linked w options index old result new =
     is_joined (option_values options) ≡ false
-    → (IsErr result × (new ≡ old)) ⊎ IsStatusPrinted (options_query (option_values options) (timestamp_of index) (modelled w) (lstat w) (opened w) (linked w)) index options.counts old result new
+    → (IsErrAnd result (λ f. f ≡ Memory) × (new ≡ old)) ⊎ IsStatusPrinted (options_query (option_values options) (timestamp_of index) (modelled w) (lstat w) (opened w) (linked w)) index options.counts old result new
 
--- the same over the tree of a profile's nodes; of a folder nothing is claimed
+-- the same over the tree of a profile's nodes; or nothing, since they make no tree; of a folder nothing is claimed
 abbrev pub IsPlacePrinted : {A : Type 0} → Place → ProfileOptions → State → Option (List ℕ) → Result A Failure → Option (List ℕ) → Type 0
 IsPlacePrinted (places.Folder path) options index old result new = ⊤
 IsPlacePrinted (places.Nodes nodes) options index old result new =
-    (IsErr result × (new ≡ old))
-    ⊎ ((tree : Tree) × (planted empty_tree (map node_value nodes.items) ≡ Some tree) × IsPrintedOver (λ (t : Tree). true) lstat_in open_in target_in tree options index old result new)
+    (IsErrAnd result (IsUnplanted (map node_value nodes.items)) × (new ≡ old))
+    ⊎ ((tree : Tree) × (planted empty_tree (map node_value nodes.items) ≡ Ok tree) × IsPrintedOver (λ (t : Tree). true) lstat_in open_in target_in tree options index old result new)
 
 abbrev pub IsProfilePrinted : {A : Type 0} → Profile → Option (List ℕ) → Result A Failure → Option (List ℕ) → Type 0
 IsProfilePrinted p old result new = IsPlacePrinted p.place p.options p.index old result new

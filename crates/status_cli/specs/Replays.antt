@@ -1,21 +1,25 @@
 -- What is printed of a replay.
-use Rattle.std.specs.Prelude.{◌≡◌, ◌⊎◌, ℕ, ◌+◌, Bool, List, [], ◌∷◌, ◌++◌, map, Option, None, Result, Ok, Err, OnOk}
+use Rattle.std.specs.Prelude.{◌≡◌, ◌⊎◌, ℕ, ◌+◌, Bool, List, [], ◌∷◌, ◌++◌, map, Option, None, Some, Result, Ok, Err}
 use Rattle.std.specs.Io.KnownBytes.{Appends}
 use Rattle.std.specs.List.{flat_map}
-use Rattle.std.specs.Result.{IsErr, IsErrAnd}
+use Rattle.std.specs.Result.{IsErrAnd}
 use Rattle.status_stored.specs.Reopening.{IsReopenedReplay}
 use Rattle.status_stored.specs.declared.stop.Stop.{Stop}
+use Rattle.status_stored.specs.declared.stop.Stop.TheVariants as stops
+use Rattle.status_world.specs.Refusals.{start_refusal}
+use Rattle.status_world.specs.declared.world.refusal.Refusal.{Refusal}
 use Rattle.status_world.specs.Reports.{Reported, RunReport, report_value}
 use Rattle.status_world.specs.declared.world.report.Report.{Report}
 use Rattle.status_world.specs.StampedWorld.{StampedWorld, empty_world}
 use Rattle.status_profile.specs.declared.error.ProfileError.{ProfileError}
 use Rattle.status_profile.specs.declared.history.History.{History}
 use Rattle.status_profile.specs.Histories.{IsHistoryRead}
-use Rattle.status_cli.specs.Failures.{failure_of_profile}
+use Rattle.status_cli.specs.Failures.{failure_of_event, failure_of_profile, failure_of_start}
 use Rattle.status_cli.specs.ProfileStatuses.{IsUnreadPrinted}
 use Rattle.status_cli.specs.declared.failure.Failure.{Failure}
+use Rattle.status_cli.specs.declared.failure.Failure.TheVariants.{Memory}
 use Rattle.status_cli.specs.Lines.{record_line, run_line}
-use Rattle.status_cli.specs.Printing.{IsBegun}
+use Rattle.status_cli.specs.Printing.{IsBegun, IsUnprinted}
 use Rattle.status_cli.specs.Statuses.{totals_text}
 
 abbrev pub reported_line : Reported → List ℕ
@@ -41,19 +45,39 @@ replay_lines counts reports = runs_behind counts 0 reports
 abbrev pub start_of : History → StampedWorld
 start_of h = empty_world h.hash h.options.stat h.options.executable_bit h.clock h.timestamp
 
--- the events were replayed, with what stopped that, if anything; the lines of the reports were printed, or a beginning of them; all
--- of them if the command succeeded, and then nothing stopped the replay
+-- a history that can't begin so, and the command's failure
+abbrev pub IsNoStart : History → Failure → Type 0
+IsNoStart h failure = (r : Refusal) × (start_refusal h.clock h.timestamp ≡ Some r) × (failure ≡ failure_of_start r)
+
+-- the command's failure for what stopped a replay, at this place in the list of events
+abbrev pub failure_of_stop : Stop → ℕ → Failure
+failure_of_stop (stops.Event stretch at refusal) place = failure_of_event refusal place
+failure_of_stop (stops.Opening stretch refusal) place = failure_of_event refusal place
+failure_of_stop (stops.Reports stretch) place = Memory
+
+-- the same, of an optional stop. Of the place nothing is claimed
+abbrev pub IsStopOf : Option Stop → Failure → Type 0
+IsStopOf None failure = ⊥
+IsStopOf (Some stop) failure = (place : ℕ) × (failure ≡ failure_of_stop stop place)
+
+-- all of a text was printed, and the command succeeded if nothing stopped the replay, and failed for what stopped it if something did;
+-- or the output can't be written or memory ran out, and a beginning was
+abbrev pub IsReplayTold : {A : Type 0} → List ℕ → Option Stop → Option (List ℕ) → Result A Failure → Option (List ℕ) → Type 0
+IsReplayTold text stopped old (Ok _) new = (stopped ≡ None) × Appends old new text
+IsReplayTold text stopped old (Err failure) new = (IsStopOf stopped failure × Appends old new text) ⊎ (IsBegun text old new × IsUnprinted failure)
+
+-- the events were replayed, with what stopped that, if anything, and the lines of the reports were printed
 pub record IsReplayPrinted {A : Type 0} (h : History) (old : Option (List ℕ)) (result : Result A Failure) (new : Option (List ℕ)) : Type 0 where
+  pub start : start_refusal h.clock h.timestamp ≡ None
   pub final : StampedWorld
   pub reports : List Report
   pub stopped : Option Stop
   pub replay : IsReopenedReplay (start_of h) h.stretches.items final (map report_value reports) stopped
-  pub begun : IsBegun (replay_lines h.options.counts reports) old new
-  pub ok : OnOk result ((stopped ≡ None) × Appends old new (replay_lines h.options.counts reports))
+  pub told : IsReplayTold (replay_lines h.options.counts reports) stopped old result new
 
--- the same, or nothing was printed of a history that can't begin so
+-- the same; or nothing was printed, of a history that can't begin so
 abbrev pub IsHistoryPrinted : {A : Type 0} → History → Option (List ℕ) → Result A Failure → Option (List ℕ) → Type 0
-IsHistoryPrinted h old result new = (IsErr result × (new ≡ old)) ⊎ IsReplayPrinted h old result new
+IsHistoryPrinted h old result new = (IsErrAnd result (IsNoStart h) × (new ≡ old)) ⊎ IsReplayPrinted h old result new
 
 -- a text was read as a history, and this was printed of it; or it says none, and the command fails for this reason; or it can't be
 -- read. In both of these nothing was printed
@@ -66,6 +90,7 @@ IsReplayText text old result new =
 pub record IsReplayed (text : List ℕ) (old new : Option (List ℕ)) : Type 0 where
   pub history : History
   pub read : IsHistoryRead text (Ok history)
+  pub start : start_refusal history.clock history.timestamp ≡ None
   pub final : StampedWorld
   pub reports : List Report
   pub replay : IsReopenedReplay (start_of history) history.stretches.items final (map report_value reports) None

@@ -1,5 +1,5 @@
 -- What is printed of a status.
-use Rattle.std.specs.Prelude.{◌≡◌, ◌⊎◌, Bool, ℕ, List, [], ◌++◌, Option, Result, Ok, Err, if◌then◌else◌}
+use Rattle.std.specs.Prelude.{◌≡◌, ◌⊎◌, Bool, false, ℕ, List, [], ◌++◌, Option, Result, Ok, Err, IfOk, if◌then◌else◌}
 use Rattle.std.specs.List.{flat_map}
 use Rattle.std.specs.Io.KnownBytes.{Appends}
 use Rattle.status_index.specs.declared.state.State.{State}
@@ -46,11 +46,13 @@ IsTold text (Ok _) old result new = IsPrinted text old result new
 IsTold text (Err failure) old (Ok _) new = ⊥
 IsTold text (Err failure) old (Err e) new = (Appends old new text × (e ≡ failure)) ⊎ (IsBegun text old new × IsUnprinted e)
 
--- a status of this index was computed by this query, and the lines of its records were printed, and with `counts` its totals
+-- a status of this index was computed by this query, without an interruption, and the lines of its records were printed, and with
+-- `counts` its totals
 pub record IsStatusPrinted {T U A : Type 0} (query : Query T U) (index : State) (counts : Bool) (old : Option (List ℕ)) (result : Result A Failure) (new : Option (List ℕ)) : Type 0 where
   pub visits : List (Visit T U)
   pub answer : Result Outcome Error
   pub met : IsMet query index [] answer visits
+  pub whole : IfOk answer (λ outcome. outcome.interrupted ≡ false)
   pub told : IsTold (visit_lines visits ++ closing counts (answered answer)) (answered answer) old result new
 
 -- the same of a profile's index and options, by what was handed in and by the meaning of its output

@@ -1,10 +1,11 @@
 //! The replay of a profile's history.
 
-ghost use Rattle.std.specs.Prelude.{◌≡◌, ◌⊎◌, All, IfOk, IfSome};
+ghost use Rattle.std.specs.Prelude.{◌≡◌, ◌⊎◌, All, IfErr, IfOk, IfSome, None, Some};
+ghost use Rattle.status_world.specs.Refusals.{start_refusal};
 ghost use Rattle.status_world.specs.Reports.{HasSum, report_value};
 ghost use Rattle.status_cli.specs.Printing.{IsPrinted};
 ghost use Rattle.status_cli.specs.ProfileStatuses.{IsFailed};
-ghost use Rattle.status_cli.specs.Replays.{IsHistoryPrinted, IsReplayed, IsReplayText};
+ghost use Rattle.status_cli.specs.Replays.{IsHistoryPrinted, IsNoStart, IsReplayed, IsReplayText, IsStopOf};
 ghost use Rattle.status_cli.specs.Replays.{replay_lines, report_lines, run_lines, start_of};
 
 use crate::failure::Failure;
@@ -78,7 +79,9 @@ fn print_history<R: Threads + Wait, O: io::Write>(
 }
 
 /// Returns why a replay stopped, with a place in the profile's list of events.
-fn failure_of(stop: Stop, stretches: &[Vec<Event>]) -> Failure {
+fn failure_of(stop: Stop, stretches: &[Vec<Event>]) -> Failure
+    ensures { IsStopOf (Some stop) result }
+{
     match stop {
         Stop::Event {
             stretch,
@@ -103,7 +106,8 @@ fn first_place(stretches: &[Vec<Event>], stretch: usize) -> usize {
 
 /// Makes the world that a history starts with.
 fn begin(alloc: Global, history: &History) -> Result<World, Failure>
-    ensures { IfOk result (λ world. world ≡ start_of history.now) }
+    ensures ok { IfOk result (λ world. (start_refusal history.now.clock history.now.timestamp ≡ None) × (world ≡ start_of history.now)) }
+    ensures err { IfErr result (λ failure. IsNoStart history.now failure) }
 {
     let options = history.options;
     World::new(

@@ -1,11 +1,11 @@
 //! The status of a profile's index against its worktree.
 
-ghost use Rattle.std.specs.Prelude.{◌≡◌, ◌⊎◌, Ok, IfOk, IfSome, Some, false, map};
+ghost use Rattle.std.specs.Prelude.{◌≡◌, ◌⊎◌, Ok, IfErr, IfOk, IfSome, false, map};
 ghost use Rattle.status_base.specs.Trees.{empty_tree};
 ghost use Rattle.status_call.specs.Inputs.{usual};
 ghost use Rattle.status_profile.specs.Nodes.{node_value};
 ghost use Rattle.status_profile.specs.Options.{is_joined, option_values};
-ghost use Rattle.status_cli.specs.ProfileStatuses.{IsFailed, IsPlacePrinted, IsPrintedOver, IsProfilePrinted, IsReadPrinted, IsTextPrinted, planted};
+ghost use Rattle.status_cli.specs.ProfileStatuses.{IsFailed, IsPlacePrinted, IsPrintedOver, IsProfilePrinted, IsReadPrinted, IsTextPrinted, IsUnplanted, planted};
 ghost use Rattle.status_cli.specs.Statuses.{IsPlainShown};
 ghost use Rattle.status_index.specs.States.{index_of};
 ghost use Rattle.status_call.specs.IndexChanges.{AreInside};
@@ -151,7 +151,8 @@ where
 
 /// Makes the worktree of these nodes.
 fn plant(alloc: Global, nodes: Vec<(BString, Node)>) -> Result<MemoryWorktree, Failure>
-    ensures { IfOk result (λ tree. planted empty_tree (map node_value nodes.items) ≡ Some tree) }
+    ensures ok { IfOk result (λ tree. planted empty_tree (map node_value nodes.items) ≡ Ok tree) }
+    ensures err { IfErr result (λ failure. IsUnplanted (map node_value nodes.items) failure) }
 {
     let mut worktree = MemoryWorktree::new(alloc);
     let mut at: usize = 0;

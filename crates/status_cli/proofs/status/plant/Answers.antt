@@ -1,19 +1,37 @@
-use Rattle.std.proofs.Common.{Ok, map, ap, ◌∙◌}
-use Rattle.std.proofs.lemmas.List.{map_push}
+use Rattle.std.proofs.Common.{◌≡◌, Ok, Err, [], refl, map, ap, ◌∙◌, arith}
+use Rattle.std.proofs.lemmas.List.{nil_from_length}
+use Rattle.std.specs.Vec.Iter.{into_iter_items}
 use Rattle.bstr.specs.Owned.{bstring_bytes}
-use Rattle.status_base.specs.Nodes.{IsPut, placed_of}
 use Rattle.bstr.specs.declared.bstring.BString.{BString}
-use Rattle.status_base.specs.Trees.{empty_tree}
+use Rattle.status_base.specs.Nodes.{IsPut, placed_of}
 use Rattle.status_base.specs.declared.worktree.memory.Node.{Node}
 use Rattle.status_profile.specs.Nodes.{node_value}
 use Rattle.status_cli.specs.ProfileStatuses.{planted}
-use Rattle.status_cli.proofs.Planted.{planted-push, planted_one}
+use Rattle.status_cli.proofs.Planted.{planted_next, unplanted}
 use Rattle.status_cli.proofs.status.plant.Goals as goal
+
+pub loop-path-init : goal.loop-path-init
+loop-path-init c = rw (c.into_iter-path-iterator.ensures.into_iter_gives.0, c.new-worktree.ensures) refl
 
 pub loop-path-preserved : goal.loop-path-preserved
 loop-path-preserved c =
     let x : BString × Node = (c.in-Some.path, c.in-Some.node) in
-    let put : IsPut c.loop-path.worktree (bstring_bytes c.in-Some.path) (placed_of c.in-Some.node) c.put.result c.put.new.self = rw c.as_bstr.ensures at c.put.ensures in
-    let done : IsPut {A = Unit {0}} c.loop-path.worktree (bstring_bytes c.in-Some.path) (placed_of c.in-Some.node) (Ok c.in_default.field-0) c.put.new.self = rw c.in_default.is at put in
-    ap (planted empty_tree) (map_push node_value c.loop-path.yielded x) ∙ planted-push empty_tree (map node_value c.loop-path.yielded) (node_value x) c.loop-path.worktree c.loop-path.invariant
-    ∙ planted_one c.loop-path.worktree c.put.new.self (node_value x) done.0 done.1
+    let tree = c.loop-path.worktree in
+    let put : IsPut tree (bstring_bytes c.in-Some.path) (placed_of c.in-Some.node) c.put.result c.put.new.self = rw c.as_bstr.ensures at c.put.ensures in
+    let done : IsPut {A = Unit {0}} tree (bstring_bytes c.in-Some.path) (placed_of c.in-Some.node) (Ok c.in_default.field-0) c.put.new.self = rw c.in_default.is at put in
+    c.loop-path.invariant ∙ ap (λ nodes. planted tree (map node_value nodes)) c.in-Some.ensures.steps.0
+    ∙ planted_next tree c.put.new.self (node_value x) (map node_value (into_iter_items c.next.new.self)) done.0 done.1
+
+pub returns-in-Err-clause-err : goal.returns-in-Err-clause-err
+returns-in-Err-clause-err c =
+    let x : BString × Node = (c.in-Some.path, c.in-Some.node) in
+    let tree = c.loop-path.worktree in
+    let put : IsPut tree (bstring_bytes c.in-Some.path) (placed_of c.in-Some.node) c.put.result c.put.new.self = rw c.as_bstr.ensures at c.put.ensures in
+    let failed : IsPut {A = Unit {0}} tree (bstring_bytes c.in-Some.path) (placed_of c.in-Some.node) (Err c.in-Err.error) c.put.new.self = rw c.in-Err.is at put in
+    let left = c.loop-path.invariant ∙ ap (λ nodes. planted tree (map node_value nodes)) c.in-Some.ensures.steps.0 in
+    unplanted (map node_value c.args.nodes.items) tree (node_value x) (map node_value (into_iter_items c.next.new.self)) c.in-Err.error c.loop-path.at c.of_node.result c.of_node.ensures left failed.0
+
+pub returns-clause-ok : goal.returns-clause-ok
+returns-clause-ok c =
+    let none : into_iter_items c.loop-path.path-iterator ≡ [] = nil_from_length (into_iter_items c.loop-path.path-iterator) (omega (arith, c.loop-path.path-iterator.rest.ok.0, c.in-None.ensures.steps.0)) in
+    c.loop-path.invariant ∙ ap (λ nodes. planted c.loop-path.worktree (map node_value nodes)) none

@@ -16,7 +16,7 @@ pub returns-in_err-print_records-clause-printed : goal.returns-in_err-print_reco
 returns-in_err-print_records-clause-printed g c =
     let call = c.index_as_worktree_with_defaults-answer in
     let visits = visits_of call.new.collector in
-    printed_status _ _ _ _ visits call.result _ _ _ c.new-recorder.ensures call.ensures.all
+    printed_status _ _ _ _ visits call.result _ _ _ c.new-recorder.ensures call.ensures.all call.ensures.uninterrupted
     (told_early (visit_lines visits) (closing c.args.status.options.counts (answered call.result)) (answered call.result) _ _ _ c.from_residual.result c.from_residual.ensures.1
     (rw c.as_slice.ensures.value at c.in_err-print_records.ensures.0) c.in_err-print_records.ensures.1)
 
@@ -24,7 +24,7 @@ pub returns-in_err-print_closing-clause-printed : goal.returns-in_err-print_clos
 returns-in_err-print_closing-clause-printed g c =
     let call = c.index_as_worktree_with_defaults-answer in
     let visits = visits_of call.new.collector in
-    printed_status _ _ _ _ visits call.result _ _ _ c.new-recorder.ensures call.ensures.all
+    printed_status _ _ _ _ visits call.result _ _ _ c.new-recorder.ensures call.ensures.all call.ensures.uninterrupted
     (told_failed Unit _ _ _ _ _ c.from_residual-in_err-print_closing.result c.from_residual-in_err-print_closing.ensures.1
     (told_behind (visit_lines visits) (closing c.args.status.options.counts (answered call.result)) (answered call.result) _ _ _ _
     (rw c.as_slice.ensures.value at c.in_ok-print_records.ensures) (rw (c.in_err-print_closing.was, c.with_failure.ensures) at c.print_closing.ensures)))
@@ -33,7 +33,7 @@ pub returns-in_err-changes-in-Returned-clause-printed : goal.returns-in_err-chan
 returns-in_err-changes-in-Returned-clause-printed g c =
     let call = c.index_as_worktree_with_defaults-answer in
     let visits = visits_of call.new.collector in
-    printed_status _ _ _ _ visits call.result _ _ _ c.new-recorder.ensures call.ensures.all
+    printed_status _ _ _ _ visits call.result _ _ _ c.new-recorder.ensures call.ensures.all call.ensures.uninterrupted
     (told_then Unit _ _ _ _ c.in_ok-print_closing.field-0 c.from_residual-in_err-changes-in-Returned.result (memory_unprinted _ c.from_residual-in_err-changes-in-Returned.ensures.1)
     (told_behind (visit_lines visits) (closing c.args.status.options.counts (answered call.result)) (answered call.result) _ _ _ _
     (rw c.as_slice.ensures.value at c.in_ok-print_records.ensures) (rw (c.in_ok-print_closing.was, c.with_failure.ensures) at c.print_closing.ensures)))
@@ -42,7 +42,7 @@ pub returns-in-Returned-clause-printed : goal.returns-in-Returned-clause-printed
 returns-in-Returned-clause-printed g c =
     let call = c.index_as_worktree_with_defaults-answer in
     let visits = visits_of call.new.collector in
-    printed_status _ _ _ _ visits call.result _ _ _ c.new-recorder.ensures call.ensures.all
+    printed_status _ _ _ _ visits call.result _ _ _ c.new-recorder.ensures call.ensures.all call.ensures.uninterrupted
     (told_then Unit _ _ _ _ c.in_ok-print_closing.field-0 _ tt
     (told_behind (visit_lines visits) (closing c.args.status.options.counts (answered call.result)) (answered call.result) _ _ _ _
     (rw c.as_slice.ensures.value at c.in_ok-print_records.ensures) (rw (c.in_ok-print_closing.was, c.with_failure.ensures) at c.print_closing.ensures)))
@@ -51,7 +51,7 @@ pub returns-clause-printed : goal.returns-clause-printed
 returns-clause-printed g c =
     let call = c.index_as_worktree_with_defaults-answer in
     let visits = visits_of call.new.collector in
-    printed_status _ _ _ _ visits call.result _ _ _ c.new-recorder.ensures call.ensures.all
+    printed_status _ _ _ _ visits call.result _ _ _ c.new-recorder.ensures call.ensures.all call.ensures.uninterrupted
     (told_then Unit _ _ _ _ c.in_ok-print_closing.field-0 _ tt
     (told_behind (visit_lines visits) (closing c.args.status.options.counts (answered call.result)) (answered call.result) _ _ _ _
     (rw c.as_slice.ensures.value at c.in_ok-print_records.ensures) (rw (c.in_ok-print_closing.was, c.with_failure.ensures) at c.print_closing.ensures)))
