@@ -41,7 +41,7 @@ options_query o timestamp modelled lstat opened linked =
       included = λ path _. starts_with nat_eq path o.prefix;
     }
 
--- the text of a profile can't be read, and nothing was printed
+-- the text of a profile can't be read, for want of memory or for any other reason, and nothing was printed
 abbrev pub IsUnreadPrinted : {A : Type 0} → Option (List ℕ) → Result A Failure → Option (List ℕ) → Type 0
 IsUnreadPrinted old result new = IsErrAnd result (λ f. (f ≡ Unreadable) ⊎ (f ≡ Memory)) × (new ≡ old)
 
@@ -71,7 +71,7 @@ IsPrintedOver modelled lstat opened linked w options index old result new =
     is_joined (option_values options) ≡ false
     → (IsErrAnd result (λ f. f ≡ Memory) × (new ≡ old)) ⊎ IsStatusPrinted (options_query (option_values options) (timestamp_of index) (modelled w) (lstat w) (opened w) (linked w)) index options.counts old result new
 
--- the same over the tree of a profile's nodes; or nothing, since they make no tree; of a folder nothing is claimed
+-- the same over the tree of a profile's nodes; or nothing, since they don't all make one. Of a folder nothing is claimed
 abbrev pub IsPlacePrinted : {A : Type 0} → Place → ProfileOptions → State → Option (List ℕ) → Result A Failure → Option (List ℕ) → Type 0
 IsPlacePrinted (places.Folder path) options index old result new = ⊤
 IsPlacePrinted (places.Nodes nodes) options index old result new =
@@ -92,7 +92,7 @@ IsTextPrinted kind text old result new =
     (IsUnreadPrinted old result new ⊎ ((e : ProfileError) × IsRead kind text (Err e) × IsErrAnd result (λ f. f ≡ failure_of_profile e) × (new ≡ old)))
     ⊎ IsReadPrinted kind text old result new
 
--- of a command that ended with exit status 1: a beginning of one fault line was written, and this was printed before it. The line of
--- a submodule's fault isn't defined
+-- of a command that ended with exit status 1: a beginning of the failure's line was written, and this was printed before it. Of the
+-- line of a submodule's fault nothing is claimed
 abbrev pub IsFailed : (Result (Unit {0}) Failure → Type 0) → List ℕ → Option (List ℕ) → Option (List ℕ) → Type 0
 IsFailed Printed name old new = (f : Failure) × Printed (Err f) × (names_submodule f ≡ false → IsBegun (failure_line name f) old new)

@@ -75,7 +75,7 @@ pub record IsReplayPrinted {A : Type 0} (h : History) (old : Option (List ℕ)) 
   pub replay : IsReopenedReplay (start_of h) h.stretches.items final (map report_value reports) stopped
   pub told : IsReplayTold (replay_lines h.options.counts reports) stopped old result new
 
--- the same; or nothing was printed, of a history that can't begin so
+-- the same; or nothing was printed, since the history can't begin so
 abbrev pub IsHistoryPrinted : {A : Type 0} → History → Option (List ℕ) → Result A Failure → Option (List ℕ) → Type 0
 IsHistoryPrinted h old result new = (IsErrAnd result (IsNoStart h) × (new ≡ old)) ⊎ IsReplayPrinted h old result new
 

@@ -18,7 +18,7 @@ use Rattle.status_profile.specs.Nodes.{node_in, node_value}
 abbrev pub entry_value : Entry → IndexEntry
 entry_value e = said_of e.path.now e.stat e.id e.flags e.mode
 
--- an index has all of these entries; or those before a refused one, which is refused for this reason
+-- an index has all of these entries, or one of them is refused for this reason
 abbrev pub HasIndex : List IndexEntry → Option IndexError → List IndexEntry → Type 0
 HasIndex front None es = front ≡ es
 HasIndex front (Some e) es = IsRefusal es e

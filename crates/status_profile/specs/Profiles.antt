@@ -85,7 +85,7 @@ IsProfile said (Err (Bad key)) = said ≡ Err key
 IsProfile said (Err (Index e)) = IsRefusedProfile said e
 IsProfile said (Err Memory) = ⊤
 
--- what a text says, if it is JSON in UTF-8, is this
+-- a text is JSON in UTF-8, and of what it says this holds
 abbrev pub Says : List ℕ → (Json → Type 0) → Type 0
 Says text P = IsUtf8 text × ((j : Json) × (document text ≡ Some j) × P j)
 
