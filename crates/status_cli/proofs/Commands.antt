@@ -1,5 +1,5 @@
 -- The output of a command whose parts pass their results on.
-use Rattle.std.proofs.Common.{map, ◌≡◌, Bool, true, ℕ, List, Option, Some, None, Result, Ok, Err, inl, inr, refl, sym, subst, ◌∙◌}
+use Rattle.std.proofs.Common.{map, ◌≡◌, Bool, true, ℕ, List, Option, Some, None, Result, Ok, Err, inl, inr, sym, subst, ◌∙◌}
 use Rattle.std.specs.Prelude.{◌⊎◌, IfSome}
 use Rattle.std.specs.Result.{IsErrAnd}
 use Rattle.status_base.specs.MemoryTree.{lstat_in, open_in, target_in}

@@ -1,5 +1,5 @@
 -- Trees of nodes, and the paths of a profile's status.
-use Rattle.std.proofs.Common.{◌≡◌, arith, nat_eq, ℕ, Bool, List, [], ◌∷◌, ◌++◌, Option, Some, None, Result, Ok, Err, true, ◌==◌, length, refl, sym, ap, subst, inl, inr, ◌∙◌}
+use Rattle.std.proofs.Common.{◌≡◌, ◌+◌, arith, nat_eq, ℕ, Bool, List, [], ◌∷◌, Option, Some, None, Result, Err, true, ◌==◌, length, refl, sym, ap, subst, inl, inr, ◌∙◌}
 use Rattle.std.specs.Prelude.{◌⊎◌}
 use Rattle.std.proofs.lemmas.Bool.{eqb-true}
 use Rattle.std.specs.FinMap as paths
@@ -29,17 +29,18 @@ none_long [] e = refl
 none_long (x ∷ xs) e = let never : length (x ∷ xs) ≡ 0 = eqb-true _ _ e in absurd (omega arith)
 
 -- a node is put, and then the others
-pub planted_next : (old new : Tree) (node : List ℕ × Placed) (nodes : List (List ℕ × Placed)) → put_fault old node.0 node.1.metadata.kind ≡ None → new ≡ record old { nodes = paths.insert old.nodes node.0 node.1 } → planted old (node ∷ nodes) ≡ planted new nodes
-planted_next old new node nodes free put = rw free (ap (λ t. planted t nodes) (sym put))
+pub planted_next : (at next : ℕ) (old new : Tree) (node : List ℕ × Placed) (nodes : List (List ℕ × Placed)) → next ≡ at + 1 → put_fault old node.0 node.1.metadata.kind ≡ None → new ≡ record old { nodes = paths.insert old.nodes node.0 node.1 }
+    → planted at old (node ∷ nodes) ≡ planted next new nodes
+planted_next at next old new node nodes more free put = rw (free, more) (ap (λ t. planted (at + 1) t nodes) (sym put))
 
 -- a node can't be put
-planted_fault : (tree : Tree) (node : List ℕ × Placed) (nodes : List (List ℕ × Placed)) (e : TreeError) → put_fault tree node.0 node.1.metadata.kind ≡ Some e → planted tree (node ∷ nodes) ≡ Err e
-planted_fault tree node nodes e fault = rw fault refl
+planted_fault : (at : ℕ) (tree : Tree) (node : List ℕ × Placed) (nodes : List (List ℕ × Placed)) (e : TreeError) → put_fault tree node.0 node.1.metadata.kind ≡ Some e → planted at tree (node ∷ nodes) ≡ Err (failure_of_node e at)
+planted_fault at tree node nodes e fault = rw fault refl
 
-pub unplanted : {L : Type 0} (all : List (List ℕ × Placed)) (tree : Tree) (node : List ℕ × Placed) (nodes : List (List ℕ × Placed)) (e : TreeError) (at : ℕ) (failure : Failure) → failure ≡ failure_of_node e at → planted empty_tree all ≡ planted tree (node ∷ nodes)
+pub unplanted : {L : Type 0} (all : List (List ℕ × Placed)) (tree : Tree) (node : List ℕ × Placed) (nodes : List (List ℕ × Placed)) (e : TreeError) (at : ℕ) (failure : Failure) → failure ≡ failure_of_node e at → planted 0 empty_tree all ≡ planted at tree (node ∷ nodes)
     → ((e ≡ Memory) × L) ⊎ (put_fault tree node.0 node.1.metadata.kind ≡ Some e) → IsUnplanted all failure
 unplanted all tree node nodes e at failure is left (inl memory) = inl (is ∙ ap (λ x. failure_of_node x at) memory.0)
-unplanted all tree node nodes e at failure is left (inr fault) = inr (e, left ∙ planted_fault tree node nodes e fault, at, is)
+unplanted all tree node nodes e at failure is left (inr fault) = inr (left ∙ planted_fault at tree node nodes e fault ∙ ap Err (sym is))
 
 module _ (options : ProfileOptions) (index : State) (modelled : Bool) (lstat : List ℕ → Result Metadata Fault) (opened : List ℕ → Result Content Fault) (linked : List ℕ → Result (List ℕ) Fault) where
   abbrev query_at : List ℕ → Query (Option ObjectId) (Unit {0})

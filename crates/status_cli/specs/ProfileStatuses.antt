@@ -1,5 +1,5 @@
 -- What is printed of a profile's status.
-use Rattle.std.specs.Prelude.{◌≡◌, ◌⊎◌, nat_eq, ℕ, Bool, true, false, List, [], ◌∷◌, map, Option, Some, None, Result, Ok, Err, ⊤}
+use Rattle.std.specs.Prelude.{◌≡◌, ◌⊎◌, nat_eq, ℕ, ◌+◌, Bool, true, false, List, [], ◌∷◌, map, Option, Some, None, Result, Ok, Err, ⊤}
 use Rattle.std.specs.FinMap as paths
 use Rattle.std.specs.List.{starts_with}
 use Rattle.std.specs.Result.{IsErrAnd}
@@ -41,7 +41,7 @@ options_query o timestamp modelled lstat opened linked =
       included = λ path _. starts_with nat_eq path o.prefix;
     }
 
--- the text of a profile can't be read, for want of memory or for any other reason, and nothing was printed
+-- the command fails as if the text of a profile couldn't be read, or since memory ran out; and nothing was printed
 abbrev pub IsUnreadPrinted : {A : Type 0} → Option (List ℕ) → Result A Failure → Option (List ℕ) → Type 0
 IsUnreadPrinted old result new = IsErrAnd result (λ f. (f ≡ Unreadable) ⊎ (f ≡ Memory)) × (new ≡ old)
 
@@ -50,33 +50,35 @@ abbrev pub and_then : {A B E : Type 0} → Result A E → (A → Result B E) →
 and_then (Ok x) next = next x
 and_then (Err e) next = Err e
 
--- a tree with one more node, unless there is a fault
-abbrev pub with_placed : Tree → List ℕ × Placed → Option TreeError → Result Tree TreeError
-with_placed tree node None = Ok (record tree { nodes = paths.insert tree.nodes node.0 node.1 })
-with_placed tree node (Some e) = Err e
+-- a tree with a node at its path; or the command's failure for this fault of the node at this position
+abbrev pub with_placed : ℕ → Tree → List ℕ × Placed → Option TreeError → Result Tree Failure
+with_placed position tree node None = Ok (record tree { nodes = paths.insert tree.nodes node.0 node.1 })
+with_placed position tree node (Some e) = Err (failure_of_node e position)
 
--- a tree with nodes that are put one after the other, or the fault of the first that can't be put
-abbrev pub planted : Tree → List (List ℕ × Placed) → Result Tree TreeError
-planted tree [] = Ok tree
-planted tree (node ∷ nodes) = and_then (with_placed tree node (put_fault tree node.0 node.1.metadata.kind)) (λ more. planted more nodes)
+-- a tree with nodes that are put one after the other, the first of them at this position; or the failure for the first that can't be put
+abbrev pub planted : ℕ → Tree → List (List ℕ × Placed) → Result Tree Failure
+planted position tree [] = Ok tree
+planted position tree (node ∷ nodes) =
+    and_then (with_placed position tree node (put_fault tree node.0 node.1.metadata.kind)) (λ more. planted (position + 1) more nodes)
 
--- the command fails for the first node that can't be put, or for want of memory. Of the node's place nothing is claimed
+-- the command fails for the first node that can't be put, or memory ran out
 abbrev pub IsUnplanted : List (List ℕ × Placed) → Failure → Type 0
-IsUnplanted nodes failure = (failure ≡ Memory) ⊎ ((e : TreeError) × (planted empty_tree nodes ≡ Err e) × (at : ℕ) × (failure ≡ failure_of_node e at))
+IsUnplanted nodes failure = (failure ≡ Memory) ⊎ (planted 0 empty_tree nodes ≡ Err failure)
 
--- of a plain status over any worktree, the lines of the status were printed; or nothing, for want of memory
+-- of a plain status over any worktree, its lines were printed, or as many as its failure allows; or nothing, since memory ran out
 abbrev pub IsPrintedOver : {W A : Type 0} → (W → Bool) → (W → List ℕ → Result Metadata Fault) → (W → List ℕ → Result Content Fault) → (W → List ℕ → Result (List ℕ) Fault) → W → ProfileOptions → State
     → Option (List ℕ) → Result A Failure → Option (List ℕ) → Type 0
 IsPrintedOver modelled lstat opened linked w options index old result new =
     is_joined (option_values options) ≡ false
     → (IsErrAnd result (λ f. f ≡ Memory) × (new ≡ old)) ⊎ IsStatusPrinted (options_query (option_values options) (timestamp_of index) (modelled w) (lstat w) (opened w) (linked w)) index options.counts old result new
 
--- the same over the tree of a profile's nodes; or nothing, since they don't all make one. Of a folder nothing is claimed
+-- the same over the tree of a profile's nodes; or nothing, since one of them can't be put or memory ran out. Of a folder nothing is
+-- claimed
 abbrev pub IsPlacePrinted : {A : Type 0} → Place → ProfileOptions → State → Option (List ℕ) → Result A Failure → Option (List ℕ) → Type 0
 IsPlacePrinted (places.Folder path) options index old result new = ⊤
 IsPlacePrinted (places.Nodes nodes) options index old result new =
     (IsErrAnd result (IsUnplanted (map node_value nodes.items)) × (new ≡ old))
-    ⊎ ((tree : Tree) × (planted empty_tree (map node_value nodes.items) ≡ Ok tree) × IsPrintedOver (λ (t : Tree). true) lstat_in open_in target_in tree options index old result new)
+    ⊎ ((tree : Tree) × (planted 0 empty_tree (map node_value nodes.items) ≡ Ok tree) × IsPrintedOver (λ (t : Tree). true) lstat_in open_in target_in tree options index old result new)
 
 abbrev pub IsProfilePrinted : {A : Type 0} → Profile → Option (List ℕ) → Result A Failure → Option (List ℕ) → Type 0
 IsProfilePrinted p old result new = IsPlacePrinted p.place p.options p.index old result new
@@ -92,7 +94,7 @@ IsTextPrinted kind text old result new =
     (IsUnreadPrinted old result new ⊎ ((e : ProfileError) × IsRead kind text (Err e) × IsErrAnd result (λ f. f ≡ failure_of_profile e) × (new ≡ old)))
     ⊎ IsReadPrinted kind text old result new
 
--- of a command that ended with exit status 1: a beginning of the failure's line was written, and this was printed before it. Of the
--- line of a submodule's fault nothing is claimed
+-- of a command that ended with exit status 1: a beginning of its failure's line was written, and this holds of what was printed. Of
+-- the line of a submodule's fault nothing is claimed
 abbrev pub IsFailed : (Result (Unit {0}) Failure → Type 0) → List ℕ → Option (List ℕ) → Option (List ℕ) → Type 0
 IsFailed Printed name old new = (f : Failure) × Printed (Err f) × (names_submodule f ≡ false → IsBegun (failure_line name f) old new)

@@ -49,16 +49,16 @@ start_of h = empty_world h.hash h.options.stat h.options.executable_bit h.clock 
 abbrev pub IsNoStart : History → Failure → Type 0
 IsNoStart h failure = (r : Refusal) × (start_refusal h.clock h.timestamp ≡ Some r) × (failure ≡ failure_of_start r)
 
--- the command's failure for what stopped a replay, at this place in the list of events
+-- the command's failure for what stopped a replay, at this position in the list of events
 abbrev pub failure_of_stop : Stop → ℕ → Failure
-failure_of_stop (stops.Event stretch at refusal) place = failure_of_event refusal place
-failure_of_stop (stops.Opening stretch refusal) place = failure_of_event refusal place
-failure_of_stop (stops.Reports stretch) place = Memory
+failure_of_stop (stops.Event stretch at refusal) position = failure_of_event refusal position
+failure_of_stop (stops.Opening stretch refusal) position = failure_of_event refusal position
+failure_of_stop (stops.Reports stretch) position = Memory
 
--- the same, of an optional stop. Of the place nothing is claimed
+-- something stopped the replay, and this is its failure, at some position
 abbrev pub IsStopOf : Option Stop → Failure → Type 0
 IsStopOf None failure = ⊥
-IsStopOf (Some stop) failure = (place : ℕ) × (failure ≡ failure_of_stop stop place)
+IsStopOf (Some stop) failure = (position : ℕ) × (failure ≡ failure_of_stop stop position)
 
 -- all of a text was printed, and the command succeeded if nothing stopped the replay, and failed for what stopped it if something did;
 -- or the output can't be written or memory ran out, and a beginning was
@@ -66,7 +66,7 @@ abbrev pub IsReplayTold : {A : Type 0} → List ℕ → Option Stop → Option (
 IsReplayTold text stopped old (Ok _) new = (stopped ≡ None) × Appends old new text
 IsReplayTold text stopped old (Err failure) new = (IsStopOf stopped failure × Appends old new text) ⊎ (IsBegun text old new × IsUnprinted failure)
 
--- the events were replayed, with what stopped that, if anything, and the lines of the reports were printed
+-- the events were replayed, with what stopped that, if anything, and the lines of the reports were printed as it ended
 pub record IsReplayPrinted {A : Type 0} (h : History) (old : Option (List ℕ)) (result : Result A Failure) (new : Option (List ℕ)) : Type 0 where
   pub start : start_refusal h.clock h.timestamp ≡ None
   pub final : StampedWorld
@@ -75,7 +75,7 @@ pub record IsReplayPrinted {A : Type 0} (h : History) (old : Option (List ℕ)) 
   pub replay : IsReopenedReplay (start_of h) h.stretches.items final (map report_value reports) stopped
   pub told : IsReplayTold (replay_lines h.options.counts reports) stopped old result new
 
--- the same; or nothing was printed, since the history can't begin so
+-- the same; or the history can't begin so, for which the command fails, and nothing was printed
 abbrev pub IsHistoryPrinted : {A : Type 0} → History → Option (List ℕ) → Result A Failure → Option (List ℕ) → Type 0
 IsHistoryPrinted h old result new = (IsErrAnd result (IsNoStart h) × (new ≡ old)) ⊎ IsReplayPrinted h old result new
 

@@ -39,15 +39,15 @@ abbrev pub closing : Bool → Result Outcome Failure → List ℕ
 closing counts (Ok outcome) = totals_text counts outcome
 closing counts (Err _) = []
 
--- a text was printed that tells of an answer. Where this is a failure, the command ends with it, and all of the text was printed;
--- or the output can't be written or memory runs out, and a beginning was
+-- all of a text was printed, and the command succeeds or fails as the answer does; or the output can't be written or memory runs
+-- out, and a beginning was
 abbrev pub IsTold : {T : Type 0} → List ℕ → Result Outcome Failure → Option (List ℕ) → Result T Failure → Option (List ℕ) → Type 0
 IsTold text (Ok _) old result new = IsPrinted text old result new
 IsTold text (Err failure) old (Ok _) new = ⊥
 IsTold text (Err failure) old (Err e) new = (Appends old new text × (e ≡ failure)) ⊎ (IsBegun text old new × IsUnprinted e)
 
--- a status of this index was computed by this query, without an interruption, and the lines of its records were printed, and with
--- `counts` its totals
+-- a status of this index was computed by this query; it wasn't interrupted if it succeeded; and its lines, with `counts` also its
+-- totals, were printed as it ended
 pub record IsStatusPrinted {T U A : Type 0} (query : Query T U) (index : State) (counts : Bool) (old : Option (List ℕ)) (result : Result A Failure) (new : Option (List ℕ)) : Type 0 where
   pub visits : List (Visit T U)
   pub answer : Result Outcome Error

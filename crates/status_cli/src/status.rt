@@ -151,7 +151,7 @@ where
 
 /// Makes the worktree of these nodes.
 fn plant(alloc: Global, nodes: Vec<(BString, Node)>) -> Result<MemoryWorktree, Failure>
-    ensures ok { IfOk result (λ tree. planted empty_tree (map node_value nodes.items) ≡ Ok tree) }
+    ensures ok { IfOk result (λ tree. planted 0 empty_tree (map node_value nodes.items) ≡ Ok tree) }
     ensures err { IfErr result (λ failure. IsUnplanted (map node_value nodes.items) failure) }
 {
     let mut worktree = MemoryWorktree::new(alloc);

@@ -1,4 +1,4 @@
-use Rattle.std.proofs.Common.{◌≡◌, map}
+use Rattle.std.proofs.Common.{◌≡◌, ◌+◌, length, map}
 use Rattle.std.specs.Vec.Iter.{into_iter_items}
 use Rattle.status_base.specs.Trees.{empty_tree}
 use Rattle.status_profile.specs.Nodes.{node_value}
@@ -6,4 +6,6 @@ use Rattle.status_cli.specs.ProfileStatuses.{planted}
 use Rattle.status_cli.proofs.status.plant.Given as goal
 
 abbrev pub invariant-loop-path : goal.invariant-loop-path
-invariant-loop-path l = planted empty_tree (map node_value l.fn.nodes.items) ≡ planted l.worktree (map node_value (into_iter_items l.path-iterator))
+invariant-loop-path l =
+    (planted 0 empty_tree (map node_value l.fn.nodes.items) ≡ planted l.at l.worktree (map node_value (into_iter_items l.path-iterator)))
+    × (l.at + length (into_iter_items l.path-iterator) ≡ length l.fn.nodes.items)
