@@ -36,6 +36,12 @@ def pages():
     return texts_of("README.md", "CONTRIBUTING.md", "docs/*.md")
 
 
+def plain(text):
+    """A text without marks of comments, code and links, on one line."""
+    text = re.sub(r"^\s*-- ?", "", text, flags=re.M)
+    return " ".join(re.sub(r"\[([^\]]*)\]\([^)]*\)", r"\1", text).replace("`", "").split())
+
+
 # Words
 
 
@@ -158,6 +164,18 @@ class Docs(unittest.TestCase):
                     texts = [text_of("crates", crate, "specs", name + ".antt") for name in names]
                     for word in re.findall(r"`(\w+)`", words):
                         self.assertRegex("\n".join(texts), rf"\b{word}\b")
+
+    def test_the_definitions_have_the_same_sentences_in_specs(self):
+        page = text_of("docs", "PROOFS.md")
+        rows = 0
+        for crate, part in re.findall(r"^### (status_\w+)\n(.*?)(?=^##|\Z)", page, re.M | re.S):
+            for files, sentence in re.findall(r"^\| (`[^|]*?) \| [^|]* \| ([^|]*?) \|", part, re.M):
+                names = re.findall(r"`(\w+)`", files)
+                texts = [text_of("crates", crate, "specs", name + ".antt") for name in names]
+                with self.subTest(crate=crate, files=files, sentence=sentence):
+                    self.assertIn(plain(sentence), plain("\n".join(texts)))
+                rows += 1
+        self.assertGreater(rows, 100)
 
     def test_the_pictures_have_the_figures_of_the_page(self):
         command = [sys.executable, os.path.join(TOP, "bench", "plot.py"), "--check"]

@@ -6,17 +6,21 @@ use Rattle.status_base.specs.MemoryTree.{lstat_in, open_in, target_in}
 use Rattle.status_call.specs.declared.index_as_worktree.types.Outcome.{Outcome}
 use Rattle.status_call.specs.Query.{Query}
 use Rattle.status_index.specs.Content.{Content}
+use Rattle.status_index.specs.Entries.{IndexEntry}
 use Rattle.status_index.specs.declared.fault.Fault.{Fault}
+use Rattle.status_index.specs.declared.id.HashKind.{HashKind}
 use Rattle.status_index.specs.declared.metadata.Metadata.{Metadata}
 use Rattle.status_index.specs.declared.state.State.{State}
 use Rattle.status_profile.specs.declared.node.Place.{Place}
 use Rattle.status_profile.specs.declared.node.Place.TheVariants as places
 use Rattle.status_profile.specs.declared.options.ProfileOptions.{ProfileOptions}
+use Rattle.status_joined.specs.Walkings.{Walking}
 use Rattle.status_profile.specs.Nodes.{node_value}
+use Rattle.status_profile.specs.Options.{OptionValues, option_values}
 use Rattle.status_cli.specs.declared.failure.Failure.{Failure}
 use Rattle.status_cli.specs.declared.failure.Failure.TheVariants.{Memory}
-use Rattle.status_cli.specs.Statuses.{IsStatusPrinted, IsTold}
-use Rattle.status_cli.specs.ProfileStatuses.{IsPlacePrinted, IsPrintedOver, IsUnplanted}
+use Rattle.status_cli.specs.Statuses.{IsJoinedPrinted, IsStatusPrinted, IsTold, JoinedParts}
+use Rattle.status_cli.specs.ProfileStatuses.{IsJoinedOver, IsPlacePrinted, IsPrintedOver, IsUnplanted, walked_in}
 
 -- both succeeded, or both failed for one reason
 abbrev pub AreAlike : {A B : Type 0} → Result A Failure → Result B Failure → Type 0
@@ -59,10 +63,22 @@ module _ {A B : Type 0} (r : Result A Failure) (s : Result B Failure) (same : Ar
       → IsPrintedOver modelled lstat opened linked w options index old r new → IsPrintedOver modelled lstat opened linked w options index old s new
   over_alike modelled lstat opened linked w options index h = λ plain. shown_alike _ index options.counts (h plain)
 
-  pub place_alike : (place : Place) (options : ProfileOptions) (index : State) → IsPlacePrinted place options index old r new → IsPlacePrinted place options index old s new
-  place_alike (places.Folder path) options index h = tt
-  place_alike (places.Nodes nodes) options index (inl p) = inl (failed_too (IsUnplanted (map node_value nodes.items)) r s same p.0, p.1)
-  place_alike (places.Nodes nodes) options index (inr p) = inr (p.0, p.1, over_alike (λ t. true) lstat_in open_in target_in p.0 options index p.2)
+  pub joined_alike : {T U : Type 0} (parts : JoinedParts T U) (o : OptionValues) (hash : HashKind) (index : State) → IsJoinedPrinted parts o hash index old r new → IsJoinedPrinted parts o hash index old s new
+  joined_alike parts o hash index h = record { entries = h.entries; answer = h.answer; met = h.met; told = told_alike _ _ old new r s same h.told }
+
+  joined_or_memory : {T U : Type 0} (parts : JoinedParts T U) (o : OptionValues) (hash : HashKind) (index : State) → (IsErrAnd r (λ f. f ≡ Memory) × (new ≡ old)) ⊎ IsJoinedPrinted parts o hash index old r new → (IsErrAnd s (λ f. f ≡ Memory) × (new ≡ old)) ⊎ IsJoinedPrinted parts o hash index old s new
+  joined_or_memory parts o hash index (inl p) = inl (failed_too (λ f. f ≡ Memory) r s same p.0, p.1)
+  joined_or_memory parts o hash index (inr h) = inr (joined_alike parts o hash index h)
+
+  joined_over_alike : {W : Type 0} (modelled : W → Bool) (lstat : W → List ℕ → Result Metadata Fault) (opened : W → List ℕ → Result Content Fault) (linked : W → List ℕ → Result (List ℕ) Fault) (walked : W → List IndexEntry → List ℕ → (List ℕ → Bool → Bool) → Walking) (w : W) (hash : HashKind) (options : ProfileOptions) (index : State)
+      → IsJoinedOver modelled lstat opened linked walked w hash options index old r new → IsJoinedOver modelled lstat opened linked walked w hash options index old s new
+  joined_over_alike modelled lstat opened linked walked w hash options index h = λ joined. joined_or_memory _ (option_values options) hash index (h joined)
+
+  pub place_alike : (place : Place) (hash : HashKind) (options : ProfileOptions) (index : State) → IsPlacePrinted place hash options index old r new → IsPlacePrinted place hash options index old s new
+  place_alike (places.Folder path) hash options index h = tt
+  place_alike (places.Nodes nodes) hash options index (inl p) = inl (failed_too (IsUnplanted (map node_value nodes.items)) r s same p.0, p.1)
+  place_alike (places.Nodes nodes) hash options index (inr p) =
+      inr (p.0, p.1, over_alike (λ t. true) lstat_in open_in target_in p.0 options index p.2.0, joined_over_alike (λ t. true) lstat_in open_in target_in walked_in p.0 hash options index p.2.1)
 
 -- what holds of the text that was read holds of the reader's, if that is known
 pub of_known : (P : List ℕ → Type 0) (known : Option (List ℕ)) (text : List ℕ) → IfSome known (λ all. text ≡ all) → P text → IfSome known P

@@ -7,6 +7,7 @@ use Rattle.std.specs.List.{starts_with}
 use Rattle.status_index.specs.Content.{Content}
 use Rattle.status_index.specs.States.{timestamp_of}
 use Rattle.status_index.specs.declared.fault.Fault.{Fault}
+use Rattle.status_index.specs.declared.id.HashKind.{HashKind}
 use Rattle.status_index.specs.declared.id.ObjectId.{ObjectId}
 use Rattle.status_index.specs.declared.metadata.Metadata.{Metadata}
 use Rattle.status_index.specs.declared.state.State.{State}
@@ -22,7 +23,9 @@ use Rattle.status_base.specs.declared.worktree.memory.TreeError.{TreeError}
 use Rattle.status_base.specs.declared.worktree.memory.TreeError.TheVariants.{Memory}
 use Rattle.status_cli.specs.Failures.{failure_of_node}
 use Rattle.status_cli.specs.ProfileStatuses.{IsUnplanted, planted}
-use Rattle.status_cli.specs.Statuses.{IsStatusPrinted}
+use Rattle.status_cli.specs.Statuses.{IsJoinedPrinted, IsStatusPrinted, JoinedParts, joined_parts}
+use Rattle.status_joined.specs.Walkings.{Walking}
+use Rattle.status_profile.specs.Options.{option_values}
 
 pub none_long : (xs : List ℕ) → (length xs == 0) ≡ true → xs ≡ []
 none_long [] e = refl
@@ -53,3 +56,11 @@ module _ (options : ProfileOptions) (index : State) (modelled : Bool) (lstat : L
   -- the prefix is the options' own
   pub at_prefix : {A : Type 0} (counts : Bool) (old new : Option (List ℕ)) (result : Result A Failure) (p q : List ℕ) → p ≡ q → IsStatusPrinted (query_at p) index counts old result new → IsStatusPrinted (query_at q) index counts old result new
   at_prefix counts old new result p q e h = subst (λ x. IsStatusPrinted (query_at x) index counts old result new) e h
+
+  -- likewise of a joined status, whose walk has the same paths
+  module _ (walked : List ℕ → (List ℕ → Bool → Bool) → Walking) (hash : HashKind) where
+    abbrev parts_at : List ℕ → JoinedParts (Option ObjectId) (Unit {0})
+    parts_at p = joined_parts (query_at p) (walked p (λ path _. starts_with nat_eq path p)) hash modelled lstat opened linked
+
+    pub joined_at_prefix : {A : Type 0} (old new : Option (List ℕ)) (result : Result A Failure) (p q : List ℕ) → p ≡ q → IsJoinedPrinted (parts_at p) (option_values options) hash index old result new → IsJoinedPrinted (parts_at q) (option_values options) hash index old result new
+    joined_at_prefix old new result p q e h = subst (λ x. IsJoinedPrinted (parts_at x) (option_values options) hash index old result new) e h

@@ -1,4 +1,4 @@
--- Which failure of a command stands for a fault of the library. Want of memory is one failure, wherever it is met.
+-- The failure of a command for each error of the library. Out of memory is one failure, wherever it is met.
 use Rattle.std.specs.Prelude.{ℕ, Bool, true, false, if◌then◌else◌}
 use Rattle.status_index.specs.declared.fault.Fault.{Fault}
 use Rattle.status_index.specs.declared.fault.Fault.TheVariants as faults
@@ -83,11 +83,11 @@ failure_of_joined e = if is_memory_joined e then failures.Memory else failures.J
 abbrev pub failure_of_start : Refusal → Failure
 failure_of_start r = if is_memory_refusal r then failures.Memory else failures.Start r
 
--- of the event at this place
+-- of the event at this position
 abbrev pub failure_of_event : Refusal → ℕ → Failure
 failure_of_event r at = if is_memory_refusal r then failures.Memory else failures.Event r at
 
--- of the node at this place
+-- of the node at this position
 abbrev pub failure_of_node : TreeError → ℕ → Failure
 failure_of_node tree_errors.Memory at = failures.Memory
 failure_of_node e at = failures.Worktree e at

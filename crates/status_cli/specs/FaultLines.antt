@@ -1,4 +1,4 @@
--- The bytes of the line that says why a command failed.
+-- Each failure but a failed output has a line. Each fault is a failure of its own, except that out of memory is one.
 use Rattle.std.specs.Prelude.{ℕ, Bool, true, false, List, [], ◌∷◌, ◌++◌, codes, decimal, string_bytes}
 use Rattle.status_index.specs.declared.fault.Fault.{Fault}
 use Rattle.status_index.specs.declared.fault.Fault.TheVariants as faults
@@ -110,8 +110,8 @@ names_submodule (failures.Status error) = is_submodule_fault error
 names_submodule (failures.Joined (joined.TrackedFileModifications error)) = is_submodule_fault error
 names_submodule _ = false
 
--- the line of a failure, over the file of this name, of failures as `Failures` makes them: want of memory is named alone. Where
--- the output can't be written there is none
+-- the line of a failure, for a file of this name. Failures are as `Failures` makes them: out of memory is one of its own. For an
+-- output that can't be written there is no line
 abbrev pub failure_line : List ℕ → Failure → List ℕ
 failure_line name failures.Unreadable = line (codes "cannot read " ∷ name ∷ [])
 failure_line name (failures.Profile error) = line (profile_error_text error ∷ [])

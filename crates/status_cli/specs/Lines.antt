@@ -1,4 +1,4 @@
--- The bytes of each line that the program prints for a record, an entry, a run and a status.
+-- Each line is spelled out; a path is a JSON text with U+FFFD for bytes that aren't UTF-8.
 use Rattle.std.specs.Prelude.{ℕ, Bool, List, [], ◌∷◌, ◌++◌, codes, decimal, is_some, if◌then◌else◌}
 use Rattle.std.specs.Str.Lossy.{utf8_lossy}
 use Rattle.json.specs.Print.{quoted}
@@ -25,7 +25,7 @@ abbrev pub line : List (List ℕ) → List ℕ
 line [] = 10 ∷ []
 line (text ∷ rest) = text ++ line rest
 
--- a path: a JSON text, in which U+FFFD stands for what isn't UTF-8
+-- a path: a JSON text, in which U+FFFD replaces bytes that aren't UTF-8
 abbrev pub path_text : List ℕ → List ℕ
 path_text path = quoted (utf8_lossy path)
 
@@ -39,7 +39,7 @@ conflict_text conflicts.DeletedByUs = codes "deleted-by-us 13"
 conflict_text conflicts.BothAdded = codes "both-added 23"
 conflict_text conflicts.BothModified = codes "both-modified 123"
 
--- a letter, or a dash where it doesn't hold
+-- a letter, or a dash if it doesn't hold
 abbrev pub letter_text : Bool → List ℕ → List ℕ
 letter_text holds letter = if holds then letter else codes "-"
 
@@ -59,7 +59,7 @@ module _ {T U : Type 0} where
   status_text (statuses.NeedsUpdate _) = codes "update"
   status_text statuses.IntentToAdd = codes "intent"
 
-  -- the line of a record: the entry's place in the index, its status and its path
+  -- the line of a record: the entry's position in the index, its status and its path
   abbrev pub record_line : ℕ → List ℕ → EntryStatus T U → List ℕ
   record_line place path status = line (decimal place ∷ codes " " ∷ status_text status ∷ codes " " ∷ path_text path ∷ [])
 

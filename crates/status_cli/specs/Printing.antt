@@ -1,4 +1,4 @@
--- What an output holds after a text was printed to it, or a part of one.
+-- A known output grows by a text, or by a beginning if it can't be written or memory runs out.
 use Rattle.std.specs.Prelude.{◌≡◌, ◌⊎◌, ℕ, List, map, Option, Result, Ok, Err}
 use Rattle.std.specs.Borrow.{Bor}
 use Rattle.std.specs.List.{flat_map}
@@ -7,7 +7,7 @@ use Rattle.status_call.specs.StatusTheorem.{IsBeginning}
 use Rattle.status_cli.specs.declared.failure.Failure.{Failure}
 use Rattle.status_cli.specs.declared.failure.Failure.TheVariants.{Output, Memory}
 
--- what an output is known to hold grew by a beginning of a text. Nothing is said of an output whose bytes aren't known
+-- the bytes of an output grew by a beginning of a text. Of an output whose bytes aren't known nothing is claimed
 pub record IsBegun (text : List ℕ) (old new : Option (List ℕ)) : Type 0 where
   pub printed : List ℕ
   pub grew : Appends old new printed
@@ -17,7 +17,7 @@ pub record IsBegun (text : List ℕ) (old new : Option (List ℕ)) : Type 0 wher
 abbrev pub IsUnprinted : Failure → Type 0
 IsUnprinted failure = (failure ≡ Output) ⊎ (failure ≡ Memory)
 
--- it grew by a text; or, where the output can't be written or memory runs out, by a beginning of it
+-- the output grew by a text; or, if it can't be written or memory runs out, by a beginning of it
 abbrev pub IsPrinted : {T : Type 0} → List ℕ → Option (List ℕ) → Result T Failure → Option (List ℕ) → Type 0
 IsPrinted text old (Ok _) new = Appends old new text
 IsPrinted text old (Err failure) new = IsBegun text old new × IsUnprinted failure

@@ -1,4 +1,5 @@
--- What is printed of a replay.
+-- A replay prints the lines of its reports, up to its end or to what stops it; then the command fails for that. A refused start
+-- prints nothing.
 use Rattle.std.specs.Prelude.{◌≡◌, ◌⊎◌, ℕ, ◌+◌, Bool, List, [], ◌∷◌, ◌++◌, map, Option, None, Some, Result, Ok, Err}
 use Rattle.std.specs.Io.KnownBytes.{Appends}
 use Rattle.std.specs.List.{flat_map}

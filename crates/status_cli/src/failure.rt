@@ -51,9 +51,9 @@ pub enum Failure {
         /// The path of the lock file.
         lock: String,
     },
-    /// What is at the path of a refreshed profile is no regular file.
+    /// The path of a refreshed profile is no regular file's.
     NotRegular,
-    /// What is at the path of a refreshed profile is a symbolic link that leads nowhere.
+    /// The path of a refreshed profile is that of a symbolic link that leads nowhere.
     DanglingLink,
     /// Memory ran out.
     Memory,

@@ -110,7 +110,7 @@ fn print_index_error<E: io::Write>(error: IndexError, faults: &mut E) -> Result<
     }
 }
 
-/// Writes the line of an entry that can't stand at its place.
+/// Writes the line of an entry that can't be at its position.
 fn print_bad_entry<E: io::Write>(
     words: &'static str,
     at: usize,
@@ -172,7 +172,7 @@ fn print_failed<E: io::Write>(words: &'static str, faults: &mut E) -> Result<(),
     print_parts(&["status failed: ", words, "\n"], faults)
 }
 
-/// Writes the line of a status that failed for a fault, behind words for what was done.
+/// Writes the line of a status that failed for a fault, after words for what was being done.
 fn print_fault<E: io::Write>(
     doing: &'static str,
     fault: Fault,
@@ -205,7 +205,7 @@ fn print_fault<E: io::Write>(
     }
 }
 
-/// Writes the line of a status that failed with these words, behind words for what was done.
+/// Writes the line of a status that failed with these words, after words for what was being done.
 fn print_doing<E: io::Write>(
     doing: &'static str,
     words: &'static str,

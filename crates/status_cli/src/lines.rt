@@ -1,4 +1,4 @@
-//! The lines that a status or a replay prints. Each is put behind what a buffer has, which can be kept from line to line.
+//! The lines that a status or a replay prints. Each is appended to a buffer, which can be kept from line to line.
 //! After an error the buffer may have anything.
 
 ghost use Rattle.std.specs.Prelude.{◌≡◌, ◌++◌, ◌∷◌, [], ◌<◌, ◌^◌, OnOk};
@@ -87,7 +87,7 @@ pub fn push_totals(line: &mut Vec<u8>, outcome: &Outcome) -> Result<(), AllocErr
     writeln!(line, "{considered}{work}").map_err(|_| AllocError)
 }
 
-/// Appends a path as a JSON text, in which U+FFFD stands for what isn't UTF-8.
+/// Appends a path as a JSON text, in which U+FFFD replaces bytes that aren't UTF-8.
 pub fn push_path(line: &mut Vec<u8>, alloc: Global, path: BStr<'_>) -> Result<(), AllocError>
     ensures { OnOk result (line.new.items ≡ line.old.items ++ path_text (bstr_bytes path.entry)) }
 {

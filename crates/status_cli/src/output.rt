@@ -73,7 +73,7 @@ pub fn print_totals<O: io::Write>(
     print(&line, output)
 }
 
-/// Writes what comes behind the records of a status: its totals, if the profile has the option `counts`. Then all is flushed.
+/// Writes the totals of a status, if the profile has the option `counts`, and flushes the output.
 ///
 /// # Errors
 /// The status's failure, or that of the output.

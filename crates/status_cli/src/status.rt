@@ -1,12 +1,12 @@
 //! The status of a profile's index against its worktree.
 
-ghost use Rattle.std.specs.Prelude.{◌≡◌, ◌⊎◌, Ok, IfErr, IfOk, IfSome, false, map};
+ghost use Rattle.std.specs.Prelude.{◌≡◌, ◌⊎◌, Ok, IfErr, IfOk, IfSome, false, map, true};
 ghost use Rattle.status_base.specs.Trees.{empty_tree};
 ghost use Rattle.status_call.specs.Inputs.{usual};
 ghost use Rattle.status_profile.specs.Nodes.{node_value};
 ghost use Rattle.status_profile.specs.Options.{is_joined, option_values};
-ghost use Rattle.status_cli.specs.ProfileStatuses.{IsFailed, IsPlacePrinted, IsPrintedOver, IsProfilePrinted, IsReadPrinted, IsTextPrinted, IsUnplanted, planted};
-ghost use Rattle.status_cli.specs.Statuses.{IsPlainShown};
+ghost use Rattle.status_cli.specs.ProfileStatuses.{IsFailed, IsJoinedOver, IsPlacePrinted, IsPrintedOver, IsProfilePrinted, IsReadPrinted, IsTextPrinted, IsUnplanted, planted};
+ghost use Rattle.status_cli.specs.Statuses.{IsJoinedShown, IsPlainShown, status_parts};
 ghost use Rattle.status_index.specs.States.{index_of};
 ghost use Rattle.status_call.specs.IndexChanges.{AreInside};
 
@@ -118,7 +118,7 @@ where
     R::File: Send,
     R::Dir: Send,
     ensures inside { IfOk result (λ changes. AreInside changes.items (index_of index.now)) }
-    ensures printed { IsPlacePrinted place options index.now (O.contents output.old) result (O.contents output.new) }
+    ensures printed { IsPlacePrinted place hash options index.now (O.contents output.old) result (O.contents output.new) }
 {
     let alloc = rt.alloc();
     match place {
@@ -177,6 +177,8 @@ where
     ensures inside { IfOk result (λ changes. AreInside changes.items (index_of status.entry.index.now)) }
     ensures printed { IsPrintedOver W.modelled W.lstat_of W.open_of W.target_of status.entry.worktree.now status.entry.options status.entry.index.now
         (O.contents output.old) result (O.contents output.new) }
+    ensures joined { IsJoinedOver W.modelled W.lstat_of W.open_of W.target_of (K.meaning status.entry.walk) status.entry.worktree.now
+        status.entry.hash status.entry.options status.entry.index.now (O.contents output.old) result (O.contents output.new) }
 {
     let prefix = status.options.prefix.as_bstr();
     if prefix.as_bytes().is_empty() {
@@ -205,6 +207,9 @@ where
     ensures inside { IfOk result (λ changes. AreInside changes.items (index_of status.entry.index.now)) }
     ensures printed { is_joined (option_values status.entry.options) ≡ false → IsPlainShown ⟦<Usual<'a, W, Comparer, P> as Ask>⟧.query
         (usual status.entry.worktree status.entry.options.comparer pathspec) status.entry.options status.entry.index.now O.contents output.old result output.new }
+    ensures joined { is_joined (option_values status.entry.options) ≡ true → IsJoinedShown (status_parts (⟦<Usual<'a, W, Comparer, P> as Ask>⟧.query
+        (usual status.entry.worktree status.entry.options.comparer pathspec)) W.modelled W.lstat_of W.open_of W.target_of K.meaning
+        status.entry (P.prefix pathspec) (P.included pathspec)) status.entry O.contents output.old result output.new }
 {
     let comparer = status.options.comparer;
     if status.options.is_joined() {

@@ -25,7 +25,7 @@ struct Target {
 /// replaces it.
 ///
 /// The new file has the permissions of the one that it replaces. If `name` is a symbolic link, the file that it leads to
-/// is replaced. What is no regular file is refused, and so is a link that leads nowhere. If the file with `.lock` is there
+/// is replaced. A node that is no regular file is refused, and so is a link that leads nowhere. If the file with `.lock` is there
 /// already, the error is `Failure::Locked`.
 pub fn write_whole<R: AllocGlobal + Files>(
     rt: &R,

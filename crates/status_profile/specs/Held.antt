@@ -1,4 +1,4 @@
--- What the items of a list that were read hold.
+-- The entries or nodes that were read of a list.
 use Rattle.std.specs.Prelude.{◌≡◌, ℕ, List, map, Option, Some, None, Result, Ok, Err}
 use Rattle.json.specs.Json.{Json}
 use Rattle.json.specs.Value.{items_of}

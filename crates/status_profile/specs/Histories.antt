@@ -1,4 +1,4 @@
--- What the text of a history's profile says.
+-- A JSON value says a history, unless a first key is missing or has a wrong form; reading returns that history or that error.
 use Rattle.std.specs.Prelude.{◌≡◌, ℕ, List, codes, Option, option_and_then, Result, Ok, Err, ⊤, if◌then◌else◌}
 use Rattle.json.specs.Json.{Json}
 use Rattle.json.specs.Find.{get}

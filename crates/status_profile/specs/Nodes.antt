@@ -1,4 +1,4 @@
--- The worktree of a profile.
+-- A path and the node at it by the fields of an object; a worktree's place is a folder, or else the nodes.
 use Rattle.std.specs.Prelude.{ℕ, false, List, [], length, map, codes, string_bytes, Option, Some, None}
 use Rattle.std.specs.Result.{result_ok}
 use Rattle.bstr.specs.Owned.{bstring_bytes}

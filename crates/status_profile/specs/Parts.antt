@@ -1,4 +1,4 @@
--- What the members of a profile say, part by part.
+-- The parts that the members of a profile say.
 use Rattle.std.specs.Prelude.{◌≡◌, ◌⊎◌, List, Option, Some, None, Result, Ok, Err, ⊤}
 use Rattle.status_index.specs.Entries.{IndexEntry}
 use Rattle.status_profile.specs.declared.entry.Entries.{Entries}

@@ -1,4 +1,4 @@
--- What is read so far of a profile, for the clauses of private functions.
+-- The parts of a profile that were read so far, for the clauses of private functions.
 use Rattle.std.specs.Prelude.{◌≡◌, ℕ, ◌-◌, Bool, true, not, List, length, Option, Some, None, Result, Ok, Err, ⊤}
 use Rattle.std.specs.List.{list_any}
 use Rattle.json.specs.Token.{Token}

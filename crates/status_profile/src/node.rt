@@ -19,7 +19,7 @@ use gix_status::worktree::{Node, NodeKind};
 use json::Value;
 use std::alloc::Global;
 
-/// Where a profile's worktree is.
+/// The place of a profile's worktree.
 #[derive(Debug, Drop)]
 pub enum Place {
     /// In the profile: nodes with their paths, in the profile's order.
@@ -111,7 +111,7 @@ fn read_digits(alloc: Global, value: &Value<'_>) -> Result<Vec<u8>, FieldError>
     Ok(hex::decode(alloc, text_of(value)?)?)
 }
 
-/// Returns where a worktree is. If there is a folder, the nodes are ignored.
+/// Returns the place of a worktree. If there is a folder, the nodes are ignored.
 pub fn read_place(
     alloc: Global,
     folder: Option<&Value<'_>>,

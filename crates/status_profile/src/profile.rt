@@ -38,7 +38,7 @@ pub struct Profile {
     pub options: ProfileOptions,
     /// The index.
     pub index: State,
-    /// Where the worktree is.
+    /// The place of the worktree.
     pub place: Place,
 }
 
@@ -109,7 +109,7 @@ fn read_members_options(
     under(Key::Options, options)
 }
 
-/// Returns the entries, and where the worktree is.
+/// Returns the entries, and the place of the worktree.
 fn into_parts(alloc: Global, members: Members<'_>) -> Result<(Entries, Place), ProfileError>
     ensures { (g : List ℕ → Option Json) → HasMembers members.entry g → AreParts result (option_and_then entries_in (g (codes "index"))) (place_in (g (codes "folder")) (g (codes "worktree"))) }
 {
@@ -124,7 +124,7 @@ fn into_parts(alloc: Global, members: Members<'_>) -> Result<(Entries, Place), P
     Ok((entries, place))
 }
 
-/// Returns where the worktree is.
+/// Returns the place of the worktree.
 fn place_of(
     alloc: Global,
     folder: Option<Value<'_>>,

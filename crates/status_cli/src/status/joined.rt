@@ -1,15 +1,18 @@
 //! The status of a profile with untracked files, renames or sorted lines.
 
-ghost use Rattle.std.specs.Prelude.{◌<◌, ◌^◌, IfOk, map};
-ghost use Rattle.status_call.specs.Outcomes.{skipped_of};
+ghost use Rattle.std.specs.Prelude.{◌≡◌, map};
+ghost use Rattle.status_call.specs.Inputs.{usual};
 ghost use Rattle.status_joined.specs.Entries.{reported_entry};
+ghost use Rattle.status_profile.specs.Options.{option_values};
 ghost use Rattle.status_cli.specs.Printing.{IsPrinted};
-ghost use Rattle.status_cli.specs.Statuses.{entry_lines};
+ghost use Rattle.status_cli.specs.Statuses.{IsJoinedBy, IsJoinedShown, entry_lines, joined_answered, joined_options, status_parts};
 
 use crate::failure::Failure;
-use crate::output::{flush, print_entry, print_totals};
+use crate::output::{flush, print_closing, print_entry};
+use crate::status::plain::Usual;
 use crate::status::profile_status::ProfileStatus;
 use gix_status::index::HashKind;
+use gix_status::index_as_worktree;
 use gix_status::index_as_worktree::traits::CompareBlobs;
 use gix_status::index_as_worktree_with_renames::{
     Context, DirwalkContext, Entry, Error, ExactClone, Options, Outcome, Recorder, Sorting,
@@ -18,6 +21,7 @@ use gix_status::index_as_worktree_with_renames::{
 use gix_status::tracker::{IdentityTracker, Rewrites};
 use gix_status::walk::Walk;
 use gix_status::worktree::{MemoryObjects, NoFilter, NoLister, NoSubmodules, Pathspec, Worktree};
+use status_call::index_as_worktree::inputs::Ask;
 use status_profile::ProfileOptions;
 use std::alloc::Global;
 use std::io;
@@ -44,19 +48,23 @@ pub fn print_joined<
 where
     W::File: Send,
     C::Output: Send + ExactClone + 'a,
+    ensures { IsJoinedShown (status_parts (⟦<Usual<'a, W, C, P> as Ask>⟧.query (usual status.entry.worktree compare pathspec))
+        W.modelled W.lstat_of W.open_of W.target_of K.meaning status.entry (P.prefix pathspec) (P.included pathspec))
+        status.entry O.contents output.old result output.new }
 {
     let alloc = rt.alloc();
     let counts = status.options.counts;
     let mut recorder = Recorder::new(alloc);
     let answer = report_joined(rt, alloc, status, &mut recorder, pathspec, compare);
     print_entries(alloc, recorder.records.as_slice(), output)?;
-    match answer {
-        Ok(outcome) => {
-            print_totals(alloc, &outcome.tracked_file_modification, counts, output)?;
-            flush(output)
-        }
-        Err(error) => Err(Failure::from(error)),
-    }
+    print_closing(alloc, with_failure(answer), counts, output)
+}
+
+/// Returns the outcome of the index's part, with the failure of an error.
+fn with_failure(answer: Result<Outcome, Error>) -> Result<index_as_worktree::Outcome, Failure>
+    ensures { result ≡ joined_answered answer }
+{
+    Ok(answer?.tracked_file_modification)
 }
 
 /// Reports a status to a collector, with no filter, listing, submodule or blob, and with renames by equal content.
@@ -79,7 +87,10 @@ fn report_joined<
 where
     W::File: Send,
     C::Output: Send + ExactClone + 'a,
-    ensures { IfOk result (λ o. skipped_of o.tracked_file_modification < 2 ^ 64) }
+    ensures { IsJoinedBy (status_parts (⟦<Usual<'a, W, C, P> as Ask>⟧.query (usual status.entry.worktree compare pathspec))
+        W.modelled W.lstat_of W.open_of W.target_of K.meaning status.entry (P.prefix pathspec) (P.included pathspec))
+        (option_values status.entry.options) status.entry.hash status.entry.index.now
+        V.fails (V.visits collector.old) result (V.visits collector.new) }
 {
     let ProfileStatus {
         index,
@@ -113,7 +124,9 @@ where
 }
 
 /// Returns the options of such a status, with untracked ids of this kind. Empty files are never renamed.
-fn joined_options(options: ProfileOptions, hash: HashKind) -> Options {
+fn joined_options(options: ProfileOptions, hash: HashKind) -> Options
+    ensures { result ≡ joined_options (option_values options) hash }
+{
     Options {
         sorting: options.sort.then_some(Sorting::ByPathCaseSensitive),
         object_hash: hash,

@@ -23,7 +23,7 @@ use std::io;
 use std::sync::Wait;
 use std::thread::Threads;
 
-/// A worktree, a comparer and a pathspec beside the usual interfaces.
+/// A worktree, a comparer and a pathspec, and the usual interfaces.
 pub type Usual<'w, W, C, P> = Inputs<'w, W, C, NoSubmodules, MemoryObjects, P, NoFilter, NoLister>;
 
 /// Prints a status of these paths by this comparer, and returns the changes that it asks for if they are wanted. If the
@@ -71,7 +71,7 @@ where
     }
 }
 
-/// Returns what a status answered, with the failure of an error.
+/// Returns the outcome of a status, with the failure of an error.
 fn with_failure(answer: Result<Outcome, Error>) -> Result<Outcome, Failure>
     ensures { result ≡ answered answer }
 {

@@ -4,7 +4,7 @@ use gix_status::index::{HashKind, State};
 use gix_status::index_as_worktree::ApplyChange;
 use status_profile::ProfileOptions;
 
-/// What a profile's status is computed from.
+/// The inputs of a profile's status.
 #[derive(Drop)]
 pub struct ProfileStatus<'a, W, K> {
     /// The index.

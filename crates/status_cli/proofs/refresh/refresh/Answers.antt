@@ -11,4 +11,4 @@ returns g c =
     let p = c.in_ok-profile.profile in
     let read : IsRead Plain text (Ok p) = rw c.as_slice.ensures.value at c.in_ok-profile.ensures in
     of_known (λ all. IsReadPrinted {A = Unit {0}} Plain all (g.O.Write.contents c.args.output.now) (Ok tt) (g.O.Write.contents c.print_profile.new.output)) _ text c.in_ok-text.ensures.ok
-    (p, read, place_alike c.print_profile.result (Ok tt) (done_alike c.print_profile.result c.in_ok-index.field-0 tt c.in_ok-index.was) _ _ p.place p.options p.index c.print_profile.ensures.printed)
+    (p, read, place_alike c.print_profile.result (Ok tt) (done_alike c.print_profile.result c.in_ok-index.field-0 tt c.in_ok-index.was) _ _ p.place p.hash p.options p.index c.print_profile.ensures.printed)

@@ -1,4 +1,4 @@
--- What is left of the list says the same from here on as the whole list says from the start.
+-- The rest of the list says the same from here on as the whole list says from the start.
 use Rattle.std.proofs.Common.{◌≡◌, drop}
 use Rattle.json.specs.Value.{items_view}
 use Rattle.status_profile.specs.Entries.{flags_from}

@@ -1,4 +1,4 @@
--- What is left of the list, after the stretches that were read, says the same as the whole list says.
+-- The rest of the list, after the stretches that were read, says the same as the whole list.
 use Rattle.std.proofs.Common.{◌≡◌, [], map, drop}
 use Rattle.json.specs.Value.{items_view}
 use Rattle.status_profile.specs.Events.{event_value, stretch_values, stretches_from}
