@@ -524,6 +524,8 @@ class Quick(Case):
         ran = run_tool("time_status.py", "--runs", "2", self.top, STATUS_PROGRAM=program)
         self.assertEqual((ran.stderr, ran.returncode), (b"", 0))
         self.assertRegex(ran.stdout, rb"^.* elapsed .*\ngit status( +[0-9.]+){4} +1.00 +1.00\nstatus.py( +[0-9.]+){6}\n$")
+        bare = time_status.commands(self.top, True)["status.py"]
+        self.assertEqual(bare[1:], ["-S", *time_status.commands(self.top)["status.py"][1:]])
         self.assert_refused(run_tool("time_status.py", self.room, STATUS_PROGRAM=program), 2, "ended with status 128")
 
     def test_simple_arguments_are_read_as_argparse_reads_them(self):

@@ -1,7 +1,7 @@
 #!/usr/bin/env python3
 """Times status.py next to `git status -uno --porcelain`, in turns.
 
-    python3 tools/time_status.py [--runs 21] REPOSITORY...
+    python3 tools/time_status.py [--runs 21] [--bare] REPOSITORY...
 
 For each repository (bench/folder.py makes some) there is a row for each of the two. It has the least and the middle time
 of the runs in milliseconds: elapsed, and of the processor (user and system, with the processes that a command starts).
@@ -23,10 +23,10 @@ HEADER = "{:12}{:>9}{:>9}{:>11}{:>9}{:>11}{:>11}"
 ROW = "{:12}{:9.1f}{:9.1f}{:11.1f}{:9.1f}{:11.2f}{:11.2f}"
 
 
-def commands(repository):
-    """Returns the commands by their names, git's first."""
+def commands(repository, bare=False):
+    """Returns the commands by their names, git's first. With `bare` Python starts without its site-packages."""
     git = ["git", "--no-optional-locks", "-C", repository, "status", "-uno", "--porcelain"]
-    return {"git status": git, "status.py": [sys.executable, TOOL, repository]}
+    return {"git status": git, "status.py": [sys.executable, *(["-S"] if bare else []), TOOL, repository]}
 
 
 def timed(command):
@@ -40,9 +40,9 @@ def timed(command):
     return 1000 * elapsed, 1000 * (used.ru_utime + used.ru_stime)
 
 
-def times_of(repository, runs):
+def times_of(repository, runs, bare=False):
     """Returns the times of runs, in which the commands take turns, by the commands' names."""
-    named = commands(repository)
+    named = commands(repository, bare)
     for command in named.values():
         timed(command)
     turns = [{name: timed(command) for name, command in named.items()} for _ in range(runs)]
@@ -62,13 +62,14 @@ def rows_of(times):
 def main():
     parser = argparse.ArgumentParser(description=__doc__, formatter_class=argparse.RawDescriptionHelpFormatter)
     parser.add_argument("--runs", type=int, default=21, help="how often each command runs (21)")
+    parser.add_argument("--bare", action="store_true", help="start Python with -S: what site-packages load isn't timed")
     parser.add_argument("repositories", nargs="+", metavar="REPOSITORY", help="a folder of a git repository")
     arguments = parser.parse_args()
     os.environ["STATUS_PROGRAM"] = program_of()
     os.environ.pop("PYTHONDONTWRITEBYTECODE", None)
     for repository in arguments.repositories:
         print(HEADER.format(repository, "elapsed", "middle", "processor", "middle", "/ git's", "/ git's"))
-        for row in rows_of(times_of(repository, max(arguments.runs, 1))):
+        for row in rows_of(times_of(repository, max(arguments.runs, 1), arguments.bare)):
             print(ROW.format(*row), flush=True)
     return 0
 
