@@ -19,7 +19,7 @@ use Rattle.status_profile.specs.Nodes.{node_value}
 use Rattle.status_profile.specs.Options.{OptionValues, option_values}
 use Rattle.status_cli.specs.declared.failure.Failure.{Failure}
 use Rattle.status_cli.specs.declared.failure.Failure.TheVariants.{Memory}
-use Rattle.status_cli.specs.Statuses.{IsJoinedPrinted, IsStatusPrinted, IsTold, JoinedParts}
+use Rattle.status_cli.specs.Statuses.{IsJoinedPrinted, IsStatusPrinted, IsEnded, JoinedParts}
 use Rattle.status_cli.specs.ProfileStatuses.{IsJoinedOver, IsPlacePrinted, IsPrintedOver, IsUnplanted, walked_in}
 
 -- both succeeded, or both failed for one reason
@@ -37,13 +37,13 @@ failed_alike (Err d) (Err f) e was h = let same : d ≡ e = cc in same ∙ sym h
 pub done_alike : {A B : Type 0} (r : Result A Failure) (x : A) (y : B) → r ≡ Ok x → AreAlike r (Ok y)
 done_alike r x y e = rw e tt
 
-pub told_alike : {A B : Type 0} (text : List ℕ) (answer : Result Outcome Failure) (old new : Option (List ℕ)) (r : Result A Failure) (s : Result B Failure) → AreAlike r s → IsTold text answer old r new → IsTold text answer old s new
-told_alike text (Ok o) old new (Ok x) (Ok y) same h = h
-told_alike text (Err f) old new (Ok x) (Ok y) same h = h
-told_alike text answer old new (Ok x) (Err f) same h = absurd same
-told_alike text answer old new (Err e) (Ok y) same h = absurd same
-told_alike text (Ok o) old new (Err e) (Err f) same h = rw (← same) h
-told_alike text (Err d) old new (Err e) (Err f) same h = rw (← same) h
+pub ended_alike : {A B : Type 0} (text : List ℕ) (answer : Result Outcome Failure) (old new : Option (List ℕ)) (r : Result A Failure) (s : Result B Failure) → AreAlike r s → IsEnded text answer old r new → IsEnded text answer old s new
+ended_alike text (Ok o) old new (Ok x) (Ok y) same h = h
+ended_alike text (Err f) old new (Ok x) (Ok y) same h = h
+ended_alike text answer old new (Ok x) (Err f) same h = absurd same
+ended_alike text answer old new (Err e) (Ok y) same h = absurd same
+ended_alike text (Ok o) old new (Err e) (Err f) same h = rw (← same) h
+ended_alike text (Err d) old new (Err e) (Err f) same h = rw (← same) h
 
 failed_too : {A B : Type 0} (P : Failure → Type 0) (r : Result A Failure) (s : Result B Failure) → AreAlike r s → IsErrAnd r P → IsErrAnd s P
 failed_too P (Ok x) (Ok y) same h = h
@@ -52,7 +52,7 @@ failed_too P (Err e) (Ok y) same h = absurd same
 failed_too P (Err e) (Err f) same h = subst P same h
 
 pub status_alike : {T U A B : Type 0} (query : Query T U) (index : State) (counts : Bool) (old new : Option (List ℕ)) (r : Result A Failure) (s : Result B Failure) → AreAlike r s → IsStatusPrinted query index counts old r new → IsStatusPrinted query index counts old s new
-status_alike query index counts old new r s same h = record { visits = h.visits; answer = h.answer; met = h.met; whole = h.whole; told = told_alike _ _ old new r s same h.told }
+status_alike query index counts old new r s same h = record { visits = h.visits; answer = h.answer; met = h.met; whole = h.whole; ended = ended_alike _ _ old new r s same h.ended }
 
 module _ {A B : Type 0} (r : Result A Failure) (s : Result B Failure) (same : AreAlike r s) (old new : Option (List ℕ)) where
   shown_alike : {T U : Type 0} (query : Query T U) (index : State) (counts : Bool) → (IsErrAnd r (λ f. f ≡ Memory) × (new ≡ old)) ⊎ IsStatusPrinted query index counts old r new → (IsErrAnd s (λ f. f ≡ Memory) × (new ≡ old)) ⊎ IsStatusPrinted query index counts old s new
@@ -64,7 +64,7 @@ module _ {A B : Type 0} (r : Result A Failure) (s : Result B Failure) (same : Ar
   over_alike modelled lstat opened linked w options index h = λ plain. shown_alike _ index options.counts (h plain)
 
   pub joined_alike : {T U : Type 0} (parts : JoinedParts T U) (o : OptionValues) (hash : HashKind) (index : State) → IsJoinedPrinted parts o hash index old r new → IsJoinedPrinted parts o hash index old s new
-  joined_alike parts o hash index h = record { entries = h.entries; answer = h.answer; met = h.met; told = told_alike _ _ old new r s same h.told }
+  joined_alike parts o hash index h = record { entries = h.entries; answer = h.answer; met = h.met; ended = ended_alike _ _ old new r s same h.ended }
 
   joined_or_memory : {T U : Type 0} (parts : JoinedParts T U) (o : OptionValues) (hash : HashKind) (index : State) → (IsErrAnd r (λ f. f ≡ Memory) × (new ≡ old)) ⊎ IsJoinedPrinted parts o hash index old r new → (IsErrAnd s (λ f. f ≡ Memory) × (new ≡ old)) ⊎ IsJoinedPrinted parts o hash index old s new
   joined_or_memory parts o hash index (inl p) = inl (failed_too (λ f. f ≡ Memory) r s same p.0, p.1)

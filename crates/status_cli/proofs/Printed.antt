@@ -9,7 +9,7 @@ use Rattle.status_call.specs.declared.index_as_worktree.types.Outcome.{Outcome}
 use Rattle.status_cli.specs.declared.failure.Failure.{Failure}
 use Rattle.status_cli.specs.declared.failure.Failure.TheVariants.{Memory}
 use Rattle.status_cli.specs.Printing.{IsBegun, IsPrinted, IsUnprinted}
-use Rattle.status_cli.specs.Statuses.{IsJoinedBy, IsJoinedPrinted, IsStatusPrinted, IsTold, JoinedParts, answered, closing, entry_lines, joined_answered, visit_lines}
+use Rattle.status_cli.specs.Statuses.{IsJoinedBy, IsJoinedPrinted, IsStatusPrinted, IsEnded, JoinedParts, answered, closing, entry_lines, joined_answered, visit_lines}
 use Rattle.status_index.specs.declared.id.HashKind.{HashKind}
 use Rattle.status_index.specs.declared.state.State.{State}
 use Rattle.status_joined.specs.Items.{Reported}
@@ -100,40 +100,40 @@ failed_printed text old new failure (Err e) failed begun why = (begun, rw failed
 -- ---- how a status ends
 
 -- a beginning of the first text was printed
-pub told_early : {T : Type 0} (first second : List ℕ) (answer : Result Outcome Failure) (old new : Option (List ℕ)) (failure : Failure) (result : Result T Failure) → IsErrAnd result (λ e. e ≡ failure) → IsBegun first old new → IsUnprinted failure → IsTold (first ++ second) answer old result new
-told_early first second answer old new failure (Ok v) failed begun why = absurd failed
-told_early first second (Ok o) old new failure (Err e) failed begun why = (begun_longer first second old new begun, rw failed why)
-told_early first second (Err f) old new failure (Err e) failed begun why = inr (begun_longer first second old new begun, rw failed why)
+pub ended_early : {T : Type 0} (first second : List ℕ) (answer : Result Outcome Failure) (old new : Option (List ℕ)) (failure : Failure) (result : Result T Failure) → IsErrAnd result (λ e. e ≡ failure) → IsBegun first old new → IsUnprinted failure → IsEnded (first ++ second) answer old result new
+ended_early first second answer old new failure (Ok v) failed begun why = absurd failed
+ended_early first second (Ok o) old new failure (Err e) failed begun why = (begun_longer first second old new begun, rw failed why)
+ended_early first second (Err f) old new failure (Err e) failed begun why = inr (begun_longer first second old new begun, rw failed why)
 
 -- one text was printed, and then the other as the status ended
-pub told_behind : {T : Type 0} (first second : List ℕ) (answer : Result Outcome Failure) (a b c : Option (List ℕ)) (result : Result T Failure) → Appends a b first → IsTold second answer b result c → IsTold (first ++ second) answer a result c
-told_behind first second (Ok o) a b c result grew told = printed_more first second a b c result grew told
-told_behind first second (Err f) a b c (Ok v) grew told = told
-told_behind first second (Err f) a b c (Err e) grew (inl all) = inl (Appends-trans a b c first second grew all.0, all.1)
-told_behind first second (Err f) a b c (Err e) grew (inr some) = inr (begun_more first second a b c grew some.0, some.1)
+pub ended_after : {T : Type 0} (first second : List ℕ) (answer : Result Outcome Failure) (a b c : Option (List ℕ)) (result : Result T Failure) → Appends a b first → IsEnded second answer b result c → IsEnded (first ++ second) answer a result c
+ended_after first second (Ok o) a b c result grew ended = printed_more first second a b c result grew ended
+ended_after first second (Err f) a b c (Ok v) grew ended = ended
+ended_after first second (Err f) a b c (Err e) grew (inl all) = inl (Appends-trans a b c first second grew all.0, all.1)
+ended_after first second (Err f) a b c (Err e) grew (inr some) = inr (begun_more first second a b c grew some.0, some.1)
 
 -- a failure is handed on
-pub told_failed : (T : Type 0) {U : Type 0} (text : List ℕ) (answer : Result Outcome Failure) (old new : Option (List ℕ)) (failure : Failure) (result : Result U Failure) → IsErrAnd result (λ e. e ≡ failure) → IsTold {T = T} text answer old (Err failure) new → IsTold text answer old result new
-told_failed T text answer old new failure (Ok v) failed told = absurd failed
-told_failed T text (Ok o) old new failure (Err e) failed told = (told.0, rw failed told.1)
-told_failed T text (Err f) old new failure (Err e) failed told = rw failed told
+pub ended_failed : (T : Type 0) {U : Type 0} (text : List ℕ) (answer : Result Outcome Failure) (old new : Option (List ℕ)) (failure : Failure) (result : Result U Failure) → IsErrAnd result (λ e. e ≡ failure) → IsEnded {T = T} text answer old (Err failure) new → IsEnded text answer old result new
+ended_failed T text answer old new failure (Ok v) failed ended = absurd failed
+ended_failed T text (Ok o) old new failure (Err e) failed ended = (ended.0, rw failed ended.1)
+ended_failed T text (Err f) old new failure (Err e) failed ended = rw failed ended
 
 -- all was printed, and then memory ran out, or it didn't
-pub told_then : (T : Type 0) {U : Type 0} (text : List ℕ) (answer : Result Outcome Failure) (old new : Option (List ℕ)) (v : T) (result : Result U Failure) → IfErr result IsUnprinted → IsTold {T = T} text answer old (Ok v) new → IsTold text answer old result new
-told_then T text (Ok o) old new v (Ok u) why told = told
-told_then T text (Ok o) old new v (Err e) why told = (all_begun text old new told, why)
-told_then T text (Err f) old new v result why told = absurd told
+pub ended_then : (T : Type 0) {U : Type 0} (text : List ℕ) (answer : Result Outcome Failure) (old new : Option (List ℕ)) (v : T) (result : Result U Failure) → IfErr result IsUnprinted → IsEnded {T = T} text answer old (Ok v) new → IsEnded text answer old result new
+ended_then T text (Ok o) old new v (Ok u) why ended = ended
+ended_then T text (Ok o) old new v (Err e) why ended = (all_begun text old new ended, why)
+ended_then T text (Err f) old new v result why ended = absurd ended
 
 -- a status reported to a collector that had no record, and this was printed of it
 pub printed_status : {T U A : Type 0} (query : Query T U) (index : State) (counts : Bool) (none visits : List (Visit T U)) (answer : Result Outcome Error) (old new : Option (List ℕ)) (result : Result A Failure)
-    → none ≡ [] → IsMet query index none answer visits → IfOk answer (λ o. o.interrupted ≡ false) → IsTold (visit_lines visits ++ closing counts (answered answer)) (answered answer) old result new → IsStatusPrinted query index counts old result new
-printed_status query index counts none visits answer old new result empty met whole told =
-    record { visits = visits; answer = answer; met = subst (λ start. IsMet query index start answer visits) empty met; whole = whole; told = told }
+    → none ≡ [] → IsMet query index none answer visits → IfOk answer (λ o. o.interrupted ≡ false) → IsEnded (visit_lines visits ++ closing counts (answered answer)) (answered answer) old result new → IsStatusPrinted query index counts old result new
+printed_status query index counts none visits answer old new result empty met whole ended =
+    record { visits = visits; answer = answer; met = subst (λ start. IsMet query index start answer visits) empty met; whole = whole; ended = ended }
 
 pub printed_joined : {T U A : Type 0} (parts : JoinedParts T U) (o : OptionValues) (hash : HashKind) (index : State) (none entries : List (Reported T U)) (answer : Result JoinedOutcome JoinedError) (old new : Option (List ℕ)) (result : Result A Failure)
-    → none ≡ [] → IsJoinedBy parts o hash index true none answer entries → IsTold (entry_lines entries ++ closing o.counts (joined_answered answer)) (joined_answered answer) old result new → IsJoinedPrinted parts o hash index old result new
-printed_joined parts o hash index none entries answer old new result empty met told =
-    record { entries = entries; answer = answer; met = subst (λ start. IsJoinedBy parts o hash index true start answer entries) empty met; told = told }
+    → none ≡ [] → IsJoinedBy parts o hash index true none answer entries → IsEnded (entry_lines entries ++ closing o.counts (joined_answered answer)) (joined_answered answer) old result new → IsJoinedPrinted parts o hash index old result new
+printed_joined parts o hash index none entries answer old new result empty met ended =
+    record { entries = entries; answer = answer; met = subst (λ start. IsJoinedBy parts o hash index true start answer entries) empty met; ended = ended }
 
 pub memory_unprinted : {T : Type 0} (result : Result T Failure) → IsErrAnd result (λ e. e ≡ Memory) → IfErr result IsUnprinted
 memory_unprinted (Ok v) failed = tt

@@ -15,7 +15,7 @@ use Rattle.status_world.specs.declared.world.report.Report.{Report}
 use Rattle.status_profile.specs.declared.history.History.{History}
 use Rattle.status_cli.specs.declared.failure.Failure.{Failure}
 use Rattle.status_cli.specs.Printing.{IsBegun, IsUnprinted}
-use Rattle.status_cli.specs.Replays.{IsHistoryPrinted, IsNoStart, IsReplayed, IsReplayText, IsReplayTold, replay_lines, run_lines, runs_behind, start_of}
+use Rattle.status_cli.specs.Replays.{IsHistoryPrinted, IsNoStart, IsReplayed, IsReplayText, IsReplayEnded, replay_lines, run_lines, runs_behind, start_of}
 use Rattle.status_cli.proofs.Printed.{begun_longer, begun_more}
 
 runs-append : (counts : Bool) (before : ℕ) (xs ys : List Report) → runs_behind counts before (xs ++ ys) ≡ runs_behind counts before xs ++ runs_behind counts (before + length xs) ys
@@ -49,9 +49,9 @@ begun_run counts reports at report old mid new inside next before here =
 -- ---- a whole history
 
 -- a beginning of the lines was printed
-pub told_begun : {T : Type 0} (text : List ℕ) (stopped : Option Stop) (old new : Option (List ℕ)) (result : Result T Failure) (failure : Failure) → IsErrAnd result (λ e. e ≡ failure) → IsBegun text old new → IsUnprinted failure → IsReplayTold text stopped old result new
-told_begun text stopped old new (Ok v) failure failed begun why = absurd failed
-told_begun text stopped old new (Err e) failure failed begun why = inr (begun, rw failed why)
+pub ended_begun : {T : Type 0} (text : List ℕ) (stopped : Option Stop) (old new : Option (List ℕ)) (result : Result T Failure) (failure : Failure) → IsErrAnd result (λ e. e ≡ failure) → IsBegun text old new → IsUnprinted failure → IsReplayEnded text stopped old result new
+ended_begun text stopped old new (Ok v) failure failed begun why = absurd failed
+ended_begun text stopped old new (Err e) failure failed begun why = inr (begun, rw failed why)
 
 -- the history can't begin so
 pub not_started : {A : Type 0} (h : History) (old : Option (List ℕ)) (result : Result A Failure) (failure : Failure) → IsErrAnd result (λ e. e ≡ failure) → IsNoStart h failure → IsHistoryPrinted h old result old
@@ -60,14 +60,14 @@ not_started h old (Err e) failure failed why = inl (rw failed why, refl)
 
 pub replay_printed : {A : Type 0} (h : History) (w final : StampedWorld) (stretches : List (Vec Event Global)) (reports : List Report) (stopped : Option Stop) (old new : Option (List ℕ)) (result : Result A Failure)
     → start_refusal h.clock h.timestamp ≡ None → w ≡ start_of h → stretches ≡ h.stretches.items → IsReopenedReplay w stretches final (map report_value reports) stopped
-    → IsReplayTold (replay_lines h.options.counts reports) stopped old result new → IsHistoryPrinted h old result new
-replay_printed h w final stretches reports stopped old new result start started same replay told = inr (record {
+    → IsReplayEnded (replay_lines h.options.counts reports) stopped old result new → IsHistoryPrinted h old result new
+replay_printed h w final stretches reports stopped old new result start started same replay ended = inr (record {
   start = start;
   final = final;
   reports = reports;
   stopped = stopped;
   replay = subst (λ v. IsReopenedReplay v h.stretches.items final (map report_value reports) stopped) started (subst (λ l. IsReopenedReplay w l final (map report_value reports) stopped) same replay);
-  told = told;
+  ended = ended;
 })
 
 pub some_replayed : {A : Type 0} (v : A) (text : List ℕ) (old new : Option (List ℕ)) → IsReplayText {A = A} text old (Ok v) new → IsReplayed text old new
@@ -80,6 +80,6 @@ some_replayed v text old new (inr (h, read, inr whole)) = record {
   start = whole.start;
   final = whole.final;
   reports = whole.reports;
-  replay = subst (λ stopped. IsReopenedReplay (start_of h) h.stretches.items whole.final (map report_value whole.reports) stopped) whole.told.0 whole.replay;
-  printed = whole.told.1;
+  replay = subst (λ stopped. IsReopenedReplay (start_of h) h.stretches.items whole.final (map report_value whole.reports) stopped) whole.ended.0 whole.replay;
+  printed = whole.ended.1;
 }

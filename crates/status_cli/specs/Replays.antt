@@ -63,9 +63,9 @@ IsStopOf (Some stop) failure = (position : ℕ) × (failure ≡ failure_of_stop 
 
 -- all of a text was printed, and the command succeeded if nothing stopped the replay, and failed for what stopped it if something did;
 -- or the output can't be written or memory ran out, and a beginning was
-abbrev pub IsReplayTold : {A : Type 0} → List ℕ → Option Stop → Option (List ℕ) → Result A Failure → Option (List ℕ) → Type 0
-IsReplayTold text stopped old (Ok _) new = (stopped ≡ None) × Appends old new text
-IsReplayTold text stopped old (Err failure) new = (IsStopOf stopped failure × Appends old new text) ⊎ (IsBegun text old new × IsUnprinted failure)
+abbrev pub IsReplayEnded : {A : Type 0} → List ℕ → Option Stop → Option (List ℕ) → Result A Failure → Option (List ℕ) → Type 0
+IsReplayEnded text stopped old (Ok _) new = (stopped ≡ None) × Appends old new text
+IsReplayEnded text stopped old (Err failure) new = (IsStopOf stopped failure × Appends old new text) ⊎ (IsBegun text old new × IsUnprinted failure)
 
 -- the events were replayed, with what stopped that, if anything, and the lines of the reports were printed as it ended
 pub record IsReplayPrinted {A : Type 0} (h : History) (old : Option (List ℕ)) (result : Result A Failure) (new : Option (List ℕ)) : Type 0 where
@@ -74,7 +74,7 @@ pub record IsReplayPrinted {A : Type 0} (h : History) (old : Option (List ℕ)) 
   pub reports : List Report
   pub stopped : Option Stop
   pub replay : IsReopenedReplay (start_of h) h.stretches.items final (map report_value reports) stopped
-  pub told : IsReplayTold (replay_lines h.options.counts reports) stopped old result new
+  pub ended : IsReplayEnded (replay_lines h.options.counts reports) stopped old result new
 
 -- the same; or the history can't begin so, for which the command fails, and nothing was printed
 abbrev pub IsHistoryPrinted : {A : Type 0} → History → Option (List ℕ) → Result A Failure → Option (List ℕ) → Type 0

@@ -63,10 +63,10 @@ closing counts (Err _) = []
 
 -- all of a text was printed, and the command succeeds or fails as the answer does; or the output can't be written or memory runs
 -- out, and a beginning was
-abbrev pub IsTold : {T : Type 0} → List ℕ → Result Outcome Failure → Option (List ℕ) → Result T Failure → Option (List ℕ) → Type 0
-IsTold text (Ok _) old result new = IsPrinted text old result new
-IsTold text (Err failure) old (Ok _) new = ⊥
-IsTold text (Err failure) old (Err e) new = (Appends old new text × (e ≡ failure)) ⊎ (IsBegun text old new × IsUnprinted e)
+abbrev pub IsEnded : {T : Type 0} → List ℕ → Result Outcome Failure → Option (List ℕ) → Result T Failure → Option (List ℕ) → Type 0
+IsEnded text (Ok _) old result new = IsPrinted text old result new
+IsEnded text (Err failure) old (Ok _) new = ⊥
+IsEnded text (Err failure) old (Err e) new = (Appends old new text × (e ≡ failure)) ⊎ (IsBegun text old new × IsUnprinted e)
 
 -- a status of this index was computed by this query; it wasn't interrupted if it succeeded; and its lines, with `counts` also its
 -- totals, were printed as it ended
@@ -75,7 +75,7 @@ pub record IsStatusPrinted {T U A : Type 0} (query : Query T U) (index : State) 
   pub answer : Result Outcome Error
   pub met : IsMet query index [] answer visits
   pub whole : IfOk answer (λ outcome. outcome.interrupted ≡ false)
-  pub told : IsTold (visit_lines visits ++ closing counts (answered answer)) (answered answer) old result new
+  pub ended : IsEnded (visit_lines visits ++ closing counts (answered answer)) (answered answer) old result new
 
 -- the same of a profile's index and options, by what was handed in and by the meaning of its output
 abbrev pub IsPlainShown : {I T U A V : Type 0} → (I → Settings → Query T U) → I → ProfileOptions → State → (V → Option (List ℕ)) → V → Result A Failure → V → Type 0
@@ -120,7 +120,7 @@ pub record IsJoinedPrinted {T U A : Type 0} (parts : JoinedParts T U) (o : Optio
   pub entries : List (Reported T U)
   pub answer : Result JoinedOutcome JoinedError
   pub met : IsJoinedBy parts o hash index true [] answer entries
-  pub told : IsTold (entry_lines entries ++ closing o.counts (joined_answered answer)) (joined_answered answer) old result new
+  pub ended : IsEnded (entry_lines entries ++ closing o.counts (joined_answered answer)) (joined_answered answer) old result new
 
 -- the parts of a profile's status, by the meanings of its worktree and of its walk, and by these paths
 abbrev pub status_parts : {W K T U : Type 0} → (Settings → Query T U) → (W → Bool) → (W → List ℕ → Result Metadata Fault) → (W → List ℕ → Result Content Fault) → (W → List ℕ → Result (List ℕ) Fault)

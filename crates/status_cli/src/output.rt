@@ -6,7 +6,7 @@ ghost use Rattle.status_call.specs.Outcomes.{skipped_of};
 ghost use Rattle.status_joined.specs.Entries.{reported_entry};
 ghost use Rattle.status_cli.specs.Lines.{entry_line, record_line, run_line};
 ghost use Rattle.status_cli.specs.Printing.{IsPrinted, spelled};
-ghost use Rattle.status_cli.specs.Statuses.{IsTold, closing, totals_text};
+ghost use Rattle.status_cli.specs.Statuses.{IsEnded, closing, totals_text};
 
 use crate::failure::Failure;
 use crate::lines::{push_entry, push_record, push_run, push_totals};
@@ -84,7 +84,7 @@ pub fn print_closing<O: io::Write>(
     output: &mut O,
 ) -> Result<(), Failure>
     requires { IfOk answer (λ o. skipped_of o < 2 ^ 64) }
-    ensures { IsTold (closing counts answer) answer (O.contents output.old) result (O.contents output.new) }
+    ensures { IsEnded (closing counts answer) answer (O.contents output.old) result (O.contents output.new) }
 {
     let outcome = answer?;
     print_totals(alloc, &outcome, counts, output)?;

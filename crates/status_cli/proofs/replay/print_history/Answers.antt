@@ -1,5 +1,5 @@
 use Rattle.std.proofs.Common.{inl}
-use Rattle.status_cli.proofs.Runs.{not_started, replay_printed, told_begun}
+use Rattle.status_cli.proofs.Runs.{not_started, replay_printed, ended_begun}
 use Rattle.status_cli.proofs.replay.print_history.Goals as goal
 
 pub returns-in_err-world : goal.returns-in_err-world
@@ -9,7 +9,7 @@ pub returns-in_err-print_reports : goal.returns-in_err-print_reports
 returns-in_err-print_reports g c =
     let replayed = c.replay_reopening-reports in
     replay_printed c.args.history.now _ _ _ replayed.result.reports.items replayed.result.stopped _ _ _ c.in_ok-world.ensures.ok.0 c.in_ok-world.ensures.ok.1 c.deref.ensures.value replayed.ensures.replay
-    (told_begun _ _ _ _ _ _ c.from_residual-in_err-print_reports.ensures.1 (rw c.deref-2.ensures.value at c.in_err-print_reports.ensures.0) c.in_err-print_reports.ensures.1)
+    (ended_begun _ _ _ _ _ _ c.from_residual-in_err-print_reports.ensures.1 (rw c.deref-2.ensures.value at c.in_err-print_reports.ensures.0) c.in_err-print_reports.ensures.1)
 
 pub returns-in-Some : goal.returns-in-Some
 returns-in-Some g c =

@@ -8,6 +8,6 @@ pub returns-in-Err-clause-failed : goal.returns-in-Err-clause-failed
 returns-in-Err-clause-failed g c one =
     let old = g.O.Write.contents c.args.output.now in
     let new = g.O.Write.contents c.print_status.new.output in
-    let told : (text : List ℕ) → IsTextPrinted {A = Unit {0}} Any text old (Err c.in-Err.failure) new
+    let ended : (text : List ℕ) → IsTextPrinted {A = Unit {0}} Any text old (Err c.in-Err.failure) new
     → IsFailed (λ failure. IsTextPrinted Any text old failure new) c.args.name.now (g.E.Write.contents c.args.faults.now) (g.E.Write.contents c.report.new.faults) = λ text h. (c.in-Err.failure, h, c.report.ensures.line) in
-    known_map _ _ told _ c.in-Err.ensures
+    known_map _ _ ended _ c.in-Err.ensures

@@ -4,7 +4,7 @@ use Rattle.status_call.specs.IndexChanges.{AreInside}
 use Rattle.status_call.specs.RecorderVisits.{visits_of}
 use Rattle.status_call.proofs.IndexChanges.{status_inside}
 use Rattle.status_cli.specs.Statuses.{answered, closing, visit_lines}
-use Rattle.status_cli.proofs.Printed.{memory_unprinted, printed_status, told_behind, told_early, told_failed, told_then}
+use Rattle.status_cli.proofs.Printed.{memory_unprinted, printed_status, ended_after, ended_early, ended_failed, ended_then}
 use Rattle.status_cli.proofs.status.plain.print_plain.Goals as goal
 
 pub returns-in-Returned-clause-inside : goal.returns-in-Returned-clause-inside
@@ -17,7 +17,7 @@ returns-in_err-print_records-clause-printed g c =
     let call = c.index_as_worktree_with_defaults-answer in
     let visits = visits_of call.new.collector in
     printed_status _ _ _ _ visits call.result _ _ _ c.new-recorder.ensures call.ensures.all call.ensures.uninterrupted
-    (told_early (visit_lines visits) (closing c.args.status.options.counts (answered call.result)) (answered call.result) _ _ _ c.from_residual.result c.from_residual.ensures.1
+    (ended_early (visit_lines visits) (closing c.args.status.options.counts (answered call.result)) (answered call.result) _ _ _ c.from_residual.result c.from_residual.ensures.1
     (rw c.as_slice.ensures.value at c.in_err-print_records.ensures.0) c.in_err-print_records.ensures.1)
 
 pub returns-in_err-print_closing-clause-printed : goal.returns-in_err-print_closing-clause-printed
@@ -25,8 +25,8 @@ returns-in_err-print_closing-clause-printed g c =
     let call = c.index_as_worktree_with_defaults-answer in
     let visits = visits_of call.new.collector in
     printed_status _ _ _ _ visits call.result _ _ _ c.new-recorder.ensures call.ensures.all call.ensures.uninterrupted
-    (told_failed Unit _ _ _ _ _ c.from_residual-in_err-print_closing.result c.from_residual-in_err-print_closing.ensures.1
-    (told_behind (visit_lines visits) (closing c.args.status.options.counts (answered call.result)) (answered call.result) _ _ _ _
+    (ended_failed Unit _ _ _ _ _ c.from_residual-in_err-print_closing.result c.from_residual-in_err-print_closing.ensures.1
+    (ended_after (visit_lines visits) (closing c.args.status.options.counts (answered call.result)) (answered call.result) _ _ _ _
     (rw c.as_slice.ensures.value at c.in_ok-print_records.ensures) (rw (c.in_err-print_closing.was, c.with_failure.ensures) at c.print_closing.ensures)))
 
 pub returns-in_err-changes-in-Returned-clause-printed : goal.returns-in_err-changes-in-Returned-clause-printed
@@ -34,8 +34,8 @@ returns-in_err-changes-in-Returned-clause-printed g c =
     let call = c.index_as_worktree_with_defaults-answer in
     let visits = visits_of call.new.collector in
     printed_status _ _ _ _ visits call.result _ _ _ c.new-recorder.ensures call.ensures.all call.ensures.uninterrupted
-    (told_then Unit _ _ _ _ c.in_ok-print_closing.field-0 c.from_residual-in_err-changes-in-Returned.result (memory_unprinted _ c.from_residual-in_err-changes-in-Returned.ensures.1)
-    (told_behind (visit_lines visits) (closing c.args.status.options.counts (answered call.result)) (answered call.result) _ _ _ _
+    (ended_then Unit _ _ _ _ c.in_ok-print_closing.field-0 c.from_residual-in_err-changes-in-Returned.result (memory_unprinted _ c.from_residual-in_err-changes-in-Returned.ensures.1)
+    (ended_after (visit_lines visits) (closing c.args.status.options.counts (answered call.result)) (answered call.result) _ _ _ _
     (rw c.as_slice.ensures.value at c.in_ok-print_records.ensures) (rw (c.in_ok-print_closing.was, c.with_failure.ensures) at c.print_closing.ensures)))
 
 pub returns-in-Returned-clause-printed : goal.returns-in-Returned-clause-printed
@@ -43,8 +43,8 @@ returns-in-Returned-clause-printed g c =
     let call = c.index_as_worktree_with_defaults-answer in
     let visits = visits_of call.new.collector in
     printed_status _ _ _ _ visits call.result _ _ _ c.new-recorder.ensures call.ensures.all call.ensures.uninterrupted
-    (told_then Unit _ _ _ _ c.in_ok-print_closing.field-0 _ tt
-    (told_behind (visit_lines visits) (closing c.args.status.options.counts (answered call.result)) (answered call.result) _ _ _ _
+    (ended_then Unit _ _ _ _ c.in_ok-print_closing.field-0 _ tt
+    (ended_after (visit_lines visits) (closing c.args.status.options.counts (answered call.result)) (answered call.result) _ _ _ _
     (rw c.as_slice.ensures.value at c.in_ok-print_records.ensures) (rw (c.in_ok-print_closing.was, c.with_failure.ensures) at c.print_closing.ensures)))
 
 pub returns-clause-printed : goal.returns-clause-printed
@@ -52,6 +52,6 @@ returns-clause-printed g c =
     let call = c.index_as_worktree_with_defaults-answer in
     let visits = visits_of call.new.collector in
     printed_status _ _ _ _ visits call.result _ _ _ c.new-recorder.ensures call.ensures.all call.ensures.uninterrupted
-    (told_then Unit _ _ _ _ c.in_ok-print_closing.field-0 _ tt
-    (told_behind (visit_lines visits) (closing c.args.status.options.counts (answered call.result)) (answered call.result) _ _ _ _
+    (ended_then Unit _ _ _ _ c.in_ok-print_closing.field-0 _ tt
+    (ended_after (visit_lines visits) (closing c.args.status.options.counts (answered call.result)) (answered call.result) _ _ _ _
     (rw c.as_slice.ensures.value at c.in_ok-print_records.ensures) (rw (c.in_ok-print_closing.was, c.with_failure.ensures) at c.print_closing.ensures)))
