@@ -59,7 +59,8 @@ module _ {T U : Type 0} (query : Query T U) (options : Options) (index : State) 
     pub beginning : IsBeginning reported whole
     pub short : length reported < length whole
 
-  -- The reports and the result of a call, by whether the collector may fail. Claims about a part need its specification.
+  -- The reports and the result of a call over any worktree, by whether the collector may fail. Some claims about a part need it
+  -- to be modelled.
   pub record IsJoinedStatus (may_fail : Bool) (old : List (Reported T U)) (result : Result Outcome Error) (new : List (Reported T U)) : Type 0 where
     pub more : List (Reported T U)
     pub grew : new ≡ old ++ more
@@ -70,7 +71,7 @@ module _ {T U : Type 0} (query : Query T U) (options : Options) (index : State) 
     -- On an error nothing was reported; or the collector may fail, memory ran out, and a proper beginning was reported.
     pub quiet : IfErr result (λ e. (more ≡ []) ⊎ (IsTrue may_fail × ((e ≡ Memory) × IsCutShort more)))
 
--- The same for a query: of its status by the options, its walk if one is wanted, and its ids by their kind.
+-- The same for a query: its status by the options, its walk if one is wanted, and its ids by their kind.
 abbrev pub IsMetBy : {T U : Type 0} → JoinedQuery T U → Options → State → Bool → List (Reported T U) → Result Outcome Error → List (Reported T U) → Type 0
 IsMetBy q options index may_fail old result new =
     IsJoinedStatus (q.status (settings (tracked_options options) index)) options index q.interruptible
