@@ -14,7 +14,7 @@ module _ {T U : Type 0} (t : T → T → Type 0) (u : U → U → Type 0) where
   IsContentCopy (Some x) (Some y) = t x y
   IsContentCopy x y = y ≡ x
 
-  -- A report is cloned, and all else is the same.
+  -- A report is cloned, and everything besides is the same.
   abbrev pub IsChangeCopy : Change T U → Change T U → Type 0
   IsChangeCopy (changes.Modification executable content to_zero) (changes.Modification executable' content' to_zero') =
       (executable' ≡ executable) × IsContentCopy content content' × (to_zero' ≡ to_zero)

@@ -33,7 +33,7 @@ abbrev pub is_cancel : Action → Bool
 is_cancel Continue = false
 is_cancel Cancel = true
 
--- A walk that passes no node isn't ended.
+-- If no node is passed, the delegate doesn't end the walk.
 abbrev pub is_cancelling : Option Action → Bool
 is_cancelling None = false
 is_cancelling (Some action) = is_cancel action

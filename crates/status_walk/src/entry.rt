@@ -2,7 +2,7 @@
 
 use bstr::BString;
 
-/// Whether a node is in the index.
+/// How a node relates to the index.
 #[derive(Clone, Copy, Debug, PartialEq, Eq)]
 pub enum Status {
     /// No entry has its path.
@@ -35,7 +35,7 @@ pub enum Kind {
 pub struct DirEntry {
     /// Its path from the worktree's root.
     pub rela_path: BString,
-    /// Whether it is in the index.
+    /// How it relates to the index.
     pub status: Status,
     /// Its type. None if it isn't known.
     pub disk_kind: Option<Kind>,
