@@ -42,6 +42,6 @@ module _ {T U : Type 0} (query : Query T U) (options : Options) (index : State) 
   fault_of_failed (failures.Tracked (statuses.SubmoduleStatus path text)) met = met
   fault_of_failed (failures.Tracked statuses.SpawnThread) met = met
 
-  -- the same by a limit that equals the options' own
+  -- The same for a limit that equals the options' own.
   pub half_fault : (limit : Option ℕ) → limit ≡ options.tracked_file_modifications.thread_limit → (f : Failed) → IsHalves query limit index interruptible walking (Err f) → IsHalfFault query options index interruptible walking (error_of_failed f)
   half_fault limit same_limit f met = fault_of_failed f (subst (λ n. IsHalves query n index interruptible walking (Err f)) same_limit met)

@@ -1,4 +1,4 @@
--- What of a list's entries was reported, while they are reported.
+-- The reports of a list's entries, at each step.
 use Rattle.std.proofs.Common.{◌≡◌, refl, sym, ap, ◌∙◌, subst, ℕ, suc, ◌<◌, List, [], ◌∷◌, ◌++◌, length, map, take, All, arith, append_assoc, length-append}
 use Rattle.std.proofs.lemmas.List.{append-nil}
 use Rattle.std.proofs.lemmas.Bool.{false≢true}
@@ -17,7 +17,7 @@ module _ {T U : Type 0} where
   reported_append (x ∷ xs) ys [] us h k = absurd h
   reported_append (x ∷ xs) ys (t ∷ ts) us h k = (h.0, reported_append xs ys ts us h.1 k)
 
-  -- each entry whose destination is a node may be reported
+  -- There is a report for each entry whose destination is a node.
   may_report : (entry : Rewritten (Item T U)) → IsLed is_walked entry → (t : Reported T U) × IsReported entry t
   may_report (Alone (tracked v)) h = (modification v, refl)
   may_report (Alone (walked w id)) h = (contents w, refl)
@@ -31,7 +31,7 @@ module _ {T U : Type 0} where
       let rest = may_report_all xs (All-tail (IsLed is_walked) x xs h) in
       (first.0 ∷ rest.0, (first.1, rest.1))
 
-  -- of all entries a front was reported, and these are left
+  -- The front of all entries was reported, and these are left.
   pub record IsUnderWay (entries : List (Rewritten (Item T U))) (old now : List (Reported T U)) (left : List (Rewritten (Item T U))) : Type 0 where
     pub front : List (Rewritten (Item T U))
     pub given : List (Reported T U)
@@ -58,7 +58,7 @@ module _ {T U : Type 0} where
   all_left : (P : Rewritten (Item T U) → Type 0) (entries : List (Rewritten (Item T U))) (old now : List (Reported T U)) (left : List (Rewritten (Item T U))) → IsUnderWay entries old now left → All P entries → All P left
   all_left P entries old now left h all = all_behind P h.front left (subst (All P) (sym h.whole) all)
 
-  -- what holds of all entries holds of the next
+  -- A fact of all entries is a fact of the next.
   pub holds_next : (P : Rewritten (Item T U) → Type 0) (entries : List (Rewritten (Item T U))) (old now : List (Reported T U)) (entry : Rewritten (Item T U)) (before left : List (Rewritten (Item T U))) → before ≡ entry ∷ left → IsUnderWay entries old now before → All P entries → P entry
   holds_next P entries old now entry before left step h all =
       All-head P entry left (subst (All P) step (all_left P entries old now before h all))
@@ -74,7 +74,7 @@ module _ {T U : Type 0} where
   as_many (x ∷ xs) [] h = absurd h
   as_many (x ∷ xs) (t ∷ ts) h = ap (λ n. suc n) (as_many xs ts h.1)
 
-  -- a front was reported, and nothing after it, though an entry was left
+  -- A front was reported, and nothing after it, though an entry was left.
   pub reported_until : (entries : List (Rewritten (Item T U))) (old now after : List (Reported T U)) (entry : Rewritten (Item T U)) (left rest : List (Rewritten (Item T U))) → left ≡ entry ∷ rest → All (IsLed is_walked) entries → IsUnderWay entries old now left → after ≡ now → (ts : List (Reported T U)) × AreReported entries ts × ((n : ℕ) × (n < length ts) × (after ≡ old ++ take n ts))
   reported_until entries old now after entry left behind step led h same =
       let rest = may_report_all left (all_left (IsLed is_walked) entries old now left h led) in
@@ -85,7 +85,7 @@ module _ {T U : Type 0} where
         (length h.given, fits, same ∙ h.grew ∙ ap (λ (l : List (Reported T U)). old ++ l) (sym (take-append_seam h.given rest.0))),
       )
 
-  -- items alone have no destination
+  -- Items alone have no destination.
   pub alone_led : (items : List (Item T U)) → All (IsLed is_walked) (map Alone items)
   alone_led [] = All-nil (IsLed is_walked)
   alone_led (x ∷ xs) =

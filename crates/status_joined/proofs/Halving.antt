@@ -1,4 +1,4 @@
--- Each half, by what its thread answered.
+-- Each half, by the result of its thread.
 use Rattle.std.proofs.Common.{◌≡◌, subst, ℕ, Bool, Option, Result, Err}
 use Rattle.status_index.specs.declared.state.State.{State}
 use Rattle.status_compare.specs.declared.error.Error.{Error}

@@ -16,13 +16,13 @@ use Rattle.status_joined.specs.Items.{Item}
 map_map_push : {X Y Z : Type 0} (g : Y → Z) (f : X → Y) (xs : List X) (x : X) → map g (map f (xs ++ x ∷ [])) ≡ map g (map f xs) ++ g (f x) ∷ []
 map_map_push g f xs x = ap (map g) (map_push f xs x) ∙ map_push g (map f xs) (f x)
 
--- where lists agree from a place on, they agree at it
+-- Lists that agree from a position on agree at it.
 same_there : {X : Type 0} (xs ys : List X) (i : ℕ) (d : X) → i < length xs → i < length ys → drop i xs ≡ drop i ys → get_or xs i d ≡ get_or ys i d
 same_there xs ys i d in_xs in_ys e =
     let h : get_or xs i d ∷ drop (i + 1) xs ≡ get_or ys i d ∷ drop (i + 1) ys = sym (drop_more xs i d in_xs) ∙ e ∙ drop_more ys i d in_ys in
     cc
 
--- items that all have ids have no fault
+-- Items that all have ids have no fault.
 none_faulty : {T U : Type 0} (ids : Walked → Result ObjectId IdError) (xs ys : List (Item T U)) → map (identified ids) xs ≡ map Ok ys → id_faults ids xs ≡ []
 none_faulty ids [] ys h = refl
 none_faulty ids (x ∷ xs) [] h = cc
@@ -32,14 +32,14 @@ none_faulty ids (x ∷ xs) (y ∷ ys) h =
     rw first (none_faulty ids xs ys others)
 
 module _ {X T U : Type 0} (said : X → Item T U) (kind : HashKind) (modelled : Bool) (ids : Walked → Result ObjectId IdError) where
-  -- the first i of a list have their ids, and the others are as they were
+  -- The first i items of a list have their ids, and the others are unchanged.
   pub record AreIdentifiedUpTo (old now : List X) (i : ℕ) : Type 0 where
     pub known : IsTrue modelled → map (identified ids) (map said (take i old)) ≡ map Ok (map said (take i now))
     pub same : map (forget kind) (map said (take i now)) ≡ map (forget kind) (map said (take i old))
     pub rest : drop i now ≡ drop i old
     pub long : length now ≡ length old
 
-  -- the next has its id too
+  -- The next one has its id too.
   pub one_more : (old now : List X) (i : ℕ) (d y : X) → i < length now → AreIdentifiedUpTo old now i → (IsTrue modelled → identified ids (said (get_or now i d)) ≡ Ok (said y)) → forget kind (said y) ≡ forget kind (said (get_or now i d)) → AreIdentifiedUpTo old (set now i y) (i + 1)
   one_more old now i d y within before is only =
       let x = get_or now i d in
@@ -65,7 +65,7 @@ module _ {X T U : Type 0} (said : X → Item T U) (kind : HashKind) (modelled : 
         long = length-set now i y ∙ before.long;
       }
 
-  -- the next has a fault, which is the first
+  -- The next one has a fault, which is the first.
   pub first_fault : (old now : List X) (i : ℕ) (d : X) (e : IdError) → i < length now → AreIdentifiedUpTo old now i → (IsTrue modelled → (identified ids (said (get_or now i d)) ≡ Err e) ⊎ (fault_of e ≡ Memory)) → IsTrue modelled → (slice_get (id_faults ids (map said old)) 0 ≡ Some e) ⊎ (fault_of e ≡ Memory)
   first_fault old now i d e within before is m =
       let x = get_or now i d in

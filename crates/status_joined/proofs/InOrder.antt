@@ -1,4 +1,4 @@
--- What is reported of a sorted list is sorted.
+-- The reports of a sorted list are sorted.
 use Rattle.std.proofs.Common.{◌≡◌, refl, sym, ap, subst, ◌∙◌, ℕ, zero, suc, ◌+◌, false, List, [], ◌∷◌, ◌++◌, length, map, flat_map, slice_index_or, Option, Some, None, All, arith}
 use Rattle.std.specs.Cmp.{IsTotalOrder}
 use Rattle.std.specs.List.{AllPairs, enumerate_from}
@@ -26,7 +26,7 @@ use Rattle.status_joined.specs.Lists.{list_cmp}
 use Rattle.status_joined.specs.Summaries.{destination_path, reported_cmp, reported_side}
 
 module _ {I K : Type 0} (key : I → K) where
-  -- the key of the item in whose place an entry stands
+  -- The key of the item at whose position an entry is.
   abbrev pub place_key : Rewritten I → K
   place_key (Alone x) = key x
   place_key (Rewrite source x copy) = key x
@@ -51,7 +51,7 @@ module _ {I K : Type 0} (key : I → K) where
     pairs_more zero x None rest h others = AllPairs-cons R (key x) (map place_key rest) h others
     pairs_more zero x (Some m) rest h others = AllPairs-cons R (key x) (map place_key rest) h others
 
-    -- what holds of each key and each later one holds of them after rewrites
+    -- A relation of each key to each later one still holds after rewrites.
     pub pairs_after : (ms : List (Pair × I)) (n : ℕ) (xs : List I) → AllPairs R (map key xs) → AllPairs R (map place_key (flat_map (standing_at ms) (enumerate_from n xs)))
     pairs_after ms n [] h = h
     pairs_after ms n (x ∷ xs) h =
@@ -64,7 +64,7 @@ module _ {K : Type 0} (cmp : K → K → Ordering) where
   abbrev pub NotAfter : K → K → Type 0
   NotAfter a b = is_lt (cmp b a) ≡ false
 
-  -- between a list that is sorted by a key and its keys
+  -- From a list that is sorted by a key to its keys, and back.
   pub pairs_from_sorted : IsTotalOrder cmp → {X : Type 0} (key : X → K) (xs : List X) → IsSorted (λ x y. cmp (key x) (key y)) xs → AllPairs NotAfter (map key xs)
   pairs_from_sorted total key xs up i j d below within =
       sorted_far (λ a b. is_lt (cmp a b)) (ranks_by total (λ k. k)) (map key xs) (IsSortedBy-map (λ a b. is_lt (cmp a b)) key xs up) i j d (omega arith) within
@@ -75,7 +75,7 @@ module _ {K : Type 0} (cmp : K → K → Ordering) where
       subst (λ a. NotAfter a (key (slice_index_or xs (k + 1) d))) (get_or-map key xs k d (key d) (omega arith))
       (subst (λ b. NotAfter (slice_index_or (map key xs) k (key d)) b) (get_or-map key xs (k + 1) d (key d) within) (h k (k + 1) (key d) (omega arith) (omega arith)))
 
--- by a path, and then by a side
+-- By a path, and then by a side.
 abbrev place_cmp : List ℕ × ℕ → List ℕ × ℕ → Ordering
 place_cmp a b = ordering_then (slice_cmp nat_cmp a.0 b.0) (nat_cmp a.1 b.1)
 
@@ -89,7 +89,7 @@ module _ {T U : Type 0} where
   abbrev reported_place : Reported T U → List ℕ × ℕ
   reported_place t = (destination_path t, reported_side t)
 
-  -- ids don't count for the order
+  -- Ids don't matter for the order.
   same_forgotten : (kind : HashKind) (x : Item T U) → item_place (forget kind x) ≡ item_place x
   same_forgotten kind (tracked v) = refl
   same_forgotten kind (walked w id) = refl
@@ -102,7 +102,7 @@ module _ {T U : Type 0} where
   same_places : (kind : HashKind) (xs ys : List (Item T U)) → map (forget kind) ys ≡ map (forget kind) xs → map item_place xs ≡ map item_place ys
   same_places kind xs ys same = sym (same_places_forgotten kind xs) ∙ ap (map item_place) (sym same) ∙ same_places_forgotten kind ys
 
-  -- what is reported of an entry has the path and the side of the item in whose place it stands
+  -- An entry's report has the path and side of the item at whose position the entry is.
   reported_in_place : (entry : Rewritten (Item T U)) (t : Reported T U) → IsReported entry t → place_key item_place entry ≡ reported_place t
   reported_in_place (Alone (tracked v)) t h = ap reported_place (sym h)
   reported_in_place (Alone (walked w id)) t h = ap reported_place (sym h)
@@ -116,14 +116,14 @@ module _ {T U : Type 0} where
   reported_in_places (entry ∷ entries) (t ∷ ts) h =
       ap (λ p. p ∷ map (place_key item_place) entries) (reported_in_place entry t h.0) ∙ ap (λ ps. reported_place t ∷ ps) (reported_in_places entries ts h.1)
 
-  -- items alone
+  -- For items alone.
   pub alone_in_order : (list : List (Item T U)) (ts : List (Reported T U)) → IsSorted list_cmp list → AreReported (map Alone list) ts → IsSorted reported_cmp ts
   alone_in_order list ts up reported =
       let same : map item_place list ≡ map reported_place ts = sym (map-map (place_key item_place) Alone list) ∙ reported_in_places (map Alone list) ts reported in
       sorted_from_pairs place_cmp reported_place ts
       (subst (AllPairs (NotAfter place_cmp)) same (pairs_from_sorted place_cmp place_cmp_total item_place list up))
 
-  -- and after rewrites
+  -- After rewrites.
   pub rewritten_in_order : (kind : HashKind) (list items : List (Item T U)) (ms : List (Pair × Item T U)) (entries : List (Rewritten (Item T U))) (ts : List (Reported T U)) → IsSorted list_cmp list → map (forget kind) items ≡ map (forget kind) list → entries ≡ after_rewrites items ms → AreReported entries ts → IsSorted reported_cmp ts
   rewritten_in_order kind list items ms entries ts up same are reported =
       let sorted : AllPairs (NotAfter place_cmp) (map item_place items) =

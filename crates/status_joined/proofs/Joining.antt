@@ -1,4 +1,4 @@
--- The joined theorem at each way out of the call.
+-- The joined theorem at each exit of the call.
 use Rattle.std.proofs.Common.{inl, inr, ◌≡◌, refl, Bool, true, false, IsTrue, List, [], take, drop, Option, Some, None, is_some, Result, Ok, Err, sym, subst, arith}
 use Rattle.std.specs.List.Sorted.{IsSorted}
 use Rattle.std.proofs.lemmas.Bool.{false≢true}
@@ -28,7 +28,7 @@ use Rattle.status_joined.specs.Summaries.{reported_cmp}
 use Rattle.status_joined.proofs.InOrder.{alone_in_order, rewritten_in_order}
 
 module _ {T U : Type 0} (query : Query T U) (options : Options) (index : State) (interruptible : Bool) (walking : Option Walking) (ids : Identifying) (means : List Changed → Bool → Result (List Pair) TrackerFault → Type 0) (may_fail : Bool) where
-  -- an error before anything was reported
+  -- An error before anything was reported.
   pub quietly : (old : List (Reported T U)) (e : Error) → IsFault query options index interruptible walking ids means e → IsJoinedStatus query options index interruptible walking ids means may_fail old (Err e) old
   quietly old e fault = record { more = []; grew = sym (append-nil old); complete = tt; fault = fault; quiet = inl (λ i. []) }
 
@@ -44,11 +44,11 @@ module _ {T U : Type 0} (query : Query T U) (options : Options) (index : State) 
   fault_of_half (errors.ConvertToGit x) fault = absurd fault
   fault_of_half (errors.RewriteTracker x) fault = absurd fault
 
-  -- a half failed
+  -- A half failed.
   pub unlisted : (old : List (Reported T U)) (e : Error) → IsHalfFault query options index interruptible walking e → IsJoinedStatus query options index interruptible walking ids means may_fail old (Err e) old
   unlisted old e fault = quietly old e (fault_of_half e fault)
 
-  -- what is reported of a sorted list is sorted
+  -- The reports of a sorted list are sorted.
   reported_in_order : (r : Option Rewrites) (list : List (Item T U)) (ts : List (Reported T U)) (o : Option RewritesOutcome) → IsSorted list_cmp list → IsReportedOf ids options.object_hash means r list ts o → IsSorted reported_cmp ts
   reported_in_order None list ts None up reported = alone_in_order list ts up reported
   reported_in_order None list ts (Some o) up reported = absurd reported
@@ -62,7 +62,7 @@ module _ {T U : Type 0} (query : Query T U) (options : Options) (index : State) 
   list_in_order false items list is wanted = absurd (false≢true wanted)
 
   module _ (list : List (Item T U)) (tracked : StatusOutcome) (walked : Option WalkOutcome) (has : HasList query options index interruptible walking list tracked walked) where
-    -- how the call ended, where the reporting of the list ended so
+    -- The call's outcome, by that of the list's report.
     abbrev ended : Option RewritesOutcome → Outcome
     ended o = record { tracked_file_modification = tracked; dirwalk = walked; rewrites = o }
 
@@ -89,11 +89,11 @@ module _ {T U : Type 0} (query : Query T U) (options : Options) (index : State) 
     fault_of_list (Some r) is (errors.ConvertToGit x) fault = record { tracked = tracked; walked = walked; list = list; has = has; fault = rw is fault }
     fault_of_list (Some r) is (errors.RewriteTracker x) fault = record { tracked = tracked; walked = walked; list = list; has = has; fault = rw is fault }
 
-    -- all was reported
+    -- All was reported.
     pub reported_all : (o : Option RewritesOutcome) (old new : List (Reported T U)) → IsListFed ids options.object_hash means options.rewrites list may_fail old (Ok o) new → IsJoinedStatus query options index interruptible walking ids means may_fail old (Ok (ended o)) new
     reported_all o old new (ts, (reported, grew)) = record { more = ts; grew = grew; complete = whole_of ts o reported; fault = tt; quiet = tt }
 
-    -- the list has no renames and copies, or memory ran out while it was reported
+    -- The list has no renames and copies, or memory ran out while it was reported.
     pub unreported : (e : Error) (old new : List (Reported T U)) → IsListFed ids options.object_hash means options.rewrites list may_fail old (Err e) new → IsJoinedStatus query options index interruptible walking ids means may_fail old (Err e) new
     unreported e old new (inl (fault, same)) =
         subst (λ x. IsJoinedStatus query options index interruptible walking ids means may_fail old (Err e) x) (sym same)
@@ -120,7 +120,7 @@ module _ {T U : Type 0} (query : Query T U) (options : Options) (index : State) 
           );
         })
 
-  -- the same by what the call's steps say of its decider, of the walk that is wanted and of the ids' filter
+  -- The same by the clauses of the call's steps, about its decider, the walk that is wanted and the ids' filter.
   pub joined_at : (by : Query T U) → by ≡ query → (w : Option Walking) → w ≡ walking → (known : Identifying) → known ≡ ids → (old : List (Reported T U)) (result : Result Outcome Error) (new : List (Reported T U)) → IsJoinedStatus by options index interruptible w known means may_fail old result new → IsJoinedStatus query options index interruptible walking ids means may_fail old result new
   joined_at by same_query w same_walk known same_ids old result new is =
       subst (λ x. IsJoinedStatus x options index interruptible walking ids means may_fail old result new) same_query

@@ -1,4 +1,4 @@
--- From the order of the list to that of what it says.
+-- From the order of the list to that of its items' specifications.
 use Rattle.std.proofs.Common.{◌≡◌, refl, sym, ap, subst, ◌∙◌, ℕ, Bool, not, ◌&&◌, List, [], map}
 use Rattle.std.specs.Cmp.Lexicographic.{slice_cmp}
 use Rattle.std.specs.List.{filter}
@@ -18,7 +18,7 @@ use Rattle.status_joined.specs.Lists.{list_cmp, IsSortedList}
 use Rattle.status_joined.specs.declared.item.ModificationOrDirwalkEntry.{ModificationOrDirwalkEntry}
 use Rattle.status_joined.specs.declared.item.ModificationOrDirwalkEntry.TheVariants.{Modification}
 
--- images keep their order where items do, if each key of an image is the key of some item's
+-- Images keep their order if the elements do, and if the key of each image is the key of some element's image.
 stable_images : {X Y K : Type 0} (f : X → Y) (key : Y → K) (R : K → K → Ordering) → ((y : Y) → (x : X) × (key (f x) ≡ key y)) → (xs ys : List X) → IsStableByKey (λ x. key (f x)) R xs ys → IsStableByKey key R (map f xs) (map f ys)
 stable_images f key R some xs ys stable y =
     let x = some y in
@@ -39,7 +39,7 @@ blank = record {
   path = record { start = 0; end = 0 };
 }
 
--- some item with a path
+-- Some item with a path.
 at_path : {T U : Type 0} → List ℕ → ModificationOrDirwalkEntry T U
 at_path path = Modification (record {
   entry = record { ref_ptr = (0, 0); now = blank };
@@ -50,7 +50,7 @@ at_path path = Modification (record {
   parts = record {};
 })
 
--- a sorted list says a sorted list
+-- The items of a sorted list are a sorted list.
 pub sorted_images : {T U : Type 0} (xs ys : List (ModificationOrDirwalkEntry T U)) → IsPermutation xs ys → IsStableByKey (λ x. path_of (item_of x)) (slice_cmp nat_cmp) xs ys → IsSorted (λ a b. list_cmp (item_of a) (item_of b)) ys → IsSortedList (map item_of xs) (map item_of ys)
 unfolding at_path
 sorted_images xs ys bag stable order = record {

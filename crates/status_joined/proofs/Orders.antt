@@ -13,7 +13,7 @@ not_before Less s h ties = cc
 not_before Equal s h ties = ties refl
 not_before Greater s h ties = refl
 
--- a stable sort by R of what was sorted by S is sorted by R and then by S
+-- If a list is sorted by S, a stable sort by R sorts it by R and then by S.
 pub sorted_by_both : {X K J : Type 0} {R : K → K → Ordering} {S : J → J → Ordering} (o : IsTotalOrder R) (p : IsTotalOrder S) (key : X → K) (side : X → J) (xs ys : List X) → IsSortedByKey side S xs → IsStableByKey key R xs ys → IsSortedByKey key R ys → IsSorted (λ a b. ordering_then (R (key a) (key b)) (S (side a) (side b))) ys
 sorted_by_both {R = R} {S = S} o p key side xs ys before stable up k d from within =
     let x = slice_index_or ys k d in

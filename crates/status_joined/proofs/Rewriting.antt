@@ -30,7 +30,7 @@ use Rattle.status_joined.specs.ListItems.{item_of}
 use Rattle.status_joined.specs.declared.item.ModificationOrDirwalkEntry.{ModificationOrDirwalkEntry}
 use Rattle.status_joined.specs.declared.index_as_worktree_with_renames.rewrites.Outcome.{Outcome}
 
--- pairs that are no copies are renames
+-- Pairs that aren't copies are renames.
 pub count_others : (ps : List Pair) (n : ℕ) → n ≡ count_by (λ (p : Pair). p.copy) ps → length ps - n ≡ count_by (λ (p : Pair). not p.copy) ps
 count_others ps n h =
     let all = length-filter_both (λ (p : Pair). p.copy) (λ (p : Pair). not p.copy) (λ p. refl) ps in
@@ -39,16 +39,16 @@ count_others ps n h =
     omega (arith, h, all, copies, renames)
 
 module _ {T U : Type 0} (ids : Identifying) (kind : HashKind) (means : List Changed → Bool → Result (List Pair) TrackerFault → Type 0) (track_empty : Bool) (list : List (Item T U)) where
-  -- a node has no id
+  -- A node has no id.
   pub id_fault : (e : IdError) → (IsTrue ids.modelled → (slice_get (id_faults ids.ids list) 0 ≡ Some e) ⊎ (fault_of e ≡ Memory)) → IsRewritingFault ids kind means track_empty list (error_of_id e)
   id_fault e h = search (rules, h)
 
   module _ (xs slice : List (ModificationOrDirwalkEntry T U)) (same : slice ≡ xs) (identified : HaveTheirIds ids kind means list (map item_of xs)) where
-    -- what a tracker sees of what stands in the list
+    -- The changes that a tracker gets for the list's items.
     seen : map (λ (x : ModificationOrDirwalkEntry T U). changed_of (item_of x)) slice ≡ map changed_of (map item_of xs)
     seen = ap (map (λ (x : ModificationOrDirwalkEntry T U). changed_of (item_of x))) same ∙ sym (map-map changed_of item_of xs)
 
-    -- a tracker has no pairs
+    -- The tracker has no pairs.
     tracker_fault_of : (e : TrackerError) → IsMeantAnswer (means (map changed_of (map item_of xs)) track_empty) (Err e) → IsRewritingFault ids kind means track_empty list (error_of_tracker e)
     tracker_fault_of (trackers.BadPair at) reported = (map item_of xs, (identified, inl reported))
     tracker_fault_of (trackers.Refused code) reported = (map item_of xs, (identified, reported))
@@ -61,7 +61,7 @@ module _ {T U : Type 0} (ids : Identifying) (kind : HashKind) (means : List Chan
       meant : means (map changed_of (map item_of xs)) track_empty (Ok ps)
       meant = subst (λ cs. means cs track_empty (Ok ps)) seen reported
 
-      -- a tracker's pairs don't fit
+      -- The tracker's pairs break a rule.
       refused_fault_of : (e : Refused) → IsAnswer (λ x. is_removed (item_of x)) (λ x. is_walked (item_of x)) is_made_of xs ps (Err e) → IsRewritingFault ids kind means track_empty list (error_of_refused e)
       refused_fault_of (refusals.BadPair at) bad =
           (map item_of xs, (identified, inr (ps, (meant, bad_pair_mapped item_of (λ x. is_removed (item_of x)) (λ x. is_walked (item_of x)) is_removed is_walked (λ x. refl) (λ x. refl) xs ps at bad))))
@@ -77,12 +77,12 @@ module _ {T U : Type 0} (ids : Identifying) (kind : HashKind) (means : List Chan
             subst (λ qs. AreLawful is_removed is_walked (map item_of xs) qs × IsRewritten (λ (x y : Item T U). y ≡ x) (map item_of xs) qs (map (map_rewritten item_of) entries)) are
             (rewritten_mapped item_of (λ x. is_removed (item_of x)) (λ x. is_walked (item_of x)) is_removed is_walked (λ x. refl) (λ x. refl) xs is_made_of made given entries answer)
 
-        -- each rewrite's destination is a node
+        -- The destination of each rewrite is a node.
         pub destinations_led : All (IsLed is_walked) (map (map_rewritten item_of) entries)
         destinations_led =
             destinations_walked is_removed is_walked (λ (x y : Item T U). y ≡ x) (map item_of xs) ps (map (map_rewritten item_of) entries) answered.0 answered.1
 
-        -- the list has its renames and copies
+        -- The list has its renames and copies.
         pub rewriting : (counted : List Pair) → counted ≡ ps → (o : Outcome) → o.renames ≡ count_by (λ (p : Pair). not p.copy) counted → o.copies ≡ count_by (λ (p : Pair). p.copy) counted → IsRewriting ids kind means track_empty list (map (map_rewritten item_of) entries) o
         rewriting counted same_pairs o renames copies = record {
           items = map item_of xs;

@@ -1,4 +1,4 @@
--- The list's records stand before its nodes.
+-- The list's records come before its nodes.
 use Rattle.std.proofs.Common.{◌≡◌, refl, sym, ap, ◌∙◌, ℕ, ◌+◌, ◌-◌, ◌<◌, ◌≤◌, false, List, ◌++◌, length, map, get_or, inl, inr, arith}
 use Rattle.std.specs.List.Sorted.{IsSortedByKey}
 use Rattle.std.specs.Ordering.{is_lt, nat_cmp}
@@ -43,7 +43,7 @@ module _ {T U : Type 0} (kind : HashKind) (vs : List (Visit T U)) (ws : List Wal
         | inr h ↦ omega (arith, side_of_node k d h (omega arith), side_of_node (k + 1) d (omega arith) within)
       ]
 
-  -- what says the unsorted list is sorted by side
+  -- A list whose items are the unsorted list is sorted by side.
   pub records_first : {X : Type 0} (f : X → Item T U) (xs : List X) → map f xs ≡ unsorted kind vs ws → IsSortedByKey (λ x. side_of (f x)) nat_cmp xs
   records_first f xs e k d from within =
       let long : length xs ≡ length (records ++ nodes) = sym (length-map xs f) ∙ ap length e in

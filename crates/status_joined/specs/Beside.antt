@@ -1,4 +1,4 @@
--- What of a walk was kept.
+-- The walk's part of both halves: its kept nodes, or its failure.
 use Rattle.std.specs.Prelude.{◌≡◌, Bool, List, false, [], map, IfSome, Result, Ok, Err}
 use Rattle.status_walk.specs.declared.walk.Outcome.{Outcome}
 use Rattle.status_walk.specs.declared.walk.WalkError.{WalkError}
@@ -8,17 +8,18 @@ use Rattle.status_joined.specs.declared.beside.Beside.{Beside}
 use Rattle.status_joined.specs.Keeping.{is_kept, kept_walked}
 use Rattle.status_joined.specs.Walkings.{Walking}
 
--- of a walk to its end all is kept that can be tracked and isn't, and of one that the flag ended, the first of it. A walk without
--- a flag comes to its end
+-- The status's records and the walk's kept nodes, or the walk's failure, or otherwise the status's. These are the kept nodes: of
+-- a walk to its end all its nodes that can be tracked and aren't, and of one that the flag ended, the first of these. A walk
+-- without a flag isn't ended early.
 pub record IsKeptOf (m : WalkMeaning) (interruptible : Bool) (kept : List Walked) (o : Outcome) : Type 0 where
   pub walked : IsWalked m is_kept [] kept o.cancelled o
   pub uncut : interruptible ≡ false → o.cancelled ≡ false
 
--- so it ended, or with the fault that is meant, or memory ran out
+-- The walk ended so, or failed with the specified fault, or memory ran out.
 abbrev pub IsBeside : WalkMeaning → Bool → Result Beside WalkError → Type 0
 IsBeside m interruptible (Ok b) = IsKeptOf m interruptible (map kept_walked b.kept.items) b.outcome
 IsBeside m interruptible (Err e) = IsWalkFault m.fault e
 
--- the same where what there is to walk is modelled
+-- The same if the walk is modelled.
 abbrev pub IsBesideOf : Walking → Bool → Result Beside WalkError → Type 0
 IsBesideOf w interruptible result = IfSome w (λ m. IsBeside m interruptible result)

@@ -1,4 +1,4 @@
--- The two halves of a status: what the index's entries give, and what the walk found beside them.
+-- The two halves of a status: the records of the index's entries, and the nodes of the walk.
 use Rattle.std.specs.Prelude.{◌≡◌, ℕ, Bool, List, [], map, Option, Some, None, IfSome, Result, Ok, Err}
 use Rattle.status_index.specs.declared.state.State.{State}
 use Rattle.status_call.specs.Query.{Query}
@@ -15,24 +15,24 @@ use Rattle.status_joined.specs.Keeping.{kept_walked}
 use Rattle.status_joined.specs.TrackedHalf.{IsTrackedHalf, IsTrackedFailure}
 use Rattle.status_joined.specs.Walkings.{Walking}
 
--- what the walk kept, and how it ended: nothing, where there is none
+-- The nodes that were kept of the walk, and how it ended. If there is no walk, none are kept.
 abbrev pub IsWalkedHalf : Bool → Option Walking → List Walked → Option Outcome → Type 0
 IsWalkedHalf interruptible (Some w) kept (Some o) = IfSome w (λ m. IsKeptOf m interruptible kept o)
 IsWalkedHalf interruptible None kept None = kept ≡ []
 IsWalkedHalf interruptible (Some w) kept None = ⊥
 IsWalkedHalf interruptible None kept (Some o) = ⊥
 
--- the walk came through
+-- The walk succeeded.
 abbrev pub HasWalked : Bool → Option Walking → Type 0
 HasWalked interruptible w = (kept : List Walked) × ((o : Option Outcome) × IsWalkedHalf interruptible w kept o)
 
--- the walk failed: it is meant to, or memory ran out
+-- The walk failed with the specified fault, or memory ran out.
 abbrev pub IsWalkFailure : Option Walking → WalkError → Type 0
 IsWalkFailure None e = ⊥
 IsWalkFailure (Some w) e = IfSome w (λ m. IsWalkFault m.fault e)
 
 module _ {T U : Type 0} (query : Query T U) (limit : Option ℕ) (index : State) (interruptible : Bool) (w : Option Walking) where
-  -- both halves; or the walk's failure; or, where the walk came through, the status's
+  -- The status's records and the walk's kept nodes, or the walk's failure, or otherwise the status's.
   abbrev pub IsHalves : Result (Halves T U) Failed → Type 0
   IsHalves (Ok h) = IsTrackedHalf query index interruptible (visits_of h.tracked.recorder) h.tracked.outcome × IsWalkedHalf interruptible w (map kept_walked h.kept.items) h.walked
   IsHalves (Err (failures.Walk e)) = IsWalkFailure w e

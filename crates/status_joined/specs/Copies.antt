@@ -1,4 +1,4 @@
--- Items that are made again.
+-- Copies of items.
 use Rattle.std.specs.Prelude.{◌≡◌, Option, Some}
 use Rattle.status_call.specs.declared.index_as_worktree.types.Change.{Change}
 use Rattle.status_call.specs.declared.index_as_worktree.types.Change.TheVariants as changes
@@ -7,14 +7,14 @@ use Rattle.status_call.specs.declared.index_as_worktree.types.EntryStatus.TheVar
 use Rattle.status_call.specs.Visits.{visit}
 use Rattle.status_joined.specs.Items.{Item, tracked}
 
--- what may be a clone of a comparer's report, and of a submodule's
+-- t and u relate a value that a comparer or a submodule reports to its possible clones.
 module _ {T U : Type 0} (t : T → T → Type 0) (u : U → U → Type 0) where
-  -- nothing is made of nothing, and a clone of a report
+  -- None is copied as None, and a report as a clone of it.
   abbrev pub IsContentCopy : Option T → Option T → Type 0
   IsContentCopy (Some x) (Some y) = t x y
   IsContentCopy x y = y ≡ x
 
-  -- what was reported is cloned, and all else is the same
+  -- A report is cloned, and everything besides is the same.
   abbrev pub IsChangeCopy : Change T U → Change T U → Type 0
   IsChangeCopy (changes.Modification executable content to_zero) (changes.Modification executable' content' to_zero') =
       (executable' ≡ executable) × IsContentCopy content content' × (to_zero' ≡ to_zero)
@@ -25,7 +25,7 @@ module _ {T U : Type 0} (t : T → T → Type 0) (u : U → U → Type 0) where
   IsStatusCopy (statuses.Change x) (statuses.Change y) = IsChangeCopy x y
   IsStatusCopy x y = y ≡ x
 
-  -- a copy has its original's path and all else of it, but for what was reported, of which it has a clone
+  -- A copy is equal to its original, except that it has a clone of the report.
   abbrev pub IsCopy : Item T U → Item T U → Type 0
   IsCopy (tracked v) (tracked w) = (w ≡ visit v.entries v.entry v.entry_index v.path w.status) × IsStatusCopy v.status w.status
   IsCopy x y = y ≡ x

@@ -1,4 +1,4 @@
--- The errors of a call that the errors of its parts become. Want of memory is reported as that, wherever it was met.
+-- The call's error for an error of each of its parts. Out of memory is one error, whichever part it comes from.
 use Rattle.status_index.specs.declared.fault.Fault.TheVariants as faults
 use Rattle.status_base.specs.declared.worktree.objects.FindError.TheVariants as finds
 use Rattle.status_compare.specs.declared.error.Error.{Error as StatusError}
@@ -14,20 +14,20 @@ use Rattle.status_walk.specs.declared.walk.WalkError.TheVariants as walks
 use Rattle.status_joined.specs.declared.index_as_worktree_with_renames.error.Error.{Error}
 use Rattle.status_joined.specs.declared.index_as_worktree_with_renames.error.Error.TheVariants as errors
 
--- of the status of the index
+-- For the status of the index.
 abbrev pub error_of_status : StatusError → Error
 error_of_status statuses.Memory = errors.Memory
 error_of_status (statuses.Io faults.Memory) = errors.Memory
 error_of_status (statuses.Find finds.Memory) = errors.Memory
 error_of_status e = errors.TrackedFileModifications e
 
--- of a walk
+-- For a walk.
 abbrev pub error_of_walk : WalkError → Error
 error_of_walk walks.Memory = errors.Memory
 error_of_walk (walks.Fault path faults.Memory) = errors.Memory
 error_of_walk (walks.Fault path f) = errors.DirWalk (walks.Fault path f)
 
--- of the id of what a walk found: of opening a file, of reading it, of reading a link, of a filter
+-- For the id of a node: if opening a file, reading it, reading a link, or the filter failed.
 abbrev pub error_of_id : IdError → Error
 error_of_id (Open faults.Memory) = errors.Memory
 error_of_id (Hash faults.Memory) = errors.Memory
@@ -38,12 +38,12 @@ error_of_id (Hash f) = errors.HashFile f
 error_of_id (ReadLink f) = errors.ReadLink f
 error_of_id (Convert f) = errors.ConvertToGit f
 
--- of a tracker
+-- For a tracker.
 abbrev pub error_of_tracker : TrackerError → Error
 error_of_tracker trackers.Memory = errors.Memory
 error_of_tracker e = errors.RewriteTracker e
 
--- of a list that can't be rewritten
+-- For a list that can't be rewritten.
 abbrev pub error_of_refused : Refused → Error
 error_of_refused refusals.Memory = errors.Memory
 error_of_refused (refusals.BadPair at) = errors.RewriteTracker (trackers.BadPair at)

@@ -1,21 +1,21 @@
--- What of a list's entries was reported to a collector.
+-- The reports of a list's entries to a collector.
 use Rattle.std.specs.Prelude.{◌≡◌, ℕ, ◌<◌, Bool, IsTrue, List, [], ◌∷◌, ◌++◌, length, take, Result, Ok, Err, ⊤}
 use Rattle.status_rewrites.specs.declared.rewritten.Rewritten.{Rewritten}
 use Rattle.status_joined.specs.Items.{Item, Reported, IsReported}
 
--- one entry was reported; or nothing, where the collector may fail
+-- One entry was reported; or nothing was, if the collector may fail.
 abbrev pub IsReportedOne : {T U A E : Type 0} → Bool → Rewritten (Item T U) → List (Reported T U) → Result A E → List (Reported T U) → Type 0
 IsReportedOne {T} {U} may_fail entry old (Ok _) new = (t : Reported T U) × IsReported entry t × (new ≡ old ++ t ∷ [])
 IsReportedOne may_fail entry old (Err _) new = IsTrue may_fail × (new ≡ old)
 
--- each is what is reported of the entry in its place, and there are as many
+-- There is one report for each entry, in the same order.
 abbrev pub AreReported : {T U : Type 0} → List (Rewritten (Item T U)) → List (Reported T U) → Type 0
 AreReported [] [] = ⊤
 AreReported [] (t ∷ ts) = ⊥
 AreReported (entry ∷ entries) [] = ⊥
 AreReported (entry ∷ entries) (t ∷ ts) = IsReported entry t × AreReported entries ts
 
--- all entries were reported; or, where the collector may fail, the first n of them, and not all
+-- All entries were reported; or, if the collector may fail, the first n of them, and not all.
 abbrev pub IsFed : {T U A E : Type 0} → Bool → List (Rewritten (Item T U)) → List (Reported T U) → Result A E → List (Reported T U) → Type 0
 IsFed {T} {U} may_fail entries old (Ok _) new = (ts : List (Reported T U)) × AreReported entries ts × (new ≡ old ++ ts)
 IsFed {T} {U} may_fail entries old (Err _) new =

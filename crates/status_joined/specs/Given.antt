@@ -1,4 +1,4 @@
--- What a caller hands in, put together.
+-- A caller's interfaces in one value.
 use Rattle.std.specs.Borrow.{Bor}
 use Rattle.status_joined.specs.declared.index_as_worktree_with_renames.inputs.Inputs.{Inputs}
 use Rattle.status_joined.specs.declared.index_as_worktree_with_renames.types.Context.{Context}

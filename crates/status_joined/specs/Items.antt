@@ -1,4 +1,4 @@
--- What stands in the list of a status, and what its collector is given.
+-- The items of a status's list, and the reports that its collector gets.
 use Rattle.std.specs.Prelude.{◌≡◌, ℕ, Bool, true, false, List}
 use Rattle.status_index.specs.declared.id.ObjectId.{ObjectId}
 use Rattle.status_call.specs.declared.index_as_worktree.types.Change.TheVariants as changes
@@ -9,29 +9,30 @@ use Rattle.status_rewrites.specs.declared.rewritten.Rewritten.{Rewritten}
 use Rattle.status_rewrites.specs.declared.rewritten.Rewritten.TheVariants.{Alone, Rewrite}
 use Rattle.status_walk.specs.WalkedNodes.{Walked}
 
--- what stands in the list: a record of the tracked half, or a node that the walk kept, with its id
+-- An item of the list: a record of the status, or a node that was kept of the walk, with its id.
 pub data Item (T U : Type 0) : Type 0 where
   tracked : Visit T U → Item T U
   walked : Walked → ObjectId → Item T U
 
--- what a collector is given: a record; a node; or a rewrite: its source, the node that is its destination, that node's id, and
--- whether it is a copy
+-- A record, a node, or a rewrite with source, destination, its id, and whether it is a copy. The id is the destination's. This is
+-- a report that a collector gets.
 pub data Reported (T U : Type 0) : Type 0 where
   modification : Visit T U → Reported T U
   contents : Walked → Reported T U
   rewrite : Item T U → Walked → ObjectId → Bool → Reported T U
 
--- whether nothing stands in the worktree where the index has the entry
+-- Whether the entry's status is `Removed`.
 abbrev pub is_removal : {T U : Type 0} → EntryStatus T U → Bool
 is_removal (statuses.Change changes.Removed) = true
 is_removal _ = false
 
--- whether an item may be a rename's source
+-- Only a record of a removed path may be renamed, and only a node be a destination. So this is whether an item may be a rename's
+-- source.
 abbrev pub is_removed : {T U : Type 0} → Item T U → Bool
 is_removed (tracked v) = is_removal v.status
 is_removed (walked w id) = false
 
--- whether an item may be a destination
+-- Whether an item may be a destination.
 abbrev pub is_walked : {T U : Type 0} → Item T U → Bool
 is_walked (tracked v) = false
 is_walked (walked w id) = true
@@ -40,12 +41,12 @@ abbrev pub path_of : {T U : Type 0} → Item T U → List ℕ
 path_of (tracked v) = v.path
 path_of (walked w id) = w.path
 
--- records before nodes
+-- 0 for a record, 1 for a node: records come before nodes.
 abbrev pub side_of : {T U : Type 0} → Item T U → ℕ
 side_of (tracked v) = 0
 side_of (walked w id) = 1
 
--- what the collector is given of an entry of the list. A rewrite's destination is a node
+-- The report of an entry of the list. A rewrite's destination is a node.
 abbrev pub IsReported : {T U : Type 0} → Rewritten (Item T U) → Reported T U → Type 0
 IsReported (Alone (tracked v)) t = t ≡ modification v
 IsReported (Alone (walked w id)) t = t ≡ contents w

@@ -1,4 +1,4 @@
--- What is reported of the list of both halves: with renames and copies, where they are looked for, or why it has none.
+-- The report of the list: with renames and copies if they are searched for, or why it has none.
 use Rattle.std.specs.Prelude.{◌≡◌, ◌⊎◌, ℕ, Bool, not, IsTrue, List, map, Option, Some, None, Result, Ok, Err, slice_get, ⊤}
 use Rattle.std.specs.List.{count_by}
 use Rattle.status_index.specs.declared.fault.Fault.TheVariants as faults
@@ -24,7 +24,7 @@ use Rattle.status_joined.specs.Feeding.{AreReported}
 use Rattle.status_joined.specs.NodeIds.{Identifying, forget, identified, id_faults}
 use Rattle.status_joined.specs.Items.{Item, Reported, is_removed, is_walked}
 
--- the tracked half's options: the listings are the joined call's own
+-- The options of the status of the index. `fscache` is the joined call's own.
 abbrev pub tracked_options : Options → StatusOptions
 tracked_options o = record {
   fs = o.tracked_file_modifications.fs;
@@ -35,12 +35,13 @@ tracked_options o = record {
 }
 
 module _ {T U : Type 0} (ids : Identifying) (kind : HashKind) (means : List Changed → Bool → Result (List Pair) TrackerFault → Type 0) where
-  -- the list's items with the ids of their contents; nothing else of them changes
+  -- The list's items with the ids of their contents, and no other change.
   pub record HaveTheirIds (list items : List (Item T U)) : Type 0 where
     pub known : IsTrue ids.modelled → map (identified ids.ids) list ≡ map Ok items
     pub same : map (forget kind) items ≡ map (forget kind) list
 
-  -- the list with the tracker's renames and copies, each just once; and how many there are
+  -- The list is rewritten by the tracker's lawful pairs, or an id, a pair or the tracker fails. Here it is rewritten: each pair
+  -- is there exactly once, and the outcome counts renames and copies.
   pub record IsRewriting (track_empty : Bool) (list : List (Item T U)) (entries : List (Rewritten (Item T U))) (o : RewritesOutcome) : Type 0 where
     pub items : List (Item T U)
     pub identified : HaveTheirIds list items
@@ -51,17 +52,17 @@ module _ {T U : Type 0} (ids : Identifying) (kind : HashKind) (means : List Chan
     pub renames : o.renames ≡ count_by (λ p. not p.copy) pairs
     pub copies : o.copies ≡ count_by (λ p. p.copy) pairs
 
-  -- the first fault that a node of the list meets on the way to its id
+  -- The first fault of a node's id, in the order of the list.
   abbrev pub IsIdFault : List (Item T U) → IdError → Type 0
   IsIdFault list e = IsTrue ids.modelled → slice_get (id_faults ids.ids list) 0 ≡ Some e
 
-  -- the tracker's own refusal of this pair, or the first of its pairs that breaks a rule
+  -- The tracker itself refuses this pair; or it is the first of its pairs that breaks a rule.
   abbrev pub IsPairFault : Bool → List (Item T U) → ℕ → Type 0
   IsPairFault track_empty items at =
       means (map changed_of items) track_empty (Err (bad_pair at))
       ⊎ ((pairs : List Pair) × (means (map changed_of items) track_empty (Ok pairs) × IsBadPair is_removed is_walked items pairs at))
 
-  -- why a list has no renames and copies. Want of memory is reported as that
+  -- Why a list has no renames and copies. Out of memory is always the error `Memory`.
   abbrev pub IsRewritingFault : Bool → List (Item T U) → Error → Type 0
   IsRewritingFault track_empty list (errors.OpenWorktreeFile faults.Memory) = ⊥
   IsRewritingFault track_empty list (errors.HashFile faults.Memory) = ⊥
@@ -78,7 +79,7 @@ module _ {T U : Type 0} (ids : Identifying) (kind : HashKind) (means : List Chan
   IsRewritingFault track_empty list errors.Memory = ⊤
   IsRewritingFault track_empty list _ = ⊥
 
-  -- what is reported of a list: each item alone; or, where renames and copies are looked for, the list with these
+  -- The report of a list: each item alone; or, if renames and copies are searched for, the list with these.
   abbrev pub IsReportedOf : Option Rewrites → List (Item T U) → List (Reported T U) → Option RewritesOutcome → Type 0
   IsReportedOf None list reported None = AreReported (map Alone list) reported
   IsReportedOf (Some r) list reported (Some o) =
@@ -86,7 +87,7 @@ module _ {T U : Type 0} (ids : Identifying) (kind : HashKind) (means : List Chan
   IsReportedOf None list reported (Some o) = ⊥
   IsReportedOf (Some r) list reported None = ⊥
 
-  -- why the list has no renames and copies, where these are looked for
+  -- Why the list has no renames and copies, if these are searched for.
   abbrev pub IsListFault : Option Rewrites → List (Item T U) → Error → Type 0
   IsListFault None list e = ⊥
   IsListFault (Some r) list e = IsRewritingFault r.track_empty list e

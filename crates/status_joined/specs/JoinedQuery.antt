@@ -1,4 +1,4 @@
--- What a status with untracked files, renames and copies is computed from, by the meanings of what was handed in.
+-- The joined theorem. These are the specifications of a caller's interfaces that it depends on.
 use Rattle.std.specs.Prelude.{Bool, List, Result}
 use Rattle.status_index.specs.Entries.{IndexEntry}
 use Rattle.status_index.specs.declared.id.HashKind.{HashKind}
@@ -10,15 +10,15 @@ use Rattle.status_rewrites.specs.declared.tracker.Pair.{Pair}
 use Rattle.status_joined.specs.NodeIds.{Identifying}
 use Rattle.status_joined.specs.Walkings.{Walking}
 
--- T is what a comparer reports of a change, U what a submodule reports
+-- T is the type of a comparer's report of a change, U of a submodule's.
 pub record JoinedQuery (T U : Type 0) : Type 1 where
-  -- the status of the index
+  -- The status of the index.
   pub status : Settings → Query T U
-  -- what there is to walk beside an index's entries
+  -- The walk, for the index's entries.
   pub walking : List IndexEntry → Walking
-  -- the ids of nodes
+  -- The ids of nodes.
   pub identifying : HashKind → Identifying
-  -- what the tracker may answer, by what it sees, and by whether empty files are tracked
+  -- The results that the tracker may return, for its changes and by whether empty files are tracked.
   pub pairs : List Changed → Bool → Result (List Pair) TrackerFault → Type 0
-  -- whether there is an interrupt flag
+  -- Whether there is an interrupt flag.
   pub interruptible : Bool

@@ -1,4 +1,4 @@
--- The joined theorem: what a status with untracked files, renames and copies reports to its collector, and what it answers.
+-- The joined theorem: the reports and the result of a status with untracked files, renames and copies.
 use Rattle.std.specs.Prelude.{◌≡◌, ◌⊎◌, ◌<◌, Bool, IsTrue, List, [], ◌++◌, length, Option, is_some, Result, IfOk, IfErr, ⊤}
 use Rattle.std.specs.Borrow.{Bor}
 use Rattle.std.specs.List.Sorted.{IsSorted}
@@ -28,15 +28,15 @@ use Rattle.status_joined.specs.Listing.{HasList, IsHalfFault}
 use Rattle.status_joined.specs.Summaries.{reported_cmp}
 
 module _ {T U : Type 0} (query : Query T U) (options : Options) (index : State) (interruptible : Bool) (walking : Option Walking) (ids : Identifying) (means : List Changed → Bool → Result (List Pair) TrackerFault → Type 0) where
-  -- all that there is to report, with the outcomes of both halves and of the renames and copies
+  -- All reports, with the outcomes of both halves and of the renames and copies.
   pub record IsWhole (reported : List (Reported T U)) (o : Outcome) : Type 0 where
     pub list : List (Item T U)
     pub has : HasList query options index interruptible walking list o.tracked_file_modification o.dirwalk
     pub is_reported : IsReportedOf ids options.object_hash means options.rewrites list reported o.rewrites
-    -- with sorting: by the path that each is reported by, and at equal paths records before nodes
+    -- With sorting: by each report's path, and at equal paths records before nodes.
     pub order : IsTrue (is_some options.sorting) → IsSorted reported_cmp reported
 
-  -- both halves came through, and their list has this fault
+  -- Both halves succeeded, and this is the fault of their list.
   pub record IsLateFault (e : Error) : Type 0 where
     pub tracked : StatusOutcome
     pub walked : Option WalkOutcome
@@ -44,14 +44,14 @@ module _ {T U : Type 0} (query : Query T U) (options : Options) (index : State) 
     pub has : HasList query options index interruptible walking list tracked walked
     pub fault : IsListFault ids options.object_hash means options.rewrites list e
 
-  -- the fault of a half; or, where both came through, of their list; or memory ran out
+  -- The fault of a half; or, if both succeeded, of their list; or memory ran out.
   abbrev pub IsFault : Error → Type 0
   IsFault (DirWalk e) = IsHalfFault query options index interruptible walking (DirWalk e)
   IsFault (TrackedFileModifications e) = IsHalfFault query options index interruptible walking (TrackedFileModifications e)
   IsFault Memory = ⊤
   IsFault e = IsLateFault e
 
-  -- a beginning of all that there is to report, and not all of it
+  -- A beginning of all reports, and not all of them.
   pub record IsCutShort (reported : List (Reported T U)) : Type 0 where
     pub whole : List (Reported T U)
     pub outcome : Outcome
@@ -59,24 +59,25 @@ module _ {T U : Type 0} (query : Query T U) (options : Options) (index : State) 
     pub beginning : IsBeginning reported whole
     pub short : length reported < length whole
 
-  -- what was reported to a collector, which may fail or never does, over any worktree, and where all that was handed in is modelled
+  -- The reports and the result of a call over any worktree, by whether the collector may fail. Some claims about a part need it
+  -- to be modelled.
   pub record IsJoinedStatus (may_fail : Bool) (old : List (Reported T U)) (result : Result Outcome Error) (new : List (Reported T U)) : Type 0 where
     pub more : List (Reported T U)
     pub grew : new ≡ old ++ more
-    -- Ok: all that there is to report
+    -- Ok: all reports.
     pub complete : IfOk result (IsWhole more)
-    -- an error: a fault that a part has
+    -- An error: a fault of a part.
     pub fault : IfErr result IsFault
-    -- on an error nothing was reported; or, with a collector that may fail, the error is want of memory, and a beginning was
+    -- On an error nothing was reported; or the collector may fail, memory ran out, and a proper beginning was reported.
     pub quiet : IfErr result (λ e. (more ≡ []) ⊎ (IsTrue may_fail × ((e ≡ Memory) × IsCutShort more)))
 
--- the same of what was handed in: the status of the index by the options, the walk where one is wanted, and the ids by their kind
+-- The same for a query: its status by the options, its walk if one is wanted, and its ids by their kind.
 abbrev pub IsMetBy : {T U : Type 0} → JoinedQuery T U → Options → State → Bool → List (Reported T U) → Result Outcome Error → List (Reported T U) → Type 0
 IsMetBy q options index may_fail old result new =
     IsJoinedStatus (q.status (settings (tracked_options options) index)) options index q.interruptible
     (wanted_walk options.dirwalk (q.walking (index_of index))) (q.identifying options.object_hash) q.pairs may_fail old result new
 
--- the same of a call, by what it was handed and by the meaning of its collector
+-- The joined theorem. This is the clause of the call, by its arguments and by the specification of its collector.
 abbrev pub IsJoined : {W C S O P L K X A T U V : Type 0} → (Inputs W C S O P A L K X → JoinedQuery T U) → Bor W → C → S → O → Context P A L K X → Options → State → Bool → (V → List (Reported T U)) → V → Result Outcome Error → V → Type 0
 IsJoined query worktree compare submodule objects context options index may_fail visits old result new =
     IsMetBy (query (given worktree compare submodule objects context)) options index may_fail (visits old) result (visits new)

@@ -1,4 +1,4 @@
--- What of a walk is kept.
+-- The nodes that are kept of a walk.
 use Rattle.std.specs.Prelude.{Bool, true, false, not, ◌&&◌, List, map, Option, Some}
 use Rattle.status_walk.specs.declared.entry.Kind.{Kind}
 use Rattle.status_walk.specs.declared.entry.Kind.TheVariants.{Untrackable}
@@ -15,14 +15,14 @@ abbrev pub is_tracked : Status → Bool
 is_tracked Tracked = true
 is_tracked _ = false
 
--- what can be tracked, and isn't
+-- A walk's node is kept unless it is known to be untrackable or reported as tracked.
 abbrev pub is_kept : Walked → Bool
 is_kept w = not (is_untrackable w.disk_kind) && not (is_tracked w.status)
 
--- the node that was kept
+-- The kept node, as a walk passes it.
 abbrev pub kept_walked : Kept → Walked
 kept_walked k = walked_of k.entry k.collapsed_directory_status
 
--- who keeps what can be tracked and isn't
+-- The state of a delegate that keeps such nodes.
 abbrev pub keeper_state : List Kept → Bool → DelegateState
 keeper_state kept cancelled = record { keeps = is_kept; kept = map kept_walked kept; cancelled = cancelled }

@@ -24,13 +24,13 @@ use Rattle.status_joined.specs.Items.{Item}
 use Rattle.status_joined.specs.ListItems.{item_of}
 use Rattle.status_joined.specs.Lists.{IsList, unsorted}
 
--- of a half that failed
+-- The call's error for a half that failed.
 abbrev pub error_of_failed : Failed → Error
 error_of_failed (failures.Walk e) = error_of_walk e
 error_of_failed (failures.Tracked e) = error_of_status e
 
 module _ {T U : Type 0} (query : Query T U) (options : Options) (index : State) (interruptible : Bool) (walking : Option Walking) where
-  -- both halves came through and ended so, and this is the list of what they found
+  -- Both halves succeeded with these outcomes, and this is the list of their records and nodes.
   pub record HasList (list : List (Item T U)) (o : Outcome) (w : Option WalkOutcome) : Type 0 where
     pub visits : List (Visit T U)
     pub kept : List Walked
@@ -38,7 +38,7 @@ module _ {T U : Type 0} (query : Query T U) (options : Options) (index : State) 
     pub walked : IsWalkedHalf interruptible walking kept w
     pub list_is : IsList (is_some options.sorting) (unsorted options.object_hash visits kept) list
 
-  -- the walk's fault; or, where the walk came through, the status's; or memory ran out, which is reported as that
+  -- The walk's fault; or, if the walk succeeded, the status's; or memory ran out, which is always the error `Memory`.
   abbrev pub IsHalfFault : Error → Type 0
   IsHalfFault (errors.DirWalk walks.Memory) = ⊥
   IsHalfFault (errors.DirWalk (walks.Fault path faults.Memory)) = ⊥

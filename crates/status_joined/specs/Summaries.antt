@@ -1,4 +1,4 @@
--- What is reported, in a word, where, and in which order.
+-- The summaries of reports, their paths and their order.
 use Rattle.std.specs.Prelude.{ℕ, true, false, List, Option, Some, None}
 use Rattle.std.specs.Cmp.Lexicographic.{slice_cmp}
 use Rattle.std.specs.Ordering.{nat_cmp, ordering_then}
@@ -12,7 +12,7 @@ use Rattle.status_joined.specs.declared.index_as_worktree_with_renames.summary.S
 use Rattle.status_joined.specs.declared.index_as_worktree_with_renames.summary.Summary.TheVariants.{Removed, Added, Modified, TypeChange, Renamed, Copied, IntentToAdd, Conflict}
 use Rattle.status_joined.specs.Items.{Reported, modification, contents, rewrite, path_of}
 
--- of a path that the index has; another stat alone is no change
+-- The summary of an index entry's status. A stat to update is no change.
 abbrev pub status_summary : {T U : Type 0} → EntryStatus T U → Option Summary
 status_summary (statuses.Conflict stages entries) = Some Conflict
 status_summary (statuses.Change changes.Removed) = Some Removed
@@ -22,35 +22,36 @@ status_summary (statuses.Change (changes.SubmoduleModification change)) = Some M
 status_summary (statuses.NeedsUpdate stat) = None
 status_summary statuses.IntentToAdd = Some IntentToAdd
 
--- of a node: it was added where it is untracked
+-- The summary of a node: it is added if it is untracked.
 abbrev pub node_summary : Status → Option Summary
 node_summary nodes.Untracked = Some Added
 node_summary _ = None
 
+-- A summary is a word, none for a stat to update or a node that isn't untracked.
 abbrev pub summary_of : {T U : Type 0} → Reported T U → Option Summary
 summary_of (modification v) = status_summary v.status
 summary_of (contents w) = node_summary w.status
 summary_of (rewrite source w id true) = Some Copied
 summary_of (rewrite source w id false) = Some Renamed
 
--- the path of what was renamed or copied; of all else its own
+-- The path of a rename's or copy's source; any other report's own path.
 abbrev pub source_path : {T U : Type 0} → Reported T U → List ℕ
 source_path (modification v) = v.path
 source_path (contents w) = w.path
 source_path (rewrite source w id copy) = path_of source
 
--- the path of what a rename or a copy became; of all else its own
+-- The path of a rename's or copy's destination; any other report's own path.
 abbrev pub destination_path : {T U : Type 0} → Reported T U → List ℕ
 destination_path (modification v) = v.path
 destination_path (contents w) = w.path
 destination_path (rewrite source w id copy) = w.path
 
--- records before nodes. A rename or a copy stands as the node that it became
+-- 0 for a record, 1 for a node or a rewrite, which is at its destination.
 abbrev pub reported_side : {T U : Type 0} → Reported T U → ℕ
 reported_side (modification v) = 0
 reported_side (contents w) = 1
 reported_side (rewrite source w id copy) = 1
 
--- by the path that each is reported by, which is that of its destination, and at equal paths records before nodes
+-- By the destination's path, and at equal paths records before nodes.
 abbrev pub reported_cmp : {T U : Type 0} → Reported T U → Reported T U → Ordering
 reported_cmp t u = ordering_then (slice_cmp nat_cmp (destination_path t) (destination_path u)) (nat_cmp (reported_side t) (reported_side u))

@@ -1,4 +1,4 @@
--- What the tracked half recorded.
+-- The status's part of both halves: its records, or its failure.
 use Rattle.std.specs.Prelude.{◌≡◌, ◌≢◌, ℕ, ◌<◌, ◌^◌, Bool, true, false, IsTrue, List, map, All, AllPairs, Option, Some, Result, Ok, Err}
 use Rattle.status_index.specs.declared.state.State.{State}
 use Rattle.status_index.specs.States.{entries_of, backing_of}
@@ -14,8 +14,9 @@ use Rattle.status_call.specs.declared.index_as_worktree.types.Outcome.{Outcome}
 use Rattle.status_joined.specs.declared.tracked.Tracked.{Tracked}
 
 module _ {T U : Type 0} (query : Query T U) (index : State) where
-  -- the records of the index's entries, each with the index's own entry, in the index's order. Where all that was handed in is
-  -- modelled they are all records, or, where the flag was seen, those of the first considered entries
+  -- The status's records and the walk's kept nodes, or the walk's failure, or otherwise the status's. These are the records: of
+  -- the index's own entries, in index order. If all interfaces are modelled, they are all records, or, if the flag was seen,
+  -- those of the first considered entries, for some number of these.
   pub record IsTrackedHalf (interruptible : Bool) (visits : List (Visit T U)) (o : Outcome) : Type 0 where
     pub faithful : All (IsFaithful (entries_of index) (backing_of index)) visits
     pub ascends : AllPairs (λ a b. a.entry_index < b.entry_index) visits
@@ -25,8 +26,8 @@ module _ {T U : Type 0} (query : Query T U) (index : State) where
     pub fits : skipped_of o < 2 ^ 64
 
 module _ {T U : Type 0} (query : Query T U) (limit : Option ℕ) (index : State) where
-  -- the status failed at its first fault, unless memory or a thread was refused. With limit 1 no thread is, where the comparer doesn't
-  -- answer so
+  -- If all interfaces are modelled, the error is the status's first fault, unless memory ran out or a thread was refused. With
+  -- limit 1 no thread is refused if the comparer never returns that error.
   pub record IsTrackedFailure (e : Error) : Type 0 where
     pub found : List (Finding T U)
     pub first : IsTrue query.modelled → e ≢ Memory → e ≢ SpawnThread → IsFirstFault query index found e

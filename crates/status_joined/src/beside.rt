@@ -1,4 +1,4 @@
-//! The walk: what lies in the worktree beside the index.
+//! The walk of a status, and the nodes that are kept of it.
 
 ghost use Rattle.std.specs.Prelude.{is_some};
 ghost use Rattle.status_index.specs.States.{index_of};
@@ -12,16 +12,16 @@ use status_walk::{Outcome, WalkError};
 use std::alloc::Global;
 use std::sync::atomic::AtomicBool;
 
-/// What a walk gave.
+/// The result of a walk.
 #[derive(Debug, Drop)]
 pub struct Beside {
-    /// What was kept of it, in its order.
+    /// The nodes that were kept, in the walk's order.
     pub kept: Vec<Kept>,
-    /// How it ended.
+    /// How the walk ended.
     pub outcome: Outcome,
 }
 
-/// Walks, and keeps what can be tracked and isn't. The walk ends where the flag is seen set.
+/// Runs the walk, and keeps the nodes that can be tracked and aren't. The walk ends when the flag is seen set.
 ///
 /// # Errors
 /// Those of the walk.

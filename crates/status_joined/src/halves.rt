@@ -1,4 +1,4 @@
-//! Both halves of a status, side by side.
+//! Both halves of a status, run at the same time.
 
 ghost use Rattle.std.specs.Prelude.{Some, is_some, option_map, ⊤};
 ghost use Rattle.status_index.specs.States.{index_of};
@@ -18,31 +18,31 @@ use std::sync::Wait;
 use std::sync::atomic::AtomicBool;
 use std::thread::{Threads, join};
 
-/// What both halves found.
+/// The results of both halves.
 #[derive(Debug, Drop)]
 pub struct Halves<'index, T, U> {
-    /// What of the index differs.
+    /// The status: how the index's entries differ from the worktree.
     pub tracked: Tracked<'index, T, U>,
-    /// What the walk kept, in its order.
+    /// The nodes that were kept of the walk, in its order.
     pub kept: Vec<Kept>,
-    /// How the walk ended. None where there was none.
+    /// How the walk ended. None if there was no walk.
     pub walked: Option<status_walk::Outcome>,
 }
 
-/// Which half failed.
+/// The half that failed.
 #[derive(Debug, Drop)]
 pub enum Failed {
     /// The walk.
     Walk(WalkError),
-    /// The status, while the walk came through.
+    /// The status. The walk succeeded.
     Tracked(Error),
 }
 
-/// Records how the worktree differs from the index, and, in a thread of its own, walks through it. Where there can be no such
-/// thread, the walk comes after.
+/// Runs the status, and the walk in a thread of its own. If no such thread can be started, the walk runs after the
+/// status.
 ///
 /// # Errors
-/// The walk's, or else the status's.
+/// The walk's, or otherwise the status's.
 fn run_both<'index, R: Threads + Wait, B: FindBeside + Send + Drop, D: Decide + Send + Drop>(
     rt: &R,
     alloc: Global,
@@ -83,10 +83,10 @@ where
     }
 }
 
-/// Both halves, or the status alone where there is no walk.
+/// Runs both halves, or the status alone if there is no walk.
 ///
 /// # Errors
-/// The walk's, or else the status's.
+/// The walk's, or otherwise the status's.
 pub fn run_halves<'index, R: Threads + Wait, B: FindBeside + Send + Drop, D: Decide + Send + Drop>(
     rt: &R,
     alloc: Global,

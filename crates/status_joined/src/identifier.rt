@@ -1,4 +1,4 @@
-//! Who gives nodes their ids.
+//! The interface that computes the ids of nodes.
 
 ghost use Rattle.std.specs.Prelude.{◌≡◌, IfOk, IsTrue};
 ghost use Rattle.status_walk.specs.WalkedNodes.{walked_of};
@@ -10,28 +10,28 @@ use status_base::worktree::{ToGit, Worktree};
 use status_walk::{DirEntry, IdError, worktree_id};
 use std::alloc::AllocError;
 
-/// Who gives nodes their ids.
+/// Computes the ids of nodes.
 pub trait Identify {
-    /// The ids of nodes.
+    /// The specification of the ids.
     ghost identifying: { Self → Identifying };
 
-    /// The id of a node's content. `buffer` is written over.
+    /// Returns the id of a node's content. `buffer` is overwritten.
     ///
     /// # Errors
-    /// The node's fault, which may be want of memory.
+    /// The node's fault, which may be that memory ran out.
     fn id_of(&self, entry: &DirEntry, buffer: &mut Vec<u8>) -> Result<ObjectId, IdError>
         ensures { (collapsed : _) → IsTrue (identifying self.now).modelled
             → IsId ((identifying self.now).ids (walked_of entry.now collapsed)) result };
 }
 
-/// Gives the nodes of a worktree the ids of what a filter makes of their content.
+/// Computes the ids of a worktree's nodes, from their content after a filter.
 #[derive(Drop)]
 pub struct Identifier<'w, W, F> {
-    /// How the ids are made.
+    /// The kind of the ids.
     pub kind: HashKind,
     /// The worktree.
     pub worktree: &'w W,
-    /// Converts a file to what git would store.
+    /// Converts a file to the bytes that git would store.
     pub filter: F,
 }
 
@@ -51,10 +51,10 @@ impl<'w, W: Worktree, F: ToGit> Identify for Identifier<'w, W, F> {
     }
 }
 
-/// The identifier of a worktree's nodes, with a filter of its own.
+/// Makes the identifier of a worktree's nodes, with its own clone of the filter.
 ///
 /// # Errors
-/// Want of memory.
+/// If an allocation fails.
 pub(crate) fn identifier_of<'w, W: Worktree, F: ToGit>(
     kind: HashKind,
     worktree: &'w W,

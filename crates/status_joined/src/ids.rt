@@ -1,4 +1,4 @@
-//! Ids of the list's nodes.
+//! The ids of the list's nodes.
 
 ghost use Rattle.std.specs.Prelude.{◌≡◌, OnOk, map};
 ghost use Rattle.status_index.specs.declared.id.HashKind.{HashKind as KindOfIds};
@@ -11,7 +11,7 @@ use status_base::index::HashKind;
 use status_walk::IdError;
 use std::alloc::Global;
 
-/// Gives an item its id, where it is a node: that of its content. `buffer` is written over.
+/// Sets the id of an item that is a node to the id of its content. A record is unchanged. `buffer` is overwritten.
 fn identify_item<N: Identify, T: Drop, U: Drop>(
     ids: &N,
     item: &mut ModificationOrDirwalkEntry<'_, T, U>,
@@ -34,10 +34,10 @@ fn identify_item<N: Identify, T: Drop, U: Drop>(
     }
 }
 
-/// Gives each node of the list the id of its content, in the list's order.
+/// Sets the id of each node of the list to the id of its content, in the list's order.
 ///
 /// # Errors
-/// The fault of the first node that has no id, or want of memory.
+/// The fault of the first node whose id can't be computed, or that memory ran out.
 pub fn identify<N: Identify, T: Drop, U: Drop>(
     alloc: Global,
     kind: HashKind,

@@ -1,4 +1,4 @@
-//! What stands in the list of a status, before it is reported to a collector.
+//! The items of a status's list, before they are reported to a collector.
 
 ghost use Rattle.std.specs.Prelude.{◌≡◌};
 ghost use Rattle.status_joined.specs.Changes.{changed_of, disk_entry_kind, mode_kind};
@@ -13,31 +13,32 @@ use status_rewrites::{ChangeKind, Item};
 use status_walk::{DirEntry, Kind, Status};
 use std::alloc::AllocError;
 
-/// A record of the tracked half, or a node that the walk kept.
+/// A record of the status, or a node that was kept of the walk.
 #[derive(Clone, Debug, Drop)]
 pub enum ModificationOrDirwalkEntry<'index, T, U> {
-    /// A record of the tracked half.
+    /// A record of the status.
     Modification(Record<'index, T, U>),
-    /// A node that the walk kept.
+    /// A node that was kept of the walk.
     DirwalkEntry {
         /// The node.
         entry: DirEntry,
-        /// The id of its content. Null where none was wanted.
+        /// The id of its content. Null if none was computed.
         id: ObjectId,
-        /// The status of the directory that stands for the nodes in it, where one does.
+        /// The status of the collapsed directory that contains the node, if there is one. Such a directory represents
+        /// all nodes in it.
         collapsed_directory_status: Option<Status>,
     },
 }
 
-/// What stands at the path of an entry with this mode.
+/// Returns the type of an entry with this mode.
 fn mode_kind(mode: Mode) -> EntryKind
     ensures { result ≡ mode_kind mode }
 {
     mode.to_tree_entry_mode().unwrap_or(EntryKind::Blob)
 }
 
-/// What stands at the path of a node. What isn't known passes as a file, and what can't be tracked as a directory, which
-/// trackers leave alone.
+/// Returns the type of a node. If it isn't known, the node is taken for a file. An untrackable node is taken for a
+/// directory, which trackers ignore.
 fn disk_entry_kind(disk_kind: Option<Kind>) -> EntryKind
     ensures { result ≡ disk_entry_kind disk_kind }
 {
@@ -48,7 +49,7 @@ fn disk_entry_kind(disk_kind: Option<Kind>) -> EntryKind
     }
 }
 
-/// Whether nothing stands in the worktree where the index has the entry.
+/// Returns whether the entry's status is `Removed`.
 fn is_removal<T, U>(status: &EntryStatus<T, U>) -> bool
     ensures { result ≡ is_removal status.now }
 {
@@ -56,7 +57,7 @@ fn is_removal<T, U>(status: &EntryStatus<T, U>) -> bool
 }
 
 impl<T, U> ModificationOrDirwalkEntry<'_, T, U> {
-    /// Its path, from the worktree's root.
+    /// Returns its path, from the worktree's root.
     pub fn path(&self) -> &[u8]
         ensures { result.now ≡ path_of (item_of self.now) }
     {

@@ -1,4 +1,4 @@
-//! Who keeps what a walk finds.
+//! The delegates of the walk, which keep nodes.
 
 ghost use Rattle.std.specs.Prelude.{◌≡◌, ◌++◌, ◌∷◌, [], OnOk, false, filter, map};
 ghost use Rattle.status_walk.specs.WalkedNodes.{walked_of};
@@ -9,14 +9,14 @@ use status_walk::{Action, Delegate, DirEntry, Kind, Status};
 use std::alloc::AllocError;
 use std::sync::atomic::{AtomicBool, Ordering};
 
-/// Whether a node is kept: it can be tracked, and isn't.
+/// Returns whether a node is kept: it can be tracked, and isn't.
 fn is_kept(entry: &DirEntry) -> bool
     ensures { (collapsed : _) → result ≡ is_kept (walked_of entry.now collapsed) }
 {
     !matches!(entry.disk_kind, Some(Kind::Untrackable)) && !matches!(entry.status, Status::Tracked)
 }
 
-/// Keeps a node, or drops it.
+/// Appends a node to the kept ones, or drops it.
 fn keep(
     kept: &mut Vec<Kept>,
     entry: DirEntry,
@@ -34,7 +34,7 @@ fn keep(
     Ok(())
 }
 
-/// Keeps what can be tracked and isn't, to the end of the walk.
+/// Keeps the nodes that can be tracked and aren't, to the end of the walk.
 #[derive(Drop)]
 pub(crate) struct Keeper {
     pub(crate) kept: Vec<Kept>,
@@ -49,7 +49,7 @@ impl Delegate for Keeper {
     }
 }
 
-/// Keeps what can be tracked and isn't, until a flag is seen set.
+/// Keeps the nodes that can be tracked and aren't, until the flag is seen set.
 #[derive(Drop)]
 pub(crate) struct FlaggedKeeper<'a> {
     pub(crate) kept: Vec<Kept>,

@@ -1,8 +1,9 @@
 //! The joined call: a status with untracked files, renames and copies in one list.
 //!
-//! Read `index_as_worktree_with_renames` first, the call. Then its parts in their order: `halves`, the status
-//! (`tracked`) next to the walk (`walker` and `beside`, with `keeper` and `kept`); `list`, which makes one list of `item`s, in
-//! their `order`; and `ids`, which an `identifier` gives, for a tracker. Callers use the names of the crate `gix_status`.
+//! Read `index_as_worktree_with_renames` first, the call. Then read its parts in their order. `halves` runs the status
+//! (`tracked`) next to the walk (`walker` and `beside`, with `keeper` and `kept`). `list` makes one list of `item`s, in
+//! their `order`. For a tracker, `ids` computes the ids of its nodes by an `identifier`. Callers use the names of the
+//! crate `gix_status`.
 #![tactic(auto)]
 
 mod beside;

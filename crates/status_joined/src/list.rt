@@ -13,7 +13,7 @@ use status_base::index::{HashKind, ObjectId};
 use status_call::index_as_worktree::Record;
 use std::alloc::{AllocError, Global};
 
-/// The records, and behind them the nodes, which have no ids yet.
+/// Returns the records followed by the nodes, which have no ids yet.
 fn unsorted<'index, T: Drop, U: Drop>(
     alloc: Global,
     kind: HashKind,
@@ -37,11 +37,11 @@ fn unsorted<'index, T: Drop, U: Drop>(
     Ok(list)
 }
 
-/// The list of a status: the records in the order of the index, and behind them the kept nodes in the order of the walk.
-/// With `sorting` it is sorted by path, and keeps that order at equal paths.
+/// Returns the list of a status: the records in index order, followed by the kept nodes in the walk's order. With
+/// `sorting` it is sorted by path; items of one path keep that order.
 ///
 /// # Errors
-/// Want of memory.
+/// If an allocation fails.
 pub fn list_of<'index, T: Drop, U: Drop>(
     alloc: Global,
     kind: HashKind,

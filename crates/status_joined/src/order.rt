@@ -1,4 +1,4 @@
-//! The list's order.
+//! The order of the list.
 
 ghost use Rattle.std.specs.Prelude.{OnOk};
 ghost use Rattle.std.specs.Cmp.Lexicographic.{slice_cmp};
@@ -11,7 +11,8 @@ ghost use Rattle.status_joined.specs.Lists.{list_cmp};
 use crate::item::ModificationOrDirwalkEntry;
 use std::alloc::AllocError;
 
-/// Sorts by path. Items of one path keep their order, so that where records stood before nodes they do so at each path.
+/// Sorts by path. Items of one path keep their order. So if all records come before all nodes, they do so at each path
+/// afterwards.
 pub(crate) fn put_in_order<T, U>(
     items: &mut Vec<ModificationOrDirwalkEntry<'_, T, U>>,
 ) -> Result<(), AllocError>

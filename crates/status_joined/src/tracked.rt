@@ -1,4 +1,4 @@
-//! The tracked half: what of the index differs from the worktree.
+//! The tracked half: the status of the index's entries.
 
 ghost use Rattle.std.specs.Prelude.{is_some};
 ghost use Rattle.status_joined.specs.TrackedHalf.{IsRecorded};
@@ -13,16 +13,16 @@ use std::sync::Wait;
 use std::sync::atomic::AtomicBool;
 use std::thread::Threads;
 
-/// What the tracked half found.
+/// The result of the tracked half.
 #[derive(Debug, Drop)]
 pub struct Tracked<'index, T, U> {
-    /// What differs, in the order of the index.
+    /// The records, in index order.
     pub recorder: Recorder<'index, T, U>,
-    /// What that took.
+    /// The counts of the status.
     pub outcome: Outcome,
 }
 
-/// Finds how the worktree differs from the index.
+/// Records how the worktree differs from the index.
 ///
 /// # Errors
 /// Those of `index_as_worktree`.

@@ -1,4 +1,4 @@
-//! Who finds what lies in a worktree beside an index.
+//! The interface that finds the nodes of a worktree that an index doesn't have.
 
 ghost use Rattle.std.specs.Prelude.{◌≡◌, List, IfOk, IfSome, false};
 ghost use Rattle.status_index.specs.Entries.{IndexEntry};
@@ -11,12 +11,12 @@ use status_base::worktree::{Pathspec, Worktree};
 use status_walk::{Delegate, Outcome, Walk, WalkError};
 use std::alloc::AllocError;
 
-/// Who finds what lies in a worktree beside an index.
+/// Finds the nodes of a worktree that an index doesn't have.
 pub trait FindBeside {
-    /// What there is to find beside these entries. None where it isn't modelled.
+    /// The specification: the nodes to find, and the fault, for these entries. None if it isn't modelled.
     ghost walking: { Self → List IndexEntry → Walking };
 
-    /// Hands what it finds to a delegate. Where that says so it ends, and hands out nothing more.
+    /// Passes the nodes that it finds to a delegate. If the delegate returns `Cancel`, it ends, and passes no more.
     ///
     /// # Errors
     /// Those of a walk.
@@ -31,9 +31,9 @@ pub trait FindBeside {
 pub struct Walker<'w, W, K, P> {
     /// The worktree.
     pub worktree: &'w W,
-    /// Goes through it.
+    /// The walk.
     pub walk: K,
-    /// Says which paths are looked at.
+    /// Decides which paths are included.
     pub pathspec: P,
 }
 
@@ -46,10 +46,10 @@ impl<'w, W: Worktree, K: Walk<W>, P: Pathspec> FindBeside for Walker<'w, W, K, P
     }
 }
 
-/// The walker, where one is wanted, with a pathspec of its own.
+/// Returns the walker if one is wanted, with its own clone of the pathspec.
 ///
 /// # Errors
-/// Want of memory.
+/// If an allocation fails.
 pub(crate) fn wanted_walker<'w, W: Worktree, K: Walk<W> + Drop, P: Pathspec>(
     wanted: bool,
     worktree: &'w W,

@@ -1,4 +1,4 @@
--- The entries behind all pairs.
+-- The entries after all pairs.
 use Rattle.std.proofs.Common.{◌≡◌, refl, ap, subst, ◌∙◌, ℕ, ◌≤◌, Bool, List, length, take, take_all, flat_map, sum_by, Option, Some, None, option_map}
 use Rattle.std.specs.List.{enumerate_from}
 use Rattle.std.proofs.lemmas.List.Folds.{flat_map-map}
@@ -19,7 +19,7 @@ same_standing None m = refl
 same_standing (Some x) None = refl
 same_standing (Some x) (Some m) = refl
 
--- what the places hold is the list after the rewrites
+-- The states' entries are the list after the rewrites.
 all_standing : {I : Type 0} (xs : List I) (ms : List (Pair × I)) → flat_map standing_in (places_after xs ms) ≡ after_rewrites xs ms
 all_standing {I} xs ms =
     flat_map-map standing_in (λ (e : ℕ × I). place_at ms e.0 e.1) (enumerate_from 0 xs)

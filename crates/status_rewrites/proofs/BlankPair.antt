@@ -1,4 +1,4 @@
--- A pair that stands for none: what reading a list past its end gives.
+-- A placeholder: the result of reading a list of pairs past its end.
 use Rattle.std.proofs.Common.{false}
 use Rattle.status_rewrites.specs.declared.tracker.Pair.{Pair}
 

@@ -1,4 +1,4 @@
--- A change that stands for none: what reading a list past its end gives.
+-- A placeholder: the result of reading a list of changes past its end.
 use Rattle.std.proofs.Common.{[]}
 use Rattle.status_index.specs.declared.id.ObjectId.TheVariants.{Sha1}
 use Rattle.status_index.specs.declared.mode.EntryKind.TheVariants.{Tree}

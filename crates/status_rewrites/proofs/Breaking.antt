@@ -1,4 +1,4 @@
--- Where there is no room for a pair, it breaks a rule.
+-- A pair for which there is no room breaks a rule.
 use Rattle.std.proofs.Common.{◌≡◌, refl, sym, ap, subst, ◌∙◌, ℕ, ◌+◌, ◌<◌, ◌==◌, ◌&&◌, inl, inr, Bool, true, false, cond, not, List, [], ◌∷◌, ◌++◌, length, take, Some, None, slice_get, get_or, eq-eqb, ne_eqb, arith}
 use Rattle.std.proofs.lemmas.Bool.{false≢true, cases_lt, and_from}
 use Rattle.std.proofs.lemmas.List.{get_or_push, length_push, take_more}
@@ -26,7 +26,7 @@ module _ {I : Type 0} (removed walked : I → Bool) (apart : (x : I) → removed
       subst (λ (q : Pair). (q.source < length xs) × (q.destination < length xs)) (get_or_push ps p p (length ps) refl)
       (lawful.inside (length ps) p (omega (arith, length_push ps p)))
 
-  -- no item is renamed away, and a destination
+  -- No item is both a rename's source and a destination.
   not_both : (i : ℕ) (x : I) → slice_get xs i ≡ Some x → 0 < goes (ps ++ p ∷ []) i → 0 < comes (ps ++ p ∷ []) i → ⊥
   not_both i x h gone reached =
       let part = lawful.each i x h in
@@ -85,7 +85,7 @@ module _ {I : Type 0} (removed walked : I → Bool) (apart : (x : I) → removed
       and_from (not (p.source == p.destination) && passes (may_go removed p.copy) (slice_get places p.source)) (passes (is_free walked) (slice_get places p.destination))
       (and_from (not (p.source == p.destination)) (passes (may_go removed p.copy) (slice_get places p.source)) apart_places begins) ends
 
--- the first pair for which there is no room
+-- The first pair for which there is no room is the first bad one.
 pub bad_pair : {I : Type 0} (removed walked : I → Bool) (apart : (x : I) → removed x ≡ true → walked x ≡ false) (is_made_of : I → I → Type 0) (xs : List I) (ps : List Pair) (n : ℕ) (places : List (Place I)) (p : Pair) → n < length ps → p ≡ get_or ps n p → HasPaired removed walked is_made_of xs (take n ps) places → fits removed walked places p ≡ false → IsBadPair removed walked xs ps n
 bad_pair removed walked apart is_made_of xs ps n places p within is h unfit = record {
   within = within;

@@ -1,4 +1,4 @@
--- A list that is joined bucket by bucket, where a bucket's number never falls as the keys ascend.
+-- A list that is joined bucket by bucket. The number of a bucket never falls as the keys ascend.
 use Rattle.std.proofs.Common.{◌≡◌, refl, sym, ap, subst, ◌∙◌, ℕ, ◌+◌, ◌-◌, ◌<◌, ◌≤◌, ◌==◌, nat_lt, ◌⊎◌, inl, inr, Bool, true, false, cond, List, [], ◌∷◌, ◌++◌, length, slice_index_or, All, arith, eqb-true}
 use Rattle.std.specs.Cmp.{IsTotalOrder}
 use Rattle.std.specs.List.{filter, zip}
@@ -15,14 +15,14 @@ filter-cond : {X : Type 0} (p : X → Bool) (b : Bool) (x : X) (xs : List X) →
 filter-cond p true x xs = refl
 filter-cond p false x xs = refl
 
--- what is in a row and in a bucket, where all of the row is in one bucket
+-- The elements of a row that are in a bucket, if the whole row is in one bucket.
 kept_at : {X : Type 0} (x : X) (rows kept : List X) (own here like : Bool) → (like ≡ true → here ≡ own) → kept ≡ cond own rows [] → cond here (cond like (x ∷ kept) kept) kept ≡ cond own (cond like (x ∷ rows) rows) []
 kept_at x rows kept true here true same e = ap (λ b. cond b (x ∷ kept) kept) (same refl) ∙ ap (λ v. x ∷ v) e
 kept_at x rows kept false here true same e = ap (λ b. cond b (x ∷ kept) kept) (same refl) ∙ e
 kept_at x rows kept own true false same e = e
 kept_at x rows kept own false false same e = e
 
--- what is below a number and what has it is what is below the next
+-- The elements below a number, followed by those with it, are those below the next number.
 next_at : {X : Type 0} (m k : ℕ) (rows : List X) → cond (nat_lt m k) rows [] ++ cond (m == k) rows [] ≡ cond (nat_lt m (k + 1)) rows []
 next_at m k rows = grind (arith, nat_tests, append-nil)
 
@@ -53,7 +53,7 @@ seam lt P Q apart xs ys low high first second k d within (inr next) (inr here) =
     get_or-append_right xs ys (length xs) (k + 1) d refl next ∙ ap (λ j. slice_index_or ys j d) on in
     rw (right, left) (second i d (omega arith) (omega (arith, length-append xs ys)))
 
--- a sorted list behind another, none of whose elements is above one of the second
+-- A sorted list followed by another is sorted, if no element of the first is above one of the second.
 pub IsSortedBy-append : {X : Type 0} (lt : X → X → Bool) (P Q : X → Type 0) → ((x y : X) → P x → Q y → lt y x ≡ false) → (xs ys : List X) → All P xs → All Q ys → IsSortedBy lt xs → IsSortedBy lt ys → IsSortedBy lt (xs ++ ys)
 IsSortedBy-append lt P Q apart xs ys low high first second k d from within =
     seam lt P Q apart xs ys low high first second k d within (cases_lt (k + 1) (length xs)) (cases_lt k (length xs))
@@ -75,19 +75,19 @@ none_later : {X : Type 0} (x : X) (rest : List X) (b : Bool) → cond b (x ∷ r
 none_later x rest true e = cc
 none_later x rest false e = e
 
--- where a test passes nothing of a list, it is false of all
+-- If no element of a list passes a test, the test is false of all.
 none_passes : {X : Type 0} (p : X → Bool) (xs : List X) → filter p xs ≡ [] → All (λ x. p x ≡ false) xs
 none_passes p [] e = All-nil (λ x. p x ≡ false)
 none_passes p (x ∷ xs) e =
     All-cons (λ y. p y ≡ false) x xs (none_first x (filter p xs) (p x) e) (none_passes p xs (none_later x (filter p xs) (p x) e))
 
--- elements have keys with an order R, and keys have numbers that never fall
+-- Elements have keys with an order R, and keys have numbers that never fall.
 module _ {A K : Type 0} (R : K → K → Ordering) (o : IsTotalOrder R) (f : A → K) (n : K → ℕ) (below : (a b : K) → n a < n b → R a b ≡ Less) where
-  -- what of a list has a key
+  -- The elements of a list with a key.
   abbrev pub row_of : K → List A → List A
   row_of k xs = filter (λ z. is_eq (R (f z) k)) xs
 
-  -- what of a list has a number
+  -- The elements of a list with a number.
   abbrev pub numbered : ℕ → List A → List A
   numbered k xs = filter (λ z. n (f z) == k) xs
 
@@ -110,7 +110,7 @@ module _ {A K : Type 0} (R : K → K → Ordering) (o : IsTotalOrder R) (f : A �
   abbrev pub row_first : K → List (A × A) → List (A × A)
   row_first k ms = filter (λ m. is_eq (R (f m.0) k)) ms
 
-  -- what is matched of the numbers below this one, by key
+  -- The matches of the numbers below this one, by key.
   pub record Matched (gone came : List A) (number : ℕ) (ms : List (A × A)) : Type 0 where
     pub by_key : IsSortedBy (λ a b. is_lt (R (f a.0) (f b.0))) ms
     pub low : All (λ m. n (f m.0) < number) ms
@@ -127,7 +127,7 @@ module _ {A K : Type 0} (R : K → K → Ordering) (o : IsTotalOrder R) (f : A �
   after number x y low at =
       ap is_lt (o.antisymm (f y.0) (f x.0)) ∙ ap (λ r. is_lt (ordering_reverse r)) (below (f x.0) (f y.0) (omega arith))
 
-  -- a row is empty but where its key has the number
+  -- A row is empty unless its key has the number.
   row_here : (number : ℕ) (gone came : List A) (ns : List (A × A)) (first second : List A) → ((key : K) → row_of key first ≡ row_of key (numbered number gone)) → ((key : K) → row_of key second ≡ row_of key (numbered number came)) → ((key : K) → row_first key ns ≡ zip (row_of key first) (row_of key second)) → (key : K) → row_first key ns ≡ cond (n key == number) (zip (row_of key gone) (row_of key came)) []
   row_here number gone came ns first second firsts seconds each key =
       each key

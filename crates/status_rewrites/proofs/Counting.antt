@@ -1,4 +1,4 @@
--- What one more pair does at a place.
+-- The change of a position's numbers by one more pair.
 use Rattle.std.proofs.Common.{◌≡◌, refl, sym, ap, ◌∙◌, ℕ, ◌+◌, ◌==◌, Bool, true, false, cond, not, ◌&&◌, List, [], ◌∷◌, ◌++◌, Some, None, eq-eqb, arith}
 use Rattle.std.specs.Option.{option_or}
 use Rattle.std.proofs.lemmas.List.{map_push}
@@ -69,7 +69,7 @@ module _ {I : Type 0} (ms : List (Pair × I)) (p : Pair) (y : I) where
       ∙ ap (λ b. option_or (coming ms p.destination) (cond b (Some (p, y)) None)) (eq-eqb p.destination p.destination refl)
       ∙ ap (λ o. option_or o (Some (p, y))) none
 
--- nothing comes to a place exactly where no pair has it for its destination
+-- No pair comes to a position exactly if the number of pairs with that destination is 0.
 comes_first : (p : Pair) (ps : List Pair) (i : ℕ) (b : Bool) → (p.destination == i) ≡ b → comes (p ∷ ps) i ≡ cond b 1 0 + comes ps i
 comes_first p ps i b e =
     sum_by-cons (λ (q : Pair). cond (q.destination == i) 1 0) p ps ∙ ap (λ t. cond t 1 0 + comes ps i) e

@@ -1,4 +1,4 @@
--- The buckets of what is sorted by kind and id.
+-- The buckets of changes that are sorted by type and id.
 use Rattle.std.proofs.Common.{◌≡◌, ◌≢◌, refl, sym, ap, subst, ◌∙◌, ℕ, ◌+◌, ◌<◌, ◌≤◌, ◌==◌, ◌⊎◌, inl, inr, Bool, true, false, cond, List, [], ◌∷◌, ◌++◌, length, map, slice_index, slice_index_or, set, take, All, arith, eqb-true, get_or-set_other, append-nil}
 use denote.Ref.{Bor}
 use Rattle.std.specs.Global.{Vec}
@@ -50,7 +50,7 @@ less_at x y r le same (inr ge) =
 less_then : (x y : ℕ) (r : Ordering) → x ≤ y → (x ≡ y → r ≡ Less) → ordering_then (nat_cmp x y) r ≡ Less
 less_then x y r le same = less_at x y r le same (cases_lt x y)
 
--- lower first bits, where a byte that isn't there is 0, make a lower list
+-- A list with a lower first number is lower. The first number of an empty list is 0.
 rest_less : (xs ys : List ℕ) → slice_index xs 0 < slice_index ys 0 → slice_cmp nat_cmp xs ys ≡ Less
 rest_less [] [] lt = absurd (omega arith)
 rest_less [] (y ∷ ys) lt = refl
@@ -64,7 +64,7 @@ bits_less (x ∷ xs) [] lt = absurd (omega arith)
 bits_less (x ∷ xs) (y ∷ ys) lt =
     less_then x y (slice_cmp nat_cmp xs ys) (omega arith) (λ e. rest_less xs ys (omega arith))
 
--- what is in a lower bucket has a lower key
+-- A change in a lower bucket has a lower key.
 pub bucket_below : (a b : Changed) → bucket_number a < bucket_number b → key_cmp a b ≡ Less
 unfolding bucket_number key_cmp
 bucket_below a b lt =
@@ -78,13 +78,13 @@ pub none_dealt : (buckets : List (Vec (Bor Seen))) → length buckets ≡ bucket
 none_dealt buckets long none = record { count = long; each = λ i d within. ap (map (λ s. s.now)) (none i d within) }
 
 module _ (xs : List Seen) (x : Seen) where
-  -- a bucket that gets what belongs into it
+  -- The bucket of an element gets it.
   in_own : (number : ℕ) → bucket_number (changed_of x) ≡ number → in_bucket number (xs ++ x ∷ []) ≡ in_bucket number xs ++ x ∷ []
   in_own number e =
       filter-append (λ s. bucket_number (changed_of s) == number) xs (x ∷ [])
       ∙ ap (λ b. in_bucket number xs ++ cond b (x ∷ []) []) (eq-eqb (bucket_number (changed_of x)) number e)
 
-  -- the others stay as they are
+  -- The other buckets are unchanged.
   in_other : (number : ℕ) → bucket_number (changed_of x) ≢ number → in_bucket number (xs ++ x ∷ []) ≡ in_bucket number xs
   in_other number ne =
       filter-append (λ s. bucket_number (changed_of s) == number) xs (x ∷ [])
@@ -112,7 +112,7 @@ module _ (xs : List Seen) (x : Seen) where
         each_at buckets bucket are more i d (omega (arith, length-set buckets (bucket_number (changed_of x)) bucket)) (bucket_number (changed_of x) == i) refl;
   }
 
--- an element is put behind what its bucket names
+-- An element is appended to its bucket.
 pub put_behind : (xs : List Seen) (x : Seen) (buckets : List (Vec (Bor Seen))) (n : ℕ) (old new : Vec (Bor Seen)) (r : Bor Seen) → n ≡ bucket_number (changed_of x) → n < length buckets → r.now ≡ x → old ≡ slice_index_or buckets n old → new.items ≡ old.items ++ r ∷ [] → AreBuckets xs buckets → AreBuckets (xs ++ x ∷ []) (set buckets n new)
 put_behind xs x buckets n old new r number within names read pushed are =
     subst (λ m. AreBuckets (xs ++ x ∷ []) (set buckets m new)) (sym number)
@@ -122,7 +122,7 @@ put_behind xs x buckets n old new r number within names read pushed are =
     ∙ ap (λ v. named_in old ++ v ∷ []) names
     ∙ ap (λ v. named_in v ++ x ∷ []) (get_or_read buckets n old within read d ∙ ap (λ m. slice_index_or buckets m d) number)))
 
--- a side has one more element, or doesn't
+-- A side has one more element, or is unchanged.
 pub side_more : (side : ChangeKind) (track_empty : Bool) (xs : List Seen) (i : ℕ) (d : Seen) → i < length xs → (own : Bool) → may_stand side track_empty (changed_of (slice_index_or xs i d)) ≡ own → side_of side track_empty (take (i + 1) xs) ≡ side_of side track_empty (take i xs) ++ cond own (slice_index_or xs i d ∷ []) []
 side_more side track_empty xs i d within own e =
     filter_more (λ s. may_stand side track_empty (changed_of s)) xs i d within

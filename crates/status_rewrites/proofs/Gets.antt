@@ -1,10 +1,10 @@
--- Lists by what stands at each place.
+-- Lists by their elements at each position.
 use Rattle.std.proofs.Common.{◌≡◌, refl, sym, ap, ◌∙◌, ℕ, zero, suc, ◌+◌, ◌<◌, List, [], ◌∷◌, ◌++◌, length, map, Option, Some, None, option_map, slice_get, slice_set, flat_map, arith}
 use Rattle.std.specs.List.{enumerate_from}
 use Rattle.std.specs.Option.{option_or}
 use Rattle.std.proofs.lemmas.Option.{none-some, same_Some}
 
--- lists with the same at each place are equal
+-- Lists with the same element at each position are equal.
 pub same_gets : {X : Type 0} (xs ys : List X) → ((k : ℕ) → slice_get xs k ≡ slice_get ys k) → xs ≡ ys
 same_gets [] [] h = refl
 same_gets [] (y ∷ ys) h = absurd (none-some y (h zero))
@@ -24,7 +24,7 @@ get_set_other (z ∷ zs) zero (suc j) y apart = refl
 get_set_other (z ∷ zs) (suc i) zero y apart = refl
 get_set_other (z ∷ zs) (suc i) (suc j) y apart = get_set_other zs i j y (λ e. apart (ap suc e))
 
--- what is made of each element and its place
+-- The value that is made of each element and its position.
 pub get_each : {X Y : Type 0} (f : ℕ × X → Y) (n : ℕ) (xs : List X) (i j : ℕ) → n + i ≡ j → slice_get (map f (enumerate_from n xs)) i ≡ option_map (λ (x : X). f (j, x)) (slice_get xs i)
 get_each f n [] i j e = refl
 get_each f n (x ∷ xs) zero j e = let same : n ≡ j = omega (arith, e) in ap (λ k. Some (f (k, x))) same

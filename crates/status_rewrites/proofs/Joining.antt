@@ -18,16 +18,16 @@ equal_from Less h = absurd (false≢true h)
 equal_from Equal h = refl
 equal_from Greater h = absurd (false≢true h)
 
--- elements have keys with an order R, and two of them make a P
+-- Elements have keys with an order R, and two of them make a P.
 module _ {A K P : Type 0} (R : K → K → Ordering) (o : IsTotalOrder R) (f : A → K) (pair : A × A → P) where
-  -- what isn't below b isn't like k, where k is like a, and a is below b
+  -- A key that isn't below b isn't like k, if k is like a, and a is below b.
   apart_at : (a b c k : K) (r : Ordering) → R c k ≡ r → R a b ≡ Less → is_lt (R c b) ≡ false → R a k ≡ Equal → is_eq r ≡ false
   apart_at a b c k Less e lt far like = refl
   apart_at a b c k Equal e lt far like =
       absurd (false≢true (sym far ∙ ap is_lt (o.congr c k b e ∙ sym (o.congr a k b like) ∙ lt)))
   apart_at a b c k Greater e lt far like = refl
 
-  -- what stands from a place on isn't below what stands there
+  -- No element from a position on is below the one at it.
   far_from : (xs : List A) (i : ℕ) (x : A) → IsSortedByKey f R xs → i < length xs → x ≡ slice_index_or xs i x → All (λ z. is_lt (R (f z) (f x)) ≡ false) (drop i xs)
   far_from xs i x up h e k d within =
       let inside : i + k < length xs = omega (arith, length-drop i xs) in
@@ -36,7 +36,7 @@ module _ {A K P : Type 0} (R : K → K → Ordering) (o : IsTotalOrder R) (f : A
       let far = sorted_far (λ a b. is_lt (R (f a) (f b))) (ranks_by o f) xs up i (i + k) d (omega arith) inside in
       ap (λ z. is_lt (R (f z) (f x))) there ∙ ap (λ z. is_lt (R (f (slice_index_or xs (i + k) d)) (f z))) here ∙ far
 
-  -- where a is below what stands at a place, nothing from there on is like k, as a is
+  -- If a is below the element at a position and is like k, no element from there on is like k.
   none_alike : (a : A) (k : K) (xs : List A) (i : ℕ) (x : A) → IsSortedByKey f R xs → i < length xs → x ≡ slice_index_or xs i x → R (f a) (f x) ≡ Less → is_eq (R (f a) k) ≡ true → filter (λ z. is_eq (R (f z) k)) (drop i xs) ≡ []
   none_alike a k xs i x up h e lt like =
       filter_none (λ z. is_eq (R (f z) k)) (drop i xs)
@@ -44,7 +44,7 @@ module _ {A K P : Type 0} (R : K → K → Ordering) (o : IsTotalOrder R) (f : A
       (λ z far. apart_at (f a) (f x) (f z) k (R (f z) k) refl lt far (equal_from (R (f a) k) like))
       (drop i xs) (far_from xs i x up h e))
 
-  -- what of a list has a key
+  -- The elements of a list with a key.
   abbrev pub of_key : K → List A → List A
   of_key k xs = filter (λ z. is_eq (R (f z) k)) xs
 
@@ -65,12 +65,12 @@ module _ {A K P : Type 0} (R : K → K → Ordering) (o : IsTotalOrder R) (f : A
   take_both_at true x y fs gs cs = append_assoc fs ((x, y) ∷ []) (zip gs cs)
   take_both_at false x y fs gs cs = ap (λ v. v ++ zip gs cs) (append-nil fs)
 
-  -- what was joined when g and c elements are done
+  -- The matches and pairs after g and c elements.
   pub record Joined (gone came : List A) (g c : ℕ) (pairs : List P) : Type 0 where
     pub matched : List (A × A)
     pub are : pairs ≡ map pair matched
     pub by_key : IsSortedBy (λ a b. is_lt (R (f a.0) (f b.0))) matched
-    -- nothing that is left is below what is matched
+    -- No element that is left is below a matched one.
     pub low : All (λ m. All (λ z. is_lt (R (f z) (f m.0)) ≡ false) (drop g gone)) matched
     pub rest : (k : K) → of_key_first k matched ++ zip (of_key k (drop g gone)) (of_key k (drop c came)) ≡ zip (of_key k gone) (of_key k came)
 
@@ -131,7 +131,7 @@ module _ {A K P : Type 0} (R : K → K → Ordering) (o : IsTotalOrder R) (f : A
     x_low : All (λ z. is_lt (R (f z) (f x)) ≡ false) (drop (g + 1) gone)
     x_low = next_low gone g x (far_from gone g x gone_up in_gone x_is)
 
-    -- the last pair isn't above the new one
+    -- The last pair isn't above the new one.
     last_low : (d : A × A) → 0 < length j.matched → is_lt (R (f x) (f (slice_index_or j.matched (length j.matched - 1) d).0)) ≡ false
     last_low d some =
         let last = slice_index_or j.matched (length j.matched - 1) d in

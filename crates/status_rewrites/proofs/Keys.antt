@@ -1,4 +1,4 @@
--- The orders of changes, by key and by path.
+-- The orders of changes: by key and by path.
 use Rattle.std.proofs.Common.{sym, Bool, List, Result, OnOk, ◌≡◌, refl, ap, ◌∙◌, not, ◌&&◌}
 use denote.Param.Members.{Mut}
 use denote.Ref.{Bor}
@@ -34,16 +34,16 @@ tie_of Less = refl
 tie_of Equal = refl
 tie_of Greater = refl
 
--- neither is below the other where they are alike
+-- Neither key is below the other exactly if they are alike.
 tied_alike : {K : Type 0} (R : K → K → Ordering) (o : IsTotalOrder R) (k x : K) → (not (is_lt (R k x)) && not (is_lt (R x k))) ≡ is_eq (R x k)
 tied_alike R o k x = ap (λ r. not (is_lt r) && not (is_lt (R x k))) (o.antisymm k x) ∙ tie_of (R x k)
 
--- what a sort ensures of success, where its closure compares keys by a total order
+-- A successful sort whose closure compares keys by a total order sorts by these keys.
 pub sorted_by : {F X K T E : Type 0} (R : K → K → Ordering) (o : IsTotalOrder R) (key : X → K) (g : Mut F (Bor X × (Bor X × Unit {0})) Ordering) (f : F) (xs : List X) (r : Result T E) → OnOk r (IsSortedByClosure g f xs) → ComparesAs g (λ a b. is_lt (R (key a) (key b))) f → OnOk r (IsSortedByKey key R xs)
 sorted_by R o key g f xs r sorted compares =
     on_ok_weaker {P = IsSortedByClosure g f xs} {Q = IsSortedByKey key R xs} r (λ h. h (λ a b. is_lt (R (key a) (key b))) (ranks_by o key) compares) sorted
 
--- and what it ensures of elements that are alike
+-- Such a sort keeps the order of elements that are alike.
 pub kept_by : {F X K : Type 0} (R : K → K → Ordering) (o : IsTotalOrder R) (key : X → K) (g : Mut F (Bor X × (Bor X × Unit {0})) Ordering) (f : F) (xs ys : List X) → IsStableByClosure g f xs ys → ComparesAs g (λ a b. is_lt (R (key a) (key b))) f → (y : X) → filter (λ x. is_eq (R (key x) (key y))) ys ≡ filter (λ x. is_eq (R (key x) (key y))) xs
 kept_by {X = X} R o key g f xs ys stable compares y =
     let below : X → X → Bool = λ a b. is_lt (R (key a) (key b)) in

@@ -38,7 +38,7 @@ kept_step p x true b e implies kept xs h =
 kept_step p x false true e implies kept xs h = absurd (false≢true (implies refl))
 kept_step p x false false e implies kept xs h = h
 
--- a test that implies another keeps the same of what passes that
+-- If one test implies another, it may be applied after the other.
 filter_kept : {X : Type 0} (p q : X → Bool) (xs : List X) → All (λ x. p x ≡ true → q x ≡ true) xs → filter p xs ≡ filter p (filter q xs)
 filter_kept p q [] h = refl
 filter_kept p q (x ∷ xs) h =
@@ -114,13 +114,13 @@ alike_both : (a b k : Changed) → are_alike a k ≡ true → are_alike b k ≡ 
 alike_both a b k of_a of_b =
     ap is_eq (key_total.congr a k b (equal_from (key_cmp a k) of_a) ∙ tied_back key_total b k (equal_from (key_cmp b k) of_b))
 
--- an element of a row: a change of the list, of the row's side and key
+-- An element of a row: a change of the list, with the row's side and key.
 record IsInRow (xs : List Changed) (side : ChangeKind) (key : Changed) (y : Placed) : Type 0 where
   placed : slice_get xs y.0 ≡ Some y.1
   on : is_on y.1.kind side ≡ true
   like : are_alike y.1 key ≡ true
 
--- a pair of elements that stand opposite each other in two rows
+-- A pair of elements at the same position of two rows.
 record IsMatch (xs : List Changed) (m : Placed × Placed) : Type 0 where
   first : slice_get xs m.0.0 ≡ Some m.0.1
   deleted : is_on m.0.1.kind Deletion ≡ true
@@ -138,7 +138,7 @@ in_row xs side track_empty key ordered placed k d within =
       like = filter_passes alike (filter may ordered) k d within;
     }
 
--- what holds of the pairs of each key holds of all
+-- A fact of the pairs of each key is a fact of all pairs.
 all_from_rows : (Q : Placed × Placed → Type 0) (ms : List (Placed × Placed)) → ((key : Changed) → All Q (filter (λ m. are_alike m.0.1 key) ms)) → All Q ms
 all_from_rows Q [] h = All-nil Q
 all_from_rows Q (m ∷ ms) h =
@@ -163,7 +163,7 @@ module _ (track_empty : Bool) (xs : List Changed) (pairs : List Pair) (p : AreId
   matches : All (IsMatch xs) p.matched
   matches = all_from_rows (IsMatch xs) p.matched (λ key. All-same (IsMatch xs) _ _ (p.each key) (matches_of key))
 
-  -- a place is in the list of all changes once
+  -- A position is in the list of all changes at most once.
   once : (i : ℕ) → length (filter (λ (y : Placed). y.0 == i) p.ordered) ≤ 1
   once i =
       let here : Placed → Bool = λ y. y.0 == i in
@@ -177,7 +177,7 @@ module _ (track_empty : Bool) (xs : List Changed) (pairs : List Pair) (p : AreId
       let alike : Placed → Bool = λ y. are_alike y.1 key in
       omega (arith, filter_fewer here alike (filter may p.ordered), filter_fewer here may p.ordered, once i)
 
-  -- a place is one part of one pair at most
+  -- A position is one part of one pair at most.
   part_once : (part : Placed × Placed → Placed) → All (λ m. (slice_get xs (part m).0 ≡ Some (part m).1) × (are_alike m.0.1 (part m).1 ≡ true)) p.matched → (i : ℕ) → ((key : Changed) → length (filter (λ m. (part m).0 == i) (zip (row Deletion track_empty key p.ordered) (row Addition track_empty key p.ordered))) ≤ 1) → (found : Option Changed) → slice_get xs i ≡ found → length (filter (λ m. (part m).0 == i) p.matched) ≤ 1
   part_once part are i few None e =
       let none : filter (λ m. (part m).0 == i) p.matched ≡ [] =
@@ -195,7 +195,7 @@ module _ (track_empty : Bool) (xs : List Changed) (pairs : List Pair) (p : AreId
       ap (are_alike m.0.1) (sym same) ∙ a.1) p.matched are) in
       subst (λ v. length v ≤ 1) (sym (kept ∙ ap (filter here) (p.each x))) (few x)
 
-  -- how often a number stands in the pairs is how often it does in what they are of
+  -- A number is in the pairs as often as in the matches that they are made of.
   counted : (number : Pair → ℕ) (i : ℕ) → count_by (λ q. number q == i) pairs ≡ length (filter (λ m. number (rename m) == i) p.matched)
   counted number i =
       sym (length-filter (λ q. number q == i) pairs)

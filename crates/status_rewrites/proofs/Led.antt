@@ -13,7 +13,7 @@ use Rattle.status_rewrites.specs.Lawful.{AreLawful}
 use Rattle.status_rewrites.specs.Parts.{goes, comes}
 use Rattle.status_rewrites.proofs.Counting.{none_coming}
 
--- what holds of what each element and its place give
+-- If the results for each element and its position have a property, all results have it.
 each_holds : {X Y : Type 0} (P : Y → Type 0) (g : ℕ × X → List Y) (n : ℕ) (xs : List X) → ((i j : ℕ) (x : X) → n + i ≡ j → slice_get xs i ≡ Some x → All P (g (j, x))) → All P (flat_map g (enumerate_from n xs))
 each_holds P g n [] h = All-nil P
 each_holds P g n (x ∷ xs) h =

@@ -34,7 +34,7 @@ enumerate_from_push n (y ∷ xs) x =
     let e : (n + 1) + length xs ≡ n + length (y ∷ xs) = omega arith in
     ap (λ ys. (n, y) ∷ ys) (enumerate_from_push (n + 1) xs x ∙ ap (λ m. enumerate_from (n + 1) xs ++ (m, x) ∷ []) e)
 
--- a list of images is sorted where the list is by them
+-- A list of images is sorted if the list is sorted by its images.
 pub IsSortedBy-map : {X Y : Type 0} (lt : Y → Y → Bool) (f : X → Y) (xs : List X) → IsSortedBy (λ a b. lt (f a) (f b)) xs → IsSortedBy lt (map f xs)
 IsSortedBy-map lt f [] h k d from within = absurd (omega arith)
 IsSortedBy-map lt f (x ∷ xs) h k d from within =
@@ -43,6 +43,6 @@ IsSortedBy-map lt f (x ∷ xs) h k d from within =
     let two : slice_index_or (map f (x ∷ xs)) k d ≡ f (slice_index_or (x ∷ xs) k x) = get_or-map f (x ∷ xs) k x d (omega arith) in
     rw (one, two) (h k x from long)
 
--- what is left from a place on that is in the list
+-- The rest of a list from a position in it.
 pub drop_read : {X : Type 0} (xs : List X) (i : ℕ) (x : X) → i < length xs → x ≡ slice_index_or xs i x → drop i xs ≡ x ∷ drop (i + 1) xs
 drop_read xs i x h e = drop_more xs i x h ∙ ap (λ y. y ∷ drop (i + 1) xs) (sym e)

@@ -41,7 +41,7 @@ module _ {I J : Type 0} (f : I → J) where
   standing_mapped (Some x) (Some m) = refl
 
   module _ (ms : List (Pair × I)) where
-    -- what stands at a place
+    -- The entries at a position.
     abbrev before : ℕ × I → List (Rewritten I)
     before e = standing (staying (goes (pairs_of ms) e.0) e.1) (coming ms e.0)
 
@@ -97,7 +97,7 @@ module _ {I J : Type 0} (f : I → J) where
     brings_mapped : (m : Pair × I) → Brings is_made_of xs m → Brings (λ (u v : J). v ≡ u) (map f xs) (mapped_move m)
     brings_mapped m h = (f h.0, there_mapped xs m.0.source h.0 h.1, of_mapped m.0.copy h.0 m.1 h.2)
 
-    -- what an entry brings is the same item, where what it may bring is mapped to the same
+    -- The mapped entries are the rewrites of the mapped items, if a copy is mapped to the same value as its original.
     pub is_rewritten_mapped : (ps : List Pair) (entries : List (Rewritten I)) → IsRewritten is_made_of xs ps entries → IsRewritten (λ (u v : J). v ≡ u) (map f xs) ps (map (map_rewritten f) entries)
     is_rewritten_mapped ps entries h = record {
       moves = map mapped_move h.moves;
@@ -145,7 +145,7 @@ module _ {I J : Type 0} (f : I → J) where
       each = λ i x here. lawful_from_at x (goes ps i) (comes ps i) (copied ps i) (h.each i (f x) (there_mapped xs i x here));
     }
 
-    -- the first pair that breaks a rule stays so
+    -- The first bad pair is also the first for the mapped items.
     pub bad_pair_mapped : (ps : List Pair) (n : ℕ) → IsBadPair removed walked xs ps n → IsBadPair removed_after walked_after (map f xs) ps n
     bad_pair_mapped ps n h = record {
       within = h.within;
@@ -153,7 +153,7 @@ module _ {I J : Type 0} (f : I → J) where
       broken = λ lawful. h.broken (lawful_from_mapped (take (n + 1) ps) lawful);
     }
 
-    -- rewriting and mapping may go in any order
+    -- Rewriting and mapping may be done in either order.
     pub rewritten_mapped : (is_made_of : I → I → Type 0) → ((x y : I) → is_made_of x y → f y ≡ f x) → (ps : List Pair) (entries : List (Rewritten I)) → AreLawful removed walked xs ps × IsRewritten is_made_of xs ps entries → AreLawful removed_after walked_after (map f xs) ps × IsRewritten (λ (u v : J). v ≡ u) (map f xs) ps (map (map_rewritten f) entries)
     rewritten_mapped is_made_of made ps entries h =
         (lawful_mapped ps h.0, is_rewritten_mapped is_made_of made xs ps entries h.1)

@@ -16,7 +16,7 @@ use Rattle.status_rewrites.proofs.Placing.{place_of, place_at, places_after, sam
 use Rattle.status_rewrites.proofs.Room.{when_free, when_goes}
 use Rattle.status_rewrites.proofs.Weights.{weight, free_weighs, alone_weighs, left_weighs, reached_weighs, set_weighs}
 
--- places behind these pairs, which break no rule
+-- The states after these pairs, which break no rule.
 pub record HasPaired {I : Type 0} (removed walked : I → Bool) (is_made_of : I → I → Type 0) (xs : List I) (ps : List Pair) (places : List (Place I)) : Type 0 where
   pub lawful : AreLawful removed walked xs ps
   pub moves : List (Pair × I)
@@ -25,7 +25,7 @@ pub record HasPaired {I : Type 0} (removed walked : I → Bool) (is_made_of : I 
   pub places_are : places ≡ places_after xs moves
   pub bag : (f : I → ℕ) → sum_by (weight f) places ≡ sum_by f xs
 
--- there is room for one more pair
+-- There is room for one more pair.
 pub record HasRoom {I : Type 0} (removed walked : I → Bool) (xs : List I) (ms : List (Pair × I)) (p : Pair) : Type 0 where
   pub from : I
   pub from_is : slice_get xs p.source ≡ Some from
@@ -103,7 +103,7 @@ module _ {I : Type 0} (removed walked : I → Bool) (x : I) where
       subst (λ n. IsLawfulAt removed walked x n c k) (sym eg)
       (subst (λ n. IsLawfulAt removed walked x h n k) (sym ec) (subst (λ n. IsLawfulAt removed walked x h d n) (sym ek) w))
 
--- what leaves the source comes to the destination
+-- The amount that leaves the source comes to the destination.
 balanced : (s0 s1 s2 a b c d x z l r : ℕ) → s1 + a ≡ s0 + b → s2 + c ≡ s1 + d → a ≡ x → b ≡ l → c ≡ z → d ≡ r + z → l + r ≡ x → s2 ≡ s0
 balanced s0 s1 s2 a b c d x z l r first second ea eb ec ed moved = omega (arith, first, second, ea, eb, ec, ed, moved)
 
@@ -195,7 +195,7 @@ module _ {I : Type 0} (removed walked : I → Bool) (xs : List I) (ms : List (Pa
         (next_copied i ∙ copied_elsewhere (pairs_of ms) p i elsewhere)
         (coming_elsewhere ms p y i (ne_eqb p.destination i (λ e. m (sym e)))))
 
-    -- the places behind the pair
+    -- The states after the pair: `left` at its source alone, `done` at its destination too.
     abbrev left : List (Place I)
     left = slice_set (places_after xs ms) p.source (left_by p.copy (place_at ms p.source room.from))
 
@@ -289,7 +289,7 @@ paired_more removed walked is_made_of xs ps places new p h fit w =
     (room_when_fits removed walked xs h.moves p fit_after)
     (subst (λ at. IsPaired is_made_of at p new) h.places_are w))
 
--- one more pair of the row
+-- One more pair of the list.
 pub paired_step : {I : Type 0} (removed walked : I → Bool) (is_made_of : I → I → Type 0) (xs : List I) (ps : List Pair) (n : ℕ) (places new : List (Place I)) (p : Pair) → n < length ps → p ≡ get_or ps n p → HasPaired removed walked is_made_of xs (take n ps) places → fits removed walked places p ≡ true → IsPaired is_made_of places p new → HasPaired removed walked is_made_of xs (take (n + 1) ps) new
 paired_step removed walked is_made_of xs ps n places new p within is h fit w =
     let next : take (n + 1) ps ≡ take n ps ++ p ∷ [] = take_more ps n p within ∙ ap (λ q. take n ps ++ q ∷ []) (sym is) in
@@ -309,7 +309,7 @@ paired_none removed walked is_made_of xs places e = record {
   bag = λ f. ap (sum_by (weight f)) e ∙ free_weighs f xs;
 }
 
--- a pair for which there is room names two places
+-- The positions of a pair for which there is room are in range.
 pub fits_within : {I : Type 0} (removed walked : I → Bool) (places : List (Place I)) (p : Pair) → fits removed walked places p ≡ true → (p.source < length places) × (p.destination < length places)
 fits_within removed walked places p h =
     let outer = and_parts (not (p.source == p.destination) && passes (may_go removed p.copy) (slice_get places p.source)) (passes (is_free walked) (slice_get places p.destination)) h in

@@ -1,4 +1,4 @@
--- The places of items, by the pairs that were gone through.
+-- The states of the list's positions, by the pairs that were applied.
 use Rattle.std.proofs.Common.{◌≡◌, refl, sym, ap, ◌∙◌, ℕ, zero, suc, ◌+◌, Bool, true, false, List, [], ◌∷◌, map, Option, Some, None, option_map, slice_get, arith}
 use Rattle.std.specs.List.{enumerate_from}
 use Rattle.std.proofs.lemmas.Option.{none-some, same_Some}
@@ -17,7 +17,7 @@ abbrev pub is_copying : {I : Type 0} → Option (Pair × I) → Bool
 is_copying None = false
 is_copying (Some m) = m.0.copy
 
--- the place of an item, by how many renames take it out, how many copies are made of it, and what comes
+-- The state of an item's position, by the numbers of its renames and copies, and by the pair that comes to it.
 abbrev pub place_of : {I : Type 0} → ℕ → ℕ → Option (Pair × I) → I → Place I
 place_of {I} gone made m x =
     record { item = staying gone x; arrived = option_map (λ (n : Pair × I). n.1) m; as_copy = is_copying m; kept = is_any made }
@@ -43,7 +43,7 @@ module _ {I : Type 0} (xs : List I) (ms : List (Pair × I)) where
   item_there_at i a None e h = absurd (none-some a h)
   item_there_at i a (Some x) e h = (x, e, same_Some (place_at ms i x) a h)
 
-  -- where there is a place there is an item
+  -- A position with a state has an item.
   pub item_there : (i : ℕ) (a : Place I) → slice_get (places_after xs ms) i ≡ Some a → (x : I) × (slice_get xs i ≡ Some x) × (place_at ms i x ≡ a)
   item_there i a h = item_there_at i a (slice_get xs i) refl (sym (get_place i) ∙ h)
 
@@ -51,6 +51,6 @@ free_from : {I : Type 0} (n : ℕ) (xs : List I) → map free xs ≡ map (λ (e 
 free_from n [] = refl
 free_from n (x ∷ xs) = ap (λ ys. free x ∷ ys) (free_from (n + 1) xs)
 
--- before any pair
+-- The states before any pair.
 pub places_free : {I : Type 0} (xs : List I) → map free xs ≡ places_after xs []
 places_free xs = free_from 0 xs

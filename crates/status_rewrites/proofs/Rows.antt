@@ -1,4 +1,4 @@
--- From what was read of changes to the changes themselves.
+-- From the changes as they are read to the changes themselves.
 use Rattle.std.proofs.Common.{◌≡◌, sym, ap, subst, ◌∙◌, ℕ, ◌+◌, ◌<◌, Bool, List, [], ◌∷◌, ◌++◌, length, map, take, slice_index_or, arith}
 use Rattle.std.specs.List.{filter, zip, enumerate_from}
 use Rattle.std.specs.List.Sorted.{IsPermutation, IsSorted}
@@ -16,7 +16,7 @@ use Rattle.status_rewrites.specs.Joins.{alike_in, side_of, HasRows, IsJoin}
 use Rattle.status_rewrites.specs.SeenItems.{standing}
 use Rattle.status_rewrites.proofs.Lists.{filter-map, zip-map, enumerate_from_push, IsSortedBy-map}
 
--- one more change is read
+-- One more change is read.
 pub seen_more : {X : Type 0} (changed : X → Changed) (items : List X) (i : ℕ) (x : X) (seen : List Seen) (s : Seen) → i < length items → x ≡ slice_index_or items i x → standing s ≡ (i, changed x) → map standing seen ≡ enumerate_from 0 (map changed (take i items)) → map standing (seen ++ s ∷ []) ≡ enumerate_from 0 (map changed (take (i + 1) items))
 seen_more changed items i x seen s h read is before =
     let so_far = map changed (take i items) in
@@ -30,7 +30,7 @@ seen_more changed items i x seen s h read is before =
     ∙ sym (enumerate_from_push 0 so_far (changed x))
     ∙ ap (enumerate_from 0) (sym more)
 
--- what a side has of a key is its row
+-- The changes of a side with a key are its row.
 row_of : (side : ChangeKind) (track_empty : Bool) (key : Changed) (ordered kept : List Seen) → HasRows (side_of side track_empty ordered) kept → map standing (alike_in key kept) ≡ row side track_empty key (map standing ordered)
 row_of side track_empty key ordered kept rows =
     let may : Placed → Bool = λ x. may_stand side track_empty x.1 in
@@ -39,7 +39,7 @@ row_of side track_empty key ordered kept rows =
     ∙ sym (filter-map alike standing (side_of side track_empty ordered))
     ∙ ap (filter alike) (sym (filter-map may standing ordered))
 
--- a join of the two sides of what was read gives the identity pairs
+-- The pairs of a join of both sides are the identity pairs.
 pub pairs_from_join : (track_empty : Bool) (xs : List Changed) (seen ordered gone came : List Seen) (pairs : List Pair) → map standing seen ≡ enumerate_from 0 xs → IsPermutation seen ordered → IsSorted (λ a b. path_cmp (standing a) (standing b)) ordered → HasRows (side_of Deletion track_empty ordered) gone → HasRows (side_of Addition track_empty ordered) came → IsJoin gone came pairs → AreIdentityPairs track_empty xs pairs
 pairs_from_join track_empty xs seen ordered gone came pairs read bag up of_gone of_came j =
     let both : Seen × Seen → Placed × Placed = λ m. (standing m.0, standing m.1) in

@@ -1,4 +1,4 @@
--- Sums over the items that places hold.
+-- Sums over the items at the list's positions.
 use Rattle.std.proofs.Common.{◌≡◌, refl, sym, ap, ◌∙◌, ℕ, ◌+◌, Bool, true, false, cond, List, [], ◌∷◌, map, flat_map, sum_by, Option, Some, None, slice_get, slice_set, arith}
 use Rattle.std.proofs.lemmas.List.Concat.{flat_map-append}
 use Rattle.std.proofs.lemmas.List.Sums.{sum_by-append, sum_by-cons, sum_by-set}
@@ -10,7 +10,7 @@ use Rattle.status_rewrites.specs.AfterRewrites.{parts}
 use Rattle.status_rewrites.specs.Places.{free, left_by, reached_by, standing_in}
 use Rattle.status_rewrites.proofs.Placing.{place_of}
 
--- what the items weigh that stand in a place
+-- The sum over the items of a position's entries.
 abbrev pub weight : {I : Type 0} → (I → ℕ) → Place I → ℕ
 weight f a = sum_by f (flat_map parts (standing_in a))
 
@@ -60,7 +60,7 @@ module _ {I : Type 0} (f : I → ℕ) where
       ∙ ap (λ t. weight f (left_by c (place_of 0 k t x))) em
       ∙ left_weighs_at c k x
 
--- one place is another now
+-- The state of one position is replaced.
 pub set_weighs : {A : Type 0} (w : A → ℕ) (xs : List A) (i : ℕ) (a b : A) → slice_get xs i ≡ Some a → sum_by w (slice_set xs i b) + w a ≡ sum_by w xs + w b
 set_weighs w xs i a b h =
     ap (λ z. sum_by w (slice_set xs i b) + w z) (sym (get_or_from_slice_get xs i a a h)) ∙ sum_by-set w xs i b a (slice_get_within xs i a h)

@@ -10,55 +10,55 @@ use Rattle.status_rewrites.specs.declared.rewritten.Rewritten.TheVariants.{Alone
 use Rattle.status_rewrites.specs.Lawful.{AreLawful, IsBadPair}
 use Rattle.status_rewrites.specs.Parts.{goes}
 
--- what a pair brings, of its source x: a copy a copy of it, a rename x itself
+-- The item that a pair brings to its destination, for its source x: a copy brings a copy of x, a rename x itself.
 abbrev pub IsOf : {I : Type 0} → (I → I → Type 0) → Bool → I → I → Type 0
 IsOf is_made_of true x y = is_made_of x y
 IsOf is_made_of false x y = y ≡ x
 
--- a pair, and what it brings of its source
+-- A pair with the item that it brings, by its source in the list.
 abbrev pub Brings : {I : Type 0} → (I → I → Type 0) → List I → Pair × I → Type 0
 Brings {I} is_made_of xs m = (x : I) × (slice_get xs m.0.source ≡ Some x) × IsOf is_made_of m.0.copy x m.1
 
 abbrev pub pairs_of : {I : Type 0} → List (Pair × I) → List Pair
 pairs_of {I} ms = map (λ (m : Pair × I). m.0) ms
 
--- an item that so many renames take out: nothing, unless none does
+-- The item that is left at a position, by the number of renames that take it out.
 abbrev pub staying : {I : Type 0} → ℕ → I → Option I
 staying zero x = Some x
 staying (suc n) x = None
 
--- the pair that comes to a place, with what it brings
+-- The pair whose destination is a position, with the item that it brings.
 abbrev pub coming : {I : Type 0} → List (Pair × I) → ℕ → Option (Pair × I)
 coming {I} ms i = find (λ (m : Pair × I). m.0.destination == i) ms
 
--- what stands in a place, by what stays there and what comes: nothing, the item alone, or a rewrite
+-- The entries at a position, by the item that is left and the pair that comes: none, the item alone, or a rewrite.
 abbrev pub standing : {I : Type 0} → Option I → Option (Pair × I) → List (Rewritten I)
 standing None m = []
 standing (Some x) None = Alone x ∷ []
 standing (Some x) (Some m) = Rewrite m.1 x m.0.copy ∷ []
 
--- the list after the rewrites, place by place
+-- The list after the rewrites, position by position.
 abbrev pub after_rewrites : {I : Type 0} → List I → List (Pair × I) → List (Rewritten I)
 after_rewrites {I} xs ms =
     flat_map (λ (e : ℕ × I). standing (staying (goes (pairs_of ms) e.0) e.1) (coming ms e.0)) (enumerate_from 0 xs)
 
--- which of the list's items an entry holds: a rename both, a copy its destination alone
+-- The list's items that an entry has: both for a rename, for a copy only its destination.
 abbrev pub parts : {I : Type 0} → Rewritten I → List I
 parts (Alone x) = x ∷ []
 parts (Rewrite x y true) = y ∷ []
 parts (Rewrite x y false) = x ∷ y ∷ []
 
--- the list after the rewrites of these pairs, in which each item stands once, alone or within a rewrite
+-- The list after the rewrites of these pairs. Each item is in it once, alone or in a rewrite.
 pub record IsRewritten {I : Type 0} (is_made_of : I → I → Type 0) (xs : List I) (ps : List Pair) (entries : List (Rewritten I)) : Type 0 where
-  -- the pairs, each with what it brings
+  -- The pairs, each with the item that it brings.
   pub moves : List (Pair × I)
   pub moves_are : pairs_of moves ≡ ps
   pub bring : All (Brings is_made_of xs) moves
   pub entries_are : entries ≡ after_rewrites xs moves
-  -- of whatever is summed up
+  -- Any sum over the items is unchanged: no item is lost or doubled.
   pub bag : (f : I → ℕ) → sum_by f (flat_map parts entries) ≡ sum_by f xs
 
--- the list with its rewrites where the pairs break no rule, else the first pair that breaks one; or want of memory
+-- Lawful pairs come to their destinations, no item is lost or doubled; otherwise the first bad pair. Or memory ran out.
 abbrev pub IsAnswer : {I : Type 0} → (I → Bool) → (I → Bool) → (I → I → Type 0) → List I → List Pair → Result (Vec (Rewritten I)) Refused → Type 0
 IsAnswer removed walked is_made_of xs ps (Ok entries) = AreLawful removed walked xs ps × IsRewritten is_made_of xs ps entries.items
 IsAnswer removed walked is_made_of xs ps (Err (BadPair at)) = IsBadPair removed walked xs ps at

@@ -13,32 +13,32 @@ use Rattle.status_rewrites.specs.IdentityPairs.{mode_number}
 use Rattle.status_rewrites.specs.Joins.{HasRows, IsJoin, side_of}
 use Rattle.status_rewrites.specs.SeenItems.{changed_of}
 
--- three kinds of node, two of id, and what twelve bits say
+-- Three types of node, two kinds of id, and the values of twelve bits.
 unfoldable pub bucket_count : ℕ
 bucket_count = 3 * 2 * 4096
 
--- the first twelve bits of bytes; at 4095 for numbers that are no bytes
+-- The first twelve bits of bytes. It is at most 4095 also for numbers that are no bytes.
 abbrev pub leading_bits : List ℕ → ℕ
 leading_bits bytes = min (slice_index bytes 0 * 16 + min (slice_index bytes 1) 255 / 16) 4095
 
--- the bucket of a change, by kind of node, kind of id and the id's first bits
+-- The bucket of a change, by type of node, kind of id and the id's first bits.
 unfoldable pub bucket_number : Changed → ℕ
 bucket_number x = (mode_number x.mode * 2 + kind_rank (id_kind x.id)) * 4096 + leading_bits (id_bytes x.id)
 
--- what of a list belongs into a bucket
+-- The changes of a list that belong to a bucket.
 abbrev pub in_bucket : ℕ → List Seen → List Seen
 in_bucket number xs = filter (λ s. bucket_number (changed_of s) == number) xs
 
--- what a bucket names
+-- The changes that a bucket refers to.
 abbrev pub named_in : Vec (Bor Seen) → List Seen
 named_in bucket = map (λ s. s.now) bucket.items
 
--- the buckets of a list, each in the list's order
+-- The buckets of a list, each in the list's order.
 pub record AreBuckets (xs : List Seen) (buckets : List (Vec (Bor Seen))) : Type 0 where
   pub count : length buckets ≡ bucket_count
   pub each : (i : ℕ) (d : Vec (Bor Seen)) → i < length buckets → named_in (slice_index_or buckets i d) ≡ in_bucket i xs
 
--- pairs with those of two buckets behind them
+-- Pairs followed by those of two buckets.
 pub record IsAppendedJoin (gone came : List Seen) (old new : List Pair) : Type 0 where
   pub first : List Seen
   pub second : List Seen
@@ -48,7 +48,7 @@ pub record IsAppendedJoin (gone came : List Seen) (old new : List Pair) : Type 0
   pub second_rows : HasRows came second
   pub join : IsJoin first second more
 
--- the pairs of a list's two sides
+-- The pairs of a list's two sides.
 pub record ArePairsOf (track_empty : Bool) (xs : List Seen) (pairs : List Pair) : Type 0 where
   pub gone : List Seen
   pub came : List Seen

@@ -1,4 +1,4 @@
--- Two sorted lists, joined by kind and id.
+-- Two sorted lists, joined by type and id.
 use Rattle.std.specs.Prelude.{◌≡◌, Bool, false, List, map}
 use Rattle.std.specs.List.{filter, zip}
 use Rattle.std.specs.List.Sorted.{IsSortedBy, IsSortedByKey}
@@ -10,15 +10,15 @@ use Rattle.status_rewrites.specs.TrackedChanges.{Changed}
 use Rattle.status_rewrites.specs.IdentityPairs.{key_cmp, are_alike, may_stand}
 use Rattle.status_rewrites.specs.SeenItems.{changed_of}
 
--- what of a list has the kind and id of `key`
+-- The changes of a list with the type and id of `key`.
 abbrev pub alike_in : Changed → List Seen → List Seen
 alike_in key xs = filter (λ s. are_alike (changed_of s) key) xs
 
--- what of a list is of one side and may be in a pair
+-- The changes of a list that are of one side and may be in a pair.
 abbrev pub side_of : ChangeKind → Bool → List Seen → List Seen
 side_of side track_empty xs = filter (λ s. may_stand side track_empty (changed_of s)) xs
 
--- two lists that have the same for each kind and id, in the same order
+-- Two lists with the same changes of each type and id, in the same order.
 abbrev pub HasRows : List Seen → List Seen → Type 0
 HasRows xs ys = (key : Changed) → alike_in key ys ≡ alike_in key xs
 
@@ -28,7 +28,7 @@ AreByKey xs = IsSortedByKey changed_of key_cmp xs
 abbrev pub rename_of : Seen × Seen → Pair
 rename_of m = record { source = m.0.place; destination = m.1.place; copy = false }
 
--- for each kind and id, the i-th of one list goes with the i-th of the other
+-- For each type and id, the i-th of one list pairs with the i-th of the other.
 pub record IsJoin (gone came : List Seen) (pairs : List Pair) : Type 0 where
   pub matched : List (Seen × Seen)
   pub are : pairs ≡ map rename_of matched

@@ -4,7 +4,7 @@ use Rattle.std.specs.List.{All}
 use Rattle.status_rewrites.specs.declared.tracker.Pair.{Pair}
 use Rattle.status_rewrites.specs.Parts.{goes, copied, comes}
 
--- an item plays one part at most: one rename's source, one pair's destination, or the source of copies
+-- An item has one part at most: one rename's source, one pair's destination, or the source of copies.
 pub record IsLawfulAt {I : Type 0} (removed walked : I → Bool) (x : I) (gone reached made : ℕ) : Type 0 where
   pub one_goes : gone ≤ 1
   pub one_comes : reached ≤ 1
@@ -12,12 +12,13 @@ pub record IsLawfulAt {I : Type 0} (removed walked : I → Bool) (x : I) (gone r
   pub comes_walked : 0 < reached → walked x ≡ true
   pub copied_alone : 0 < made → (gone ≡ 0) × (reached ≡ 0)
 
--- the pairs name places of the list, and each item plays one part at most
+-- An item is at most one rename's source, one destination, or a source of copies, if it may be. The pairs' positions are in
+-- range.
 pub record AreLawful {I : Type 0} (removed walked : I → Bool) (xs : List I) (ps : List Pair) : Type 0 where
   pub inside : All (λ p. (p.source < length xs) × (p.destination < length xs)) ps
   pub each : (i : ℕ) (x : I) → slice_get xs i ≡ Some x → IsLawfulAt removed walked x (goes ps i) (comes ps i) (copied ps i)
 
--- the first n pairs break no rule, and with the next they do
+-- The first n pairs break no rule, and with the next they do.
 pub record IsBadPair {I : Type 0} (removed walked : I → Bool) (xs : List I) (ps : List Pair) (n : ℕ) : Type 0 where
   pub within : n < length ps
   pub before : AreLawful removed walked xs (take n ps)

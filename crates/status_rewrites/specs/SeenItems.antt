@@ -1,12 +1,12 @@
--- What is read once of a change.
+-- The changes as they are read, once each.
 use Rattle.status_rewrites.specs.declared.seen.Seen.{Seen}
 use Rattle.status_rewrites.specs.TrackedChanges.{Changed}
 use Rattle.status_rewrites.specs.IdentityPairs.{Placed}
 
--- the change that was read
+-- The change.
 abbrev pub changed_of : Seen → Changed
 changed_of s = record { id = s.id; kind = s.kind; mode = s.mode; path = s.path.now }
 
--- the change with its place
+-- The change with its position.
 abbrev pub standing : Seen → Placed
 standing s = (s.place, changed_of s)

@@ -1,10 +1,10 @@
--- What a tracker sees of a change.
+-- The changes that a tracker gets.
 use Rattle.std.specs.Prelude.{ℕ, List}
 use Rattle.status_index.specs.declared.id.ObjectId.{ObjectId}
 use Rattle.status_index.specs.declared.mode.EntryKind.{EntryKind}
 use Rattle.status_rewrites.specs.declared.change.ChangeKind.{ChangeKind}
 
--- what a tracker sees of a change
+-- A change that a tracker gets.
 pub record Changed : Type 0 where
   pub id : ObjectId
   pub kind : ChangeKind

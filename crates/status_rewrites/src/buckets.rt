@@ -1,4 +1,4 @@
-//! The pairs of a long list, bucket by bucket: only a bucket at a time has to fit the processor's caches.
+//! The pairs of a long list, bucket by bucket, so that only one bucket at a time has to fit the processor's caches.
 
 ghost use Rattle.std.specs.Prelude.{◌≡◌, ◌<◌, [], All, IfOk, OnOk, length, map};
 ghost use Rattle.status_index.specs.BlobId.{id_bytes};
@@ -15,7 +15,7 @@ use crate::tracker::Pair;
 use status_index::{HashKind, ObjectId};
 use std::alloc::{AllocError, Global};
 
-/// One for each kind of node, each kind of id and each value of an id's first twelve bits.
+/// The number of buckets: one for each type of node, kind of id and value of an id's first twelve bits.
 const BUCKETS: usize = 3 * 2 * 4096;
 
 fn kind_rank(kind: HashKind) -> usize
@@ -27,7 +27,7 @@ fn kind_rank(kind: HashKind) -> usize
     }
 }
 
-/// The first twelve bits of an id.
+/// Returns the first twelve bits of an id.
 fn leading_bits(id: &ObjectId) -> usize
     ensures { result ≡ leading_bits (id_bytes id.now) }
 {
@@ -38,7 +38,7 @@ fn leading_bits(id: &ObjectId) -> usize
     usize::from(first) * 16 + usize::from(second / 16)
 }
 
-/// The bucket of a change. It never falls as kind and id ascend.
+/// Returns the number of a change's bucket. It never falls as type and id ascend.
 #[tactic(auto, unfolding(crate::specs::Buckets::bucket_number))]
 fn bucket_number(seen: &Seen<'_>) -> usize
     ensures value { result ≡ bucket_number (changed_of seen.now) }
@@ -59,7 +59,7 @@ fn empty_lists<T: Drop>(alloc: Global, count: usize) -> Result<Vec<Vec<T>>, Allo
     Ok(lists)
 }
 
-/// Deals what of one side may be in a pair out to the buckets, in the list's order.
+/// Deals the changes of one side that may be in a pair out to the buckets, in the list's order.
 fn deal<'a>(
     alloc: Global,
     seen: &'a [Seen<'a>],
@@ -77,7 +77,7 @@ fn deal<'a>(
     Ok(buckets)
 }
 
-/// What a bucket names, side by side in memory.
+/// Returns the changes that a bucket refers to, next to each other in memory.
 fn copied<'a>(alloc: Global, bucket: &[&'a Seen<'a>]) -> Result<Vec<Seen<'a>>, AllocError>
     ensures { IfOk result (λ part. part.items ≡ map (λ s. s.now) bucket.now) }
 {
@@ -88,7 +88,7 @@ fn copied<'a>(alloc: Global, bucket: &[&'a Seen<'a>]) -> Result<Vec<Seen<'a>>, A
     Ok(part)
 }
 
-/// What a bucket names, by kind and id, and within each in the list's order.
+/// Returns the changes that a bucket refers to, by type and id, and for equal ones in the list's order.
 fn in_order<'a>(alloc: Global, bucket: &[&'a Seen<'a>]) -> Result<Vec<Seen<'a>>, AllocError>
     ensures rows { IfOk result (λ part. HasRows (map (λ s. s.now) bucket.now) part.items) }
     ensures ascends { IfOk result (λ part. AreByKey part.items) }
@@ -98,7 +98,7 @@ fn in_order<'a>(alloc: Global, bucket: &[&'a Seen<'a>]) -> Result<Vec<Seen<'a>>,
     Ok(part)
 }
 
-/// Puts the pairs of two buckets behind the others.
+/// Appends the pairs of two buckets.
 fn append_pairs<'a>(
     alloc: Global,
     pairs: &mut Vec<Pair>,
@@ -113,7 +113,7 @@ fn append_pairs<'a>(
     pairs.append(&mut more)
 }
 
-/// The pairs of both sides, bucket by bucket.
+/// Returns the pairs of both sides, bucket by bucket.
 pub(crate) fn join_buckets<'a>(
     alloc: Global,
     seen: &'a [Seen<'a>],

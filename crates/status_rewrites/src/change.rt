@@ -1,4 +1,4 @@
-//! What a tracker sees of a change.
+//! The changes that a tracker gets.
 
 ghost use Rattle.std.specs.Prelude.{◌≡◌};
 ghost use Rattle.bstr.specs.BStr.{bstr_bytes};
@@ -7,7 +7,7 @@ ghost use Rattle.status_rewrites.specs.TrackedChanges.{Changed};
 use bstr::BStr;
 use status_index::{EntryKind, ObjectId};
 
-/// What became of a path.
+/// What happened to a path.
 #[derive(Clone, Copy, Debug, PartialEq, Eq, PartialOrd, Ord, Hash)]
 pub enum ChangeKind {
     /// The index has it, and the worktree doesn't.
@@ -20,27 +20,27 @@ pub enum ChangeKind {
 
 /// A change that may be a part of a rename or a copy.
 pub trait Change {
-    /// What the methods answer.
+    /// The specification: the results of the methods.
     ghost changed: { Self → Changed };
 
-    /// The id of the content: of the index's for a deletion, of the worktree's for an addition. Null where it isn't
+    /// Returns the id of the content: the index's for a deletion, the worktree's for an addition. Null if it isn't
     /// known.
     fn id(&self) -> ObjectId
         ensures { result ≡ (changed self.now).id };
 
-    /// What became of the path.
+    /// Returns what happened to the path.
     fn kind(&self) -> ChangeKind
         ensures { result ≡ (changed self.now).kind };
 
-    /// What stands or stood at the path.
+    /// Returns the type of the node that is or was at the path.
     fn entry_mode(&self) -> EntryKind
         ensures { result ≡ (changed self.now).mode };
 
-    /// Both the id and what stands or stood at the path.
+    /// Returns both the id and the type.
     fn id_and_entry_mode(&self) -> (ObjectId, EntryKind)
         ensures { result ≡ ((changed self.now).id, (changed self.now).mode) };
 
-    /// The path, from the worktree's root.
+    /// Returns the path, from the worktree's root.
     fn location(&self) -> BStr<'_>
         ensures { bstr_bytes result ≡ (changed self.now).path };
 }

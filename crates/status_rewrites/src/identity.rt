@@ -12,25 +12,28 @@ use crate::seen::{Seen, one_side, put_in_path_order, see_all};
 use crate::tracker::{Pair, Rewrites, Tracker, TrackerError};
 use std::alloc::{AllocError, Global};
 
-/// Finds renames by equal content: among the files of one id, and among the links of one, the first deletion by path
-/// goes with the first addition by path, the second with the second, and so on. Equal paths go by their places in the
-/// list. An id that is null is in no pair. It finds no copies, never refuses, and takes time O(n log n) for n changes.
+/// Finds renames by equal content, separately for files and for links. Of those with one id, the first deletion by path
+/// pairs with the first addition by path, the second with the second, and so on. Equal paths are ordered by their
+/// positions in the list.
+///
+/// A null id is in no pair, and the empty blob's only with `track_empty`. It finds no copies, never refuses, and takes
+/// time O(n log n) for n changes.
 #[derive(Clone, Copy)]
 pub struct IdentityTracker {
     alloc: Global,
 }
 
 impl IdentityTracker {
-    /// A tracker that takes its memory from `alloc`.
+    /// Returns a tracker that takes its memory from `alloc`.
     pub fn new(alloc: Global) -> IdentityTracker {
         IdentityTracker { alloc }
     }
 }
 
-/// From so many changes on, buckets are faster.
+/// The number of changes from which on buckets are faster.
 const LONG: usize = 32_768;
 
-/// The pairs of what was read.
+/// Returns the pairs of changes that are in path order.
 fn side_pairs<'a>(
     alloc: Global,
     seen: &'a [Seen<'a>],
@@ -46,7 +49,7 @@ fn side_pairs<'a>(
     join(alloc, &gone, &came)
 }
 
-/// The renames among changes by equal content.
+/// Returns the renames among changes, by equal content.
 fn identity_pairs<C: Change>(
     alloc: Global,
     items: &[C],

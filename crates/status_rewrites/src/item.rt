@@ -1,4 +1,4 @@
-//! What may stand in a list that is rewritten.
+//! The items of a list that is rewritten.
 
 ghost use Rattle.std.specs.Prelude.{◌≡◌, Bool, true, false, IfOk};
 
@@ -12,24 +12,24 @@ pub trait Item: Drop {
     /// Whether it may be a destination.
     ghost is_walked: { Self → Bool };
 
-    /// What `another` may answer.
+    /// The specification of `another`: which results are allowed.
     ghost is_copy: { Self → Self → Type 0 };
 
-    /// Whether it may be a rename's source: what the index has and the worktree hasn't.
+    /// Returns whether it may be a rename's source: the index has it, and the worktree doesn't.
     fn is_removed(&self) -> bool
         ensures { result ≡ is_removed self.now };
 
-    /// Whether it may be a destination: what the worktree has and the index hasn't.
+    /// Returns whether it may be a destination: the worktree has it, and the index doesn't.
     fn is_walked(&self) -> bool
         ensures { result ≡ is_walked self.now };
 
-    /// Makes the item again: a copy's source stands in the copy too.
+    /// Returns a copy of the item. The source of a copy is in the list twice: by itself, and in the copy's entry.
     ///
     /// # Errors
-    /// Want of memory.
+    /// If an allocation fails.
     fn another(&self) -> Result<Self, AllocError>
         ensures { IfOk result (is_copy self.now) };
 
-    /// No item is both.
+    /// No item may be both.
     ghost apart: { (x : Self) → is_removed x ≡ true → is_walked x ≡ false };
 }

@@ -8,7 +8,8 @@ use crate::tracker::Pair;
 use std::alloc::{AllocError, Global};
 use std::cmp::Ordering;
 
-/// The pairs of two sides that are sorted by kind and id: within each, the first with the first, and so on.
+/// Returns the pairs of two sides that are sorted by type and id: for each type and id the first with the first, the
+/// second with the second, and so on.
 pub(crate) fn join(
     alloc: Global,
     gone: &[Seen<'_>],

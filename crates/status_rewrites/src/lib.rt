@@ -1,9 +1,9 @@
 //! Renames and copies: which changes are pairs, and the list in which each pair is one entry.
 //!
-//! Read `change` first, what a tracker sees, and `tracker`, the interface. `identity` is the tracker by equal content,
-//! and `seen`, `join` and `buckets` are its parts. Then `item` and `rewrites`, which makes one entry of the two items
-//! of a pair: `place` decides whether there is room, `rewritten` is an entry of the new list, and `refused` is why
-//! there is none.
+//! Read `change` first, the changes that a tracker gets, and `tracker`, the interface. `identity` is the tracker by
+//! equal content, and `seen`, `join` and `buckets` are its parts. Then read `item` and `rewrites`, which makes one
+//! entry of the two items of a pair. `place` decides whether there is room for a pair, `rewritten` is an entry of the
+//! new list, and `refused` is why there is none.
 #![tactic(auto)]
 
 mod buckets;

@@ -1,4 +1,4 @@
-//! The place of one item, while the pairs are gone through.
+//! The state of one position of the list, while the pairs are applied.
 
 ghost use Rattle.std.specs.Prelude.{◌≡◌, Option, option_to_list};
 ghost use Rattle.status_rewrites.specs.Places.{passes, is_free, may_go, left_by, reached_by, standing_in, IsLeft};
@@ -7,16 +7,16 @@ use crate::item::Item;
 use crate::rewritten::Rewritten;
 use std::alloc::AllocError;
 
-/// An item's place.
+/// The state of one position of the list.
 #[derive(Drop)]
 pub(crate) struct Place<I> {
     /// The item, unless a rename took it out.
     pub(crate) item: Option<I>,
-    /// The source of the pair that came to it.
+    /// The source of the pair whose destination this is.
     pub(crate) arrived: Option<I>,
     /// Whether that pair is a copy.
     pub(crate) as_copy: bool,
-    /// Whether its item is a source of copies.
+    /// Whether the item is a source of copies.
     pub(crate) kept: bool,
 }
 
@@ -38,14 +38,14 @@ fn is_walked<I: Item>(item: &Option<I>) -> bool
     }
 }
 
-/// Whether a pair may come to the place.
+/// Returns whether a pair may have its destination here.
 pub(crate) fn may_come<I: Item>(place: &Place<I>) -> bool
     ensures { result ≡ is_free I.is_walked place.now }
 {
     !place.kept && !place.arrived.is_some() && is_walked(&place.item)
 }
 
-/// Whether a pair may begin at the place.
+/// Returns whether a pair may have its source here.
 pub(crate) fn may_go<I: Item>(place: &Place<I>, copy: bool) -> bool
     ensures { result ≡ may_go I.is_removed copy place.now }
 {
@@ -56,10 +56,10 @@ pub(crate) fn may_go<I: Item>(place: &Place<I>, copy: bool) -> bool
     }
 }
 
-/// Gives the source of a pair: a rename takes it out, and a copy makes it again.
+/// Returns the source of a pair. A rename takes it out, and a copy makes a copy of it.
 ///
 /// # Errors
-/// Want of memory.
+/// If an allocation fails.
 pub(crate) fn leave<I: Item>(place: &mut Place<I>, copy: bool) -> Result<Option<I>, AllocError>
     ensures { IsLeft I.is_copy copy place.old result place.new }
 {
@@ -76,7 +76,7 @@ pub(crate) fn leave<I: Item>(place: &mut Place<I>, copy: bool) -> Result<Option<
     }
 }
 
-/// Lays the source of a pair into its destination's place.
+/// Puts the source of a pair at its destination.
 pub(crate) fn reach<I: Drop>(place: &mut Place<I>, source: Option<I>, copy: bool)
     ensures { place.new ≡ reached_by copy source place.old }
 {
@@ -84,7 +84,7 @@ pub(crate) fn reach<I: Drop>(place: &mut Place<I>, source: Option<I>, copy: bool
     place.as_copy = copy;
 }
 
-/// What stands in the place when all pairs are gone through.
+/// Returns the entry at this position after all pairs. None if a rename took the item out.
 pub(crate) fn entry_of<I: Drop>(place: Place<I>) -> Option<Rewritten<I>>
     ensures { option_to_list result ≡ standing_in place }
 {

@@ -9,10 +9,10 @@ use thiserror::Error;
 /// Why a list can't be rewritten.
 #[derive(Clone, Copy, Debug, PartialEq, Eq, Error)]
 pub enum Refused {
-    /// A pair breaks a rule: a place is out of range, holds an item of the wrong kind, or has another part already.
+    /// A pair breaks a rule: a position is out of range, has an item of the wrong kind, or already has another part.
     #[error("bad pair at {at}")]
     BadPair {
-        /// The pair's place among the pairs.
+        /// The pair's position among the pairs.
         at: usize,
     },
     /// Memory ran out.

@@ -1,4 +1,4 @@
-//! A list and its pairs, made one.
+//! The list in which each pair is one entry.
 
 ghost use Rattle.std.specs.Prelude.{◌≡◌, ◌<◌, true, IfOk, OnOk, length, map, flat_map, slice_get};
 ghost use Rattle.status_rewrites.specs.AfterRewrites.{IsAnswer};
@@ -11,7 +11,7 @@ use crate::refused::Refused;
 use crate::rewritten::Rewritten;
 use std::alloc::{AllocError, Global};
 
-/// A place for each item.
+/// Returns the state of each position before any pair.
 fn places_of<I: Drop>(alloc: Global, items: Vec<I>) -> Result<Vec<Place<I>>, AllocError>
     ensures { IfOk result (λ places. places.items ≡ map free items.items) }
 {
@@ -45,14 +45,14 @@ fn destination_fits<I: Item>(places: &[Place<I>], pair: &Pair) -> bool
     }
 }
 
-/// Whether the places leave room for a pair: at each of them an item plays one part at most.
+/// Returns whether there is room for a pair: each item may have one part at most.
 fn fits<I: Item>(places: &[Place<I>], pair: &Pair) -> bool
     ensures { result ≡ fits I.is_removed I.is_walked places.now pair.now }
 {
     pair.source != pair.destination && source_fits(places, pair) && destination_fits(places, pair)
 }
 
-/// Moves or copies a pair's source into its destination's place.
+/// Moves or copies a pair's source to its destination.
 fn pair_up<I: Item>(places: &mut Vec<Place<I>>, pair: &Pair) -> Result<(), AllocError>
     requires source { pair.now.source < length places.old.items }
     requires destination { pair.now.destination < length places.old.items }
@@ -63,7 +63,7 @@ fn pair_up<I: Item>(places: &mut Vec<Place<I>>, pair: &Pair) -> Result<(), Alloc
     Ok(())
 }
 
-/// What stands in the places, in their order.
+/// Returns the entries after all pairs, in order.
 fn entries_of<I: Drop>(
     alloc: Global,
     places: Vec<Place<I>>,
@@ -79,13 +79,17 @@ fn entries_of<I: Drop>(
     Ok(entries)
 }
 
-/// The list with its rewrites. Each pair is one entry, in its destination's place, and the source of a rename has no
-/// other. All else stands as it stood, a copy's source too. Takes time O(items + pairs).
+/// Returns the list with its rewrites. Each pair is one entry, at its destination's position. A rename's source has no
+/// other entry; a copy's source does. All other items are unchanged. Takes time O(items + pairs).
 ///
 /// # Errors
-/// The first pair that breaks a rule: a place is out of range; a destination is no walked item, or has another pair; a
-/// rename's source is no removed item, or another rename's; a copy's source is a rename's, or a destination. Want of
-/// memory.
+/// The first pair that breaks a rule:
+/// - A position is out of range, or both are the same.
+/// - Its destination isn't a walked item, or is already a destination or a copy's source.
+/// - It is a rename, and its source isn't a removed item, or is already a source.
+/// - It is a copy, and its source is already a rename's source or a destination.
+///
+/// Or memory ran out.
 pub fn rewrite<I: Item>(
     alloc: Global,
     items: Vec<I>,

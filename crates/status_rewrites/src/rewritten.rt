@@ -3,15 +3,15 @@
 /// An entry of a list with its rewrites.
 #[derive(Debug, Drop)]
 pub enum Rewritten<I> {
-    /// An item that no rename took out, and to which no pair came.
+    /// An item that no rename took out, and that is no pair's destination.
     Alone(I),
-    /// A rename or a copy, in its destination's place.
+    /// A rename or a copy, at its destination's position.
     Rewrite {
-        /// What was renamed, or what was copied, made again.
+        /// The renamed item itself, or a copy of the copied one.
         source: I,
-        /// What it became.
+        /// The destination.
         destination: I,
-        /// Whether the source stands in its own place too.
+        /// Whether the source is also at its own position.
         copy: bool,
     },
 }

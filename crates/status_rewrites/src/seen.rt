@@ -1,4 +1,4 @@
-//! What is read once of each change.
+//! The changes as they are read, once each.
 
 ghost use Rattle.std.specs.Prelude.{◌≡◌, IfOk, OnOk, map, true};
 ghost use Rattle.std.specs.List.{enumerate_from};
@@ -12,7 +12,7 @@ use status_index::{EntryKind, ObjectId};
 use std::alloc::{AllocError, Global};
 use std::cmp::Ordering;
 
-/// A change with its place in the list, read once.
+/// A change with its position in the list.
 #[derive(Clone, Copy)]
 pub(crate) struct Seen<'a> {
     pub(crate) place: usize,
@@ -22,7 +22,7 @@ pub(crate) struct Seen<'a> {
     pub(crate) path: &'a [u8],
 }
 
-/// Files and links are told apart, and both from what doesn't pair.
+/// Returns 0 for a file, 1 for a link, and 2 for a type that is in no pair.
 pub(crate) fn mode_number(mode: EntryKind) -> u8
     ensures { result ≡ mode_number mode }
 {
@@ -33,7 +33,7 @@ pub(crate) fn mode_number(mode: EntryKind) -> u8
     }
 }
 
-/// Whether the id is of no content.
+/// Returns whether the id is null.
 fn is_null(id: ObjectId) -> bool
     ensures { result ≡ is_null id }
 {
@@ -65,7 +65,7 @@ pub(crate) fn see_all<C: Change>(alloc: Global, items: &[C]) -> Result<Vec<Seen<
     Ok(seen)
 }
 
-/// By path, and at equal paths by place.
+/// Compares by path, and at equal paths by position.
 #[tactic(auto, unfolding(crate::specs::IdentityPairs::path_cmp))]
 fn path_order(a: &Seen<'_>, b: &Seen<'_>) -> Ordering
     ensures { result ≡ path_cmp (standing a.now) (standing b.now) }
@@ -73,7 +73,7 @@ fn path_order(a: &Seen<'_>, b: &Seen<'_>) -> Ordering
     a.path.cmp(b.path).then(a.place.cmp(&b.place))
 }
 
-/// By kind, and then by id.
+/// Compares by type, and then by id.
 #[tactic(auto, unfolding(crate::specs::IdentityPairs::key_cmp))]
 pub(crate) fn key_order(a: &Seen<'_>, b: &Seen<'_>) -> Ordering
     ensures { result ≡ key_cmp (changed_of a.now) (changed_of b.now) }
@@ -91,7 +91,7 @@ pub(crate) fn put_in_path_order(seen: &mut Vec<Seen<'_>>) -> Result<(), AllocErr
     seen.sort_by(|a, b| path_order(a, b))
 }
 
-/// Sorts by kind and id, and keeps the order within each.
+/// Sorts by type and id. Equal ones keep their order.
 pub(crate) fn put_in_key_order(seen: &mut Vec<Seen<'_>>) -> Result<(), AllocError>
     ensures rows { HasRows seen.old.items seen.new.items }
     ensures ascends { OnOk result (AreByKey seen.new.items) }
@@ -99,7 +99,7 @@ pub(crate) fn put_in_key_order(seen: &mut Vec<Seen<'_>>) -> Result<(), AllocErro
     seen.sort_by(|a, b| key_order(a, b))
 }
 
-/// Whether a change is of this side and may be in a pair.
+/// Returns whether a change is of this side and may be in a pair.
 #[tactic(auto, unfolding(crate::specs::IdentityPairs::may_stand))]
 pub(crate) fn may_stand(seen: &Seen<'_>, side: ChangeKind, track_empty: bool) -> bool
     ensures { result ≡ may_stand side track_empty (changed_of seen.now) }
@@ -110,7 +110,7 @@ pub(crate) fn may_stand(seen: &Seen<'_>, side: ChangeKind, track_empty: bool) ->
         && (track_empty || !seen.id.is_empty_blob())
 }
 
-/// What of one side may be in a pair, in the list's order.
+/// Returns the changes of one side that may be in a pair, in the list's order.
 fn standing_on<'a>(
     alloc: Global,
     seen: &[Seen<'a>],
@@ -128,7 +128,7 @@ fn standing_on<'a>(
     Ok(kept)
 }
 
-/// What of one side may be in a pair, by kind and id, and within each in the list's order.
+/// Returns the changes of one side that may be in a pair, by type and id, and for equal ones in the list's order.
 pub(crate) fn one_side<'a>(
     alloc: Global,
     seen: &[Seen<'a>],

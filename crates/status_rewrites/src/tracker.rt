@@ -1,4 +1,4 @@
-//! Trackers, and what they answer.
+//! Trackers, and their results.
 
 ghost use Rattle.std.specs.Prelude.{◌≡◌, Bool, List, Result, map};
 ghost use Rattle.status_rewrites.specs.declared.tracker.TrackerError.TheVariants.{Memory};
@@ -10,31 +10,31 @@ use crate::change::Change;
 use std::alloc::{AllocError, AllocFailed};
 use thiserror::Error;
 
-/// Two changes that are a rename or a copy, by their places in the list that the tracker was given.
+/// Two changes that are a rename or a copy, by their positions in the list that the tracker got.
 #[derive(Clone, Copy, Debug, PartialEq, Eq)]
 pub struct Pair {
-    /// The place of what was renamed or copied.
+    /// The source's position.
     pub source: usize,
-    /// The place of what it became.
+    /// The destination's position.
     pub destination: usize,
-    /// Whether the source stays.
+    /// Whether it is a copy: the source stays.
     pub copy: bool,
 }
 
 /// Which changes are tracked.
 #[derive(Clone, Copy, Debug, Default, PartialEq, Eq)]
 pub struct Rewrites {
-    /// Whether files with no bytes are.
+    /// Whether empty files are.
     pub track_empty: bool,
 }
 
-/// Why there are no pairs.
+/// Why a tracker returns no pairs.
 #[derive(Clone, Copy, Debug, PartialEq, Eq, Error)]
 pub enum TrackerError {
-    /// A pair breaks a rule: a place is out of range, is of the wrong kind of change, or has another part already.
+    /// A pair breaks a rule: a position is out of range, is of the wrong kind of change, or already has another part.
     #[error("tracker")]
     BadPair {
-        /// The pair's place in the tracker's answer.
+        /// The pair's position in the tracker's result.
         at: usize,
     },
     /// The tracker refused, with a code of its own.
@@ -63,13 +63,13 @@ impl<T: Drop> From<AllocFailed<T>> for TrackerError {
 
 /// Finds renames and copies among changes.
 pub trait Tracker {
-    /// Which answers are meant, by what the changes are and by whether files with no bytes are tracked.
+    /// The specification: which results are allowed for these changes, and by whether empty files are tracked.
     ghost means: { Self → List Changed → Bool → Result (List PairValue) TrackerFault → Type 0 };
 
-    /// The renames and copies among `items`, by their places there.
+    /// Returns the renames and copies among `items`, by their positions there.
     ///
     /// # Errors
-    /// Where the tracker refuses, and want of memory.
+    /// If the tracker refuses, or if an allocation fails.
     fn pairs<C: Change>(
         &mut self,
         items: &[C],

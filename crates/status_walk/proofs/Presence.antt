@@ -1,4 +1,4 @@
--- What is asked of a path's entries.
+-- Tests of a path's entries.
 use Rattle.std.proofs.Common.{◌≡◌, refl, ap, ℕ, suc, Bool, true, false, not, ◌||◌, ◌==◌, List, [], ◌∷◌, length, arith}
 use Rattle.std.proofs.lemmas.Bool.Decides.{nat_tests}
 use Rattle.std.specs.List.{list_any, filter}
@@ -7,7 +7,7 @@ use Rattle.status_index.specs.declared.entry.PathStorage.{PathStorage}
 use Rattle.status_index.specs.Entries.{IndexEntry, index_entries}
 use Rattle.status_index.specs.Mode.{is_submodule}
 
--- a stored entry has the mode that the index says
+-- A stored entry has its mode in the index.
 pub any-stored : (b : PathStorage) (es : List Entry) → list_any (λ e. is_submodule e.mode) (index_entries b es) ≡ list_any (λ e. is_submodule e.mode) es
 any-stored b [] = refl
 any-stored b (e ∷ es) = ap (λ x. is_submodule e.mode || x) (any-stored b es)
@@ -15,7 +15,7 @@ any-stored b (e ∷ es) = ap (λ x. is_submodule e.mode || x) (any-stored b es)
 left_over : (n : ℕ) → not (suc n == 0) ≡ true
 left_over n = grind (arith, nat_tests)
 
--- some entry passes a test where those that pass are not none
+-- Some entry passes a test exactly if the list of those that pass isn't empty.
 pub any-filter : (test : IndexEntry → Bool) (es : List IndexEntry) → not (length (filter test es) == 0) ≡ list_any test es
 any-filter test [] = refl
 any-filter test (e ∷ es) = by_test (test e) refl (any-filter test es)

@@ -1,4 +1,4 @@
--- A walk over the nodes of a worktree in memory, under way.
+-- A walk over the nodes of a worktree in memory, at each step.
 use lib.Seq.{drop-cons, take-suc}
 use Rattle.std.proofs.Common.{◌≡◌, refl, sym, ap, ◌∙◌, ℕ, suc, ◌+◌, ◌<◌, ◌≤◌, ◌^◌, Bool, true, false, List, [], ◌∷◌, ◌++◌, length, take, drop, slice_index_or, Option, Some, None, is_some, arith}
 use Rattle.std.specs.List.{cons_option, filter, filter_map}
@@ -15,7 +15,7 @@ use Rattle.status_base.specs.declared.worktree.memory.Node.{Node}
 use Rattle.status_walk.specs.Untracked.{untracked_at, untracked_walk}
 use Rattle.status_walk.specs.WalkedNodes.{Walked}
 
--- one more is taken of a list of which this is left
+-- One more element is taken of a list with this rest.
 module _ {A : Type 0} (xs : List A) (n : ℕ) (w : A) (rest : List A) (e : drop n xs ≡ w ∷ rest) where
   pub in_list : n < length xs
   in_list = omega (arith, length-drop n xs, ap length e)
@@ -30,7 +30,7 @@ module _ {A : Type 0} (xs : List A) (n : ℕ) (w : A) (rest : List A) (e : drop 
   one_left = sym (ap (drop 1) parts)
 
 module _ (tree : Tree) (es : List IndexEntry) (included : List ℕ → Bool → Bool) where
-  -- what is handed out for a node
+  -- The node that the walk passes for one of the worktree, if any.
   abbrev pub out_of : Vec ℕ × Node → Option Walked
   out_of x = untracked_at es included x.0.items x.1.kind
 
@@ -41,7 +41,7 @@ module _ (tree : Tree) (es : List IndexEntry) (included : List ℕ → Bool → 
   found left = filter_map (λ (p : List ℕ × Placed). untracked_at es included p.0 p.1.metadata.kind) (placed_entries left)
 
   module _ (keeps : Walked → Bool) (old : List Walked) where
-    -- so many were handed out, these nodes are left, and this was kept
+    -- So many nodes were passed, these nodes are left, and these were kept.
     pub record IsUnderWay (emitted : ℕ) (left : List (Vec ℕ × Node)) (kept : List Walked) : Type 0 where
       pub rest : found left ≡ drop emitted all
       pub inside : emitted ≤ length all

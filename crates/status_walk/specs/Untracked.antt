@@ -1,4 +1,4 @@
--- What of a worktree in memory isn't tracked.
+-- The untracked nodes of a worktree in memory.
 use Rattle.std.specs.Prelude.{ℕ, Bool, false, not, ◌&&◌, List, filter, Option, Some, None, option_map, if◌then◌else◌}
 use Rattle.std.specs.List.{list_any, filter_map}
 use Rattle.std.specs.FinMap as paths
@@ -15,23 +15,23 @@ use Rattle.status_walk.specs.declared.entry.Status.TheVariants as statuses
 use Rattle.status_walk.specs.WalkedNodes.{Walked}
 use Rattle.status_walk.specs.Walks.{WalkMeaning}
 
--- whether an entry has a path
+-- Whether an entry has a path.
 abbrev pub is_tracked : List IndexEntry → List ℕ → Bool
 is_tracked es path = list_any (is_at path) es
 
--- whether an entry of a path is a submodule's
+-- Whether an entry of a path is a submodule's.
 abbrev pub is_submodule_at : List IndexEntry → List ℕ → Bool
 is_submodule_at es path = list_any (λ e. is_submodule e.mode) (filter (is_at path) es)
 
--- whether a submodule's entry stands at a directory above a path
+-- Whether a submodule's entry is at a directory above a path.
 abbrev pub is_below_submodule : List IndexEntry → List ℕ → Bool
 is_below_submodule es path = list_any (is_submodule_at es) (directories path)
 
--- whether a path is included, no entry's, and in no submodule
+-- Whether a path is included, no entry has it, and it is in no submodule.
 abbrev pub is_untracked : List IndexEntry → (List ℕ → Bool → Bool) → List ℕ → Bool
 is_untracked es included path = included path false && not (is_tracked es path) && not (is_below_submodule es path)
 
--- what a node is as an entry of a walk; a directory isn't handed out itself
+-- The type of a node in a walk's entry. A directory isn't passed itself.
 abbrev pub emitted_kind : NodeKind → Option Kind
 emitted_kind nodes.File = Some kinds.File
 emitted_kind nodes.Link = Some kinds.Symlink
@@ -41,11 +41,11 @@ emitted_kind nodes.Directory = None
 abbrev pub untracked : List ℕ → Kind → Walked
 untracked path kind = record { path = path; status = statuses.Untracked; disk_kind = Some kind; collapsed = None }
 
--- what is handed out for a node
+-- The node that the walk passes for a path, if any.
 abbrev pub untracked_at : List IndexEntry → (List ℕ → Bool → Bool) → List ℕ → NodeKind → Option Walked
 untracked_at es included path kind = if is_untracked es included path then option_map (untracked path) (emitted_kind kind) else None
 
--- the files, links and other nodes that are untracked, by their paths
+-- All nodes but directories, by path bytes, that the pathspec includes, no entry has, and no submodule's entry is above.
 abbrev pub untracked_walk : Tree → List IndexEntry → (List ℕ → Bool → Bool) → WalkMeaning
 untracked_walk tree es included = record {
   entries = filter_map (λ p. untracked_at es included p.0 p.1.metadata.kind) (paths.entries tree.nodes);

@@ -1,4 +1,4 @@
--- What a walk hands out.
+-- The nodes that a walk passes to its delegate.
 use Rattle.std.specs.Prelude.{ℕ, Bool, true, false, List, ◌++◌, filter, Option, Some, None}
 use Rattle.std.specs.Option.{option_to_list}
 use Rattle.bstr.specs.Owned.{bstring_bytes}
@@ -8,7 +8,7 @@ use Rattle.status_walk.specs.declared.entry.DirEntry.{DirEntry}
 use Rattle.status_walk.specs.declared.entry.Kind.{Kind}
 use Rattle.status_walk.specs.declared.entry.Status.{Status}
 
--- a node that was found, and the status of the directory that stands for it, where one does
+-- A node that was found, and the status of the collapsed directory that represents it, if there is one.
 pub record Walked : Type 0 where
   pub path : List ℕ
   pub status : Status
@@ -18,13 +18,14 @@ pub record Walked : Type 0 where
 abbrev pub walked_of : DirEntry → Option Status → Walked
 walked_of e collapsed = record { path = bstring_bytes e.rela_path; status = e.status; disk_kind = e.disk_kind; collapsed = collapsed }
 
--- what a delegate wants to keep, what it has kept, in order, and whether it has ended the walk
+-- A walk passes its nodes, up to its fault, to a delegate, which may keep them and end it. The state of a delegate is which nodes
+-- it wants to keep, which it has kept, in order, and whether it has ended the walk.
 pub record DelegateState : Type 0 where
   pub keeps : Walked → Bool
   pub kept : List Walked
   pub cancelled : Bool
 
--- what a delegate has kept, once at most one more node is handed to it
+-- The nodes that a delegate has kept after at most one more node is passed to it.
 abbrev pub kept_more : DelegateState → Option Walked → List Walked
 kept_more d handed = d.kept ++ filter d.keeps (option_to_list handed)
 
@@ -32,7 +33,7 @@ abbrev pub is_cancel : Action → Bool
 is_cancel Continue = false
 is_cancel Cancel = true
 
--- nothing handed out ends no walk
+-- If no node is passed, the delegate doesn't end the walk.
 abbrev pub is_cancelling : Option Action → Bool
 is_cancelling None = false
 is_cancelling (Some action) = is_cancel action

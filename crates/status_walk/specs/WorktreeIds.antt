@@ -1,4 +1,4 @@
--- The ids of what a walk found.
+-- The ids of the nodes that a walk found.
 use Rattle.std.specs.Prelude.{◌≡◌, ◌⊎◌, ℕ, Bool, true, false, IsTrue, List, Option, Some, None, Result, Ok, Err, if◌then◌else◌}
 use Rattle.status_index.specs.BlobId.{blob_id, null_id}
 use Rattle.status_index.specs.Content.{Content}
@@ -14,7 +14,7 @@ use Rattle.status_walk.specs.declared.entry.Kind.TheVariants.{Untrackable, File,
 use Rattle.status_walk.specs.declared.id.IdError.{IdError}
 use Rattle.status_walk.specs.declared.id.IdError.TheVariants.{Open, Hash, ReadLink, Convert}
 
--- a file that doesn't open for one of these faults is passed over
+-- A file that can't be opened for one of these faults has the null id.
 abbrev pub is_passed_over : Fault → Bool
 is_passed_over NotFound = true
 is_passed_over PermissionDenied = true
@@ -26,12 +26,12 @@ hashed (Ok id) = Ok id
 hashed (Err f) = Err (Hash f)
 
 module _ (kind : HashKind) where
-  -- of a file that is stored as it is, as many bytes as lstat says that it has
+  -- The id of a file that the filter keeps unchanged: of as many bytes as its length by `lstat`.
   abbrev pub stored_id : Content → Result Metadata Fault → Result ObjectId IdError
   stored_id content (Ok node) = hashed (first_bytes_id kind content node.len)
   stored_id content (Err f) = Err (Open f)
 
-  -- of a file, what the filter makes of it
+  -- The id of a file after the filter.
   abbrev pub converted_id : Result Metadata Fault → Content → Conversion → Result ObjectId IdError
   converted_id node content same = stored_id content node
   converted_id node content (other bytes) = Ok (blob_id kind bytes)
@@ -46,7 +46,7 @@ module _ (kind : HashKind) where
   link_id (Err f) = Err (ReadLink f)
 
   module _ (lstat : List ℕ → Result Metadata Fault) (opened : List ℕ → Result Content Fault) (target : List ℕ → Result (List ℕ) Fault) (conversion : Content → List ℕ → Conversion) (path : List ℕ) where
-    -- the id of a node: of a file or a link by its content; whatever else it is, null
+    -- The id of a link's target or a filtered file, null for other nodes and files that are gone, forbidden or interrupted.
     abbrev pub worktree_id : Option Kind → Result ObjectId IdError
     worktree_id (Some File) = file_id (lstat path) conversion path (opened path)
     worktree_id (Some Symlink) = link_id (target path)
@@ -55,18 +55,18 @@ module _ (kind : HashKind) where
     worktree_id (Some Repository) = Ok (null_id kind)
     worktree_id None = Ok (null_id kind)
 
--- the fault within an error
+-- The fault in an error.
 abbrev pub fault_of : IdError → Fault
 fault_of (Open f) = f
 fault_of (Hash f) = f
 fault_of (ReadLink f) = f
 fault_of (Convert f) = f
 
--- the id or error that is meant, or want of memory
+-- The specified id or error, or out of memory.
 abbrev pub IsId : Result ObjectId IdError → Result ObjectId IdError → Type 0
 IsId meant (Ok id) = meant ≡ Ok id
 IsId meant (Err e) = (meant ≡ Err e) ⊎ (fault_of e ≡ Memory)
 
--- the id that is meant of a file with some content left, where the worktree is modelled
+-- The specified id of an open file, by the content that it has left, if the worktree is modelled.
 abbrev pub IsIdOfFile : Bool → Option Content → (Content → Result ObjectId IdError) → Result ObjectId IdError → Type 0
 IsIdOfFile modelled left meant result = (content : Content) → left ≡ Some content → IsTrue modelled → IsId (meant content) result

@@ -1,4 +1,4 @@
-//! To whom a walk hands what it finds.
+//! The interface that gets the nodes of a walk.
 
 ghost use Rattle.std.specs.Prelude.{◌≡◌, ◌∷◌, [], ◌++◌, filter, false, IfOk, OnOk};
 ghost use Rattle.status_walk.specs.WalkedNodes.{DelegateState, walked_of, is_cancel};
@@ -6,25 +6,25 @@ ghost use Rattle.status_walk.specs.WalkedNodes.{DelegateState, walked_of, is_can
 use crate::entry::{DirEntry, Status};
 use std::alloc::AllocError;
 
-/// Whether a walk goes on.
+/// Whether a walk continues.
 #[derive(Clone, Copy, Debug, PartialEq, Eq)]
 pub enum Action {
-    /// It goes on.
+    /// It continues.
     Continue,
     /// It ends here.
     Cancel,
 }
 
-/// Gets what a walk finds, and keeps what it wants of it.
+/// Gets the nodes of a walk, and keeps those that it wants.
 pub trait Delegate {
-    /// What it wants to keep, what it has kept, and whether it has ended the walk.
+    /// The specification: which nodes it wants to keep, which it has kept, and whether it has ended the walk.
     ghost state: { Self → DelegateState };
 
-    /// Takes a node that was found. `collapsed` is the status of the directory that stands for the nodes in it, where one
-    /// does.
+    /// Takes a node that was found. `collapsed` is the status of the collapsed directory that contains the node, if
+    /// there is one. Such a directory represents all nodes in it.
     ///
     /// # Errors
-    /// Want of memory.
+    /// If an allocation fails.
     fn emit(&mut self, entry: DirEntry, collapsed: Option<Status>) -> Result<Action, AllocError>
         requires { (state self.old).cancelled ≡ false }
         ensures keeps { (state self.new).keeps ≡ (state self.old).keeps }

@@ -17,39 +17,40 @@ use std::alloc::AllocError;
 use std::path::Path;
 use std::rt::Files;
 
-// Git keeps its own things under this name.
+// Git keeps its own files under this name.
 const GIT_NAME: &str = ".git";
 
-/// Finds what lies in a folder of the disk and isn't tracked: the files, links and other nodes that a pathspec includes,
-/// whose paths no entry has, and which lie below no submodule's entry, in ascending order of their paths.
+/// Finds the nodes in a folder of the disk that aren't tracked: the files, links and other nodes that a pathspec
+/// includes, whose paths no entry has, and which are below no submodule's entry, in ascending order of their paths.
 ///
-/// A node named `.git` is passed over with all below it, wherever it lies: git keeps its own things there, and takes no
-/// such path into an index. Another repository in the folder is walked like any directory, unless it is a submodule. A
-/// symbolic link is handed out, and isn't followed.
+/// A node named `.git` is skipped with all below it, wherever it is: git keeps its own files there, and takes no such
+/// path into an index. Another repository in the folder is walked like any directory, unless it is a submodule. A
+/// symbolic link is passed to the delegate, and isn't followed.
 ///
-/// What is gone before the walk comes to it is passed over, as is a folder that isn't there. A directory that can't be
-/// listed ends the walk with its fault, as a node does that can't be told by `lstat`. A name that isn't UTF-8 can't be had
-/// from the system: it ends the walk with `IllformedUtf8` at its directory.
+/// A node that is gone before its `lstat` is skipped, and so is a directory that is gone before it is listed, or a
+/// folder that doesn't exist. The walk ends with a fault if a directory can't be listed, or if the `lstat` of a node
+/// fails. The system can't return a name that isn't UTF-8: such a name ends the walk with `IllformedUtf8` at its
+/// directory.
 ///
-/// The folder may change while the walk goes on, so the walk isn't modelled.
+/// The folder may change during the walk, so the walk isn't modelled.
 #[derive(Drop)]
 pub struct DiskWalk<R> {
     folder: Folder<R>,
 }
 
 impl<R: Files + AllocGlobal + Clone + Drop> DiskWalk<R> {
-    /// A walk over the folder at a path, where an empty path is the working folder. It has to be the folder of the
-    /// worktree that is walked: directories are listed here, and that worktree's `lstat` tells what the names are of.
+    /// Returns a walk over the folder at a path. An empty path is the working folder. It has to be the folder of the
+    /// worktree that is walked: directories are listed here, and that worktree's `lstat` is called for each name.
     ///
     /// # Errors
-    /// Want of memory.
+    /// If an allocation fails.
     pub fn new(rt: R, root: Path<'_>) -> Result<DiskWalk<R>, AllocError> {
         Ok(DiskWalk {
             folder: Folder::new(rt, root)?,
         })
     }
 
-    /// Adds what lies in a directory to what is to be visited.
+    /// Adds the nodes in a directory to those that are still to be visited.
     fn enter<W: Worktree>(
         &self,
         worktree: &W,
@@ -110,22 +111,22 @@ impl<W: Worktree, R: Files + AllocGlobal + Clone + Drop> Walk<W> for DiskWalk<R>
                 }
             }
         }
-        // More nodes than memory has room for.
+        // There are more nodes than memory has room for.
         Err(WalkError::Memory)
     }
 }
 
-/// The path of a directory as an index has it: without the slash at its end.
+/// Returns the path of a directory as in an index: without the slash at its end.
 fn name_of(directory: &str) -> &str {
     directory.strip_suffix('/').unwrap_or(directory)
 }
 
-/// Whether a pathspec includes a path that no entry has.
+/// Returns whether a pathspec includes a path that no entry has.
 fn is_untracked<P: Pathspec>(index: &State, pathspec: &P, path: &str) -> bool {
     pathspec.includes(BStr::new(path.as_bytes()), false) && !is_tracked(index, path)
 }
 
-/// The entry of a node that isn't tracked.
+/// Returns the entry of an untracked node.
 fn untracked(path: String, kind: Kind) -> DirEntry {
     DirEntry {
         rela_path: BString::from(path),

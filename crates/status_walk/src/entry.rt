@@ -1,13 +1,13 @@
-//! What a walk finds.
+//! The nodes that a walk finds.
 
 use bstr::BString;
 
-/// How a node stands to the index.
+/// How a node relates to the index.
 #[derive(Clone, Copy, Debug, PartialEq, Eq)]
 pub enum Status {
     /// No entry has its path.
     Untracked,
-    /// No entry has its path, and the rules of the repository leave it out.
+    /// No entry has its path, and the repository's ignore rules exclude it.
     Ignored,
     /// An entry has its path.
     Tracked,
@@ -15,10 +15,10 @@ pub enum Status {
     Pruned,
 }
 
-/// What a node is.
+/// The type of a node.
 #[derive(Clone, Copy, Debug, PartialEq, Eq)]
 pub enum Kind {
-    /// What can't be tracked: a pipe, a socket or a device.
+    /// A node that can't be tracked: a pipe, a socket or a device.
     Untrackable,
     /// A regular file.
     File,
@@ -30,13 +30,13 @@ pub enum Kind {
     Repository,
 }
 
-/// A node that a walk found.
+/// A node that a walk found: a file, a link, or whatever else is at a path of the worktree.
 #[derive(Clone, Debug, Drop)]
 pub struct DirEntry {
     /// Its path from the worktree's root.
     pub rela_path: BString,
-    /// How it stands to the index.
+    /// How it relates to the index.
     pub status: Status,
-    /// What it is. None where that wasn't learnt.
+    /// Its type. None if it isn't known.
     pub disk_kind: Option<Kind>,
 }

@@ -1,4 +1,4 @@
-//! Ids of what a walk found.
+//! Ids of the nodes that a walk found.
 
 ghost use Rattle.std.specs.Prelude.{◌≡◌, IsTrue};
 ghost use Rattle.bstr.specs.BStr.{bstr_bytes};
@@ -10,10 +10,10 @@ use status_base::index::{HashKind, ObjectId, compute_hash, compute_stream_hash};
 use status_base::worktree::{Fault, ToGit, ToGitOutcome, Worktree};
 use thiserror::Error;
 
-/// Why a node has no id.
+/// Why the id of a node can't be computed.
 #[derive(Clone, Copy, Debug, PartialEq, Eq, Error)]
 pub enum IdError {
-    /// The file doesn't open, or `lstat` of it fails.
+    /// The file can't be opened, or its `lstat` fails.
     #[error("{0}")]
     Open(Fault),
     /// Reading the file fails.
@@ -27,12 +27,12 @@ pub enum IdError {
     Convert(Fault),
 }
 
-/// The id that the content of a node has where git stores it: that of what the filter makes of a file, or of a link's target.
-/// What has no content to store has the null id, and so has a file that isn't there any more or may not be opened.
-/// `buffer` is written over.
+/// Returns the id under which git would store the content of a node: of a file after the filter, or of a link's target.
+/// Other nodes have the null id, and so has a file that is gone, may not be opened, or whose opening was interrupted.
+/// `buffer` is overwritten.
 ///
 /// # Errors
-/// The node's fault, which may be want of memory.
+/// The node's fault, which may be that memory ran out.
 pub fn worktree_id<W: Worktree, T: ToGit>(
     kind: HashKind,
     worktree: &W,
@@ -53,7 +53,7 @@ pub fn worktree_id<W: Worktree, T: ToGit>(
     }
 }
 
-/// The id of a file's content.
+/// Returns the id of a file's content after the filter.
 fn file_id<W: Worktree, T: ToGit>(
     kind: HashKind,
     worktree: &W,
@@ -71,7 +71,8 @@ fn file_id<W: Worktree, T: ToGit>(
     }
 }
 
-/// Whether a file that doesn't open for this fault is passed over: it is gone, may not be read, or a signal came.
+/// Returns whether a file that can't be opened for this fault has the null id: it is gone, may not be opened, or a
+/// signal interrupted the opening.
 fn is_passed_over(fault: Fault) -> bool
     ensures { result ≡ is_passed_over fault }
 {
@@ -81,7 +82,7 @@ fn is_passed_over(fault: Fault) -> bool
     )
 }
 
-/// The id of what a filter makes of a file.
+/// Returns the id of an open file's content after the filter.
 fn converted_id<W: Worktree, T: ToGit>(
     kind: HashKind,
     worktree: &W,
@@ -100,7 +101,7 @@ fn converted_id<W: Worktree, T: ToGit>(
     }
 }
 
-/// The id of as many bytes of a file as `lstat` says that it has.
+/// Returns the id of an open file's first bytes, as many as its length by `lstat`.
 fn stored_id<W: Worktree>(
     kind: HashKind,
     worktree: &W,
@@ -119,7 +120,7 @@ fn stored_id<W: Worktree>(
     }
 }
 
-/// The id of a link's target.
+/// Returns the id of a link's target.
 fn link_id<W: Worktree>(
     kind: HashKind,
     worktree: &W,

@@ -1,7 +1,7 @@
 //! Walks: the files and links of a worktree that no index entry has.
 //!
-//! Read `walk` first, the interface, with `entry`, what a walk finds, and `delegate`, who receives it. `untracked`
-//! walks a worktree in memory, and `disk` a folder of the disk. `id` computes the id of what was found.
+//! Read `walk` first, the interface, with `entry`, the nodes that a walk finds, and `delegate`, which gets them.
+//! `untracked` walks a worktree in memory, and `disk` a folder of the disk. `id` computes the ids of the nodes.
 #![tactic(auto)]
 
 pub mod delegate;

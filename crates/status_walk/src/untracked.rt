@@ -1,4 +1,4 @@
-//! The walk that finds what isn't tracked.
+//! The walk that finds the untracked nodes of a worktree in memory.
 
 ghost use Rattle.std.specs.Prelude.{◌≡◌, is_some, None, Some, IfOk, OnOk, false};
 ghost use Rattle.std.specs.List.{list_any};
@@ -18,15 +18,15 @@ use status_base::index::{Entry, State};
 use status_base::worktree::{MemoryWorktree, NodeKind, Pathspec};
 use std::alloc::{AllocError, Global};
 
-/// Finds the files, links and other nodes of a worktree in memory that a pathspec includes, whose paths no entry has, and
-/// which lie below no submodule's entry, in ascending order of their paths.
+/// Finds the untracked nodes of a worktree in memory: the files, links and other nodes that a pathspec includes, whose
+/// paths no entry has, and which are below no submodule's entry, in ascending order of their paths.
 #[derive(Clone, Copy)]
 pub struct UntrackedWalk {
     alloc: Global,
 }
 
 impl UntrackedWalk {
-    /// Such a walk.
+    /// Returns a walk that takes its memory from `alloc`.
     pub fn new(alloc: Global) -> UntrackedWalk {
         UntrackedWalk { alloc }
     }
@@ -67,7 +67,7 @@ impl Walk<MemoryWorktree> for UntrackedWalk {
     }
 }
 
-/// Hands a node out, if it is untracked, and gives the delegate's answer.
+/// Passes a node to the delegate if it is untracked. Returns the delegate's action, or None if the node wasn't passed.
 fn hand_out<P: Pathspec, D: Delegate>(
     alloc: Global,
     index: &State,
@@ -90,7 +90,7 @@ fn hand_out<P: Pathspec, D: Delegate>(
     }
 }
 
-/// The entry of a node that isn't tracked and may be. None for another.
+/// Returns the entry of a node that is untracked. None for a directory and for any other node.
 fn untracked_at<P: Pathspec>(
     alloc: Global,
     index: &State,
@@ -114,7 +114,7 @@ fn untracked_at<P: Pathspec>(
     }))
 }
 
-/// What a node is as an entry of a walk. None for a directory, which isn't handed out itself.
+/// Returns the type of a node in a walk's entry. None for a directory, which isn't passed itself.
 fn emitted_kind(kind: NodeKind) -> Option<Kind>
     ensures { result ≡ emitted_kind kind }
 {
@@ -126,21 +126,21 @@ fn emitted_kind(kind: NodeKind) -> Option<Kind>
     }
 }
 
-/// Whether a pathspec includes a path that no entry has, below no submodule's entry.
+/// Returns whether a pathspec includes the path, no entry has it, and it is below no submodule's entry.
 fn is_untracked<P: Pathspec>(index: &State, pathspec: &P, path: BStr<'_>) -> bool
     ensures { result ≡ is_untracked (index_of index.now) (P.included pathspec.now) (bstr_bytes path.entry) }
 {
     pathspec.includes(path, false) && !is_tracked(index, path) && !is_below_submodule(index, path)
 }
 
-/// Whether an entry has this path.
+/// Returns whether an entry has this path.
 fn is_tracked(index: &State, path: BStr<'_>) -> bool
     ensures { result ≡ is_tracked (index_of index.now) (bstr_bytes path.entry) }
 {
     !index.entries_at(path).is_empty()
 }
 
-/// Whether a submodule's entry stands at a directory above a path.
+/// Returns whether a submodule's entry is at a directory above a path.
 fn is_below_submodule(index: &State, path: BStr<'_>) -> bool
     ensures { result ≡ is_below_submodule (index_of index.now) (bstr_bytes path.entry) }
 {
@@ -153,14 +153,14 @@ fn is_below_submodule(index: &State, path: BStr<'_>) -> bool
     false
 }
 
-/// Whether an entry of this path is a submodule's.
+/// Returns whether an entry of this path is a submodule's.
 fn is_submodule(index: &State, path: BStr<'_>) -> bool
     ensures { result ≡ is_submodule_at (index_of index.now) (bstr_bytes path.entry) }
 {
     has_submodule(index.entries_at(path))
 }
 
-/// Whether one of these entries is a submodule's.
+/// Returns whether one of these entries is a submodule's.
 fn has_submodule(entries: &[Entry]) -> bool
     ensures { result ≡ list_any (λ e. is_submodule e.mode) entries.now }
 {

@@ -1,4 +1,4 @@
-//! Walks, and what they answer.
+//! Walks, and their results.
 
 ghost use Rattle.std.specs.Prelude.{◌≡◌, Bool, List, ℕ, Option, IfSome, false};
 ghost use Rattle.status_index.specs.Entries.{IndexEntry};
@@ -16,7 +16,7 @@ use thiserror::Error;
 /// How a walk ended.
 #[derive(Clone, Copy, Debug, Default, PartialEq, Eq)]
 pub struct Outcome {
-    /// How many nodes were handed to the delegate.
+    /// How many nodes were passed to the delegate.
     pub emitted: usize,
     /// Whether the delegate ended it.
     pub cancelled: bool,
@@ -28,7 +28,7 @@ pub enum WalkError {
     /// The worktree has a fault.
     #[error("{fault}")]
     Fault {
-        /// Where it was met.
+        /// The path at which it was met.
         rela_path: BString,
         /// The fault.
         fault: Fault,
@@ -46,17 +46,17 @@ impl From<AllocError> for WalkError {
     }
 }
 
-/// Goes through a worktree, and hands what it finds to a delegate. It is either modelled, and then a function of the
-/// worktree, of what the index says and of the pathspec tells what it finds; or not, as one over a real folder.
+/// Goes through a worktree, and passes the nodes that it finds to a delegate. A walk is modelled if a function of the
+/// worktree, the index and the pathspec specifies these nodes. One over a real folder isn't.
 pub trait Walk<W: Worktree> {
-    /// What it finds, by the worktree, the index, the pathspec's prefix and what that includes. None where it isn't
-    /// modelled.
+    /// The specification: the nodes that it finds, and its fault. It depends on the worktree, the index's entries, the
+    /// pathspec's prefix and the paths that the pathspec includes. None if it isn't modelled.
     ghost meaning: { Self → W → List IndexEntry → List ℕ → (List ℕ → Bool → Bool) → Option WalkMeaning };
 
-    /// Goes through the worktree. Where the delegate says so it ends, and hands out nothing more.
+    /// Goes through the worktree. If the delegate returns `Cancel`, the walk ends, and passes no more nodes.
     ///
     /// # Errors
-    /// The worktree's fault; or `WalkError::Memory`, also where it was the worktree that had no memory.
+    /// The worktree's fault; or `WalkError::Memory`, also if it was the worktree that was out of memory.
     fn walk<P: Pathspec, D: Delegate>(
         &mut self,
         worktree: &W,

@@ -1,4 +1,4 @@
-//! What a collector is given.
+//! The entries that a collector gets.
 
 ghost use Rattle.std.specs.Prelude.{◌≡◌};
 ghost use Rattle.bstr.specs.BStr.{bstr_bytes};
@@ -12,65 +12,68 @@ use status_base::index::{self, ObjectId};
 use status_call::index_as_worktree::{Change, EntryStatus};
 use status_walk::{DirEntry, Status};
 
-/// A difference between the index and the worktree, as a collector is given it.
+/// A difference between the index and the worktree, as a collector gets it.
 #[derive(Clone, Debug, Drop)]
 pub enum Entry<'index, T, U> {
-    /// The status of a path that the index has.
+    /// The status of a path of the index.
     Modification {
         /// The entries of the whole index.
         entries: &'index [index::Entry],
-        /// The entry of the path.
+        /// The path's entry.
         entry: &'index index::Entry,
-        /// The entry's place in `entries`.
+        /// The entry's position in `entries`.
         entry_index: usize,
         /// The path, from the worktree's root.
         rela_path: BStr<'index>,
-        /// How the entry stands to the worktree.
+        /// How the worktree differs from the entry.
         status: EntryStatus<T, U>,
     },
-    /// A node that the walk found, and that is no part of a rename or a copy.
+    /// A node that the walk found, and that isn't the destination of a rename or a copy.
     DirectoryContents {
         /// The node.
         entry: DirEntry,
-        /// The status of the directory that stands for the nodes in it, where one does.
+        /// The status of the collapsed directory that contains the node, if there is one. Such a directory represents
+        /// all nodes in it.
         collapsed_directory_status: Option<Status>,
     },
-    /// A rename or a copy. What it became is a node that the walk found.
+    /// A rename or a copy. Its destination is a node that the walk found.
     Rewrite {
-        /// What was renamed or copied.
+        /// The item that was renamed or copied.
         source: RewriteSource<'index, T, U>,
-        /// What it became.
+        /// The destination.
         dirwalk_entry: DirEntry,
-        /// The status of the directory that stands for the nodes beside `dirwalk_entry`, where one does.
+        /// The status of the collapsed directory that contains the destination, if there is one. Such a directory
+        /// represents all nodes in it.
         dirwalk_entry_collapsed_directory_status: Option<Status>,
-        /// The id of what it became, by its content.
+        /// The id of the destination's content.
         dirwalk_entry_id: ObjectId,
-        /// Whether the source is still there.
+        /// Whether it is a copy: the source is still there.
         copy: bool,
     },
 }
 
-/// What was renamed or copied.
+/// The source of a rename or a copy.
 #[derive(Clone, Debug, Drop)]
 pub enum RewriteSource<'index, T, U> {
-    /// An entry of the index. Of a rename it has no file in the worktree any more.
+    /// An entry of the index. If it was renamed, the worktree no longer has a file at its path.
     RewriteFromIndex {
         /// The entries of the whole index.
         index_entries: &'index [index::Entry],
-        /// The entry. Its id is that of the content that the index has.
+        /// The entry. Its id is that of the content in the index.
         source_entry: &'index index::Entry,
-        /// The entry's place in `index_entries`.
+        /// The entry's position in `index_entries`.
         source_entry_index: usize,
         /// The entry's path, from the worktree's root.
         source_rela_path: BStr<'index>,
-        /// How the entry stands to the worktree.
+        /// How the worktree differs from the entry.
         source_status: EntryStatus<T, U>,
     },
-    /// A node that the walk found. It can be copied alone, since it is still there.
+    /// A node that the walk found. It is the source of copies only, since it is still there.
     CopyFromDirectoryEntry {
         /// The node.
         source_dirwalk_entry: DirEntry,
-        /// The status of the directory that stands for the nodes in it, where one does.
+        /// The status of the collapsed directory that contains the node, if there is one. Such a directory represents
+        /// all nodes in it.
         source_dirwalk_entry_collapsed_directory_status: Option<Status>,
         /// The id of the node's content.
         source_dirwalk_entry_id: ObjectId,
@@ -78,7 +81,7 @@ pub enum RewriteSource<'index, T, U> {
 }
 
 impl<'index, T, U> RewriteSource<'index, T, U> {
-    /// The path of what was renamed or copied, from the worktree's root.
+    /// Returns the source's path, from the worktree's root.
     pub fn rela_path(&self) -> BStr<'_>
         ensures { bstr_bytes result ≡ path_of (reported_source self.now) }
     {
@@ -96,8 +99,8 @@ impl<'index, T, U> RewriteSource<'index, T, U> {
 }
 
 impl<'index, T, U> Entry<'index, T, U> {
-    /// What happened to the path, in a word. None for a node that isn't untracked, and for an entry that only needs
-    /// another stat.
+    /// Returns what happened to the path, in a word. None for a node that isn't untracked, and for an entry that only
+    /// needs a new stat.
     pub fn summary(&self) -> Option<Summary>
         ensures { result ≡ summary_of (reported_entry self.now) }
     {
@@ -112,7 +115,7 @@ impl<'index, T, U> Entry<'index, T, U> {
         }
     }
 
-    /// The path of what was renamed or copied. For what isn't a rename or a copy, its own path.
+    /// Returns the path of a rename's or copy's source. For any other entry, its own path.
     pub fn source_rela_path(&self) -> BStr<'_>
         ensures { bstr_bytes result ≡ source_path (reported_entry self.now) }
     {
@@ -123,7 +126,7 @@ impl<'index, T, U> Entry<'index, T, U> {
         }
     }
 
-    /// The path of what a rename or a copy became. For what is neither, its own path.
+    /// Returns the path of a rename's or copy's destination. For any other entry, its own path.
     pub fn destination_rela_path(&self) -> BStr<'_>
         ensures { bstr_bytes result ≡ destination_path (reported_entry self.now) }
     {
@@ -135,7 +138,7 @@ impl<'index, T, U> Entry<'index, T, U> {
     }
 }
 
-/// What happened to a path that the index has. None where only the entry's stat changes.
+/// Returns what happened to a path of the index. None if only the entry's stat needs an update.
 fn status_summary<T, U>(status: &EntryStatus<T, U>) -> Option<Summary>
     ensures { result ≡ status_summary status.now }
 {

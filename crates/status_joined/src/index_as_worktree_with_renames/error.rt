@@ -20,29 +20,29 @@ pub enum Error {
     /// The walk met a fault of the worktree.
     #[error(transparent)]
     DirWalk(WalkError),
-    /// Never given: where no thread can be had for the walk, it runs in the caller's. A thread that the status of the
-    /// index is refused stands in `TrackedFileModifications`.
+    /// Never returned. If no thread can be started for the walk, it runs in the caller's thread. If the status of the
+    /// index can't start a thread, the error is in `TrackedFileModifications`.
     #[error("Could not start a worker thread")]
     SpawnThread,
-    /// Never given: no attributes are read.
+    /// Never returned: no attributes are read.
     #[error("Failed to change the context for querying gitattributes to the respective path")]
     SetAttributeContext,
-    /// A file that the walk found, and whose id was wanted, doesn't open, or `lstat` of it fails.
+    /// A file that the walk found, and whose id is needed, can't be opened, or its `lstat` fails.
     #[error("Could not open worktree file for reading")]
     OpenWorktreeFile(Fault),
-    /// A file that the walk found, and whose id was wanted, can't be read to its end.
+    /// A file that the walk found, and whose id is needed, can't be read to its end.
     #[error(transparent)]
     HashFile(Fault),
-    /// A link that the walk found, and whose id was wanted, can't be read.
+    /// A link that the walk found, and whose id is needed, can't be read.
     #[error("Could not read worktree link content")]
     ReadLink(Fault),
-    /// The filter fails on a file that the walk found, and whose id was wanted.
+    /// The filter fails on a file that the walk found, and whose id is needed.
     #[error(transparent)]
     ConvertToGit(Fault),
-    /// The tracker refused, or answered a pair that breaks a rule.
+    /// The tracker refused, or returned a pair that breaks a rule.
     #[error(transparent)]
     RewriteTracker(TrackerError),
-    /// Memory ran out, in whatever part of the call.
+    /// Memory ran out, in any part of the call.
     #[error("Out of memory")]
     Memory,
 }
@@ -79,7 +79,7 @@ impl From<AllocError> for Error {
     }
 }
 
-/// What a failed walk makes the call answer.
+/// Returns the call's error for a failed walk.
 pub(crate) fn walk_error(error: WalkError) -> Error
     ensures { result ≡ error_of_walk error }
 {
@@ -93,7 +93,7 @@ pub(crate) fn walk_error(error: WalkError) -> Error
     }
 }
 
-/// What an id that can't be had makes the call answer.
+/// Returns the call's error for an id that can't be computed.
 pub(crate) fn id_error(error: IdError) -> Error
     ensures { result ≡ error_of_id error }
 {
@@ -109,7 +109,7 @@ pub(crate) fn id_error(error: IdError) -> Error
     }
 }
 
-/// What a list that can't be rewritten makes the call answer.
+/// Returns the call's error for a list that can't be rewritten.
 pub(crate) fn refused_error(refused: Refused) -> Error
     ensures { result ≡ error_of_refused refused }
 {

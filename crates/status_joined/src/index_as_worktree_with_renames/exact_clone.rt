@@ -2,15 +2,15 @@
 
 use status_base::index::ObjectId;
 
-/// A value whose clones equal it. What was copied is reported twice, so what a comparer and a submodule answer has to be such:
-/// it is reported of the copy as of what was copied.
+/// A value whose clones equal it. If an entry is copied, its status is reported twice: for the entry and for the copy.
+/// So the values that a comparer and a submodule report have to be such.
 ///
 /// Implement it for a type of your own that has an exact clone. Numbers, `bool`, `()`, `ObjectId` and options of such
 /// values have it.
 pub trait ExactClone: Clone {
     ghost use Rattle.std.specs.Prelude.{◌≡◌};
 
-    /// A clone is equal to what it was made of.
+    /// A clone equals its original.
     ghost clones_are_equal: { (x y : Self) → Self.is_clone x y → y ≡ x };
 }
 

@@ -1,4 +1,4 @@
-//! Feeding of a collector.
+//! The step that passes the list's entries to a collector.
 
 ghost use Rattle.std.specs.Prelude.{◌≡◌, true, map, All};
 ghost use Rattle.status_rewrites.specs.Entries.{map_rewritten, IsLed};
@@ -14,7 +14,7 @@ use crate::index_as_worktree_with_renames::recorder::VisitEntry;
 use status_rewrites::Rewritten;
 use std::alloc::AllocError;
 
-/// What a collector is given of an item that is no part of a rewrite.
+/// Returns the collector's entry for an item that is reported alone.
 fn entry_of_item<'index, T, U>(
     item: ModificationOrDirwalkEntry<'index, T, U>,
 ) -> Entry<'index, T, U>
@@ -39,7 +39,7 @@ fn entry_of_item<'index, T, U>(
     }
 }
 
-/// What a collector is given of a rewrite's source.
+/// Returns the collector's form of a rewrite's source.
 fn source_of_item<'index, T, U>(
     item: ModificationOrDirwalkEntry<'index, T, U>,
 ) -> RewriteSource<'index, T, U>
@@ -65,7 +65,7 @@ fn source_of_item<'index, T, U>(
     }
 }
 
-/// What a collector is given of a rewrite. Its destination is a node.
+/// Returns the collector's entry for a rewrite. Its destination is a node.
 fn entry_of_rewrite<'index, T, U>(
     source: ModificationOrDirwalkEntry<'index, T, U>,
     destination: ModificationOrDirwalkEntry<'index, T, U>,
@@ -90,7 +90,7 @@ fn entry_of_rewrite<'index, T, U>(
     }
 }
 
-/// What a collector is given of an entry of the list. A rewrite's destination is a node.
+/// Returns the collector's entry for an entry of the list. A rewrite's destination is a node.
 fn entry_of_rewritten<'index, T, U>(
     rewritten: Rewritten<ModificationOrDirwalkEntry<'index, T, U>>,
 ) -> Entry<'index, T, U>
@@ -107,7 +107,7 @@ fn entry_of_rewritten<'index, T, U>(
     }
 }
 
-/// Gives a collector one entry of the list.
+/// Passes one entry of the list to a collector.
 fn feed_one<'index, V: VisitEntry<'index>>(
     entry: Rewritten<ModificationOrDirwalkEntry<'index, V::ContentChange, V::SubmoduleStatus>>,
     collector: &mut V,
@@ -118,10 +118,10 @@ fn feed_one<'index, V: VisitEntry<'index>>(
     collector.visit_entry(entry_of_rewritten(entry))
 }
 
-/// Gives a collector the items of a list, each alone, in order.
+/// Passes the items of a list to a collector, each alone, in order.
 ///
 /// # Errors
-/// The collector's want of memory; then a beginning of them was given.
+/// If the collector is out of memory. Then it got the items before the one that it didn't take.
 pub(crate) fn feed_items<'index, V: VisitEntry<'index>>(
     items: Vec<ModificationOrDirwalkEntry<'index, V::ContentChange, V::SubmoduleStatus>>,
     collector: &mut V,
@@ -139,10 +139,10 @@ where
     Ok(())
 }
 
-/// Gives a collector the entries of a list with its rewrites, in order.
+/// Passes the entries of a list with its rewrites to a collector, in order.
 ///
 /// # Errors
-/// The collector's want of memory; then a beginning of them was given.
+/// If the collector is out of memory. Then it got the entries before the one that it didn't take.
 pub(crate) fn feed_rewritten<'index, V: VisitEntry<'index>>(
     entries: Vec<
         Rewritten<ModificationOrDirwalkEntry<'index, V::ContentChange, V::SubmoduleStatus>>,

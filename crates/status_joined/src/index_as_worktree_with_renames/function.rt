@@ -18,22 +18,28 @@ use std::alloc::Global;
 use std::sync::Wait;
 use std::thread::Threads;
 
-/// Reports to `collector` how the worktree differs from `index`, what lies in it beside the index, and what of both are
-/// renames and copies, and answers what that took.
+/// Reports to `collector` how the worktree differs from `index`, which nodes it has that the index doesn't, and which
+/// of both are renames and copies. Returns the counts of the status, how the walk ended, and the numbers of renames and
+/// copies.
 ///
-/// The status of the index and the walk run side by side, the walk in a thread of its own where there can be one. What they
-/// find is reported when both have ended. Where the options have `sorting` that is by path, and at equal paths an entry of the
-/// index before a node. Else all of the index's entries come before the nodes.
+/// The status of the index and the walk run at the same time. The walk has a thread of its own if one can be started.
+/// Their results are reported when both have ended. If the options have `sorting`, the report is sorted by path, and at
+/// equal paths an entry of the index comes before a node. Otherwise all entries of the index come before the nodes.
 ///
-/// With `rewrites` the tracker says which of them are renames and copies. Each of these is reported in place of the node that
-/// it became, so by that node's path; what was renamed isn't reported by itself, and what was copied is.
+/// With `rewrites` the tracker finds renames and copies among the results. Each of these is reported in place of its
+/// destination, so by the destination's path. The source of a rename isn't reported by itself; that of a copy is.
 ///
-/// Where the context's interrupt flag is seen set, both halves end early, and what they found until then is reported.
+/// If the context's interrupt flag is seen set, both halves end early, and the results up to then are reported.
 ///
 /// # Errors
-/// The walk's fault, or else the status's, that of the first node that has no id, or the tracker's; or the first of the
-/// tracker's pairs that breaks a rule. A thread that the status was refused is a fault of its. Want of memory. Then nothing was
-/// reported, unless it was the collector that had no memory for an entry: then the entries before it were.
+/// The first of these:
+/// - the walk's fault
+/// - the status's fault, which may be a thread that it can't start
+/// - the fault of the first node whose id can't be computed
+/// - the tracker's refusal, or the first of its pairs that breaks a rule
+///
+/// Any part may also return that memory ran out. On an error nothing was reported, with one exception: if the collector
+/// is out of memory for an entry, the entries before it were.
 pub fn index_as_worktree_with_renames<
     'index,
     'w,

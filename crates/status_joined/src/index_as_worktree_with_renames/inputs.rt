@@ -1,4 +1,4 @@
-//! What a caller hands in, and what it means.
+//! The interfaces that a caller passes, and their specifications.
 
 ghost use Rattle.status_joined.specs.JoinedQuery.{JoinedQuery};
 
@@ -10,27 +10,27 @@ use status_rewrites::Tracker;
 use status_walk::Walk;
 use std::sync::atomic::AtomicBool;
 
-/// The worktree and the interfaces that a caller hands in.
+/// The worktree and the interfaces that a caller passes.
 #[derive(Drop)]
 pub struct Inputs<'w, W, C, S, O, P, T, L, K, X> {
     /// Those of the status of the index.
     pub status: inputs::Inputs<'w, W, C, S, O, P, T, L>,
-    /// Finds what lies in the worktree beside the index.
+    /// Finds the nodes of the worktree that the index doesn't have.
     pub walk: K,
     /// Finds renames and copies.
     pub tracker: X,
-    /// Once it is seen set the status ends early. None is never set.
+    /// The interrupt flag. If it is seen set, the status ends early. None is never set.
     pub should_interrupt: Option<&'w AtomicBool>,
 }
 
-/// What a status with untracked files, renames and copies is computed from, whoever hands it in.
+/// The inputs of a status with untracked files, renames and copies, whoever passes them.
 pub trait Ask {
-    /// What a comparer reports of a change.
+    /// A comparer's report of a change.
     type Content;
-    /// What a submodule reports of a change.
+    /// A submodule's report of a change.
     type Submodule;
 
-    /// What such a status depends on.
+    /// The specification of all inputs, on which such a status depends.
     ghost query: { Self → JoinedQuery Self.Content Self.Submodule };
 }
 

@@ -1,4 +1,4 @@
-//! The status with untracked files, renames and copies, of what was handed in.
+//! The status with untracked files, renames and copies, from a caller's inputs.
 
 ghost use Rattle.std.specs.Prelude.{◌≡◌};
 ghost use Rattle.status_joined.specs.Joined.{tracked_options};
@@ -25,7 +25,7 @@ use std::alloc::Global;
 use std::sync::Wait;
 use std::thread::Threads;
 
-/// The options of the status of the index. The listings are the joined call's own.
+/// Returns the options of the status of the index. `fscache` is taken from the joined call's own options.
 fn tracked_options(options: &Options) -> index_as_worktree::Options
     ensures { result ≡ tracked_options options.now }
 {
@@ -39,7 +39,7 @@ fn tracked_options(options: &Options) -> index_as_worktree::Options
     }
 }
 
-/// Reports to `collector` what `index_as_worktree_with_renames` does.
+/// Does the same as `index_as_worktree_with_renames`, with its inputs in one value.
 ///
 /// # Errors
 /// Those of that call.

@@ -17,7 +17,7 @@ use std::sync::Wait;
 use std::sync::atomic::AtomicBool;
 use std::thread::Threads;
 
-/// The list of what both halves found, and how each ended.
+/// The list of the records and nodes of both halves, and how each half ended.
 #[derive(Drop)]
 pub(crate) struct Listing<'index, T, U> {
     pub(crate) items: Vec<ModificationOrDirwalkEntry<'index, T, U>>,
@@ -25,7 +25,7 @@ pub(crate) struct Listing<'index, T, U> {
     pub(crate) walked: Option<status_walk::Outcome>,
 }
 
-/// The error of a half that failed.
+/// Returns the call's error for a failed half.
 fn failed_error(failed: Failed) -> Error
     ensures { result ≡ error_of_failed failed }
 {
@@ -35,11 +35,11 @@ fn failed_error(failed: Failed) -> Error
     }
 }
 
-/// Lets both halves run, and lists what they found: by path, where the options have `sorting`, else the records before the
-/// nodes.
+/// Runs both halves, and makes the list of their records and nodes. If the options have `sorting`, it is sorted by
+/// path; otherwise the records come before the nodes.
 ///
 /// # Errors
-/// The walk's, or else the status's. Want of memory.
+/// The walk's, or otherwise the status's. `Error::Memory` if an allocation fails.
 pub(crate) fn list_halves<
     'index,
     R: Threads + Wait,

@@ -1,4 +1,4 @@
-//! Who is given the entries of a status with untracked files, renames and copies.
+//! Collectors, which get the entries of a status with untracked files, renames and copies.
 
 ghost use Rattle.std.specs.Prelude.{◌≡◌, ◌++◌, ◌∷◌, [], Bool, IsTrue, List, OnOk, OnErr};
 ghost use Rattle.status_joined.specs.Items.{Reported};
@@ -7,14 +7,14 @@ ghost use Rattle.status_joined.specs.Entries.{reported_entry};
 use crate::index_as_worktree_with_renames::entry::Entry;
 use std::alloc::{AllocError, Global};
 
-/// Who is given the entries of a status. Its meaning is the list of what it was given.
+/// A collector, which gets the entries of a status. Its specification is the list of the entries that it took.
 pub trait VisitEntry<'index> {
-    /// What a comparer reports of a change.
+    /// A comparer's report of a change.
     type ContentChange;
-    /// What a submodule reports of a change.
+    /// A submodule's report of a change.
     type SubmoduleStatus;
 
-    /// What it was given so far.
+    /// The entries that it took so far.
     ghost visits: { Self → List (Reported Self.ContentChange Self.SubmoduleStatus) };
 
     /// Whether it may fail to take an entry.
@@ -23,7 +23,7 @@ pub trait VisitEntry<'index> {
     /// Takes an entry.
     ///
     /// # Errors
-    /// Want of memory; then it wasn't taken.
+    /// If it is out of memory. Then the entry wasn't taken.
     fn visit_entry(
         &mut self,
         entry: Entry<'index, Self::ContentChange, Self::SubmoduleStatus>,
@@ -32,7 +32,7 @@ pub trait VisitEntry<'index> {
         ensures err { OnErr result (IsTrue fails × (visits self.new ≡ visits self.old)) };
 }
 
-/// Keeps the entries of a status in a list. One that is refused memory stays as it was.
+/// Keeps the entries of a status in a list. If an allocation fails, the list is unchanged.
 #[derive(Debug, Drop)]
 pub struct Recorder<'index, T, U> {
     /// The entries, in the order in which they came.
@@ -43,7 +43,7 @@ impl<'index, T, U> Recorder<'index, T, U> {
     ghost use Rattle.std.specs.Prelude.{◌≡◌, []};
     ghost use Rattle.status_joined.specs.RecorderItems.{reported_of_recorder};
 
-    /// A recorder with no entry.
+    /// Returns a recorder with no entry.
     pub fn new(alloc: Global) -> Recorder<'index, T, U>
         ensures { reported_of_recorder result ≡ [] }
     {

@@ -1,10 +1,10 @@
-//! What the search for renames and copies found.
+//! The outcome of the search for renames and copies.
 
-/// How many renames and copies were found.
+/// The numbers of renames and copies that were found.
 #[derive(Clone, Copy, Debug, Default, PartialEq, Eq)]
 pub struct Outcome {
-    /// The renames.
+    /// The number of renames.
     pub renames: usize,
-    /// The copies.
+    /// The number of copies.
     pub copies: usize,
 }

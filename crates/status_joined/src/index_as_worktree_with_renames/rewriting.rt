@@ -1,4 +1,4 @@
-//! The list with its renames and copies, and how it is reported.
+//! The list with its renames and copies, and its report.
 
 ghost use Rattle.std.specs.Prelude.{◌≡◌, IfOk, map, not, All};
 ghost use Rattle.std.specs.List.{count_by};
@@ -19,14 +19,14 @@ use status_base::index::HashKind;
 use status_rewrites::{Pair, Rewrites, Rewritten, Tracker, rewrite};
 use std::alloc::Global;
 
-/// A list with its renames and copies, and how many there are.
+/// A list with its renames and copies, and their numbers.
 #[derive(Drop)]
 pub(crate) struct RewrittenList<'index, T, U> {
     pub(crate) entries: Vec<Rewritten<ModificationOrDirwalkEntry<'index, T, U>>>,
     pub(crate) outcome: Outcome,
 }
 
-/// How many of the pairs are renames, and how many are copies.
+/// Counts the renames and the copies among the pairs.
 fn count(pairs: &[Pair]) -> Outcome
     ensures renames { result.renames ≡ count_by (λ p. not p.copy) pairs.now }
     ensures copies { result.copies ≡ count_by (λ p. p.copy) pairs.now }
@@ -38,11 +38,11 @@ fn count(pairs: &[Pair]) -> Outcome
     }
 }
 
-/// Gives the list's nodes their ids, asks the tracker, and rewrites the list by what it answers.
+/// Computes the ids of the list's nodes, asks the tracker, and rewrites the list by the tracker's pairs.
 ///
 /// # Errors
-/// The fault of the first node that has no id. The tracker's refusal, or the first of its pairs that breaks a rule. Want
-/// of memory.
+/// The fault of the first node whose id can't be computed; or the tracker's refusal, or the first of its pairs that
+/// breaks a rule. `Error::Memory` if an allocation fails.
 fn rewrite_list<'index, N: Identify, X: Tracker, T: ExactClone, U: ExactClone>(
     alloc: Global,
     kind: HashKind,
@@ -68,11 +68,12 @@ fn rewrite_list<'index, N: Identify, X: Tracker, T: ExactClone, U: ExactClone>(
     }
 }
 
-/// Reports a list to a collector: each item alone, or, where the options have `rewrites`, the list that `rewrite_list` gives.
-/// Gives how many renames and copies there are, where they are looked for.
+/// Reports a list to a collector. If the options have `rewrites`, this is the list that `rewrite_list` returns;
+/// otherwise each item alone. Returns the numbers of renames and copies if they are searched for.
 ///
 /// # Errors
-/// Those of `rewrite_list`; then nothing was reported. The collector's want of memory; then a beginning was reported.
+/// Those of `rewrite_list`. Then nothing was reported. `Error::Memory` also if the collector is out of memory. Then the
+/// entries before the one that it didn't take were reported.
 pub(crate) fn report_list<'index, N: Identify, X: Tracker + Drop, V: VisitEntry<'index>>(
     alloc: Global,
     ids: &N,

@@ -7,16 +7,17 @@ pub enum Summary {
     Removed,
     /// The worktree has it, and the index doesn't: an untracked node.
     Added,
-    /// Its content changed, or whether it is executable. Of a submodule: whatever that reports as a change.
+    /// Its content changed, or whether it is executable. For a submodule: anything that it reports as a change.
     Modified,
-    /// A node of another type is there, as a link in place of a file.
+    /// A node of another type is there, for example a link in place of a file.
     TypeChange,
-    /// A file or link that the index has under another path, where it isn't any more. Reported where renames are tracked.
+    /// A file or link that the index has under another path, where it no longer is. Reported if renames are tracked.
     Renamed,
-    /// A file or link that has its content from another path, where it still is. Reported where a tracker finds copies.
+    /// A file or link with the content of another path, where it still is. Reported if a tracker finds copies.
     Copied,
-    /// The index has it as a promise alone, which `git add` is still to keep, and it is there. It wasn't compared.
+    /// The index has only its path, with the mark that it is intended to be added (`git add -N`), and the worktree has
+    /// it. It wasn't compared.
     IntentToAdd,
-    /// The index has it at a stage of a merge. It wasn't looked for in the worktree.
+    /// The index has it at a stage of a merge. It wasn't looked up in the worktree.
     Conflict,
 }

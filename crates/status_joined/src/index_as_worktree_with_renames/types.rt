@@ -1,4 +1,4 @@
-//! What a status with untracked files, renames and copies takes, and what it answers.
+//! The options, inputs and outcome of a status with untracked files, renames and copies.
 
 use crate::index_as_worktree_with_renames::rewrites;
 use status_base::index::HashKind;
@@ -9,29 +9,30 @@ use std::sync::atomic::AtomicBool;
 /// How the entries are sorted.
 #[derive(Clone, Copy, Debug, Default, PartialEq, Eq, PartialOrd, Ord, Hash)]
 pub enum Sorting {
-    /// By the bytes of their paths: of a rename or a copy, of the path of what it became. At equal paths the index's
-    /// entries come first.
+    /// By the bytes of their paths, for a rename or a copy by its destination's path. At equal paths entries of the
+    /// index come first.
     #[default]
     ByPathCaseSensitive,
 }
 
-/// How a status is computed. By default nothing is sorted, ids are SHA-1's, the options of the index's status are their
-/// own defaults, no listing is used, nothing is walked, and no renames or copies are looked for.
+/// The options of a status. By default nothing is sorted, ids are SHA-1, the status of the index has its own defaults,
+/// no listing is used, there is no walk, and no renames or copies are searched for.
 #[derive(Clone, Drop)]
 pub struct Options {
-    /// How the entries are sorted. Where it is None the index's entries come in their order, and then what the walk
-    /// found, in its own.
+    /// How the entries are sorted. If it is None, the index's entries come first in index order, followed by the walk's
+    /// nodes in its own order.
     pub sorting: Option<Sorting>,
-    /// The kind of the ids that are computed of what the walk found.
+    /// The kind of the ids that are computed for the walk's nodes.
     pub object_hash: HashKind,
-    /// How the status of the index is computed. Its own `fscache` isn't looked at.
+    /// The options of the status of the index. Its own `fscache` is ignored.
     pub tracked_file_modifications: index_as_worktree::Options,
-    /// Whether listings of directories stand in place of `lstat` in the status of the index, as the option of that name
-    /// has it there.
+    /// Whether the status of the index uses listings of directories instead of `lstat`, like the option `fscache` of
+    /// that status.
     pub fscache: bool,
-    /// Whether the worktree is walked for what the index doesn't have. Where it isn't, only entries of the index come.
+    /// Whether there is a walk, which finds the nodes of the worktree that the index doesn't have. Otherwise only
+    /// entries of the index are reported.
     pub dirwalk: bool,
-    /// Which renames and copies are looked for among what is gone and what the walk found. None are where it is None.
+    /// Which renames and copies are searched for, among removed entries and the walk's nodes. None if it is None.
     pub rewrites: Option<Rewrites>,
 }
 
@@ -53,37 +54,37 @@ impl Default for Options {
     }
 }
 
-/// What the walk is done with.
+/// The interface that the walk needs.
 #[derive(Drop)]
 pub struct DirwalkContext<K> {
-    /// Finds what lies in the worktree.
+    /// Finds the nodes of the worktree.
     pub walk: K,
 }
 
-/// What a status is computed with.
+/// The interfaces that a status needs.
 #[derive(Drop)]
 pub struct Context<'a, P, T, L, K, X> {
-    /// Which paths are looked at, in the index and in the worktree.
+    /// Decides which paths are included, of the index and of the worktree.
     pub pathspec: P,
-    /// How files are converted to what git stores.
+    /// Converts files to the bytes that git stores.
     pub filter: T,
-    /// Listings of directories, which are read where the options have `fscache`.
+    /// Lists directories, if the options have `fscache`.
     pub lister: L,
-    /// Once it is seen set the status ends early. None is never set.
+    /// The interrupt flag. If it is seen set, the status ends early. None is never set.
     pub should_interrupt: Option<&'a AtomicBool>,
-    /// What the walk is done with, where the options have `dirwalk`.
+    /// The interface that the walk needs. It is used if the options have `dirwalk`.
     pub dirwalk: DirwalkContext<K>,
-    /// Finds the renames and copies, where the options have `rewrites`.
+    /// Finds renames and copies, if the options have `rewrites`.
     pub tracker: X,
 }
 
-/// What a status took.
+/// How each part of a status ended.
 #[derive(Clone, Debug, Default, Drop)]
 pub struct Outcome {
-    /// What the status of the index took.
+    /// The counts of the status of the index.
     pub tracked_file_modification: index_as_worktree::Outcome,
-    /// How the walk ended. None where the options don't have `dirwalk`.
+    /// How the walk ended. None if the options don't have `dirwalk`.
     pub dirwalk: Option<status_walk::Outcome>,
-    /// How many renames and copies there are. None where the options don't have `rewrites`.
+    /// The numbers of renames and copies. None if the options don't have `rewrites`.
     pub rewrites: Option<rewrites::Outcome>,
 }

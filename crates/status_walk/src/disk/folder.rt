@@ -1,4 +1,4 @@
-//! A folder of the disk, of which directories are listed.
+//! A folder of the disk, whose directories are listed.
 
 use status_base::worktree::Fault;
 use status_base::worktree::disk::fault_of;
@@ -12,12 +12,12 @@ use std::{fs, io};
 #[derive(Drop)]
 pub(crate) struct Folder<R> {
     rt: R,
-    // What stands before a path: the folder's own path and a slash, or nothing for the working folder.
+    // The text before each path: the folder's own path and a slash, or nothing for the working folder.
     front: String,
 }
 
 impl<R: Files + AllocGlobal + Clone + Drop> Folder<R> {
-    /// The folder at a path, where an empty path is the working folder.
+    /// Returns the folder at a path. An empty path is the working folder.
     pub(crate) fn new(rt: R, root: Path<'_>) -> Result<Folder<R>, AllocError> {
         let mut front = String::from_str(rt.alloc(), root.as_str())?;
         if !front.is_empty() {
@@ -26,7 +26,7 @@ impl<R: Files + AllocGlobal + Clone + Drop> Folder<R> {
         Ok(Folder { rt, front })
     }
 
-    /// Takes the memory of a walk over the folder.
+    /// Returns the allocator for a walk over the folder.
     pub(crate) fn alloc(&self) -> Global {
         self.rt.alloc()
     }
@@ -34,7 +34,7 @@ impl<R: Files + AllocGlobal + Clone + Drop> Folder<R> {
     /// Lists a directory, by its path from the folder. The folder's own path is empty.
     ///
     /// # Errors
-    /// The system's fault, or want of memory.
+    /// The system's fault, or that memory ran out.
     pub(crate) fn list(&self, directory: &str) -> Result<ReadDir<R>, Fault> {
         let mut path = String::from_str(self.rt.alloc(), self.front.as_str())?;
         path.push_str(directory)?;
@@ -45,7 +45,8 @@ impl<R: Files + AllocGlobal + Clone + Drop> Folder<R> {
     }
 }
 
-/// What a listing found, or its fault. A name that isn't UTF-8 is one: it can't be had.
+/// Returns the entry of a listing, or its fault. A name that isn't UTF-8 is the fault `IllformedUtf8`: the system can't
+/// return it.
 pub(crate) fn found<R: Files>(listed: io::Result<DirEntry<R>>) -> Result<DirEntry<R>, Fault> {
     match listed {
         Ok(entry) => Ok(entry),

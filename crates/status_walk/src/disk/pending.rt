@@ -1,4 +1,4 @@
-//! What a walk is still to visit.
+//! The nodes that a walk still has to visit.
 
 use crate::{Kind, WalkError};
 use bstr::{BStr, BString};
@@ -6,8 +6,8 @@ use status_base::worktree::{Fault, NodeKind, Worktree};
 use std::alloc::Global;
 use std::collections::BTreeMap;
 
-/// What a walk is still to visit, in ascending order of the paths. A directory's path ends in a slash, so that it stands
-/// where the paths below it do.
+/// The nodes that a walk still has to visit, in ascending order of their paths. A directory's path ends in a slash, so
+/// that it has the position of the paths below it.
 #[derive(Drop)]
 pub(crate) struct Pending {
     alloc: Global,
@@ -15,10 +15,10 @@ pub(crate) struct Pending {
 }
 
 impl Pending {
-    /// The folder itself, whose path is empty.
+    /// Returns the folder itself, whose path is empty, as the only node to visit.
     ///
     /// # Errors
-    /// Want of memory.
+    /// If an allocation fails.
     pub(crate) fn root(alloc: Global) -> Result<Pending, WalkError> {
         let mut pending = Pending {
             alloc,
@@ -28,15 +28,15 @@ impl Pending {
         Ok(pending)
     }
 
-    /// Takes the first node out.
+    /// Removes the first node, and returns it.
     pub(crate) fn pop(&mut self) -> Option<(String, Kind)> {
         self.nodes.pop_first()
     }
 
-    /// Adds what has a name in a directory. What is gone already is passed over.
+    /// Adds the node of this name in a directory. A node that is already gone is skipped.
     ///
     /// # Errors
-    /// The fault of its `lstat`, or want of memory.
+    /// The fault of its `lstat`, or that memory ran out.
     pub(crate) fn add<W: Worktree>(
         &mut self,
         worktree: &W,
@@ -64,7 +64,7 @@ impl Pending {
     }
 }
 
-/// What a node is as an entry of a walk.
+/// Returns the type of a node in a walk's entry.
 fn kind_of(kind: NodeKind) -> Kind {
     match kind {
         NodeKind::File => Kind::File,
@@ -74,7 +74,7 @@ fn kind_of(kind: NodeKind) -> Kind {
     }
 }
 
-/// A fault that was met at a path.
+/// Returns the error for a fault at a path. Out of memory is `WalkError::Memory`, also if the path can't be copied.
 pub(crate) fn fault_at(alloc: Global, path: &str, fault: Fault) -> WalkError {
     match BString::from_slice(alloc, path) {
         Ok(rela_path) if fault != Fault::Memory => WalkError::Fault { rela_path, fault },

@@ -9,6 +9,6 @@ use Rattle.status_rewrites.proofs.join.join.Given as goal
 abbrev pub invariant-loop-source : goal.invariant-loop-source
 invariant-loop-source l = Joined key_cmp key_total changed_of rename_of l.gone l.came l.source l.destination l.pairs.items
 
--- each turn goes past a change of one side
+-- Each iteration passes a change of one side.
 abbrev pub decreases-loop-source : goal.decreases-loop-source
 decreases-loop-source l = (length l.gone - l.source) + (length l.came - l.destination)

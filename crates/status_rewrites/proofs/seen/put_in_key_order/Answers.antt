@@ -6,7 +6,7 @@ use Rattle.status_rewrites.specs.SeenItems.{changed_of}
 use Rattle.status_rewrites.proofs.Keys.{key_total, sorted_by, kept_by}
 use Rattle.status_rewrites.proofs.seen.put_in_key_order.Goals as goal
 
--- any change is that of something read
+-- Every change is the change of some `Seen`.
 pub returns-clause-rows : goal.returns-clause-rows
 returns-clause-rows c key =
     kept_by key_cmp key_total changed_of _ _ _ _ c.sort_by.ensures.stable
