@@ -5,7 +5,8 @@ use Rattle.status_index.specs.declared.metadata.Metadata.{Metadata}
 use Rattle.status_base.specs.Paths.{is_slash}
 use Rattle.status_base.specs.LinkCheck.{barrier_of}
 
--- The worktree's root, the path whose proper directory prefixes were found open, and how often `lstat` was called.
+-- A check returns what a new one would if what it found open still is; the lenient one accepts missing directories. Its state is
+-- the worktree's root, the path whose proper directory prefixes were found open, and how often `lstat` was called.
 pub record CheckState : Type 0 where
   pub root : List ℕ
   pub path : List ℕ

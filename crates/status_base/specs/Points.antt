@@ -13,7 +13,8 @@ with_fault planted Open fault = record planted { opening = Some fault }
 with_fault planted ReadLink fault = record planted { read_link = Some fault }
 with_fault planted (Read count) fault = record planted { reads = map.insert planted.reads count fault }
 
--- The fault is planted at a point of a path. After an error the tree is unchanged.
+-- A worktree in memory has nodes by path, and faults planted at calls of a path, which come first. Here a fault is planted at a
+-- point of a path. After an error the tree is unchanged.
 abbrev pub IsPlanted : {A E : Type 0} → Tree → List ℕ → Point → Fault → Result A E → Tree → Type 0
 IsPlanted old path point fault (Ok _) new =
     new ≡ record old { planted = map.insert old.planted path (with_fault (planted_at old path) point fault) }

@@ -9,7 +9,7 @@ use Rattle.status_index.specs.declared.fault.Fault.{Fault}
 use Rattle.status_index.specs.declared.metadata.Metadata.{Metadata}
 use Rattle.status_base.specs.MemoryTree.{Placed, Planted, PathMap, Tree}
 
--- There are no nodes and no planted faults.
+-- A worktree in memory has nodes by path, and faults planted at calls of a path, which come first. The empty tree has neither.
 abbrev pub empty_tree : Tree
 empty_tree = record { nodes = map.empty; planted = map.empty }
 
