@@ -28,7 +28,7 @@ IsVerified check path (Ok answer) = (check ≡ accepted) × (bstr_bytes answer �
 IsVerified check path (Err e) = IsRefused check e
 
 -- A check returns what a new one would if what it found open still is; the lenient one accepts missing directories. This is for
--- `verified_path`. An accepted path is returned below the root.
+-- `verified_path`. An accepted path is returned, joined to the root.
 abbrev pub IsVerifiedBy : (List ℕ → Result Metadata Fault) → CheckState → List ℕ → Result BStr StackError → Type 0
 IsVerifiedBy lstat old path result = IsClear lstat old.path → IsVerified (link_check lstat path) (joined old.root path) result
 

@@ -53,12 +53,13 @@ abbrev pub put_fault : Tree → List ℕ → NodeKind → Option TreeError
 put_fault tree path kind =
     if is_bad_path path then Some BadPath else (if is_in_the_way tree path kind then Some InTheWay else None)
 
--- The nodes below a path are looked up, which takes memory: the path isn't bad, and no node above it is in the way.
+-- The checks of a put that need no memory are passed: the path isn't bad, and no node above it is in the way. Looking up the
+-- nodes below it takes memory.
 abbrev pub IsLookedBelow : Tree → List ℕ → Type 0
 IsLookedBelow tree path = (is_bad_path path ≡ false) × (has_file_above tree path ≡ false)
 
 -- A node is put unless its path isn't normal, or a node that isn't a directory would be above another. After an error the tree
--- is unchanged. Memory can only run out once the nodes below the path are looked up.
+-- is unchanged. Memory can only run out after the checks that need none.
 abbrev pub IsPut : {A : Type 0} → Tree → List ℕ → Placed → Result A TreeError → Tree → Type 0
 IsPut old path placed (Ok _) new =
     (put_fault old path placed.metadata.kind ≡ None) × (new ≡ record old { nodes = paths.insert old.nodes path placed })

@@ -37,7 +37,7 @@ lies_above directory path = starts_with nat_eq path (directory ++ 47 ∷ [])
 abbrev pub new_directories : List ℕ → List ℕ → List (List ℕ)
 new_directories tested path = filter (λ d. not (lies_above d tested)) (directories path)
 
--- A path below a root. It is the path alone if the root is empty.
+-- A path joined to a root. It is the path alone if the root is empty.
 abbrev pub joined : List ℕ → List ℕ → List ℕ
 joined [] path = path
 joined (b ∷ root) path = (b ∷ root) ++ 47 ∷ path

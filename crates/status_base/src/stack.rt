@@ -48,7 +48,7 @@ impl SymlinkCheck {
     ghost use Rattle.status_base.specs.contracts.stack.SymlinkCheck.{the_row};
     ghost use Rattle.status_base.specs.CheckAnswers.{IsVerifiedBy, IsLenientBy, IsNamed, IsNormal, IsAfterVerified, IsAfterLenient};
 
-    /// Returns a check of paths below a root. If the root is empty, a path is returned without anything before it.
+    /// Returns a check of paths below a root. If the root is empty, nothing is joined to a path.
     pub fn new(alloc: Global, root: BString) -> SymlinkCheck
         ensures { result ≡ record { root = bstring_bytes root; path = []; looks = 0 } }
     {
@@ -76,8 +76,8 @@ impl SymlinkCheck {
         self.parts.looks
     }
 
-    /// Returns the path below the root, if no directory above it is a symbolic link or has a fault. The node at the
-    /// path itself isn't checked.
+    /// Returns the path joined to the root, if no directory above it is a symbolic link or has a fault. The node at
+    /// the path itself isn't checked.
     ///
     /// # Errors
     /// The first of these that applies:
@@ -138,7 +138,7 @@ struct Parts {
     root: BString,
     /// The root, then the last queried path that was neither empty nor abnormal.
     buffer: Vec<u8>,
-    /// The position in the buffer where the path begins.
+    /// The position of the path in the buffer.
     start: usize,
     /// The length of the front of the path that is known to have no link or fault above it.
     tested: usize,
@@ -156,8 +156,8 @@ impl Parts {
     ghost use Rattle.status_base.specs.Barriers.{OnReached};
     ghost use Rattle.status_base.specs.CheckParts.{state_of};
 
-    /// Tests a path, and leaves it below the root in the buffer. `lstat` isn't called again for directories that are
-    /// also above the tested path.
+    /// Tests a path, and leaves it in the buffer, joined to the root. `lstat` isn't called again for directories that
+    /// are also above the tested path.
     ///
     /// # Errors
     /// The errors of `verified_path`.
@@ -204,8 +204,8 @@ impl Parts {
         common_front(&self.buffer[self.start..self.start + self.tested], path)
     }
 
-    /// Writes a path below the root. The first `common` bytes of the path are left in the buffer, as they are those of
-    /// the tested path. Afterwards no path is tested, even if the call ran out of memory.
+    /// Writes a path into the buffer, joined to the root. The first `common` bytes of the path are left in the buffer,
+    /// as they are those of the tested path. Afterwards no path is tested, even if the call ran out of memory.
     ///
     /// # Errors
     /// Out of memory.
@@ -231,8 +231,8 @@ impl Parts {
     }
 }
 
-/// Replaces the content of a buffer by a path below a root, and returns where the path begins. An empty root adds
-/// nothing before the path.
+/// Replaces the content of a buffer by a path joined to a root, and returns the position of the path. An empty root
+/// adds nothing before the path.
 ///
 /// # Errors
 /// Out of memory.

@@ -23,7 +23,7 @@ pub enum Refused {
 }
 
 /// Works through the pieces, with one worker for each state in `crew`. Returns the results of the pieces in order, up
-/// to the first short one or the last, for every schedule.
+/// to the first that ended short or the last. This holds for every schedule.
 ///
 /// One worker works in the caller's thread, each other one in a thread of its own. `stack_size` is the size of a
 /// thread's stack in bytes, or None for the usual size. All threads that were started are joined, even if a thread

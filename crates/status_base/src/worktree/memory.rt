@@ -175,8 +175,8 @@ impl MemoryWorktree {
         self.nodes.remove(path.as_bytes())
     }
 
-    /// Plants a fault at a call on a path, replacing the one planted there. The call returns it before anything else,
-    /// whether or not a node is at the path. Calls on the paths below aren't affected.
+    /// Plants a fault at a call on a path, replacing the one planted at the same call. The call returns it before
+    /// anything else, whether or not a node is at the path. Calls on the paths below aren't affected.
     ///
     /// # Errors
     /// Out of memory. The worktree is then unchanged.

@@ -16,8 +16,8 @@ pub trait Pathspec: Clone {
     ghost included: { Self → List ℕ → Bool → Bool };
 
     /// Returns the prefix by which entries are searched. Only entries whose path begins with it are considered; if no
-    /// path does, all are. So an included path that doesn't begin with the prefix is left out if another path does. An
-    /// empty prefix excludes nothing.
+    /// path does, all are. So an included path that doesn't begin with the prefix is left out if another entry's path
+    /// does. An empty prefix excludes nothing.
     fn common_prefix(&self) -> BStr<'_>
         ensures { bstr_bytes result ≡ prefix self.now };
 
