@@ -40,7 +40,7 @@ type Handle<'a, K> = PromisedHandle<Answer<<K as Work>::Out>, Brings<'a, K>>;
 #[derive(Drop)]
 pub(crate) struct Crew<'a, K: Work> {
     pub(crate) alloc: Global,
-    /// The size of each worker's stack in bytes, or None for the usual size.
+    /// The stack size of each worker's thread in bytes, or None for the usual size.
     pub(crate) stack_size: Option<usize>,
     pub(crate) work: &'a K,
     pub(crate) board: &'a Board,
@@ -135,7 +135,7 @@ where
         or_refused(gather(started.join_all(rt, self.alloc), own))
     }
 
-    // Starts a thread for each worker, until one can't be started.
+    // Starts a thread for each worker, until one can't be started or there is no memory for its handle.
     fn start<E, R: Threads>(
         &self,
         rt: &R,
