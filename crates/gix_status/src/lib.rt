@@ -1,6 +1,6 @@
 //! The names for callers: the modules of the Rust crate gix-status, and no code.
 //!
-//! Each module names the items of the crate below that has them.
+//! Each module re-exports items of the crates below.
 #![tactic(auto)]
 
 pub mod index_as_worktree;

@@ -1,4 +1,4 @@
-//! Walks over a worktree: what lies in it beside the entries of an index.
+//! Walks over a worktree: the files and links in it that no index entry has.
 
 pub use status_walk::{
     Action, Delegate, DirEntry, DiskWalk, Kind, Outcome, Status, UntrackedWalk, Walk, WalkError,

@@ -65,7 +65,7 @@ any-placed p (e ∷ es) = ap (λ b. p e.0.items || b) (any-placed p es)
 any_key : (p : List ℕ → Bool) (es : Nodes) → list_any p (paths.keys (placed_nodes es)) ≡ list_any (λ e. p e.0.items) es
 any_key p es = any-from_entries p (placed_entries es) ∙ any-placed p es
 
--- ---- what begins with a front stands together in the order
+-- ---- paths that begin with a front are next to each other in the order
 
 abbrev has_front : List ℕ → List ℕ → Bool
 has_front front path = starts_with nat_eq path front
@@ -73,7 +73,7 @@ has_front front path = starts_with nat_eq path front
 Equal_itself : (a c : ℕ) → nat_eq a c ≡ true → nat_cmp a c ≡ Equal
 Equal_itself a c h = subst (λ x. nat_cmp a x ≡ Equal) (eqb-true a c h) (tied_itself nat_cmp_total a)
 
--- a path is not below its front
+-- a front isn't after a path that begins with it, in the order
 front_le : (f k : List ℕ) → has_front f k ≡ true → is_le (path_cmp f k) ≡ true
 front_le [] [] h = refl
 front_le [] (c ∷ k) h = refl
@@ -85,7 +85,7 @@ front_le (a ∷ f) (c ∷ k) h =
 less≢greater : Less ≡ Greater → ⊥
 less≢greater e = true≢false (ap is_le e)
 
--- what stands between a front and a path that begins with it begins with it too
+-- a path between a front and a path that begins with it begins with it too
 front_between : (f e k : List ℕ) → is_le (path_cmp f e) ≡ true → path_cmp e k ≡ Less → has_front f k ≡ true → has_front f e ≡ true
 front_between [] e k le lt h = refl
 front_between (a ∷ f) [] k le lt h = absurd (true≢false (sym le))
@@ -109,7 +109,7 @@ first_has_front front (e ∷ es) = has_front front e.0.items
 abbrev has_front_at : List ℕ → Vec ℕ × Node → Bool
 has_front_at front e = has_front front e.0.items
 
--- where a path from the front on does not begin with it, none after it does
+-- if a path from the front on doesn't begin with it, none after that path does
 none_after : (front e : List ℕ) (es : Nodes) → is_le (path_cmp front e) ≡ true → has_front front e ≡ false
     → AllByRecursion (λ (y : Vec ℕ). path_cmp e y.items ≡ Less) (keys_of es) → list_any (has_front_at front) es ≡ false
 none_after front e [] le lacks all = refl
@@ -140,7 +140,7 @@ any-by_first front (e ∷ es) ordered =
       | false ↦ λ t. ap (λ b. b || list_any (has_front_at front.items) es) (no_front_above front.items e.0.items t) ∙ any-by_first front es (sorted_tail key_cmp e.0 (keys_of es) ordered)
     ] refl
 
--- whether a node lies below a path, by the first path from `path/` on
+-- whether a node is below a path, by the first path from `path/` on
 pub below-by_first : (front : Vec ℕ) (es found : Nodes) (faults : Faults) (tree : Tree) (path : List ℕ) → tree_of es faults ≡ tree → front.items ≡ path ++ 47 ∷ []
     → IsStrictlySortedBy key_cmp (keys_of es) → found ≡ entries_between key_cmp (Included front) Unbounded es
     → first_has_front front.items found ≡ has_below tree path

@@ -1,4 +1,4 @@
--- What two paths with a common front share.
+-- Facts about two paths with a common front.
 use Rattle.std.proofs.Common.{◌≡◌, ℕ, zero, suc, ◌+◌, ◌-◌, ◌<◌, ◌≤◌, Bool, true, false, not, cond, IsTrue, List, [], ◌∷◌, ◌++◌, length, take, drop, Option, Some, None, Result, slice_index, nat_eq, refl, sym, ◌∙◌, ap, subst, inl, inr, arith, add-one, append_assoc, if◌then◌else◌}
 use Rattle.std.specs.List.{find, filter, onto_first}
 use Rattle.std.specs.Option.{option_or}
@@ -26,7 +26,7 @@ byte_same : (n k : ℕ) (xs ys : List ℕ) → take n xs ≡ take n ys → k < n
 byte_same n k xs ys same within =
     sym (get_or-take n xs k 0 within) ∙ ap (λ (v : List ℕ). slice_index v k) same ∙ get_or-take n ys k 0 within
 
--- where the one path is clear, the other is so in the common front
+-- if one path is clear, the other is clear within the common front
 pub clear_common : (lstat : List ℕ → Result Metadata Fault) (tested path : List ℕ) (n : ℕ) → IsCommon tested path n → IsClear lstat tested → IsClearBelow lstat path n
 clear_common lstat tested path n common clear k below slash =
     let P : ℕ → Type 0 = λ b. IsTrue (is_slash b) in
@@ -38,12 +38,12 @@ pub joined_behind : (root path : List ℕ) → joined root path ≡ joined root 
 joined_behind [] path = refl
 joined_behind (b ∷ root) path = sym (append_assoc (b ∷ root) (47 ∷ []) path)
 
--- what stands before a path below a root, and behind it
+-- a buffer with a path below a root has two parts: the text before the path, and the path
 pub joined_parts : (root path items : List ℕ) (start : ℕ) → length (joined root []) ≡ start → items ≡ joined root path → (take start items ≡ joined root []) × (drop start items ≡ path)
 joined_parts root path items start long is =
     (ap (take start) (is ∙ joined_behind root path) ∙ take_at (joined root []) path start long, ap (drop start) (is ∙ joined_behind root path) ∙ drop_at (joined root []) path start long)
 
--- a buffer is cut behind the common front, and the rest of the other path put behind it
+-- a buffer is cut after the common front, and the rest of the other path is appended
 pub joined_again : (root path items : List ℕ) (start tested n : ℕ) → take start items ≡ joined root [] → IsCommon (take tested (drop start items)) path n → take (start + n) items ++ drop n path ≡ joined root path
 joined_again root path items start tested n below common =
     let within : n ≤ tested = omega (arith, common.within_one, length-take tested (drop start items)) in
@@ -67,7 +67,7 @@ split_at_slash (x ∷ xs) ys b slash =
     ap (λ (v : List (List ℕ)). cond (is_slash x) ([] ∷ v) (onto_first x v)) (split_at_slash xs ys b slash)
     ∙ split_step (is_slash x) x (components xs) (components ys) (omega (arith, length-slice_split is_slash xs))
 
--- the components before a slash, and those behind it
+-- the components before a slash, and those after it
 components_split : (path : List ℕ) (at : ℕ) → at < length path → IsTrue (is_slash (slice_index path at)) → components path ≡ components (take at path) ++ components (drop (at + 1) path)
 components_split path at within slash =
     ap components (sym (take-append-drop at path) ∙ ap (λ (v : List ℕ). take at path ++ v) (drop_more path at 0 within))
@@ -82,12 +82,12 @@ none_first : (a b : Option (List ℕ)) → option_or a b ≡ None → a ≡ None
 none_first None b h = refl
 none_first (Some x) b h = h
 
--- where no component is abnormal, none is before a slash
+-- if no component is abnormal, none before a slash is
 pub normal_front : (path : List ℕ) (at : ℕ) → at < length path → IsTrue (is_slash (slice_index path at)) → abnormal_component path ≡ None → abnormal_component (take at path) ≡ None
 normal_front path at within slash normal =
     none_first (abnormal_component (take at path)) (abnormal_component (drop (at + 1) path)) (sym (abnormal_split path at within slash) ∙ normal)
 
--- where the one path has no abnormal component, the other has its first behind the last slash in common
+-- if one path has no abnormal component, the first one of the other begins after the last slash in common
 pub abnormal_behind : (tested path : List ℕ) (n first : ℕ) → IsCommon tested path n → (0 < n → abnormal_component tested ≡ None) → first ≤ n → (0 < first → IsTrue (is_slash (slice_index (take n path) (first - 1)))) → abnormal_component path ≡ abnormal_component (drop first path)
 abnormal_behind tested path n zero common normal within slash = refl
 abnormal_behind tested path n (suc k) common normal within slash =
@@ -107,7 +107,7 @@ false_unless : (b : Bool) → (b ≡ true → ⊥) → b ≡ false
 false_unless true h = absurd (h refl)
 false_unless false h = refl
 
--- a directory that ends behind the common front doesn't stand above the other path
+-- a directory whose slash is after the common front isn't above the other path
 not_above : (tested path : List ℕ) (n k : ℕ) → IsCommon tested path n → n ≤ k → k < length path → IsTrue (is_slash (slice_index path k)) → lies_above (take k path) tested ≡ true → ⊥
 not_above tested path n k common behind within slash above =
     let front : List ℕ = take k path ++ 47 ∷ [] in
@@ -129,7 +129,7 @@ new_last p d true new =
     let one : filter p (d ∷ []) ≡ d ∷ [] = ap (λ (b : Bool). cond b (d ∷ []) []) (new refl) in omega (arith, ap length one)
 new_last p d false new = omega arith
 
--- of the directories that end behind the common front each is new
+-- each directory whose slash is after the common front is new
 pub new_counted : (tested path : List ℕ) (n m : ℕ) → IsCommon tested path n → m ≤ length path → length (directories_below path m) ≤ length (directories_below path n) + length (filter (λ (d : List ℕ). not (lies_above d tested)) (directories_below path m))
 new_counted tested path n zero common within = omega arith
 new_counted tested path n (suc m) common within =
@@ -142,13 +142,13 @@ new_counted tested path n (suc m) common within =
           omega (arith, new_counted tested path n m common (omega arith), length-append (directories_below path m) last))
     ]
 
--- the abnormal component of a path by what stands behind the last slash in common
+-- the abnormal component of a path is that of the rest after the last slash in common
 pub abnormal_first : (path items : List ℕ) (start tested n first : ℕ) → IsCommon (take tested (drop start items)) path n → (0 < tested → abnormal_component (take tested (drop start items)) ≡ None) → first ≤ length (take n path) → (0 < first → IsTrue (is_slash (slice_index (take n path) (first - 1)))) → abnormal_component path ≡ abnormal_component (take (length path - first) (drop first path))
 abnormal_first path items start tested n first common normal within slash =
     abnormal_behind (take tested (drop start items)) path n first common (λ some. normal (omega (arith, common.within_one, length-take tested (drop start items)))) (omega (arith, length-take n path)) slash
     ∙ ap abnormal_component (sym (take_rest path first))
 
--- of a path that is all that stands behind a place
+-- if the rest of a buffer is a path, as many bytes of the rest as the path has are the path
 pub whole_behind : (path items : List ℕ) (start : ℕ) → drop start items ≡ path → take (length path) (drop start items) ≡ path
 whole_behind path items start is = ap (take (length path)) is ∙ take_all (length path) path (omega arith)
 

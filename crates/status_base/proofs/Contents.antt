@@ -89,7 +89,7 @@ contents-get : (es : Held) (contents : Contents) (k : ObjectId) → contents_of 
     → items_of (lookup (λ x. is_eq (cmp k x)) es) ≡ ids.get contents k
 contents-get es contents k is = ap items_of (found_by_id k es) ∙ sym (get-content es k) ∙ ap (λ (c : Contents). ids.get c k) is
 
--- what a look-up in the contents finds
+-- the result of a look-up in the contents
 pub contents-found : (es : Held) (contents : Contents) (k : ObjectId) (found : Option (Vec ℕ)) → contents_of es ≡ contents
     → found ≡ lookup (λ x. is_eq (cmp k x)) es → items_of found ≡ ids.get contents k
 contents-found es contents k found is at = ap items_of at ∙ contents-get es contents k is
@@ -110,7 +110,7 @@ contents-insert old new contents k v bytes was is updated =
     ids.same_map id_cmp_total id_cmp-IsAntisymmetric _ _ (λ q. get-updated old new k v updated q ∙ sym (ids.get-insert id_cmp_total _ k v.items q))
     ∙ ap (λ (c : Contents). ids.insert c k v.items) was ∙ ap (ids.insert contents k) is
 
--- entries whose ids and contents are the same
+-- entries with the same ids and contents
 pub contents-cloned : {C : ObjectId → ObjectId → Type 0} {D : Vec ℕ → Vec ℕ → Type 0} → ((x y : ObjectId) → C x y → y ≡ x) → ((v w : Vec ℕ) → D v w → w.items ≡ v.items)
     → (old new : Held) → AllZip (λ p q. C p.0 q.0 × D p.1 q.1) old new → contents_of new ≡ contents_of old
 contents-cloned {C} {D} same_id same_items old new h = ap ids.from_entries (entries old new h)

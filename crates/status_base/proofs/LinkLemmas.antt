@@ -60,7 +60,7 @@ directories_contain path at within slash =
     let P : List (List ℕ) → Type 0 = λ ds. Contains ds (take at path) in
     subst P (sym split.1) (Contains-append_right (directories_below path at) (take at path ∷ split.0) (take at path) (0, omega arith, refl))
 
--- where the directories below one are open, that one decides, or those behind it
+-- if the shorter directories are open, this one decides, or those after it
 pub leftmost_at : (lstat : List ℕ → Result Metadata Fault) (path : List ℕ) (at : ℕ) → at < length path → IsTrue (is_slash (slice_index path at)) → IsClearBelow lstat path at → (rest : LinkCheck) × (leftmost_barrier lstat (directories path) ≡ decided (take at path) (barrier_of (lstat (take at path))) rest)
 leftmost_at lstat path at within slash clear =
     let split = directories_split path at (length path) within slash in
@@ -74,12 +74,12 @@ refused_accepted rest (errors.Fault f) (inl h) = absurd (cc)
 refused_accepted rest (errors.Fault f) (inr h) = inr h
 refused_accepted rest Memory h = tt
 
--- an error that is a directory's is so whatever comes behind it
+-- the error of a directory is the same, whatever comes after it
 pub refused_decided : (directory : List ℕ) (barrier : Option Barrier) (rest : LinkCheck) (e : StackError) → IsRefused (decided directory barrier accepted) e → IsRefused (decided directory barrier rest) e
 refused_decided directory (Some barrier) rest e h = h
 refused_decided directory None rest e h = refused_accepted rest e h
 
--- of a path that isn't empty and has no abnormal component the directories above decide
+-- if a path isn't empty and has no abnormal component, the directories above it decide
 pub link_check_normal : (lstat : List ℕ → Result Metadata Fault) (path : List ℕ) → 0 < length path → abnormal_component path ≡ None → link_check lstat path ≡ leftmost_barrier lstat (directories path)
 link_check_normal lstat [] full normal = absurd (omega arith)
 link_check_normal lstat (b ∷ path) full normal = ap (check_of_normal lstat (b ∷ path)) normal
@@ -126,7 +126,7 @@ components_none path none =
     let far = ltb-false (position_or_len is_slash path) (length path) past in
     slice_split_none is_slash path (All-from_get_or (λ (b : ℕ). is_slash b ≡ false) path 0 (λ k within. fails_before_first is_slash path k 0 (omega arith)))
 
--- the directories are no fewer further on
+-- a longer front has no fewer directories
 pub length-directories : (path : List ℕ) (at n : ℕ) → at ≤ n → length (directories_below path at) ≤ length (directories_below path n)
 length-directories path at zero below = let same : at ≡ 0 = omega arith in rw same (omega arith)
 length-directories path at (suc n) below =
@@ -135,21 +135,21 @@ length-directories path at (suc n) below =
       | inr earlier ↦ omega (arith, length-directories path at n earlier, length-append (directories_below path n) (if is_slash (slice_index path n) then take n path ∷ [] else []))
     ]
 
--- one more where a slash follows
+-- one more if a slash follows
 pub length-directories-more : (path : List ℕ) (at : ℕ) → IsTrue (is_slash (slice_index path at)) → length (directories_below path (at + 1)) ≡ length (directories_below path at) + 1
 length-directories-more path at slash =
     ap (λ (n : ℕ). length (directories_below path n)) (add-one at)
     ∙ ap length (directories_last path at slash)
     ∙ length-append (directories_below path at) (take at path ∷ [])
 
--- and no more where none follows
+-- and no more if none follows
 pub length-directories-same : (path : List ℕ) (at : ℕ) → is_slash (slice_index path at) ≡ false → length (directories_below path (at + 1)) ≡ length (directories_below path at)
 length-directories-same path at bare =
     ap (λ (n : ℕ). length (directories_below path n)) (add-one at)
     ∙ ap (λ (b : Bool). length (directories_below path at ++ (if b then take at path ∷ [] else []))) bare
     ∙ ap length (append-nil (directories_below path at))
 
--- what holds anyway holds where a link or a fault bars the way
+-- a fact that holds anyway holds if a link or a fault bars the way
 pub on_barred : (e : StackError) (P : Type 0) → P → OnBarred (Some e) P
 on_barred EmptyPath P h = tt
 on_barred (NotNormal component) P h = tt
@@ -157,31 +157,31 @@ on_barred (ThroughLink prefix) P h = h
 on_barred (errors.Fault f) P h = h
 on_barred Memory P h = tt
 
--- the directories on the way are no more than those above the path
+-- the directories up to the one that bars the way are no more than those above the path
 pub on_the_way-few : (path : List ℕ) (stop : Stop) → IsStop path stop → length (on_the_way path (Some stop)) ≤ length (directories path)
 on_the_way-few path stop is_stop = length-directories path (stop.at + 1) (length path) (omega (arith, is_stop.within))
 
--- where nothing is there
+-- if a directory above a path isn't there, the lenient check accepts the path
 pub absent_accepted : {A : Type 0} (check : LinkCheck) (result : Result A StackError) → result ≡ Err (errors.Fault faults.NotFound) → IsChecked check result → accepting_absent check ≡ accepted
 absent_accepted {A} check result is checked =
     let P : Result A StackError → Type 0 = λ r. IsChecked check r in
     elim (subst P is checked) [ inl e ↦ ap accepting_absent e | inr e ↦ absurd (cc) ]
 
--- an accepted path is accepted too where absence is
+-- an accepted path is also accepted by the lenient check
 pub still_accepted : (check : LinkCheck) → check ≡ accepted → accepting_absent check ≡ accepted
 still_accepted check is = ap accepting_absent is
 
--- an accepted path is not absent
+-- no directory above an accepted path is missing
 pub accepted_present : (check : LinkCheck) → check ≡ accepted → check ≡ faulty faults.NotFound → ⊥
 accepted_present check is absent = cc
 
--- a check after a query that found nothing, where that is accepted
+-- a lenient check after a query that found nothing
 pub after_absent : {A : Type 0} (modelled : Bool) (lstat : List ℕ → Result Metadata Fault) (query : List ℕ) (result : Result A StackError) (old new : CheckState) → result ≡ Err (errors.Fault faults.NotFound) → IsAfterQuery modelled lstat query (result_err result) old new → HasLooked old new × IsAfterQuery modelled lstat query None old new
 after_absent {A} modelled lstat query result old new is after =
     let P : Result A StackError → Type 0 = λ r. OnBarred (result_err r) (HasLooked old new) in
     (subst P is after.barred, record { root = after.root; clear = after.clear; looks = after.looks; few = after.few; barred = tt; unchanged = after.unchanged })
 
--- what holds anyway holds where the directories were looked at
+-- a fact that holds anyway holds if the directories were checked
 pub on_reached : (A : Type 0) (e : StackError) (P : Type 0) → P → OnReached {A = A} (Err e) P
 on_reached A EmptyPath P h = tt
 on_reached A (NotNormal component) P h = tt

@@ -59,7 +59,7 @@ false_right false b h = h
 abbrev is_unseen : List (List ℕ) → List ℕ → Bool
 is_unseen earlier d = not (list_any (lies_above d) earlier)
 
--- what is listed stands above no earlier path
+-- a listed directory is above no earlier path
 all_unseen : (earlier qs : List (List ℕ)) → All (λ (d : List ℕ). list_any (lies_above d) earlier ≡ false) (directories_beside earlier qs)
 all_unseen earlier [] = All-nil (λ (d : List ℕ). list_any (lies_above d) earlier ≡ false)
 all_unseen earlier (q ∷ qs) =
@@ -84,7 +84,7 @@ kept_behind : (b : Bool) (y x : List ℕ) (zs : List (List ℕ)) → Contains zs
 kept_behind true y x zs c = (suc c.0, omega (arith, c.1), c.2)
 kept_behind false y x zs c = c
 
--- what passes a test is kept
+-- an element that passes the test is kept
 kept_at : (p : List ℕ → Bool) (ys : List (List ℕ)) (x : List ℕ) (k : ℕ) → k < length ys → slice_index_or ys k x ≡ x → p x ≡ true → Contains (filter p ys) x
 kept_at p [] x k within is passes = absurd (omega arith)
 kept_at p (y ∷ ys) x zero within is passes =
@@ -104,7 +104,7 @@ head_listed : (earlier : List (List ℕ)) (q d : List ℕ) → Contains (directo
 head_listed earlier q d above =
     seen_or_kept (list_any (lies_above d) earlier) d (filter (is_unseen earlier) (directories q)) (λ unseen. kept_at (is_unseen earlier) (directories q) d above.0 above.1 above.2 unseen)
 
--- what stands above a path is one of its directories
+-- a directory above a path is one of the path's directories
 contains_above : (q d : List ℕ) → lies_above d q ≡ true → Contains (directories q) d
 contains_above q d above =
     let rest : List ℕ = drop (length (d ++ 47 ∷ [])) q in
@@ -143,7 +143,7 @@ unless_seen P (inr kept) = kept
 above_later : (q : List ℕ) (qs : List (List ℕ)) (d : List ℕ) → StandsAbove qs d → StandsAbove (q ∷ qs) d
 above_later q qs d (first, within, above) = (first, (suc within.0, omega (arith, within.1), within.2), above)
 
--- what is listed stands above one of the paths
+-- a listed directory is above one of the paths
 all_stand_above : (earlier qs : List (List ℕ)) → All (StandsAbove qs) (directories_beside earlier qs)
 all_stand_above earlier [] = All-nil (StandsAbove [])
 all_stand_above earlier (q ∷ qs) =

@@ -1,4 +1,4 @@
--- Maps whose keys are bytes as maps from paths, what stands at a name and at a path, and a path that is split at its last slash.
+-- Maps whose keys are bytes as maps from paths, the stats of names and paths, and a path that is split at its last slash.
 use Rattle.std.proofs.Common.{◌≡◌, ◌≢◌, ℕ, ◌+◌, ◌-◌, ◌<◌, ◌≤◌, Bool, true, false, not, cond, ◌||◌, ◌==◌, List, [], ◌∷◌, ◌++◌, length, map, Option, Some, None, is_some, IfSome, slice_index, refl, sym, ap, subst, ◌∙◌, arith}
 use Rattle.std.specs.Ordering.{nat_cmp, is_eq, eq_by_cmp}
 use Rattle.std.specs.declared.cmp.Ordering.{Ordering}
@@ -57,7 +57,7 @@ is_key_test q x y h = ap is_eq (nat_list_cmp_total.congr q x.items y.items ((Equ
 apart : (k q : List ℕ) → tied q k ≡ false → AreApart (is_at (to_key k)) (is_at (to_key q))
 apart k q t x h = ap is_eq (sym (alike_right nat_list_cmp_total k x.items q ((Equal-is _).0 h))) ∙ t
 
--- what a look-up finds after a change at one path
+-- the result of a look-up after a change at one path
 pub lookup-updated : {V : Type 0} (old new : List (Vec ℕ × V)) (k : List ℕ) (w : Option V)
     → lookup (is_at (to_key k)) new ≡ w → KeepsOthers (eq_by_cmp key_cmp) (is_at (to_key k)) old new
     → (q : List ℕ) → lookup (is_at (to_key q)) new ≡ cond (tied q k) w (lookup (is_at (to_key q)) old)
@@ -88,7 +88,7 @@ map-remove {V} old new m k path was at here others =
     ∙ ap (λ (n : PathMap V). paths.remove n k) was
     ∙ ap (λ (q : List ℕ). paths.remove m q) at
 
--- what a look-up of a path finds
+-- the result of a look-up of a path
 pub map-get : {V : Type 0} (es : List (Vec ℕ × V)) (m : PathMap V) (k : List ℕ) → map_of es ≡ m → lookup (is_at (to_key k)) es ≡ paths.get m k
 map-get {V} es m k is = sym (get-map es k) ∙ ap (λ (n : PathMap V). paths.get n k) is
 
@@ -115,7 +115,7 @@ same_test : (a b : List ℕ) → bytes_eq a b ≡ tied b a
 same_test a b =
     same_from_decides (bytes_eq a b) (tied b a) (bytes_eq-Decides a b) ((λ t. sym (same_path b a t)), (λ e. subst (λ (x : List ℕ). tied x a ≡ true) e (tied_self a)))
 
--- of a name that stands behind others, what it says counts
+-- of equal names the last one counts
 stat_named-last : (name : List ℕ) (es : List (List ℕ × Stat)) (e : List ℕ × Stat) → stat_named name (es ++ e ∷ []) ≡ cond (bytes_eq e.0 name) (Some e.1) (stat_named name es)
 stat_named-last name [] e = refl
 stat_named-last name (x ∷ xs) e =
@@ -194,7 +194,7 @@ split_none path none = ends_at path 0 (omega arith) none (λ some. absurd (omega
 
 -- ---- tables
 
--- what a table of listings knows is what is listed
+-- the stats that a table has are those of the listings
 pub known_listed : (listing : List ℕ → Listing) (directory name : List ℕ) (table : Table) (names : Names) → IsOf listing table
     → paths.get table directory ≡ Some names → named name (Some names) ≡ named_in (listing directory) name
 known_listed listing directory name table names of is = (subst (λ (o : Option Names). IfSome o (AreNamesOf (listing directory))) is (of directory)) name
@@ -228,7 +228,7 @@ grown_listed path directory name old new names at is some none put =
     let both : needs_none old path ≡ false = ap (λ (a : Bool). a || is_some (paths.get old (directory_of path))) no_name ∙ not_kept in
     subst (λ (b : Bool). IsPutUnless b (directory_of path) old new) (sym both) (names, put ∙ ap (λ (d : List ℕ). paths.insert old d names) at)
 
--- what is known after a directory was listed
+-- the stat that a table has for a path after the directory was listed
 pub known_put : (path directory name : List ℕ) (old new : Table) (names : Names) → directory ≡ directory_of path → name ≡ file_name_of path
     → new ≡ paths.insert old directory names → named name (Some names) ≡ known new path
 known_put path directory name old new names at is put =

@@ -1,4 +1,4 @@
--- How often a check looks for paths that ascend.
+-- How often a check calls `lstat` for paths that ascend.
 use Rattle.std.proofs.Common.{◌≡◌, ◌⊎◌, ℕ, zero, suc, ◌+◌, ◌<◌, ◌≤◌, Bool, true, false, not, cond, ◌||◌, IsTrue, List, [], ◌∷◌, ◌++◌, length, take, drop, Result, slice_index, nat_eq, refl, sym, ◌∙◌, ap, subst, inl, inr, arith, append_assoc, if◌then◌else◌}
 use Rattle.std.specs.Prelude.{All}
 use Rattle.std.specs.List.{filter, list_any, slice_index_or}
@@ -17,7 +17,7 @@ use Rattle.status_base.specs.Paths.{is_slash, directories, directories_below, li
 use Rattle.status_base.specs.CheckState.{CheckState}
 use Rattle.status_base.specs.Looks.{AreVerified, IsAscending, LooksLaw, directories_beside}
 
--- a front that a slash follows stands above the path
+-- a front that a slash follows is above the path
 above_own : (path : List ℕ) (k : ℕ) → k < length path → IsTrue (is_slash (slice_index path k)) → lies_above (take k path) path ≡ true
 above_own path k within slash =
     let byte : slice_index path k ≡ 47 = (Decides-eqb (slice_index path k) 47).0 slash in
@@ -56,7 +56,7 @@ not_step a false h n = refl
 not_step false true h n = h refl
 not_step true true h n = n
 
--- what stands above an earlier path and one of these stands above the last path
+-- a directory that is above an earlier path and above q is above `path`
 abbrev Covers : List ℕ → List (List ℕ) → List ℕ → Type 0
 Covers path earlier q = (d : List ℕ) → list_any (lies_above d) earlier ≡ true → lies_above d q ≡ true → lies_above d path ≡ true
 
@@ -73,7 +73,7 @@ or_cases false b h = inr h
 not_greater : (o : Ordering) → o ≡ Less → is_gt o ≡ false
 not_greater o less = ap is_gt less
 
--- paths that begin alike stand together
+-- paths that begin alike are next to each other in the order
 covers_later : (path : List ℕ) (earlier : List (List ℕ)) (q later : List ℕ) → is_gt (slice_cmp nat_cmp path q) ≡ false → slice_cmp nat_cmp q later ≡ Less → Covers path earlier later → Covers q (q ∷ earlier) later
 covers_later path earlier q later order less covers d any above =
     elim (or_cases (lies_above d q) (list_any (lies_above d) earlier) any) [

@@ -34,7 +34,7 @@ find-placed (e ∷ es) q =
       | false ↦ find-placed es q
     ]
 
--- what is placed at a path is the node that a look-up finds
+-- the node at a path is the one that a look-up finds
 get-placed : (es : Nodes) (q : List ℕ) → paths.get (placed_nodes es) q ≡ option_map placed_of (lookup (is_at (to_key q)) es)
 get-placed es q = paths.get-from_entries nat_list_cmp_total (placed_entries es) q ∙ find-placed es q
 
@@ -83,12 +83,12 @@ tree-remove old new faults tree k path was at here others =
     with_nodes old new faults (λ m. paths.remove m k) tree was (nodes-remove old new k here others)
     ∙ ap (λ (q : List ℕ). record tree { nodes = paths.remove tree.nodes q }) at
 
--- what a look-up in a tree finds
+-- the result of a look-up in a tree
 pub tree-get : (es : Nodes) (faults : Faults) (tree : Tree) (k path : List ℕ) → tree_of es faults ≡ tree → k ≡ path
     → option_map placed_of (lookup (is_at (to_key k)) es) ≡ paths.get tree.nodes path
 tree-get es faults tree k path is at = sym (get-placed es k) ∙ ap (λ (t : Tree). paths.get t.nodes k) is ∙ ap (paths.get tree.nodes) at
 
--- what a look-up of a reference found, placed
+-- the result of a look-up of a reference, as metadata and bytes
 pub placed-lent : {B : Type 0} (r : Option B) (see : B → Node) → option_map (λ n. placed_of (see n)) r ≡ option_map placed_of (option_map see r)
 placed-lent None see = refl
 placed-lent (Some n) see = refl
@@ -115,13 +115,13 @@ pub tree-clear : (es : Nodes) (old new : Faults) (tree : Tree) (k path : List �
 tree-clear es old new tree k path was at here others =
     with_faults es old new (λ m. paths.remove m path) tree was (map-remove old new (map_of old) k path refl at here others)
 
--- what a look-up of planted faults finds
+-- the result of a look-up of planted faults
 pub tree-planted : (es : Nodes) (faults : Faults) (tree : Tree) (k path : List ℕ) (found : Option Planted) → tree_of es faults ≡ tree → k ≡ path
     → found ≡ lookup (is_at (to_key k)) faults → planted_or_none found ≡ planted_at tree path
 tree-planted es faults tree k path found is at finds =
     ap planted_or_none (finds ∙ map-get faults tree.planted k (ap (λ (t : Tree). t.planted) is)) ∙ ap (planted_at tree) at
 
--- entries with the value that they have
+-- writing the value that an entry already has changes nothing
 same_value : {K V : Type 0} (test : K → Bool) (es : List (K × V)) (v : V) → lookup test es ≡ Some v → set_value test es v ≡ es
 same_value test [] v h = refl
 same_value test (e ∷ es) v h =
@@ -130,7 +130,7 @@ same_value test (e ∷ es) v h =
       | false ↦ λ is. ap (λ xs. e ∷ xs) (same_value test es v is)
     ] h
 
--- the tree after a fault was planted beside others, which were written over in their place
+-- the tree after a fault was planted at a path that has faults, which were overwritten
 pub planted-beside : {A E : Type 0} (es : Nodes) (old new : Faults) (tree : Tree) (k path : List ℕ) (point : Point) (fault : Fault) (was is : Planted) (r : Result A E)
     → tree_of es old ≡ tree → k ≡ path → Some was ≡ lookup (is_at (to_key k)) old → new ≡ set_value (is_at (to_key k)) old is
     → lookup (is_at (to_key k)) new ≡ Some is → KeepsOthers (eq_by_cmp key_cmp) (is_at (to_key k)) old new
@@ -141,7 +141,7 @@ planted-beside es old new tree k path point fault was is (Ok _) view at found se
 planted-beside es old new tree k path point fault was is (Err _) view at found set here others ok err =
     ap (tree_of es) (set ∙ ap (set_value (is_at (to_key k)) old) err ∙ same_value (is_at (to_key k)) old was (sym found)) ∙ view
 
--- the tree after a fault was planted where none was
+-- the tree after a fault was planted at a path that has none
 pub planted-first : (es : Nodes) (old new : Faults) (tree : Tree) (k path : List ℕ) (point : Point) (fault : Fault) (is : Planted)
     → tree_of es old ≡ tree → k ≡ path → None ≡ lookup (is_at (to_key k)) old → lookup (is_at (to_key k)) new ≡ Some is → KeepsOthers (eq_by_cmp key_cmp) (is_at (to_key k)) old new
     → is ≡ with_fault no_faults point fault → tree_of es new ≡ record tree { planted = paths.insert tree.planted path (with_fault (planted_at tree path) point fault) }
@@ -149,13 +149,13 @@ planted-first es old new tree k path point fault is view at none here others one
     tree-plant es old new tree k path is view at here others
     ∙ ap (λ p. record tree { planted = paths.insert tree.planted path p }) (one ∙ ap (λ p. with_fault p point fault) (tree-planted es old tree k path None view at none))
 
--- ---- where a node can be put
+-- ---- whether a node can be put
 
 free_parts : (bad above below : Bool) → (if bad then Some BadPath else (if above || below then Some InTheWay else None)) ≡ None → (bad ≡ false) × (above ≡ false)
 free_parts true above below h = absurd (cc)
 free_parts false true below h = absurd (cc)
 free_parts false false below h = (refl, refl)
 
--- where nothing is in the way of a node, what lies below its path was looked up
+-- if nothing is in the way of a node, the nodes below its path were looked up
 pub looked_below : (tree : Tree) (path : List ℕ) (kind : NodeKind) → put_fault tree path kind ≡ None → IsLookedBelow tree path
 looked_below tree path kind free = free_parts (is_bad_path path) (has_file_above tree path) (is_no_directory_kind kind && has_below tree path) free

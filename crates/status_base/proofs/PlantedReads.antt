@@ -19,7 +19,7 @@ none_of_length (e ∷ es) h = absurd (omega arith)
 pub entries-empty : {K : Type 0} (R : K → K → Ordering) (X : Type 0) → reads.entries (reads.empty {X = X} {R = R}) ≡ []
 entries-empty R X = none_of_length _ (sym (reads.len-entries (reads.empty {X = X} {R = R})) ∙ reads.len-empty R X)
 
--- where no read is planted, there is no first one
+-- if no read is planted, there is no first one
 pub none_first : slice_get (reads.entries (reads.empty {X = Fault} {R = nat_cmp})) 0 ≡ None
 none_first = ap (λ es. slice_get es 0) (entries-empty nat_cmp Fault)
 
@@ -47,7 +47,7 @@ find-read (e ∷ es) q = ap (cond (is_eq (nat_cmp q e.0)) (Some e.1)) (find-read
 get-read : (es : List (ℕ × Fault)) (q : ℕ) → reads.get (reads.from_entries {R = nat_cmp} es) q ≡ lookup (λ k. is_eq (nat_cmp q k)) es
 get-read es q = reads.get-from_entries nat_cmp_total es q ∙ find-read es q
 
--- the reads after a fault was planted at one
+-- the planted reads after a fault was planted at one
 pub reads-insert : (old new : List (ℕ × Fault)) (m : reads.FinMap nat_cmp Fault) (k : ℕ) (v : Fault) → reads.from_entries old ≡ m
     → ((q : ℕ) → lookup (λ x. is_eq (nat_cmp q x)) new ≡ cond (is_eq (nat_cmp k q)) (Some v) (lookup (λ x. is_eq (nat_cmp q x)) old))
     → reads.from_entries new ≡ reads.insert m k v

@@ -1,4 +1,4 @@
--- Where the way to a path is barred.
+-- Directories that bar the way to a path: they are a link or have a fault.
 use Rattle.std.specs.Prelude.{◌≡◌, ◌<◌, ◌+◌, ◌-◌, ℕ, IsTrue, List, length, take, Option, Some, None, Result, Ok, Err, slice_index}
 use Rattle.bstr.specs.BStr.{bstr_bytes}
 use Rattle.status_index.specs.declared.fault.Fault.{Fault}
@@ -12,12 +12,12 @@ use Rattle.status_base.specs.LinkCheck.{Barrier, accepted, decided, barrier_of}
 use Rattle.status_base.specs.CheckState.{IsClear, IsClearBelow}
 use Rattle.status_base.specs.CheckAnswers.{IsRefused}
 
--- a directory's barrier, or want of memory
+-- A directory's barrier is returned, or out of memory. None is returned only if the directory doesn't bar the way.
 abbrev pub IsBarrier : List ℕ → Option Barrier → Option StackError → Type 0
 IsBarrier directory barrier None = barrier ≡ None
 IsBarrier directory barrier (Some e) = IsRefused (decided directory barrier accepted) e
 
--- of a directory only a link or a fault is answered
+-- The only errors of a directory are that it is a link and that it has a fault.
 abbrev pub IsOfDirectory : List ℕ → StackError → Type 0
 IsOfDirectory directory (ThroughLink prefix) = bstr_bytes prefix ≡ directory
 IsOfDirectory directory (errors.Fault f) = Unit {0}
@@ -25,23 +25,23 @@ IsOfDirectory directory EmptyPath = ⊥
 IsOfDirectory directory (NotNormal component) = ⊥
 IsOfDirectory directory Memory = ⊥
 
--- the way is open below a directory, whose barrier is answered
+-- No shorter directory bars the way, and the error is that of the directory at which the way is barred.
 pub record IsBarredAt (lstat : List ℕ → Result Metadata Fault) (path : List ℕ) (stop : Stop) : Type 0 where
   pub open_below : IsClearBelow lstat path stop.at
   pub barred : IsRefused (decided (take stop.at path) (barrier_of (lstat (take stop.at path))) accepted) stop.error
 
--- the directory stands above the path
+-- The directory is above the path, and the error is one of that directory.
 pub record IsStop (path : List ℕ) (stop : Stop) : Type 0 where
   pub within : stop.at < length path
   pub slash : IsTrue (is_slash (slice_index path stop.at))
   pub of_directory : IsOfDirectory (take stop.at path) stop.error
 
--- the directories on the way, up to and with the one that bars it
+-- The directories above a path, up to and including the one that bars the way.
 abbrev pub on_the_way : List ℕ → Option Stop → List (List ℕ)
 on_the_way path None = directories path
 on_the_way path (Some stop) = directories_below path (stop.at + 1)
 
--- how many of them end at a place or behind it
+-- How many of these have at least `from` bytes.
 abbrev pub looked_at : List ℕ → ℕ → Option Stop → ℕ
 looked_at path from stop = length (on_the_way path stop) - length (directories_below path from)
 
@@ -49,7 +49,7 @@ abbrev pub IsWay : (List ℕ → Result Metadata Fault) → List ℕ → Option 
 IsWay lstat path None = IsClear lstat path
 IsWay lstat path (Some stop) = IsBarredAt lstat path stop
 
--- a fact where the directories above a path were looked at
+-- A fact that has to hold if the directories above a path were checked.
 abbrev pub OnReached : {A : Type 0} → Result A StackError → Type 0 → Type 0
 OnReached (Ok _) P = P
 OnReached (Err (errors.Fault _)) P = P

@@ -1,4 +1,4 @@
--- What a check for links answers.
+-- The results of a link check, and the check after a query.
 use Rattle.std.specs.Prelude.{◌≡◌, ◌⊎◌, ◌<◌, ◌≤◌, ◌+◌, ℕ, Bool, IsTrue, List, [], length, Contains, OnOk, Option, Some, None, Result, Ok, Err}
 use Rattle.std.specs.Result.{result_err}
 use Rattle.bstr.specs.declared.bstr.BStr.{BStr}
@@ -14,7 +14,7 @@ use Rattle.status_base.specs.Paths.{abnormal_component, directories, joined, new
 use Rattle.status_base.specs.LinkCheck.{LinkCheck, accepted, empty_path, not_normal, through_link, faulty, link_check}
 use Rattle.status_base.specs.CheckState.{CheckState, IsClear}
 
--- the error that is meant, or want of memory
+-- The specified error, or out of memory.
 abbrev pub IsRefused : LinkCheck → StackError → Type 0
 IsRefused check EmptyPath = check ≡ empty_path
 IsRefused check (NotNormal component) = check ≡ not_normal (bstr_bytes component)
@@ -22,16 +22,17 @@ IsRefused check (ThroughLink prefix) = check ≡ through_link (bstr_bytes prefix
 IsRefused check (errors.Fault f) = (check ≡ faulty f) ⊎ (f ≡ faults.Memory)
 IsRefused check Memory = Unit {0}
 
--- the path where it is accepted, the error that is meant, or want of memory
+-- The path if it is accepted, otherwise the specified error, or out of memory.
 abbrev pub IsVerified : LinkCheck → List ℕ → Result BStr StackError → Type 0
 IsVerified check path (Ok answer) = (check ≡ accepted) × (bstr_bytes answer ≡ path)
 IsVerified check path (Err e) = IsRefused check e
 
--- the answer that is meant, where the directories above the tested path are open, as the check found them
+-- A check returns what a new one would if what it found open still is; the lenient one accepts missing directories. This is for
+-- `verified_path`. An accepted path is returned, joined to the root.
 abbrev pub IsVerifiedBy : (List ℕ → Result Metadata Fault) → CheckState → List ℕ → Result BStr StackError → Type 0
 IsVerifiedBy lstat old path result = IsClear lstat old.path → IsVerified (link_check lstat path) (joined old.root path) result
 
--- accepted, the error that is meant, or want of memory
+-- Accepted, the specified error, or out of memory.
 abbrev pub IsChecked : {A : Type 0} → LinkCheck → Result A StackError → Type 0
 IsChecked check (Ok _) = check ≡ accepted
 IsChecked check (Err e) = IsRefused check e
@@ -40,7 +41,7 @@ abbrev pub unless_absent : Fault → LinkCheck
 unless_absent faults.NotFound = accepted
 unless_absent f = faulty f
 
--- a path is accepted too where a directory above it isn't there
+-- The result if a path is also accepted when a directory above it isn't there.
 abbrev pub accepting_absent : LinkCheck → LinkCheck
 accepting_absent accepted = accepted
 accepting_absent empty_path = empty_path
@@ -48,11 +49,12 @@ accepting_absent (not_normal component) = not_normal component
 accepting_absent (through_link prefix) = through_link prefix
 accepting_absent (faulty f) = unless_absent f
 
--- the same, where a path is accepted too if a directory above it isn't there
+-- The same for the lenient check, `verified_path_allow_nonexisting`.
 abbrev pub IsLenientBy : (List ℕ → Result Metadata Fault) → CheckState → List ℕ → Result BStr StackError → Type 0
 IsLenientBy lstat old path result = IsClear lstat old.path → IsVerified (accepting_absent (link_check lstat path)) (joined old.root path) result
 
--- an error names what a path has: nothing, its leftmost abnormal component, one of its proper directory prefixes
+-- An error fits its path: the path is empty, the component is its leftmost abnormal one, or the prefix is one of its proper
+-- directory prefixes.
 abbrev pub IsNamed : List ℕ → StackError → Type 0
 IsNamed path EmptyPath = path ≡ []
 IsNamed path (NotNormal component) = abnormal_component path ≡ Some (bstr_bytes component)
@@ -60,23 +62,23 @@ IsNamed path (ThroughLink prefix) = Contains (directories path) (bstr_bytes pref
 IsNamed path (errors.Fault f) = Unit {0}
 IsNamed path Memory = Unit {0}
 
--- a path that isn't empty, and each of whose components is normal
+-- A path that isn't empty and has only normal components.
 pub record IsNormal (path : List ℕ) : Type 0 where
   pub nonempty : 0 < length path
   pub normal : abnormal_component path ≡ None
 
--- a fact where a link or a fault bars the way to a path
+-- A fact that has to hold if a link or a fault bars the way to a path.
 abbrev pub OnBarred : Option StackError → Type 0 → Type 0
 OnBarred (Some (ThroughLink _)) P = P
 OnBarred (Some (errors.Fault _)) P = P
 OnBarred _ P = Unit {0}
 
--- lstat was called, and counted
+-- `lstat` was called and counted. The count saturates.
 abbrev pub HasLooked : CheckState → CheckState → Type 0
 HasLooked old new = saturate (old.looks + 1) ≤ new.looks
 
--- a check after a query, by what the path was refused for. Directories above the old path aren't looked at again. The
--- look that finds a link or a fault is counted; a query for a path that isn't normal leaves the check as it was
+-- A check after a query, by the error of a refused path. `lstat` isn't called again for directories that are also above the old
+-- path. A call that finds a link or a fault is counted. A query for a path that isn't normal leaves the check unchanged.
 pub record IsAfterQuery (modelled : Bool) (lstat : List ℕ → Result Metadata Fault) (query : List ℕ) (refusal : Option StackError) (old new : CheckState) : Type 0 where
   pub root : new.root ≡ old.root
   pub clear : IsTrue modelled → IsClear lstat old.path → IsClear lstat new.path
@@ -85,13 +87,14 @@ pub record IsAfterQuery (modelled : Bool) (lstat : List ℕ → Result Metadata 
   pub barred : OnBarred refusal (HasLooked old new)
   pub unchanged : (IsNormal query → ⊥) → new ≡ old
 
--- a check after a query that was answered by its path only where each directory above is open
+-- At most how often `lstat` is called. This is the check after `verified_path`, which returns a path only if each directory
+-- above it is open.
 pub record IsAfterVerified {A : Type 0} (modelled : Bool) (lstat : List ℕ → Result Metadata Fault) (query : List ℕ) (result : Result A StackError) (old new : CheckState) : Type 0 where
   pub path : OnOk result (new.path ≡ query)
   pub after : IsAfterQuery modelled lstat query (result_err result) old new
 
--- a check after a query that accepts where nothing is there. The look that finds nothing is counted too, where the
--- directories that were found open still are
+-- The check after `verified_path_allow_nonexisting`, which also returns a path if a directory above it isn't there. If the
+-- directories that were found open still are, the call of `lstat` that finds nothing is counted too.
 pub record IsAfterLenient {A : Type 0} (modelled : Bool) (lstat : List ℕ → Result Metadata Fault) (query : List ℕ) (result : Result A StackError) (old new : CheckState) : Type 0 where
   pub absent : OnOk result (IsTrue modelled → IsClear lstat old.path → link_check lstat query ≡ faulty faults.NotFound → HasLooked old new)
   pub after : IsAfterQuery modelled lstat query (result_err result) old new

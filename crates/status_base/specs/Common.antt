@@ -1,7 +1,7 @@
--- What two paths have in common.
+-- The common prefix of two paths.
 use Rattle.std.specs.Prelude.{◌≢◌, ◌≡◌, ◌<◌, ◌≤◌, ℕ, List, length, take, slice_index}
 
--- n bytes are the common front of two paths: the first n are the same, and the next ones aren't
+-- The common prefix of two paths has n bytes: the first n are the same, and the next ones aren't.
 pub record IsCommon (one other : List ℕ) (n : ℕ) : Type 0 where
   pub within_one : n ≤ length one
   pub within : n ≤ length other

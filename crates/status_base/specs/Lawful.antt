@@ -1,24 +1,24 @@
--- Answers that are as meant, want of memory aside.
+-- Results that are the specified ones, or out of memory.
 use Rattle.std.specs.Prelude.{◌≡◌, ◌⊎◌, ℕ, List, [], Option, Some, Result, Ok, Err}
 use Rattle.status_index.specs.Content.{Content}
 use Rattle.status_index.specs.declared.fault.Fault.{Fault}
 use Rattle.status_index.specs.declared.fault.Fault.TheVariants.{Memory}
 
--- a file that has this left to read, where opening means a file
+-- An opened file has the specified content left to read. If a fault is specified, no file is opened.
 abbrev pub HasLeft : Result Content Fault → Option Content → Type 0
 HasLeft (Ok content) left = left ≡ Some content
 HasLeft (Err f) left = ⊥
 
--- a file with the content that is meant, the fault that is meant, or want of memory
+-- A modelled worktree returns the specified result or out of memory, as its clone does. This is for opening a file.
 abbrev pub IsOpened : {F : Type 0} → (F → Option Content) → Result Content Fault → Result F Fault → Type 0
 IsOpened left meant (Ok file) = HasLeft meant (left file)
 IsOpened left meant (Err f) = (meant ≡ Err f) ⊎ (f ≡ Memory)
 
--- the target that is meant, or an empty buffer with the fault that is meant or want of memory
+-- The target is the specified one, or the buffer is empty and the fault is the specified one or out of memory.
 abbrev pub IsTarget : {A : Type 0} → Result (List ℕ) Fault → Result A Fault → List ℕ → Type 0
 IsTarget meant (Ok _) target = meant ≡ Ok target
 IsTarget meant (Err f) target = ((meant ≡ Err f) ⊎ (f ≡ Memory)) × (target ≡ [])
 
--- a clone means what its original means
+-- A clone has the specification of its original.
 abbrev pub CloneKeeps : {A M : Type 0} → (A → A → Type 0) → (A → M) → Type 0
 CloneKeeps {A} is_clone meaning = (x y : A) → is_clone x y → meaning y ≡ meaning x

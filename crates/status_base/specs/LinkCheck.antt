@@ -6,7 +6,7 @@ use Rattle.status_index.specs.declared.metadata.NodeKind.{NodeKind}
 use Rattle.status_index.specs.declared.metadata.NodeKind.TheVariants.{File, Link, Directory, Other}
 use Rattle.status_base.specs.Paths.{abnormal_component, directories}
 
--- what a check of a path answers
+-- The result of a link check of a path.
 pub data LinkCheck : Type 0 where
   accepted : LinkCheck
   empty_path : LinkCheck
@@ -14,7 +14,7 @@ pub data LinkCheck : Type 0 where
   through_link : List ℕ → LinkCheck
   faulty : Fault → LinkCheck
 
--- what keeps a path from leading through a directory: a link, or a fault
+-- Why no path may lead through a directory: it is a link, or has a fault.
 pub data Barrier : Type 0 where
   link : Barrier
   fault : Fault → Barrier
@@ -37,7 +37,7 @@ abbrev pub decided : List ℕ → Option Barrier → LinkCheck → LinkCheck
 decided directory (Some barrier) others = verdict_of directory barrier
 decided directory None others = others
 
--- the first of these directories that bars the way, by a fault or a link, decides; where none does the path is accepted
+-- The first of these directories that is a link or has a fault decides. If there is none, the path is accepted.
 abbrev pub leftmost_barrier : (List ℕ → Result Metadata Fault) → List (List ℕ) → LinkCheck
 leftmost_barrier lstat [] = accepted
 leftmost_barrier lstat (directory ∷ others) = decided directory (barrier_of (lstat directory)) (leftmost_barrier lstat others)
@@ -46,8 +46,8 @@ abbrev pub check_of_normal : (List ℕ → Result Metadata Fault) → List ℕ �
 check_of_normal lstat path (Some component) = not_normal component
 check_of_normal lstat path None = leftmost_barrier lstat (directories path)
 
--- the answer of a fresh check: an empty path, the leftmost component that is empty, `.` or `..`, the leftmost proper
--- directory prefix that is a fault or a link, or accepted
+-- A path is refused if empty, for its first abnormal component, or its shortest directory that is a link or fails. Otherwise it
+-- is accepted. This is the result of a new check; the directories are the proper directory prefixes.
 abbrev pub link_check : (List ℕ → Result Metadata Fault) → List ℕ → LinkCheck
 link_check lstat [] = empty_path
 link_check lstat (b ∷ path) = check_of_normal lstat (b ∷ path) (abnormal_component (b ∷ path))

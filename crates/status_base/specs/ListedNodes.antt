@@ -1,4 +1,4 @@
--- What listings of directories say of a path.
+-- The nodes that listings of directories know.
 use Rattle.std.specs.Prelude.{ℕ, Bool, true, false, List, [], ◌∷◌, Option, Some, None, option_map, if◌then◌else◌}
 use Rattle.std.specs.List.{before_last, after_last}
 use Rattle.std.specs.Str.{bytes_eq}
@@ -8,11 +8,11 @@ use Rattle.status_index.specs.declared.metadata.NodeKind.TheVariants.{File, Link
 use Rattle.status_base.specs.Paths.{is_slash}
 use Rattle.status_base.specs.declared.fscache.Stat.{Stat}
 
--- what a directory's listing says, or None where the directory can't be listed
+-- The names in a directory with their stats, or None if the directory can't be listed.
 abbrev pub Listing : Type 0
 Listing = Option (List (List ℕ × Stat))
 
--- a path is split at its last slash; one without a slash is a file name in the root, whose path is empty
+-- A path is split at its last slash. A path without a slash is a file name in the root, whose path is empty.
 abbrev pub file_name_of : List ℕ → List ℕ
 file_name_of path = after_last is_slash path
 
@@ -23,22 +23,23 @@ abbrev pub later_or : Option Stat → Option Stat → Option Stat
 later_or (Some later) earlier = Some later
 later_or None earlier = earlier
 
--- the stat that stands at a name; of equal names the later counts
+-- The stat of a name. Of equal names the last one counts.
 abbrev pub stat_named : List ℕ → List (List ℕ × Stat) → Option Stat
 stat_named name [] = None
 stat_named name (e ∷ es) = later_or (stat_named name es) (if bytes_eq e.0 name then Some e.1 else None)
 
--- an empty file name isn't looked up
+-- The stat of a name in a listing. An empty name isn't looked up.
 abbrev pub named_in : Listing → List ℕ → Option Stat
 named_in None name = None
 named_in (Some entries) [] = None
 named_in (Some entries) (b ∷ name) = stat_named (b ∷ name) entries
 
--- what the listings of directories say of a path: its file name in its directory's listing
+-- A listing knows a path by its file name's last entry, as a directory, link or file that isn't executable. The listing is that
+-- of the path's directory.
 abbrev pub listed : (List ℕ → Listing) → List ℕ → Option Stat
 listed listing path = named_in (listing (directory_of path)) (file_name_of path)
 
--- a listed stat as a node: a directory, else a link, else a file, which is never executable
+-- The node of a listed stat: a directory, otherwise a link, otherwise a file, which is never executable.
 abbrev pub listed_kind : Bool → Bool → NodeKind
 listed_kind true is_symlink = Directory
 listed_kind false true = Link
@@ -57,7 +58,7 @@ listed_node s = record {
   gid = 0;
 }
 
--- the node that listings know at a path, where they are asked
+-- The node that listings know at a path, if listings are used.
 abbrev pub known_node : Bool → (List ℕ → Listing) → List ℕ → Option Metadata
 known_node true listing path = option_map listed_node (listed listing path)
 known_node false listing path = None

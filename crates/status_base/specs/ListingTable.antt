@@ -5,21 +5,21 @@ use Rattle.status_base.specs.ListedNodes.{Listing, directory_of, file_name_of, n
 use Rattle.status_base.specs.MemoryTree.{PathMap}
 use Rattle.status_base.specs.declared.fscache.Stat.{Stat}
 
--- the names in a directory; none where it can't be listed
+-- The names in a directory. A directory that can't be listed has none.
 abbrev pub Names : Type 0
 Names = PathMap Stat
 
--- the names in each directory that was listed
+-- The names in each directory that was listed.
 abbrev pub Table : Type 0
 Table = PathMap Names
 
--- what is at a name; an empty name isn't looked up
+-- The stat of a name. An empty name isn't looked up.
 abbrev pub named : List ℕ → Option Names → Option Stat
 named [] names = None
 named (b ∷ name) None = None
 named (b ∷ name) (Some names) = paths.get names (b ∷ name)
 
--- what a table knows of a path
+-- The stat that a table has for a path.
 abbrev pub known : Table → List ℕ → Option Stat
 known table path = named (file_name_of path) (paths.get table (directory_of path))
 
@@ -27,23 +27,23 @@ abbrev pub is_empty : List ℕ → Bool
 is_empty [] = true
 is_empty (b ∷ name) = false
 
--- whether a look-up needs no listing: the file name is empty, or the directory was listed
+-- Whether a look-up needs no listing: the file name is empty, or the directory was listed.
 abbrev pub needs_none : Table → List ℕ → Bool
 needs_none table path = is_empty (file_name_of path) || is_some (paths.get table (directory_of path))
 
--- a table stays, or else a directory's names were put into it
+-- A table is unchanged, or a directory's names were put into it.
 abbrev pub IsPutUnless : Bool → List ℕ → Table → Table → Type 0
 IsPutUnless true directory old new = new ≡ old
 IsPutUnless false directory old new = (names : Names) × (new ≡ paths.insert old directory names)
 
--- a look-up lists the directory of its path where that is needed, and no other
+-- A path's directory is listed at most once, and not for an empty file name. A look-up lists no other directory.
 abbrev pub IsGrown : List ℕ → Table → Table → Type 0
 IsGrown path old new = IsPutUnless (needs_none old path) (directory_of path) old new
 
--- the names of a listing
+-- These are the names of a listing.
 abbrev pub AreNamesOf : Listing → Names → Type 0
 AreNamesOf listing names = (name : List ℕ) → named name (Some names) ≡ named_in listing name
 
--- what a table keeps of each directory is what was listed
+-- For each of its directories a table has the names of the directory's listing.
 abbrev pub IsOf : (List ℕ → Listing) → Table → Type 0
 IsOf listing table = (directory : List ℕ) → IfSome (paths.get table directory) (AreNamesOf (listing directory))

@@ -1,4 +1,4 @@
--- Contents by their ids.
+-- Blobs by their ids.
 use Rattle.std.specs.Prelude.{ℕ, List, map, Result}
 use Rattle.std.specs.Option.{ok_or}
 use Rattle.std.specs.Coded.{Coded, coded_ℕ, coded_list}
@@ -14,13 +14,14 @@ use Rattle.status_index.specs.declared.id.ObjectId.TheVariants.{Sha1, Sha256}
 use Rattle.status_base.specs.declared.worktree.objects.FindError.{FindError}
 use Rattle.status_base.specs.declared.worktree.objects.FindError.TheVariants.{Missing}
 
--- the ids' order: by kind, and then by bytes
+-- The order of ids: by kind, and then by bytes.
 abbrev pub id_cmp : ObjectId → ObjectId → Ordering
 id_cmp (Sha1 a) (Sha1 b) = slice_cmp nat_cmp a b
 id_cmp (Sha256 a) (Sha256 b) = slice_cmp nat_cmp a b
 id_cmp (Sha1 a) (Sha256 b) = Less
 id_cmp (Sha256 a) (Sha1 b) = Greater
 
+-- Blobs are a finite map by ids; other ids are missing.
 abbrev pub Contents : Type 0
 Contents = ids.FinMap id_cmp (List ℕ)
 
@@ -30,10 +31,10 @@ contents_code = ids.code id.the_row.coded (coded_list coded_ℕ)
 abbrev pub content_entries : List (ObjectId × Vec ℕ) → List (ObjectId × List ℕ)
 content_entries = map (λ e. (e.0, e.1.items))
 
--- the contents, by the entries of a map
+-- The contents, from the entries of a map.
 abbrev pub contents_of : List (ObjectId × Vec ℕ) → Contents
 contents_of entries = ids.from_entries (content_entries entries)
 
--- the content of an id, or that it is missing
+-- The content of an id, or that it is missing.
 abbrev pub found_in : Contents → ObjectId → Result (List ℕ) FindError
 found_in contents id = ok_or (ids.get contents id) Missing

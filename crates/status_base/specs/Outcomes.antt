@@ -1,4 +1,4 @@
--- The outcome of a conversion that is meant.
+-- The specified outcome of a conversion.
 use Rattle.std.specs.Prelude.{◌≡◌, Option, Result, Ok, Err, ◌⊎◌}
 use Rattle.status_index.specs.Content.{Content}
 use Rattle.status_index.specs.declared.fault.Fault.{Fault}
@@ -7,7 +7,8 @@ use Rattle.status_base.specs.declared.worktree.filter.ToGitOutcome.{ToGitOutcome
 use Rattle.status_base.specs.declared.worktree.filter.ToGitOutcome.TheVariants.{Unchanged, Buffer}
 use Rattle.status_base.specs.Conversions.{Conversion, refused, same, other}
 
--- by what is meant, for a file that had this left: the file unread, the other bytes, the fault, or want of memory
+-- The outcome is as specified, for a file that had this left to read: the file unread, the other bytes, the fault, or out of
+-- memory.
 abbrev pub IsConverted : {F : Type 0} → (F → Option Content) → Conversion → Option Content → Result (ToGitOutcome F) Fault → Type 0
 IsConverted left same was (Ok (Unchanged file)) = left file ≡ was
 IsConverted left (other bytes) was (Ok (Buffer buffer)) = buffer.now ≡ bytes

@@ -16,6 +16,6 @@ table_code = paths.code (coded_list coded_ℕ) names_code
 abbrev pub keyed : {V : Type 0} → List (Vec ℕ × V) → List (List ℕ × V)
 keyed = map (λ e. (e.0.items, e.1))
 
--- the map, by the entries of a map
+-- The map from paths, from the entries of a map whose keys are bytes.
 abbrev pub map_of : {V : Type 0} → List (Vec ℕ × V) → PathMap V
 map_of entries = paths.from_entries (keyed entries)

@@ -1,9 +1,9 @@
--- The answer of a submodule that is meant.
+-- The specified result of a submodule's status.
 use Rattle.std.specs.Prelude.{◌≡◌, ℕ, List, Option, Result, Ok, Err, ⊤}
 use Rattle.status_base.specs.declared.worktree.submodule.SubmoduleFault.{SubmoduleFault}
 use Rattle.status_base.specs.declared.worktree.submodule.SubmoduleFault.TheVariants.{Failed, Memory}
 
--- the change that is meant, a fault with the text that is meant, or want of memory
+-- The status of a submodule. Its specified change or fault, or out of memory.
 abbrev pub IsSubmoduleAnswer : {U : Type 0} → Result (Option U) (List ℕ) → Result (Option U) SubmoduleFault → Type 0
 IsSubmoduleAnswer meant (Ok change) = meant ≡ Ok change
 IsSubmoduleAnswer meant (Err (Failed text)) = meant ≡ Err text

@@ -1,4 +1,4 @@
--- The tree with nothing in it, and how a tree is stored.
+-- The empty tree, and how a tree is encoded.
 use Rattle.std.specs.Prelude.{ℕ, List, Option, refl}
 use Rattle.std.specs.Coded.{Coded, code_by, coded×, coded_ℕ, coded_list, coded_option}
 use Rattle.std.specs.Ordering.{nat_cmp}
@@ -9,7 +9,7 @@ use Rattle.status_index.specs.declared.fault.Fault.{Fault}
 use Rattle.status_index.specs.declared.metadata.Metadata.{Metadata}
 use Rattle.status_base.specs.MemoryTree.{Placed, Planted, PathMap, Tree}
 
--- no nodes and no planted faults
+-- A worktree in memory has nodes by path, and faults planted at calls of a path, which come first. The empty tree has neither.
 abbrev pub empty_tree : Tree
 empty_tree = record { nodes = map.empty; planted = map.empty }
 

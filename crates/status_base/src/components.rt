@@ -4,14 +4,14 @@ ghost use Rattle.std.specs.Prelude.{◌≡◌, ◌<◌, [], ◌∷◌, length, o
 ghost use Rattle.std.specs.Option.{option_map_or};
 ghost use Rattle.status_base.specs.Paths.{is_slash, components, is_abnormal, abnormal_component};
 
-/// Whether a component of a path isn't normal.
+/// Returns whether a path has a component that isn't normal.
 pub(crate) fn has_abnormal_component(path: &[u8]) -> bool
     ensures { result ≡ is_some (abnormal_component path.now) }
 {
     abnormal_component(path).is_some()
 }
 
-/// The leftmost component of a path that isn't normal: it is empty, `.` or `..`.
+/// Returns the leftmost component of a path that isn't normal: it is empty, `.` or `..`.
 pub(crate) fn abnormal_component(path: &[u8]) -> Option<&[u8]>
     ensures { option_map (λ component. component.now) result ≡ abnormal_component path.now }
 {
@@ -28,7 +28,7 @@ pub(crate) fn abnormal_component(path: &[u8]) -> Option<&[u8]>
     }
 }
 
-/// A path's first component, and the path behind it.
+/// Splits a path at its first slash, into its first component and the rest. Without a slash there is no rest.
 fn first_component(path: &[u8]) -> (&[u8], Option<&[u8]>)
     ensures parts { components path.now ≡ result.0.now ∷ option_map_or (λ others. components others.now) result.1 [] }
     ensures shorter { IfSome result.1 (λ others. length others.now < length path.now) }
@@ -39,14 +39,14 @@ fn first_component(path: &[u8]) -> (&[u8], Option<&[u8]>)
     }
 }
 
-/// Where the first slash stands.
+/// Returns the position of the first slash.
 fn first_slash(path: &[u8]) -> Option<usize>
     ensures { result ≡ position is_slash path.now }
 {
     path.iter().position(|byte| *byte == b'/')
 }
 
-/// Whether a component isn't normal.
+/// Returns whether a component isn't normal: it is empty, `.` or `..`.
 fn is_abnormal(component: &[u8]) -> bool
     ensures { result ≡ is_abnormal component.now }
 {

@@ -1,4 +1,4 @@
-//! Listings of directories, kept so that files needn't be looked at one by one.
+//! Listings of directories, cached so that `lstat` needn't be called for each file.
 
 ghost use Rattle.std.specs.Prelude.{◌≡◌, Some};
 ghost use Rattle.status_base.specs.ListedNodes.{listed_kind, listed_node};
@@ -15,7 +15,7 @@ pub use listings::Listings;
 use status_index::{Stat as IndexStat, Time};
 pub use windows::{filetime_to_unix, type_flags_from_attributes};
 
-/// What a listing says of one file.
+/// The metadata that a listing has for one file.
 #[derive(Clone, Copy, Debug, Default)]
 pub struct Stat {
     /// Whether it is a directory.
@@ -35,8 +35,8 @@ pub struct Stat {
 }
 
 impl Stat {
-    /// The stat that an index keeps of this file. Its size is the low 32 bits of the length; what a listing doesn't say of
-    /// device, inode and owners is 0.
+    /// Returns the stat that an index stores for this file. Its size is the low 32 bits of the length. Device, inode
+    /// and owners are 0, since a listing doesn't have them.
     pub fn to_stat(&self) -> IndexStat
         ensures { stat_of (listed_node self.now) ≡ Some result }
     {
@@ -51,7 +51,8 @@ impl Stat {
         }
     }
 
-    /// The node that the listing says is there: a directory, else a link, else a file, which is never executable.
+    /// Returns the node that the listing reports. It is a directory if `is_dir`, otherwise a link if `is_symlink`,
+    /// otherwise a file. It is never executable. Device, inode and owners are 0.
     pub fn to_metadata(&self) -> Metadata
         ensures { result ≡ listed_node self.now }
     {

@@ -2,8 +2,8 @@
 //! link.
 //!
 //! Read `worktree` first: a module for each interface, and the worktrees and blobs in memory and on the disk. Then
-//! `stack`, the link check, and `fscache`, which remembers listings of directories. `index` and `board` are the crates
-//! below, by the names that callers know.
+//! `stack`, the link check, and `fscache`, which caches listings of directories. `index` and `board` re-export the
+//! crates below, under the names that callers use.
 #![tactic(auto)]
 
 mod components;

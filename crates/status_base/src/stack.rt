@@ -1,4 +1,4 @@
-//! Whether a path leads through a symbolic link.
+//! The link check: whether a path leads through a symbolic link.
 
 ghost use Rattle.std.specs.Prelude.{◌≡◌, ◌≤◌, ◌<◌, ◌+◌, None, IsTrue, List, [], ◌∷◌, length, take, drop, option_map, IfOk, OnOk, IfErr, IfSome, vec_len, position};
 ghost use Rattle.bstr.specs.BStr.{bstr_bytes};
@@ -21,8 +21,9 @@ use front::{common_front, component_start};
 use std::alloc::{AllocError, Global};
 use std::marker::Model;
 
-/// A check that paths don't lead through a symbolic link. Each answer is a fresh check's, whatever
-/// queries came before, as long as the worktree answers as it did.
+/// A check that paths don't lead through a symbolic link. It remembers which directories it found open, that is
+/// neither a link nor faulty. Each query returns what a new check would return, whatever was queried before, as long
+/// as these directories stay open.
 #[derive(Drop)]
 pub struct SymlinkCheck {
     parts: Parts,
@@ -47,7 +48,7 @@ impl SymlinkCheck {
     ghost use Rattle.status_base.specs.contracts.stack.SymlinkCheck.{the_row};
     ghost use Rattle.status_base.specs.CheckAnswers.{IsVerifiedBy, IsLenientBy, IsNamed, IsNormal, IsAfterVerified, IsAfterLenient};
 
-    /// A check of paths below a root. An empty root stands before no path.
+    /// Returns a check of paths below a root. If the root is empty, nothing is joined to a path.
     pub fn new(alloc: Global, root: BString) -> SymlinkCheck
         ensures { result ≡ record { root = bstring_bytes root; path = []; looks = 0 } }
     {
@@ -61,26 +62,30 @@ impl SymlinkCheck {
         SymlinkCheck { parts }
     }
 
-    /// The root that it was made with.
+    /// Returns the root that was passed to `new`.
     pub fn root(&self) -> BStr<'_>
         ensures { bstr_bytes result ≡ self.now.root }
     {
         self.parts.root.as_bstr()
     }
 
-    /// How often `lstat` was called. It stays at the greatest number that fits.
+    /// Returns how often `lstat` was called. The count saturates at the greatest `u64`.
     pub fn looks(&self) -> u64
         ensures { result ≡ self.now.looks }
     {
         self.parts.looks
     }
 
-    /// The path below the root, where no directory above it is a symbolic link or has a fault. What stands at the path
-    /// itself isn't looked at.
+    /// Returns the path joined to the root, if no directory above it is a symbolic link or has a fault. The node at
+    /// the path itself isn't checked.
     ///
     /// # Errors
-    /// The first that applies: the path is empty; it has a component that is empty, `.` or `..`; one of its proper
-    /// directory prefixes is a link or has a fault, the leftmost of them deciding. Want of memory.
+    /// The first of these that applies:
+    /// - The path is empty.
+    /// - It has a component that is empty, `.` or `..`. The error has the leftmost one.
+    /// - One of its proper directory prefixes is a link or has a fault. The error is that of the leftmost one.
+    ///
+    /// Or out of memory.
     pub fn verified_path<'s, 'p, W: Worktree>(
         &'s mut self,
         worktree: &W,
@@ -99,10 +104,10 @@ impl SymlinkCheck {
         }
     }
 
-    /// As `verified_path`, but answers the path too where a directory above it isn't there.
+    /// Does the same as `verified_path`, but also returns the path if a directory above it isn't there.
     ///
     /// # Errors
-    /// As `verified_path`, without NotFound.
+    /// The errors of `verified_path`, except the fault `NotFound`.
     pub fn verified_path_allow_nonexisting<'s, 'p, W: Worktree>(
         &'s mut self,
         worktree: &W,
@@ -126,16 +131,16 @@ impl SymlinkCheck {
     }
 }
 
-/// What a check holds. The buffer may hold anything where no path is tested.
+/// The fields of a check. If no path is tested (`tested` is 0), the buffer may hold anything.
 #[derive(Drop)]
 struct Parts {
-    /// What stands before each path.
+    /// The root, which is before each path.
     root: BString,
-    /// The root and the path of the last query.
+    /// The root, then the last queried path that was neither empty nor abnormal.
     buffer: Vec<u8>,
-    /// Where in the buffer the path begins.
+    /// The position of the path in the buffer.
     start: usize,
-    /// How much of the path is known to have no link or fault above it.
+    /// The length of the front of the path that is known to have no link or fault above it.
     tested: usize,
     /// How often `lstat` was called.
     looks: u64,
@@ -151,11 +156,11 @@ impl Parts {
     ghost use Rattle.status_base.specs.Barriers.{OnReached};
     ghost use Rattle.status_base.specs.CheckParts.{state_of};
 
-    /// Tests a path, and leaves it below the root in the buffer. Of the directories above it those are tested that don't
-    /// stand above the tested path.
+    /// Tests a path, and leaves it in the buffer, joined to the root. `lstat` isn't called again for directories that
+    /// are also above the tested path.
     ///
     /// # Errors
-    /// As `verified_path`.
+    /// The errors of `verified_path`.
     fn verify<'p, W: Worktree>(
         &mut self,
         worktree: &W,
@@ -172,7 +177,8 @@ impl Parts {
             return Err(StackError::EmptyPath);
         }
         let common = self.common_with(path);
-        // Each component of the tested path is normal, so the first that may not be begins behind the last slash in common.
+        // The components of the tested path are normal. So an abnormal one can only begin after the last slash in
+        // common.
         let first = component_start(&path[..common]);
         if let Some(component) = abnormal_component(&path[first..]) {
             let component = BStr::new(component);
@@ -191,18 +197,18 @@ impl Parts {
         }
     }
 
-    /// How many bytes a path has in common with the tested path.
+    /// Returns how many bytes the common prefix of a path and the tested path has.
     fn common_with(&self, path: &[u8]) -> usize
         ensures { IsCommon (state_of self.now).path path.now result }
     {
         common_front(&self.buffer[self.start..self.start + self.tested], path)
     }
 
-    /// Writes a path below the root, but for what it has in common with the tested path, which stays. Nothing is tested
-    /// then, also where memory was wanting.
+    /// Writes a path into the buffer, joined to the root. The first `common` bytes of the path are left in the buffer,
+    /// as they are those of the tested path. Afterwards no path is tested, even if the call ran out of memory.
     ///
     /// # Errors
-    /// Want of memory.
+    /// Out of memory.
     fn write(&mut self, path: &[u8], common: usize) -> Result<(), AllocError>
         requires { IsCommon (state_of self.old).path path.now common }
         ensures joined { OnOk result (self.new.buffer.items ≡ joined (bstring_bytes self.old.root) path.now) }
@@ -212,7 +218,7 @@ impl Parts {
         ensures forgotten { self.new.tested ≡ 0 }
         ensures kept { (self.new.root ≡ self.old.root) × (self.new.looks ≡ self.old.looks) }
     {
-        // Before the buffer changes: memory may be refused.
+        // Set before the buffer changes, since an allocation may fail.
         self.tested = 0;
         if common == 0 {
             self.start = 0;
@@ -225,11 +231,11 @@ impl Parts {
     }
 }
 
-/// Writes a path below a root in place of what the buffer held, and answers where the path begins. An empty root stands
-/// before no path.
+/// Replaces the content of a buffer by a path joined to a root, and returns the position of the path. An empty root
+/// adds nothing before the path.
 ///
 /// # Errors
-/// Want of memory.
+/// Out of memory.
 fn join_into(buffer: &mut Vec<u8>, root: &[u8], path: &[u8]) -> Result<usize, AllocError>
     ensures joined { OnOk result (buffer.new.items ≡ joined root.now path.now) }
     ensures below { IfOk result (λ start. take start buffer.new.items ≡ joined root.now []) }
@@ -246,15 +252,15 @@ fn join_into(buffer: &mut Vec<u8>, root: &[u8], path: &[u8]) -> Result<usize, Al
     Ok(start)
 }
 
-/// Where the way to a path is barred: the end of a directory above it, and why.
+/// A directory that bars the way to a path below it: the length of the directory's path, and the error.
 #[derive(Clone, Copy)]
 struct Stop<'p> {
     at: usize,
     error: StackError<'p>,
 }
 
-/// The leftmost proper directory prefix of a path that is a link or has a fault, of those that end at a place or behind
-/// it. Each `lstat` is counted.
+/// Returns the leftmost proper directory prefix of a path that is a link or has a fault, among those of at least
+/// `from` bytes. Each call of `lstat` is counted in `looks`.
 fn first_barrier<'p, W: Worktree>(
     worktree: &W,
     path: &'p [u8],
@@ -279,7 +285,7 @@ fn first_barrier<'p, W: Worktree>(
     None
 }
 
-/// What keeps paths from leading through a directory: a link there, or a fault.
+/// Returns why no path may lead through a directory: it is a link, or has a fault.
 fn barrier<'p, W: Worktree>(worktree: &W, directory: &'p [u8]) -> Option<StackError<'p>>
     ensures barrier { IsTrue (W.modelled worktree.now) → IsBarrier directory.now (barrier_of (W.lstat_of worktree.now directory.now)) result }
     ensures of_directory { IfSome result (IsOfDirectory directory.now) }

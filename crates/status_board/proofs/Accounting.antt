@@ -1,4 +1,4 @@
--- What workers finished accounts for what their seats drew.
+-- The pieces that workers finished account for the numbers that their seats drew.
 use Rattle.std.proofs.Common.{inl, inr, ◌≡◌, refl, sym, ap, subst, ◌∙◌, ℕ, ◌+◌, ◌-◌, ◌<◌, ◌==◌, Bool, true, false, if◌then◌else◌, List, [], ◌∷◌, ◌++◌, length, All, Result, Ok, Err, IfOk, arith}
 use Rattle.std.proofs.lemmas.List.{length-append, append-nil, append_assoc}
 use Rattle.std.proofs.lemmas.List.Elements.{All-nil, All-append, All-push}
@@ -123,12 +123,12 @@ module _ {O : Type 0} where
         all = none.2;
       }
 
-      -- before the first worker came back
+      -- before the first worker is back
       pub brought_start : {E : Type 0} (r : Result (Gathered O) E) → IfOk r IsNothing → IfOk r (IsBrought gives short board 0)
       brought_start (Ok a) none = brought_none a none
       brought_start (Err e) none = tt
 
-      -- one more worker came back
+      -- one more worker is back
       pub brought_more : {E : Type 0} (n : ℕ) (r : Result (Gathered O) E) (w : Result (Worked O) E) (t : Result (Gathered O) E) → IsBoth r w t → IfOk r (IsBrought gives short board n) → IfOk w (IsWorked gives short board) → IfOk t (IsBrought gives short board (n + 1))
       brought_more n (Ok a) (Ok w) (Ok b) both all one = record {
         accounted = rw (both.0, both.1) (accounted_more a.seats.items a.finished.items w all.accounted one);

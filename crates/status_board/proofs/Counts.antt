@@ -1,4 +1,4 @@
--- How often a number stands in a list, and how many of a list lie below a number.
+-- How often a number occurs in a list, and how many numbers of a list are below a number.
 use Rattle.std.proofs.Common.{inl, inr, ◌≡◌, ℕ, ◌+◌, ◌<◌, ◌≤◌, cond, nat_lt, if◌then◌else◌, List, [], ◌∷◌, ◌++◌, All, Contains, refl, arith}
 use Rattle.std.proofs.lemmas.Bool.Decides.{nat_tests}
 use Rattle.std.proofs.lemmas.Bool.{cases_lt}
@@ -14,11 +14,11 @@ pub below-append : (t : ℕ) (ys zs : List ℕ) → below t (ys ++ zs) ≡ below
 below-append t [] zs = omega arith
 below-append t (y ∷ ys) zs = let r = below-append t ys zs in omega arith
 
--- the numbers below n, and n, are the numbers below n + 1
+-- the numbers below n + 1 are those below n, and n
 pub once_more : (x n : ℕ) → (if nat_lt x (n + 1) then 1 else 0) ≡ (if nat_lt x n then 1 else 0) + times x (n ∷ [])
 once_more x n = grind (arith, nat_tests)
 
--- no number below t is at least k, where t is at most k
+-- k isn't below t if t is at most k
 pub below_one_none : (t k : ℕ) → t ≤ k → below t (k ∷ []) ≡ 0
 below_one_none t k le = grind (arith, nat_tests)
 
@@ -28,7 +28,7 @@ below_one k = grind (arith, nat_tests)
 one_below : (t x : ℕ) → t ≤ x → cond {A = ℕ} (nat_lt x t) 1 0 ≡ 0
 one_below t x le = grind (arith, nat_tests)
 
--- where some lie below m + 1 and all are at least m, one is m
+-- if some are below m + 1 and all are at least m, one is m
 pub contains_met : (m : ℕ) (xs : List ℕ) → All (λ x. m ≤ x) xs → 0 < below (m + 1) xs → Contains xs m
 contains_met m [] least some_below = absurd (omega arith)
 contains_met m (x ∷ xs) least some_below = elim (cases_lt m x) [
@@ -37,7 +37,7 @@ contains_met m (x ∷ xs) least some_below = elim (cases_lt m x) [
   | inr under ↦ (let is : x ≡ m = let p = All-head (λ y. m ≤ y) x xs least in omega arith in (0, omega arith, is))
 ]
 
--- a list without numbers below t, all of which are below t, is empty
+-- a list is empty if all its numbers are at least t and below u, and u is at most t
 pub empty_between : (t u : ℕ) (xs : List ℕ) → All (λ x. t ≤ x) xs → All (λ x. x < u) xs → u ≤ t → xs ≡ []
 empty_between t u [] least most le = refl
 empty_between t u (x ∷ xs) least most le =

@@ -1,4 +1,4 @@
--- A seat that is cut off, two that are put together, and the last one keep the rule.
+-- The rule is kept when a seat is split off, when two seats are joined, and by the last seat.
 use Rattle.std.proofs.Common.{◌≡◌, ◌≢◌, ℕ, ◌+◌, ◌<◌, ◌≤◌, Bool, true, false, cond, nat_lt, min, if◌then◌else◌, List, [], ◌∷◌, ◌++◌, set, All, Some, None, refl, sym, ap, ◌∙◌, subst, ⊎_elim, arith}
 use mathlib.Core.Option.{some, some-injective}
 use lib.ListN.{get_elem?}
@@ -12,7 +12,7 @@ use Rattle.status_board.specs.Shared.{total, below, Fits, Facts, Kept, stays, go
 use Rattle.status_board.proofs.Totals.{total_set, total_snoc, total_alone, each_set}
 use Rattle.status_board.proofs.Counts.{times-append, below-append, contains_met, empty_between}
 
--- what the seat that has every part knows, where n and m are the words
+-- the knowledge of the seat that has every part; n and m are the words
 pub record Closing (pieces n m : ℕ) (v : Known) : Type 0 where
   pub drawn : HasEachBelow (min n pieces) v.drawn
   pub least : IsLeast (if nat_lt m pieces then Some m else None) v.reported

@@ -1,4 +1,4 @@
--- Seats, by what contracts see of them and by what they know.
+-- Seats, as contracts see them and by what they know.
 use Rattle.std.proofs.Common.{◌≡◌, ℕ, zero, suc, ◌+◌, ◌-◌, ◌<◌, Bool, true, nat_lt, List, [], ◌∷◌, ◌++◌, length, get_or, All, Any, Option, Some, IfSome, IsTrue, replicate, refl, sym, ap, ◌∙◌, subst, arith, append_assoc}
 use Rattle.std.proofs.lemmas.Bool.Decides.{nat_tests}
 use Rattle.std.proofs.lemmas.List.{append-nil, replicate_more}
@@ -50,11 +50,11 @@ last_below n (x ∷ y ∷ ys) all = last_below n (y ∷ ys) (All-tail (λ k. k <
 pub last_among : (n : ℕ) (xs : List ℕ) (x : ℕ) → last_of xs ≡ Some x → All (λ k. k < n) xs → x < n
 last_among n xs x is all = subst (λ (o : Option ℕ). IfSome o (λ y. y < n)) is (last_below n xs all)
 
--- one part was cut off a token with which nothing was done
+-- one part was split off a token that wasn't used
 pub cut_more : (pieces k : ℕ) (me me' : Hand) → me ≡ (known pieces k [] [] [] 0, []) → me' ≡ (stays me.0, me.1) → me' ≡ (known pieces (k - 1) [] [] [] 0, [])
 cut_more pieces k me me' is cut = cut ∙ ap (λ (m : Hand). (stays m.0, m.1)) is
 
--- one fresh seat more
+-- one more fresh seat
 pub fresh_more : (id : BoardId) (n : ℕ) (seats more : List SeatState) (s : SeatState) → seats ≡ replicate n (fresh id) → more ≡ seats ++ s ∷ [] → s ≡ fresh id → more ≡ replicate (n + 1) (fresh id)
 fresh_more id n seats more s is push seat = push ∙ (λ i. is i ++ seat i ∷ []) ∙ replicate_more n (fresh id)
 
@@ -73,7 +73,7 @@ hand_is table me last done s seat view =
     let missed : me.0.misses ≡ weight s.done = seat.missed ∙ ap (λ (z : SeatState). weight z.done) view in
     λ i. (known ((view i).board.pieces) (seat.one i) ((view i).drawn) ((view i).barred) ((view i).reported) (missed i), seat.empty i)
 
--- the rest of the seats was put together
+-- the seats that are no longer left were joined
 pub record Gathers (table : TableId) (pieces : ℕ) (all left : List SeatState) (held : TableId) (me : Hand) : Type 0 where
   pub rest : List SeatState
   pub split : left ++ rest ≡ all
@@ -135,16 +135,16 @@ some_at (s ∷ ss) zero x within is done =
     omega arith
 some_at (s ∷ ss) (suc k) x within is done = let more = some_at ss k x (omega arith) is done in omega arith
 
--- where a seat is done, some are
+-- if a seat is done, some are
 pub some_done : (ss : List SeatState) → Any (λ (s : SeatState). IsTrue s.done) ss → 0 < done_of ss
 some_done ss any = some_at ss any.0 any.1 any.2 any.3 any.4
 
--- once no seat is left, all were put together
+-- once no seat is left, all were joined
 pub ended : (table : TableId) (pieces : ℕ) (all left : List SeatState) (held : TableId) (me : Hand) → Gathers table pieces all left held me → length left ≡ 0 → me ≡ (gathered pieces all, [])
 ended table pieces all [] held me g none_left = g.me_is ∙ ap (λ (l : List SeatState). (gathered pieces l, [])) g.split
 ended table pieces all (s ∷ ss) held me g none_left = absurd (omega arith)
 
--- what the words say once all seats came back
+-- the words once all seats are back
 pub words_say : (key : Limits) (pieces seats : ℕ) → key ≡ record { pieces = pieces; seats = seats }
     → (all : List SeatState) (id : ℕ) (me : Hand) → me ≡ (gathered pieces all, []) → length all ≡ seats
     → (words : List ℕ) (slots : List (Unit {0})) → Final (Seen (Kept key.pieces key.seats) id me.0) words slots

@@ -13,7 +13,7 @@ after_last-snoc [] x = refl
 after_last-snoc (y ∷ []) x = refl
 after_last-snoc (y ∷ z ∷ zs) x = after_last-snoc (z ∷ zs) x
 
--- where all numbers lie below n, what comes after the last is at most n
+-- if all numbers are below n, one more than the last is at most n
 pub after_last-le : (n : ℕ) (xs : List ℕ) → All (λ k. k < n) xs → after_last xs ≤ n
 after_last-le n [] all = omega arith
 after_last-le n (y ∷ []) all = let p = All-head (λ k. k < n) y [] all in omega arith

@@ -1,4 +1,4 @@
--- What the pieces of a number gave, in parts of a list.
+-- The results of the pieces with a number, in parts of a list.
 use Rattle.std.proofs.Common.{◌≡◌, refl, ap, subst, ◌∙◌, ℕ, ◌==◌, Bool, true, false, List, [], ◌∷◌, ◌++◌, map, All}
 use Rattle.std.specs.List.{filter}
 use Rattle.std.proofs.lemmas.List.{map-append}
@@ -32,7 +32,7 @@ module _ {O : Type 0} where
     shorts_of-other f fs e = rw e
 
   module _ (gives : ℕ → O → Type 0) where
-    -- what is true of each finished piece is true of what the pieces of a number gave
+    -- a fact about each finished piece is one about the results of each number
     pub outs_at-each : (n : ℕ) (fs : List (Finished O)) → All (λ f. gives f.number f.out) fs → All (gives n) (outs_at n fs)
     outs_at-each n [] h = All-nil (gives n)
     outs_at-each n (f ∷ fs) h =

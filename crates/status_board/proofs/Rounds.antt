@@ -1,4 +1,4 @@
--- What was gathered, put in order, is a round.
+-- The gathered results, put in order, are a round.
 use Rattle.std.proofs.Common.{Any, IsTrue, inl, inr, ◌≡◌, refl, sym, ap, subst, ℕ, zero, suc, ◌+◌, ◌-◌, ◌<◌, ◌≤◌, ◌==◌, Bool, true, false, cond, nat_lt, List, [], ◌∷◌, length, All, Contains, Option, None, Some, slice_get, Result, Ok, Err, IfOk, Vec, arith}
 use Rattle.std.specs.List.{slice_index_or}
 use Rattle.std.proofs.lemmas.List.Elements.{All-head, All-tail, All-contains, Contains-append_right}
@@ -23,7 +23,7 @@ times_at [] k x l is = absurd (omega arith)
 times_at (y ∷ ys) zero x l is = let e = one_if (y == x) (eq-eqb y x is) in omega arith
 times_at (y ∷ ys) (suc k) x l is = let r = times_at ys k x (omega arith) is in omega arith
 
--- a number that a list contains stands in it, and the other way round
+-- a number that a list contains occurs in it, and the other way round
 contains_times : (xs : List ℕ) (x : ℕ) → Contains xs x → 0 < times x xs
 contains_times xs x c = times_at xs c.0 x c.1 c.2
 
@@ -34,7 +34,7 @@ times_contains (y ∷ ys) x h = elim (cases_Bool (y == x)) [
   | inr e ↦ (let z = none_if (y == x) e in Contains-append_right (y ∷ []) ys x (times_contains ys x (omega arith)))
 ]
 
--- a number that lacks what is true of each element isn't in the list
+-- if a fact holds of each element and not of a number, the number isn't in the list
 never : (P : ℕ → Type 0) (x : ℕ) (xs : List ℕ) → All P xs → (P x → ⊥) → times x xs ≡ 0
 never P x [] all out = refl
 never P x (y ∷ ys) all out = elim (cases_Bool (y == x)) [
@@ -42,12 +42,12 @@ never P x (y ∷ ys) all out = elim (cases_Bool (y == x)) [
   | inr e ↦ (let z = none_if (y == x) e in let r = never P x ys (All-tail P y ys all) out in omega arith)
 ]
 
--- a piece below the end isn't behind the least reported one
+-- a piece below the end isn't after the least reported one
 not_behind : (least : Option ℕ) (n drawn : ℕ) → n < end_of least drawn → LiesBelow least n → ⊥
 not_behind None n drawn l behind = behind
 not_behind (Some m) n drawn l behind = omega arith
 
--- the end is at most behind a reported piece
+-- the end is at most one more than a reported piece
 least_le : (least : Option ℕ) (xs : List ℕ) (n drawn : ℕ) → IsLeast least xs → Contains xs n → end_of least drawn ≤ n + 1
 least_le None xs n drawn nil has = let l : length xs ≡ 0 = ap length nil in let k = has.1 in absurd (omega arith)
 least_le (Some m) xs n drawn is has = let l : m ≤ n = All-contains (λ x. m ≤ x) xs n is.1 has in omega arith
@@ -67,7 +67,7 @@ module _ {O : Type 0} (short : O → Bool) where
         | inr e ↦ (let k = none_if (short o) e in omega arith)
       ]
 
-  -- how often a number was reported, by what its pieces gave
+  -- how often a number was reported, by the results of its pieces
   shorts_count : (n : ℕ) (fs : List (Finished O)) → times n (shorts_of short fs) ≡ how_short (outs_at n fs)
   unfolding how_short
   shorts_count n [] = refl
@@ -164,7 +164,7 @@ module _ {O : Type 0} (short : O → Bool) where
       round_of pieces (Ok outs) all_drawn ordered = subst (λ (k : ℕ). IsRound (IsOutOf fs) short k outs.items) all_drawn (is_round outs.items ordered)
       round_of pieces (Err e) all_drawn ordered = tt
 
--- what each finished piece gave, the outs of a round are
+-- a fact about each finished piece is one about the results of a round
 module _ {O : Type 0} (gives : ℕ → O → Type 0) (short : O → Bool) (pieces : ℕ) (fs : List (Finished O)) (each : All (λ f. gives f.number f.out) fs) where
   pub round_given : {E A : Type 0} (r : Result (Vec O A) E) → IfOk r (λ outs. IsRound (IsOutOf fs) short pieces outs.items) → IfOk r (λ outs. IsRound gives short pieces outs.items)
   round_given (Ok outs) round = record {
@@ -175,7 +175,7 @@ module _ {O : Type 0} (gives : ℕ → O → Type 0) (short : O → Bool) (piece
   }
   round_given (Err e) round = tt
 
--- a seat that is done is among them
+-- if there are seats and all are done, some seat is done
 pub some_done : (ss : List SeatState) → 0 < length ss → All (λ s. s.done ≡ true) ss → Any (λ s. IsTrue s.done) ss
 some_done [] some all = absurd (omega arith)
 some_done (s ∷ ss) some all = (0, s, omega arith, refl, All-head (λ (u : SeatState). u.done ≡ true) s ss all)

@@ -48,7 +48,7 @@ module _ {O : Type 0} where
   pub placed_end : (fs : List (Finished O)) (end : ℕ) (slots : List (Option O)) (rest : List (Finished O)) → length rest ≡ 0 → IsPlaced fs end slots rest → IsPlaced fs end slots []
   placed_end fs end slots rest gone placed = subst (λ (r : List (Finished O)). IsPlaced fs end slots r) (nil_from_length rest gone) placed
 
-  -- a list of one in a full slot
+  -- a slot is full if it has one result
   is_full : (s : Option O) (all : List O) → option_to_list s ++ [] ≡ all → length all ≡ 1 → IsSome s
   is_full None all is one = absurd (omega (arith, ap length is))
   is_full (Some x) all is one = refl

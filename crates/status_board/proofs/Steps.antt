@@ -43,7 +43,7 @@ module _ (pieces seats : ℕ) where
       × learned (get_or ws 1 0) (w, carried_after me.1 a) in
       subst P (sym k.words) (t.0, keeps, tt, record { next = k.next; least = f k.least; words = refl; facts = t.1 }, t.2)
 
-  -- what a seat knows stays true where the next number grows and the least reported one doesn't
+  -- a seat's knowledge stays true if the next number grows and the least reported one doesn't
   goes_on : (next least next' least' : ℕ) (v : Known) → next ≤ next' → least' ≤ least → Fits pieces next least v → Fits pieces next' least' v
   goes_on next least next' least' v more less fits = record {
     limit = fits.limit;

@@ -28,7 +28,7 @@ module _ {V : Type 0} where
   total_none f [] none_of = refl
   total_none f (x ∷ xs) none_of = let here = none_of zero x refl in let r = total_none f xs (λ i. none_of (suc i)) in omega arith
 
-  -- where one has all of g, and who has none of g has none of f, it has all of f
+  -- if one element has all of g, and elements with no g have no f, it has all of f
   pub total_alone : (f g : V → ℕ) (vs : List V) (i : ℕ) (v : V) → get_elem? vs i ≡ some v → total g vs ≡ g v
       → ((j : ℕ) (w : V) → get_elem? vs j ≡ some w → g w ≡ 0 → f w ≡ 0) → total f vs ≡ f v
   total_alone f g [] i v at all idle = absurd (some-ne-none v (sym at))
@@ -43,6 +43,6 @@ module _ {V : Type 0} where
       let rest = total_alone f g xs i v at (omega arith) (λ j. idle (suc j)) in
       omega arith
 
-  -- what holds of each, and of the new one, holds of each after a write
+  -- if a fact holds of each element and of the new one, it holds of each after a write
   pub each_set : (P : V → Type 0) (vs : List V) (i : ℕ) (w : V) → P w → ((j : ℕ) (u : V) → get_elem? vs j ≡ some u → P u) → (j : ℕ) (u : V) → get_elem? (set vs i w) j ≡ some u → P u
   each_set P vs i w here there j u at = ⊎_elim (λ t. subst P t.1 here) (λ t. there j u t.1) (at_set vs i j w u at)

@@ -1,8 +1,8 @@
 //! A board from which workers draw the numbers of pieces, each number once.
 //!
-//! Each worker has a seat. With it the worker draws numbers, reports a piece at which the work is
-//! to end, and looks whether a lower piece was reported. Each of these is one atomic step at most,
-//! and none waits, locks or takes memory.
+//! Each worker has a seat. With it the worker draws numbers, reports a piece at which the work is to end, and checks
+//! whether a lower piece was reported. Each of these takes at most one atomic step. None waits, takes a lock or
+//! allocates memory.
 
 ghost use Rattle.std.specs.Prelude.{◌≡◌, ◌<◌, ◌≤◌, ◌^◌, ◌↔◌, true, false, if◌then◌else◌, nat_lt, min, [], ◌∷◌, ◌++◌, Some, None, IfOk, IfSome, OnSome, IfNone, IsSome, All, Any, IsTrue, replicate, vec_len};
 ghost use Rattle.status_board.specs.Numbers.{last_of, IsAscending, IsLeast, LiesBelow, HasEachBelow};
@@ -14,15 +14,16 @@ use std::marker::{Brand, Model};
 
 type Token = atomic_table::Seat<(), Known>;
 
-/// How a round of work ended.
+/// The totals of a round of work.
 #[derive(Clone, Copy, Debug, PartialEq, Eq)]
 pub struct Tally {
-    /// How many numbers were drawn: all that are below it.
+    /// How many numbers were drawn. They are all the numbers below this one.
     pub drawn: usize,
+    /// The least piece that was reported. None if none was.
     pub least_reported: Option<usize>,
 }
 
-/// A worker's place at a board. It can go to another thread.
+/// A worker's place at a board. It can be sent to another thread.
 #[derive(Drop)]
 pub struct Seat {
     token: Token,
@@ -42,7 +43,7 @@ impl Model for Seat {
     ghost invariant = { λ s. IsSeat s.token.me s.last s.done };
 }
 
-/// What the workers of a round share.
+/// The state that the workers of a round share.
 #[derive(Drop)]
 pub struct Board {
     table: Table<(), Known, Limits, Rules, Global>,
@@ -62,14 +63,14 @@ impl Model for Board {
 }
 
 impl Seat {
-    /// Whether a draw of this seat found no number left.
+    /// Returns whether a draw of this seat found no number left.
     pub fn is_done(&self) -> bool
         ensures { result ≡ self.now.done }
     {
         self.done
     }
 
-    /// The number that this seat drew last.
+    /// Returns the number that this seat drew last.
     pub fn last(&self) -> Option<usize>
         ensures last { result ≡ last_of self.now.drawn }
         ensures ascends { IsAscending self.now.drawn × All (λ k. k < self.now.board.pieces) self.now.drawn }
@@ -84,10 +85,10 @@ impl Board {
     ghost use Rattle.atomic_table.specs.Table.{step};
     ghost use mathlib.Core.Option.{none};
 
-    /// A board with this many pieces, and its seats.
+    /// Returns a board with this many pieces, and its seats.
     ///
     /// # Errors
-    /// Want of memory.
+    /// Out of memory.
     pub fn new(alloc: Global, pieces: usize, seats: usize) -> Result<(Board, Vec<Seat>), AllocError>
         requires pieces { pieces ≤ 2 ^ 20 }
         requires seats { (1 ≤ seats) × (seats ≤ 64) }
@@ -117,7 +118,7 @@ impl Board {
         Ok((board, all))
     }
 
-    /// The next number that nobody drew, or None where all were drawn, which makes the seat done.
+    /// Returns the next number that nobody drew yet. If all were drawn, returns None, and the seat is done.
     pub fn draw(&self, seat: &mut Seat) -> Option<usize>
         requires board { seat.old.board ≡ self.now.id }
         requires going { seat.old.done ≡ false }
@@ -135,7 +136,7 @@ impl Board {
         }
     }
 
-    /// Whether a lower piece was reported, as far as this seat sees: reports of other seats may come later.
+    /// Returns whether a lower piece was reported, as far as this seat knows: other seats may report later.
     pub fn barred(&self, seat: &mut Seat, piece: usize) -> bool
         requires board { seat.old.board ≡ self.now.id }
         requires piece { piece < self.now.id.pieces }
@@ -156,7 +157,7 @@ impl Board {
         self.table.shared.load::<Look<N>>(token, 1)
     }
 
-    /// Reports to all workers that the work ends at the piece that this seat drew last.
+    /// Reports to all workers that the work ends at the piece that this seat drew last, which is `piece`.
     pub fn report(&self, seat: &mut Seat, piece: usize)
         requires board { seat.old.board ≡ self.now.id }
         requires last { last_of seat.old.drawn ≡ Some piece }
@@ -167,7 +168,7 @@ impl Board {
             .fetch_min::<Report>(&mut seat.token, 1, piece as u64);
     }
 
-    /// What was drawn and reported in all, or None where a seat is missing.
+    /// Returns the totals of all seats, or None if a seat is missing.
     pub fn close(self, mut seats: Vec<Seat>) -> Option<Tally>
         requires { All (λ s. s.board ≡ self.id) seats.items }
         ensures all { IsSome result ↔ (vec_len seats ≡ self.seats) }
@@ -194,8 +195,8 @@ impl Board {
     }
 }
 
-// What the two words mean: the next number to be drawn may lie past the pieces, and the least reported one is the
-// number of pieces where none was reported.
+// Returns the totals for the board's two words. The next number to be drawn may be past the pieces. The least reported
+// number is the number of pieces if none was reported.
 fn counted(next: usize, least: usize, pieces: usize) -> Tally
     ensures { result ≡ record { drawn = min next pieces; least_reported = if nat_lt least pieces then Some least else None } }
 {

@@ -14,7 +14,7 @@ use std::sync::Wait;
 use std::thread;
 use std::thread::{Promise, PromisedHandle, Scope, Threads};
 
-/// What all workers brought back.
+/// The results and seats of all workers.
 #[derive(Drop)]
 pub(crate) struct Gathered<O> {
     pub(crate) finished: Vec<Finished<O>>,
@@ -23,7 +23,7 @@ pub(crate) struct Gathered<O> {
 
 type Answer<O> = Result<Worked<O>, AllocError>;
 
-// What a worker's thread brings back is of this work and this board.
+// The promise of a worker's thread: its results are of this work and this board.
 #[derive(Drop)]
 struct Brings<'a, K> {
     work: &'a K,
@@ -36,11 +36,11 @@ impl<'a, K: Work> Promise<Answer<K::Out>> for Brings<'a, K> {
 
 type Handle<'a, K> = PromisedHandle<Answer<<K as Work>::Out>, Brings<'a, K>>;
 
-/// What the workers of a round share, and how their threads are started.
+/// The work and board that the workers of a round share, and how their threads are started.
 #[derive(Drop)]
 pub(crate) struct Crew<'a, K: Work> {
     pub(crate) alloc: Global,
-    /// The bytes of the stack of each worker's thread, or None for the usual ones.
+    /// The stack size of each worker's thread in bytes, or None for the usual size.
     pub(crate) stack_size: Option<usize>,
     pub(crate) work: &'a K,
     pub(crate) board: &'a Board,
@@ -52,11 +52,11 @@ where
     K::State: Drop,
     K::Out: Drop,
 {
-    /// Lets the crew work through the pieces of the board: one worker in the caller's thread, and each other one in a
-    /// thread of its own. All threads that were started are joined.
+    /// Works through the pieces of the board, with one worker in the caller's thread and each other one in a thread of
+    /// its own. All threads that were started are joined.
     ///
     /// # Errors
-    /// A refused thread, or else want of memory.
+    /// A thread that couldn't be started. Otherwise out of memory.
     pub(crate) fn work_together<R: Threads + Wait>(
         &self,
         rt: &R,
@@ -85,7 +85,7 @@ where
         )
     }
 
-    // A single worker, in the caller's thread.
+    // Works through the pieces with a single worker, in the caller's thread.
     fn work_alone(
         &self,
         mut seats: Vec<Seat>,
@@ -104,7 +104,7 @@ where
         gather(nothing(self.alloc), worked)
     }
 
-    // Starts a thread for each worker but one, which works here, and joins all that were started.
+    // Starts a thread for each worker except one, which works in this thread, and joins all threads that were started.
     fn work_in_scope<E, R: Threads>(
         &self,
         rt: &R,
@@ -135,7 +135,7 @@ where
         or_refused(gather(started.join_all(rt, self.alloc), own))
     }
 
-    // Starts a thread for each worker, until one is refused.
+    // Starts a thread for each worker, until one can't be started or there is no memory for its handle.
     fn start<E, R: Threads>(
         &self,
         rt: &R,
@@ -201,7 +201,7 @@ where
     }
 }
 
-/// The threads of workers that were started.
+/// The workers' threads that were started.
 struct Started<'s, K: Work> {
     of: Brings<'s, K>,
     handles: Vec<Handle<'s, K>>,
@@ -240,7 +240,7 @@ where
         }
     }
 
-    // Joins every worker, and puts together what they bring.
+    // Joins every worker, and gathers their results.
     fn join_all<R: Threads>(self, rt: &R, alloc: Global) -> Result<Gathered<K::Out>, AllocError>
         ensures { IfOk result (IsBrought (K.gives self.entry.of.work.now) K.short self.entry.of.board.now.id (vec_len self.entry.handles)) }
     {
@@ -262,7 +262,7 @@ fn nothing<O>(alloc: Global) -> Result<Gathered<O>, AllocError>
     })
 }
 
-// Adds what one worker brings.
+// Adds the results of one worker.
 fn gather<O: Drop>(
     gathered: Result<Gathered<O>, AllocError>,
     worked: Answer<O>,

@@ -1,7 +1,7 @@
 //! The pieces of a task, shared among workers, with the same result for every schedule.
 //!
 //! Read `board` first: workers draw the numbers of pieces from it, each number once, by the rules in `rules`. Then
-//! `work`, which says what a piece is, and `round`, which has all pieces worked: `crew` starts and joins the threads,
+//! `work`, which defines a piece, and `round`, which works through all pieces: `crew` starts and joins the threads,
 //! each runs `worker`, and `order` puts the results in the order of the pieces.
 #![tactic(auto)]
 

@@ -1,4 +1,4 @@
-//! What finished pieces gave, in order.
+//! The results of finished pieces, in order.
 
 ghost use Rattle.std.specs.Prelude.{◌≡◌, ◌<◌, ℕ, length, IfOk, All, IsSome, map, Some, None, replicate, set};
 ghost use Rattle.status_board.specs.FinishedPieces.{outs_at, IsInOrder, IsPlaced};
@@ -6,10 +6,10 @@ ghost use Rattle.status_board.specs.FinishedPieces.{outs_at, IsInOrder, IsPlaced
 use crate::worker::Finished;
 use std::alloc::{AllocError, Global};
 
-/// What the pieces below `end` gave, in order. What others gave is let go.
+/// Returns the results of the pieces below `end`, in order. Results of other pieces are dropped.
 ///
 /// # Errors
-/// Want of memory.
+/// Out of memory.
 pub(crate) fn in_order<O: Drop>(
     alloc: Global,
     finished: Vec<Finished<O>>,
@@ -35,7 +35,7 @@ fn empty_slots<O: Drop>(alloc: Global, count: usize) -> Result<Vec<Option<O>>, A
     Ok(slots)
 }
 
-// Puts what a piece gave into the slot of its number, if there is one.
+// Puts the result of a piece into the slot of its number, if there is one.
 fn place<O: Drop>(slots: &mut Vec<Option<O>>, piece: Finished<O>)
     ensures { slots.new.items ≡ set slots.old.items piece.number (Some piece.out) }
 {

@@ -13,22 +13,24 @@ use std::alloc::{AllocError, Global};
 use std::sync::Wait;
 use std::thread::Threads;
 
-/// Why a round gives nothing. Where both happened, it is a thread.
+/// Why a round has no results. If both happened, the error is `Thread`.
 #[derive(Clone, Copy, Debug, PartialEq, Eq)]
 pub enum Refused {
-    /// A worker's thread could not be started.
+    /// A worker's thread couldn't be started.
     Thread,
-    /// Want of memory.
+    /// Out of memory.
     Memory,
 }
 
-/// Works through the pieces, shared by as many workers as there are states in `crew`. The answer has what the pieces
-/// gave, in order, up to the first that ended short, whatever the schedule. One worker works in the caller's thread, each
-/// other one in a thread of its own, with a stack of `stack_size` bytes or else of the usual size; all that were started
-/// are joined, also where a thread or memory is refused.
+/// Works through the pieces, with one worker for each state in `crew`. Returns the results of the pieces in order, up
+/// to the first that ended short or the last. This holds for every schedule.
+///
+/// One worker works in the caller's thread, each other one in a thread of its own. `stack_size` is the size of a
+/// thread's stack in bytes, or None for the usual size. All threads that were started are joined, even if a thread
+/// can't be started or memory runs out.
 ///
 /// # Errors
-/// A refused thread, or else want of memory.
+/// A thread that couldn't be started. Otherwise out of memory.
 pub fn work_round<R: Threads + Wait, K: Work + Sync>(
     rt: &R,
     alloc: Global,
@@ -63,7 +65,7 @@ where
     }
 }
 
-// What the pieces gave, once all workers came back.
+// Returns the results of the pieces, once all workers are back.
 fn finish<K: Work>(
     alloc: Global,
     board: Board,
@@ -84,7 +86,7 @@ where
     in_order(alloc, finished, end(&tally))
 }
 
-// How many pieces are given: those up to the least that was reported, or all.
+// Returns how many results there are: those up to the least reported piece, or all.
 fn end(tally: &Tally) -> usize
     requires { end_of tally.now.least_reported tally.now.drawn ≤ 2 ^ 20 }
     ensures { result ≡ end_of tally.now.least_reported tally.now.drawn }

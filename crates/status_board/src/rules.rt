@@ -1,22 +1,22 @@
-//! The rule of a board's two words, and what a seat learns by each step on them.
+//! The rule of a board's two words, and what a seat learns from each step on them.
 
 use atomic_table::{Join, Play, Split, TableRule};
 use std::collections::LinkedList;
 use std::marker::{Brand, PhantomData};
 
-/// What a seat knows. It is for proofs: no value of it is made.
+/// The knowledge of a seat. It is for proofs: no value of this type is ever created.
 pub(crate) struct Known {
     pub pieces: usize,
-    /// How many seats' worth of the board it stands for.
+    /// The number of seats that it counts for.
     pub parts: usize,
     pub drawn: LinkedList<usize>,
     pub barred: LinkedList<usize>,
     pub reported: LinkedList<usize>,
-    /// How many draws found no number.
+    /// The number of draws that found no number left.
     pub misses: usize,
 }
 
-/// What a board is given once, when it is made.
+/// The limits of a board, set when it is created.
 #[derive(Drop)]
 pub(crate) struct Limits {
     pub pieces: usize,
@@ -34,7 +34,7 @@ impl TableRule<(), Known, Limits> for Rules {
     ghost first = { λ about. known about.pieces about.seats [] [] [] 0 };
 }
 
-/// A number is drawn.
+/// The step that draws a number.
 pub(crate) struct Draw;
 
 impl Play<(), Known> for Draw {
@@ -43,7 +43,7 @@ impl Play<(), Known> for Draw {
     ghost then = { Draws };
 }
 
-/// The piece that a look is for, which each call picks.
+/// The piece for which a worker checks the board. Each call picks its own.
 pub(crate) trait ForPiece {
     ghost use Rattle.std.specs.Prelude.{ℕ};
 
@@ -54,7 +54,7 @@ impl ForPiece for Brand {
     ghost piece = { 0 };
 }
 
-/// The least reported number is looked at, for one piece.
+/// The step that loads the least reported number, for one piece.
 pub(crate) struct Look<N: ForPiece> {
     of: PhantomData<N>,
 }
@@ -65,7 +65,7 @@ impl<N: ForPiece> Play<(), Known> for Look<N> {
     ghost then = { Looks N.piece };
 }
 
-/// A piece is reported.
+/// The step that reports a piece.
 pub(crate) struct Report;
 
 impl Play<(), Known> for Report {
@@ -74,7 +74,7 @@ impl Play<(), Known> for Report {
     ghost then = { Reports };
 }
 
-/// One seat is cut off.
+/// The step that splits off one seat.
 pub(crate) struct Cut;
 
 impl Split<Known> for Cut {
@@ -85,7 +85,7 @@ impl Split<Known> for Cut {
     ghost right = { goes };
 }
 
-/// What two seats know, put together.
+/// The step that joins the knowledge of two seats.
 pub(crate) struct Glue;
 
 impl Join<Known> for Glue {

@@ -9,14 +9,14 @@ use crate::board::{Board, Seat};
 use crate::work::Work;
 use std::alloc::{AllocError, Global};
 
-/// A piece that was worked through, and what it gave.
+/// A piece that was worked through, with its result.
 #[derive(Drop)]
 pub(crate) struct Finished<O> {
     pub(crate) number: usize,
     pub(crate) out: O,
 }
 
-/// What a worker brings back.
+/// The finished pieces of a worker, and its seat.
 #[derive(Drop)]
 pub(crate) struct Worked<O> {
     pub(crate) finished: Vec<Finished<O>>,
@@ -26,7 +26,7 @@ pub(crate) struct Worked<O> {
 /// Works through pieces until none is left to draw.
 ///
 /// # Errors
-/// Want of memory for the list of what the pieces gave.
+/// Out of memory for the list of results.
 pub(crate) fn work_through<K: Work>(
     alloc: Global,
     board: &Board,
@@ -52,7 +52,7 @@ where
     Ok(worked)
 }
 
-// Works through a piece that was drawn, unless it is barred, and keeps what it gave.
+// Works through a piece that was drawn, unless it is barred, and keeps its result.
 fn work_piece<K: Work>(
     board: &Board,
     work: &K,

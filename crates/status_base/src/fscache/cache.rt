@@ -1,4 +1,4 @@
-//! Listings of a lister's directories.
+//! A cache of the listings of one lister.
 
 ghost use Rattle.std.specs.Prelude.{◌≡◌, IfOk, OnOk, OnErr, IsTrue};
 ghost use Rattle.std.specs.FinMap as paths;
@@ -12,7 +12,7 @@ use crate::worktree::Lister;
 use bstr::BStr;
 use std::alloc::{AllocError, Global};
 
-/// Listings of directories that are asked for when they are needed, each at most once.
+/// A cache of directory listings. A directory is listed when it is first needed, and isn't listed again.
 #[derive(Drop)]
 pub struct FsCache<'a, L: Lister> {
     lister: &'a L,
@@ -21,7 +21,7 @@ pub struct FsCache<'a, L: Lister> {
 }
 
 impl<'a, L: Lister> FsCache<'a, L> {
-    /// A cache of this lister's listings, which has none.
+    /// Returns an empty cache for the listings of `lister`.
     pub fn new(alloc: Global, lister: &'a L) -> FsCache<'a, L>
         ensures lister { result.lister ≡ lister.entry }
         ensures empty { result.listings ≡ paths.empty }
@@ -32,14 +32,14 @@ impl<'a, L: Lister> FsCache<'a, L> {
         }
     }
 
-    /// What the listings say of a path, or None where they say nothing.
+    /// Returns the stat that the listings have for a path, or None if they have none.
     ///
-    /// The path is split at its last slash, and its file name looked up in the listing of its directory; of equal names there
-    /// the later counts. The directory is listed where it wasn't yet. One that can't be listed is kept too, and isn't asked for
-    /// again. Without a file name nothing is looked up, and nothing is listed.
+    /// The path is split at its last slash, and its file name is looked up in the listing of its directory. If that
+    /// has equal names, the last one counts. A directory that isn't in the cache is listed first. One that can't be
+    /// listed is cached too, and isn't listed again. If the file name is empty, nothing is looked up or listed.
     ///
     /// # Errors
-    /// Want of memory. The cache is then as it was, and the next call asks the lister again.
+    /// Out of memory. The cache is then unchanged, and the next call asks the lister again.
     pub fn get(&mut self, path: BStr<'_>) -> Result<Option<Stat>, AllocError>
         ensures known { IfOk result (λ stat. stat ≡ known self.new.listings (bstr_bytes path.entry)) }
         ensures grown { OnOk result (IsGrown (bstr_bytes path.entry) self.old.listings self.new.listings) }
@@ -51,7 +51,7 @@ impl<'a, L: Lister> FsCache<'a, L> {
         self.listings.get(self.lister, path)
     }
 
-    /// How many directories were listed, those that couldn't be among them.
+    /// Returns how many directories were listed, including those that can't be listed.
     pub fn listings(&self) -> u64
         ensures { result ≡ paths.len self.now.listings }
     {

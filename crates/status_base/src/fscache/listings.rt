@@ -15,7 +15,8 @@ use std::alloc::{AllocError, Global};
 use std::collections::BTreeMap;
 use std::marker::Model;
 
-/// The directories that were listed, each with the names in it. Each is listed at most once, one that can't be listed too.
+/// A table of the directories that were listed, with the names in each. One that can't be listed is in the table too,
+/// without names. No directory in the table is listed again.
 #[derive(Drop)]
 pub struct Listings {
     alloc: Global,
@@ -34,7 +35,7 @@ impl Model for Listings {
 }
 
 impl Listings {
-    /// No directory was listed.
+    /// Returns an empty table.
     pub fn new(alloc: Global) -> Listings
         ensures { result ≡ paths.empty }
     {
@@ -44,12 +45,14 @@ impl Listings {
         }
     }
 
-    /// What the listing of a path's directory says of the path, or None where it says nothing. The directory is listed
-    /// where it wasn't. A path is split at its last slash; one that ends there has no file name, and needs no listing. One
-    /// table is to be asked with one lister: what another one listed before stays.
+    /// Returns the stat that the listing of a path's directory has for the path, or None if it has none. The directory
+    /// is listed first if it isn't in the table. A path is split at its last slash; if its file name is empty, nothing
+    /// is listed.
+    ///
+    /// Always pass the same lister to one table: directories that another lister listed before aren't listed again.
     ///
     /// # Errors
-    /// Want of memory. The table is then as it was, and the next call asks the lister again.
+    /// Out of memory. The table is then unchanged, and the next call asks the lister again.
     pub fn get<L: Lister>(&mut self, lister: &L, path: BStr<'_>) -> Result<Option<Stat>, AllocError>
         ensures known { IfOk result (λ stat. stat ≡ known self.new (bstr_bytes path.entry)) }
         ensures grown { OnOk result (IsGrown (bstr_bytes path.entry) self.old self.new) }
@@ -71,21 +74,21 @@ impl Listings {
         Ok(stat)
     }
 
-    /// How many directories were listed, those that couldn't be among them.
+    /// Returns how many directories were listed, including those that can't be listed.
     pub fn listings(&self) -> u64
         ensures { result ≡ paths.len self.now }
     {
         self.directories.len() as u64
     }
 
-    /// The names in a directory that was listed.
+    /// Returns the names in a directory if it was listed.
     fn names_in(&self, directory: &[u8]) -> Option<&Names>
         ensures { option_map (λ names. names.now) result ≡ paths.get self.now directory.now }
     {
         self.directories.get(directory)
     }
 
-    /// Puts a directory's names.
+    /// Stores the names of a directory.
     fn put(&mut self, directory: &[u8], names: Names) -> Result<(), AllocError>
         ensures ok { OnOk result (self.new ≡ paths.insert self.old directory.now names) }
         ensures unchanged { OnErr result (self.new ≡ self.old) }
@@ -98,7 +101,7 @@ impl Listings {
     }
 }
 
-/// A path's directory and its file name, which its last slash parts.
+/// Splits a path at its last slash, into its directory and its file name.
 fn split_at_last_slash(path: &[u8]) -> (&[u8], &[u8])
     ensures directory { result.0.now ≡ directory_of path.now }
     ensures name { result.1.now ≡ file_name_of path.now }

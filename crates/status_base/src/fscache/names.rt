@@ -31,10 +31,11 @@ impl Model for Names {
 }
 
 impl Names {
-    /// The names of a listing. Of equal names the later counts. A directory that can't be listed has none.
+    /// Returns the names of a listing. Of equal names the last one counts. A directory that can't be listed has no
+    /// names.
     ///
     /// # Errors
-    /// Want of memory.
+    /// Out of memory.
     pub(crate) fn of_listing(alloc: Global, listing: Listing) -> Result<Names, AllocError>
         ensures { IfOk result (AreNamesOf (listing_of listing)) }
     {
@@ -44,7 +45,7 @@ impl Names {
         }
     }
 
-    /// What stands at a name. An empty name isn't looked up.
+    /// Returns the stat of a name. An empty name has none, and isn't looked up.
     pub(crate) fn get(&self, name: &[u8]) -> Option<Stat>
         ensures { result ≡ named name.now (Some self.now) }
     {
@@ -72,7 +73,7 @@ impl Names {
         Ok(names)
     }
 
-    /// Puts a name, in place of an equal one.
+    /// Puts a name with its stat, replacing those of an equal name.
     fn put(&mut self, name: BString, stat: Stat) -> Result<(), AllocError>
         ensures { OnOk result (self.new ≡ paths.insert self.old (bstring_bytes name) stat) }
     {

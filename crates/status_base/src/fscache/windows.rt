@@ -1,4 +1,4 @@
-//! What Windows' directory listings say: attributes, and times of their own.
+//! File attributes and times in the directory listings of Windows.
 
 ghost use Rattle.std.specs.Prelude.{◌≡◌};
 ghost use Rattle.status_base.specs.Windows.{is_directory, is_link, unix_seconds, unix_nanoseconds};
@@ -9,17 +9,17 @@ const DIRECTORY: u32 = 0x10;
 /// The attribute of a reparse point (FILE_ATTRIBUTE_REPARSE_POINT).
 const REPARSE_POINT: u32 = 0x400;
 
-/// The bit of a reparse point's tag that says that it names another place (IsReparseTagNameSurrogate).
+/// The bit that a reparse point's tag has if the point names another place (IsReparseTagNameSurrogate).
 const NAME_SURROGATE: u32 = 0x2000_0000;
 
 /// 1970 as a FILETIME.
 const UNIX_START: u64 = 116_444_736_000_000_000;
 
-/// How many steps a FILETIME has in a second.
+/// The steps of a FILETIME in a second.
 const STEPS: u64 = 10_000_000;
 
-/// Whether a file is a directory, and whether it is a symbolic link, by its attributes and its reparse tag. Of reparse
-/// points only those that name another place are links.
+/// Returns whether a file is a directory, and whether it is a symbolic link, from its attributes and its reparse tag.
+/// A reparse point is a link only if it names another place, and then it isn't a directory.
 pub fn type_flags_from_attributes(attributes: u32, reparse_tag: u32) -> (bool, bool)
     ensures { result ≡ (is_directory attributes reparse_tag, is_link attributes reparse_tag) }
 {
@@ -28,8 +28,8 @@ pub fn type_flags_from_attributes(attributes: u32, reparse_tag: u32) -> (bool, b
     (is_dir, is_symlink)
 }
 
-/// A FILETIME, which counts steps of 100 nanoseconds from 1601, as seconds since 1970 and nanoseconds. The seconds are the
-/// low 32 bits; a time before 1970 is 1970.
+/// Converts a FILETIME, which counts steps of 100 nanoseconds since 1601, to seconds since 1970 and nanoseconds. Only
+/// the low 32 bits of the seconds are kept. A time before 1970 becomes 1970.
 pub fn filetime_to_unix(filetime: u64) -> (u32, u32)
     ensures { result ≡ (unix_seconds filetime, unix_nanoseconds filetime) }
 {

@@ -5,7 +5,7 @@ use status_index::Fault;
 use std::alloc::AllocError;
 use thiserror::Error;
 
-/// Why a check for links refuses a path. What it names is borrowed from the path.
+/// Why a link check refuses a path. The component or prefix is borrowed from the path.
 #[derive(Clone, Copy, Debug, Error)]
 pub enum StackError<'p> {
     /// The path is empty.
@@ -20,7 +20,7 @@ pub enum StackError<'p> {
     /// The fault of the leftmost directory above the path that has one.
     #[error(transparent)]
     Fault(Fault),
-    /// Memory ran out.
+    /// Out of memory.
     #[error("Out of memory")]
     Memory,
 }

@@ -1,10 +1,10 @@
-//! What two paths have in common at their front.
+//! The common prefix of two paths.
 
 ghost use Rattle.std.specs.Prelude.{◌≤◌, ◌<◌, ◌-◌, IsTrue, length, slice_index};
 ghost use Rattle.status_base.specs.Paths.{is_slash};
 ghost use Rattle.status_base.specs.Common.{IsCommon};
 
-/// How many bytes two paths have in common at their front.
+/// Returns how many bytes the common prefix of two paths has.
 pub(super) fn common_front(one: &[u8], other: &[u8]) -> usize
     ensures { IsCommon one.now other.now result }
 {
@@ -17,7 +17,7 @@ pub(super) fn common_front(one: &[u8], other: &[u8]) -> usize
     shorter
 }
 
-/// Where the component begins in which a front of a path ends.
+/// Returns the position after the last slash of `front`, where its last component begins, or 0 without a slash.
 pub(super) fn component_start(front: &[u8]) -> usize
     ensures within { result ≤ length front.now }
     ensures slash { 0 < result → IsTrue (is_slash (slice_index front.now (result - 1))) }

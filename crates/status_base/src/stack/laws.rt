@@ -1,4 +1,4 @@
-//! What the definitions of a link check say: each function's contract is a law, and no function does anything.
+//! Laws of the definitions of a link check. Each function's contract states a law; the functions do nothing.
 
 ghost use Rattle.std.specs.Prelude.{ℕ, Bool, List, Result};
 ghost use Rattle.status_index.specs.declared.fault.Fault.{Fault};
@@ -6,13 +6,13 @@ ghost use Rattle.status_index.specs.declared.metadata.Metadata.{Metadata};
 ghost use Rattle.status_base.specs.CheckState.{CheckState};
 ghost use Rattle.status_base.specs.Looks.{LooksLaw, ListedOnceLaw};
 
-/// A check that was asked nothing yet, and then paths that ascend by their bytes and are each answered by their path,
-/// called `lstat` at most once for each directory above them.
+/// States that few calls of `lstat` are needed. If a new check accepts paths in ascending order of their bytes, it
+/// calls `lstat` at most once for each directory above them.
 pub fn looks_are_few()
     ensures { (modelled : Bool) (lstat : List ℕ → Result Metadata Fault) (old new : CheckState) (qs : List (List ℕ)) → LooksLaw modelled lstat old qs new }
 {}
 
-/// The directories above some paths are listed once each: all of them, and nothing else.
+/// States that the directories above some paths are listed once each: all of them, and nothing else.
 pub fn directories_are_listed_once()
     ensures { (qs : List (List ℕ)) → ListedOnceLaw qs }
 {}

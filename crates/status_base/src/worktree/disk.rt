@@ -10,26 +10,25 @@ use std::rt::Files;
 use std::time::UNIX_EPOCH;
 use std::{fs, io};
 
-// The bytes of a whole path that needs no memory of its own.
+// The longest whole path, in bytes, that is written to the stack instead of allocated memory.
 const SHORT_PATH_LEN: usize = 256;
 
 /// A folder of the disk. It isn't modelled: its nodes may change between any two calls.
 ///
-/// Paths have to be UTF-8. Of a node the kind, the length and the time of its last change are read;
-/// the time of its metadata's last change is taken to be the same, no file is taken to be
-/// executable, and the other numbers are 0.
+/// Paths have to be UTF-8. A node's kind, its length and the time of its last change are read. The last change of its
+/// metadata is assumed to be at the same time. No file is assumed to be executable, and the other numbers are 0.
 #[derive(Drop)]
 pub struct DiskWorktree<R> {
     rt: R,
-    // What stands before a path: the folder's own path and a slash, or nothing for the working folder.
+    // The text before each path: the folder's own path and a slash, or nothing for the working folder.
     front: String,
 }
 
 impl<R: Files + AllocGlobal + Drop> DiskWorktree<R> {
-    /// The folder at a path, where an empty path is the working folder. It needn't be there.
+    /// Returns the folder at a path. An empty path is the working folder. The folder needn't be there.
     ///
     /// # Errors
-    /// Want of memory.
+    /// Out of memory.
     pub fn new(rt: R, root: Path<'_>) -> Result<DiskWorktree<R>, AllocError> {
         let mut front = String::from_str(rt.alloc(), root.as_str())?;
         if !front.is_empty() {
@@ -38,10 +37,10 @@ impl<R: Files + AllocGlobal + Drop> DiskWorktree<R> {
         Ok(DiskWorktree { rt, front })
     }
 
-    /// The path of a node for the system, written into `short` where that has room, and else into `long`.
+    /// Returns the path of a node for the system. It is written into `short` if it fits there, otherwise into `long`.
     ///
     /// # Errors
-    /// A path that isn't UTF-8, or want of memory.
+    /// The path isn't UTF-8, or out of memory.
     fn path_of<'b>(
         &self,
         path: BStr<'_>,
@@ -64,8 +63,7 @@ impl<R: Files + AllocGlobal + Drop> DiskWorktree<R> {
     }
 }
 
-/// A file of a folder. A read is one call of the system, for as many bytes as the caller has room
-/// for.
+/// A file of a folder. Each read is one system call, for at most as many bytes as the caller's buffer has.
 #[derive(Drop)]
 pub struct DiskFile<F> {
     file: F,
@@ -123,7 +121,7 @@ impl<R: Files + AllocGlobal + Drop> Worktree for DiskWorktree<R> {
     }
 }
 
-/// What lstat answers of a node, by what the system says of it.
+/// Returns a node's metadata, from the metadata that the system reports.
 pub fn metadata_of(found: &fs::Metadata) -> Metadata {
     let changed = time_of(found);
     Metadata {
@@ -151,7 +149,8 @@ fn kind_of(kind: FileType) -> NodeKind {
     }
 }
 
-/// When the content was last changed. None before 1970, and where the seconds don't fit into 32 bits.
+/// Returns when the content was last changed. None if the system doesn't report it, if it is before 1970, or if the
+/// seconds don't fit into 32 bits.
 fn time_of(found: &fs::Metadata) -> Option<Time> {
     let changed = found.modified().ok()?;
     let since_1970 = changed.duration_since(UNIX_EPOCH).ok()?;
@@ -161,7 +160,7 @@ fn time_of(found: &fs::Metadata) -> Option<Time> {
     })
 }
 
-/// The fault that stands for an error of the system.
+/// Returns the fault that represents an error of the system.
 pub fn fault_of(error: io::ErrorKind) -> Fault {
     match error {
         io::ErrorKind::NotFound => Fault::NotFound,

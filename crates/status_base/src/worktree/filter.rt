@@ -1,4 +1,4 @@
-//! Conversion of a worktree's files to what git stores.
+//! Conversion of a worktree's files to the bytes that git stores.
 
 ghost use Rattle.std.specs.Prelude.{◌≡◌, List, ℕ, Some, refl};
 ghost use Rattle.bstr.specs.BStr.{bstr_bytes};
@@ -9,26 +9,26 @@ ghost use Rattle.status_base.specs.Lawful.{CloneKeeps};
 use bstr::BStr;
 use status_index::{Fault, ReadBytes};
 
-/// What a conversion answers.
+/// The result of a conversion.
 #[derive(Drop)]
 pub enum ToGitOutcome<'a, F> {
-    /// The file is stored as it is, and is handed back unread.
+    /// The file is stored unchanged. It is returned unread.
     Unchanged(F),
     /// The converted bytes.
     Buffer(&'a [u8]),
 }
 
-/// Conversion of a worktree's files to what git stores, as git's clean filters do.
+/// Converts a worktree's files to the bytes that git stores, as git's clean filters do.
 pub trait ToGit: Clone {
     ghost use Rattle.status_base.specs.Outcomes.{IsConverted};
 
-    /// What becomes of a file at a path.
+    /// The specified conversion of a file with this content, at a path.
     ghost conversion: { Self → Content → List ℕ → Conversion };
 
-    /// Converts a file. Converted bytes are in `buffer`.
+    /// Converts the file at a path. Converted bytes are written to `buffer`.
     ///
     /// # Errors
-    /// A fault of the filter or of reading the file.
+    /// A fault of the filter, or of reading the file.
     fn convert<'a, F: ReadBytes>(
         &self,
         file: F,
@@ -41,7 +41,7 @@ pub trait ToGit: Clone {
     ghost clone_keeps_conversion: { CloneKeeps Self.is_clone conversion };
 }
 
-/// Every file is stored as it is.
+/// A filter that keeps every file unchanged.
 #[derive(Clone, Copy, Debug, Default, PartialEq, Eq)]
 pub struct NoFilter;
 

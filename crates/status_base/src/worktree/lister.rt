@@ -10,33 +10,33 @@ use crate::fscache;
 use bstr::{BStr, BString};
 use std::alloc::AllocError;
 
-/// What a listing of a directory gives: names with their stats, or None where the directory can't be listed.
+/// The listing of a directory: names with their stats, or None if the directory can't be listed.
 pub type Listing = Option<Vec<(BString, fscache::Stat)>>;
 
-/// Listings of directories, by paths from the worktree's root. The root's path is empty. They are either modelled, and
-/// then answered by a function from paths, or not, as those of real directories.
+/// Lists directories, by their paths from the worktree's root. The root's path is empty. A lister is either modelled,
+/// and then its listings are a function of the path, or not, such as one of real directories.
 pub trait Lister: Clone {
-    /// Whether they are modelled.
+    /// Whether the lister is modelled.
     ghost modelled: { Self → Bool };
 
-    /// The names in each directory, with their stats.
+    /// The specified listing of each directory: names with their stats, or None if it can't be listed.
     ghost listing: { Self → List ℕ → Option (List (List ℕ × ListedStat)) };
 
     /// Lists a directory.
     ///
     /// # Errors
-    /// Want of memory.
+    /// Out of memory.
     fn list(&self, directory: BStr<'_>) -> Result<Listing, AllocError>
         ensures { IsTrue (modelled self.now) → IfOk result (λ l. listing_of l ≡ listing self.now (bstr_bytes directory.entry)) };
 
-    /// A clone is modelled where its original is.
+    /// A clone is modelled exactly if its original is.
     ghost clone_keeps_modelled: { CloneKeeps Self.is_clone modelled };
 
     /// A clone lists the same.
     ghost clone_keeps_listing: { CloneKeeps Self.is_clone listing };
 }
 
-/// No directory can be listed.
+/// A lister that can't list any directory.
 #[derive(Clone, Copy, Debug, Default, PartialEq, Eq)]
 pub struct NoLister;
 

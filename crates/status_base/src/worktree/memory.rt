@@ -25,20 +25,20 @@ use std::collections::btree_map::Iter;
 use std::marker::Model;
 use thiserror::Error;
 
-/// A node of a worktree in memory: what `lstat` reports of it, and what it delivers.
+/// A node of a worktree in memory: the metadata that `lstat` reports, and the node's bytes.
 #[derive(Debug, Drop)]
 pub struct Node {
-    /// What the node is.
+    /// The type of the node.
     pub kind: NodeKind,
-    /// The bytes that reading the file gives, or the link's target.
+    /// The bytes of a file's content, or a link's target.
     pub bytes: Vec<u8>,
     /// The length that `lstat` reports, which may differ from the number of bytes.
     pub len: u64,
     /// Whether a regular file's owner may execute it.
     pub executable: bool,
-    /// When the content was last changed. None where that is unknown.
+    /// When the content was last changed. None if that is unknown.
     pub mtime: Option<Time>,
-    /// When the metadata was last changed. None where that is unknown.
+    /// When the metadata was last changed. None if that is unknown.
     pub ctime: Option<Time>,
     /// The device.
     pub dev: u32,
@@ -51,7 +51,7 @@ pub struct Node {
 }
 
 impl Node {
-    /// What `lstat` reports of the node.
+    /// Returns the metadata that `lstat` reports of the node.
     pub fn metadata(&self) -> Metadata
         ensures { result ≡ (placed_of self.now).metadata }
     {
@@ -69,16 +69,16 @@ impl Node {
     }
 }
 
-/// Why a node was not put.
+/// Why a node can't be put.
 #[derive(Clone, Copy, Debug, PartialEq, Eq, Error)]
 pub enum TreeError {
     /// The path is empty, or a component is empty, `.` or `..`.
     #[error("bad path")]
     BadPath,
-    /// A node above the path isn't a directory, or the node isn't one and another lies below it.
+    /// A node above the path isn't a directory, or the node isn't a directory and another is below the path.
     #[error("in the way")]
     InTheWay,
-    /// Memory ran out.
+    /// Out of memory.
     #[error("Out of memory")]
     Memory,
 }
@@ -94,7 +94,7 @@ impl From<AllocError> for TreeError {
     }
 }
 
-/// A worktree in memory. Directories need not be put: what has a node below it is one.
+/// A worktree in memory. Directories needn't be put: a path with a node below it is a directory.
 #[derive(Drop)]
 pub struct MemoryWorktree {
     alloc: Global,
@@ -116,7 +116,7 @@ impl Model for MemoryWorktree {
 }
 
 impl MemoryWorktree {
-    /// A worktree with nothing in it.
+    /// Returns an empty worktree.
     pub fn new(alloc: Global) -> MemoryWorktree
         ensures { result ≡ empty_tree }
     {
@@ -127,18 +127,18 @@ impl MemoryWorktree {
         }
     }
 
-    /// The node that was put at a path.
+    /// Returns the node that was put at a path.
     pub fn node(&self, path: BStr<'_>) -> Option<&Node>
         ensures { option_map (λ n. placed_of n.now) result ≡ paths.get self.now.nodes (bstr_bytes path.entry) }
     {
         self.node_at(path.as_bytes())
     }
 
-    /// Puts a node at a path, in place of the one that was there. Faults that are planted there stay.
+    /// Puts a node at a path, replacing the node that is there. Faults planted there stay.
     ///
     /// # Errors
-    /// A bad path, something in the way, or want of memory, which isn't answered for a bad path or where a node above is in
-    /// the way. The worktree is then as it was.
+    /// The path is bad, a node is in the way, or out of memory. A bad path, or a node in the way above the path, is
+    /// found before any memory is needed. After an error the worktree is unchanged.
     pub fn put(&mut self, path: BStr<'_>, node: Node) -> Result<(), TreeError>
         ensures { IsPut self.old (bstr_bytes path.entry) (placed_of node) result self.new }
     {
@@ -153,10 +153,10 @@ impl MemoryWorktree {
         }
     }
 
-    /// Whether a node of a kind could be put at a path now.
+    /// Checks whether a node of a kind can be put at a path now.
     ///
     /// # Errors
-    /// What `put` would answer, or want of memory, where what lies below the path is looked up.
+    /// The error that `put` would return, or out of memory while nodes below the path are looked up.
     pub fn check_put(&self, path: BStr<'_>, kind: NodeKind) -> Result<(), TreeError>
         ensures ok { OnOk result (put_fault self.now (bstr_bytes path.entry) kind ≡ None) }
         ensures err { IfErr result (λ e. ((e ≡ TreeError.Memory) × IsLookedBelow self.now (bstr_bytes path.entry)) ⊎ (put_fault self.now (bstr_bytes path.entry) kind ≡ Some e)) }
@@ -167,7 +167,7 @@ impl MemoryWorktree {
         }
     }
 
-    /// Takes the node at a path out. Faults that are planted there stay.
+    /// Removes and returns the node at a path. Faults planted there stay.
     pub fn remove(&mut self, path: BStr<'_>) -> Option<Node>
         ensures value { option_map placed_of result ≡ paths.get self.old.nodes (bstr_bytes path.entry) }
         ensures after { self.new ≡ record self.old { nodes = paths.remove self.old.nodes (bstr_bytes path.entry) } }
@@ -175,11 +175,11 @@ impl MemoryWorktree {
         self.nodes.remove(path.as_bytes())
     }
 
-    /// Plants a fault at a call on a path, in place of the one that was planted there. The call answers it before
-    /// anything else, whether or not a node is at the path. Calls on the paths below aren't touched.
+    /// Plants a fault at a call on a path, replacing the one planted at the same call. The call returns it before
+    /// anything else, whether or not a node is at the path. Calls on the paths below aren't affected.
     ///
     /// # Errors
-    /// Want of memory. The worktree is then as it was.
+    /// Out of memory. The worktree is then unchanged.
     pub fn plant(&mut self, path: BStr<'_>, point: Point, fault: Fault) -> Result<(), AllocError>
         ensures { IsPlanted self.old (bstr_bytes path.entry) point fault result self.new }
     {
@@ -196,14 +196,14 @@ impl MemoryWorktree {
         }
     }
 
-    /// Takes out all faults that are planted at a path.
+    /// Removes all faults that are planted at a path.
     pub fn clear(&mut self, path: BStr<'_>)
         ensures { self.new ≡ record self.old { planted = paths.remove self.old.planted (bstr_bytes path.entry) } }
     {
         self.planted.remove(path.as_bytes());
     }
 
-    /// The nodes that were put, with their paths, in ascending order of the paths' bytes.
+    /// Returns the nodes that were put, with their paths, in ascending order of the paths' bytes.
     pub fn nodes(&self) -> Iter<'_, Vec<u8>, Node>
         ensures nodes { placed_entries result ≡ paths.entries self.now.nodes }
         ensures runs { ShowsInOrder (deref_pair {K = ByteVec ℕ} {X = NodeValue}) }
@@ -218,14 +218,14 @@ impl MemoryWorktree {
         self.nodes.get(path)
     }
 
-    /// The faults that are planted at a path, if any are.
+    /// Returns the faults that are planted at a path, if any are.
     fn planted_at(&self, path: &[u8]) -> Option<&PlantedFaults>
         ensures { planted_or_none (option_map (λ p. p.now) result) ≡ planted_at self.now path.now }
     {
         self.planted.get(path)
     }
 
-    /// Whether a node lies below a path. The first of the paths from `path/` on decides.
+    /// Returns whether a node is below a path. The first of the paths from `path/` on decides.
     fn has_below(&self, path: &[u8]) -> Result<bool, AllocError>
         ensures { IfOk result (λ b. b ≡ has_below self.now path.now) }
     {
@@ -238,7 +238,7 @@ impl MemoryWorktree {
         })
     }
 
-    /// Whether a proper prefix of a path has a node that isn't a directory.
+    /// Returns whether a proper directory prefix of a path has a node that isn't a directory.
     fn has_file_above(&self, path: &[u8]) -> bool
         ensures { result ≡ has_file_above self.now path.now }
     {
@@ -250,7 +250,7 @@ impl MemoryWorktree {
         false
     }
 
-    /// Whether a node was put at a path and isn't a directory.
+    /// Returns whether a node that isn't a directory was put at a path.
     fn is_no_directory(&self, path: &[u8]) -> bool
         ensures { result ≡ is_no_directory (paths.get self.now.nodes path.now) }
     {
@@ -260,7 +260,7 @@ impl MemoryWorktree {
         }
     }
 
-    /// Why a node of a kind can't be put at a path.
+    /// Returns why a node of a kind can't be put at a path.
     fn fault_of_put(&self, path: &[u8], kind: NodeKind) -> Result<Option<TreeError>, AllocError>
         ensures fault { IfOk result (λ fault. fault ≡ put_fault self.now path.now kind) }
         ensures late { IfErr result (λ _. IsLookedBelow self.now path.now) }
@@ -277,7 +277,7 @@ impl MemoryWorktree {
         Ok(None)
     }
 
-    /// The fault of a path without a node and without one below it.
+    /// Returns the fault of a path with no node at it or below it.
     fn absence(&self, path: &[u8]) -> Fault
         ensures { result ≡ absence self.now path.now }
     {
@@ -288,7 +288,7 @@ impl MemoryWorktree {
         }
     }
 
-    /// The fault of a call for content on a path that has no node.
+    /// Returns the fault of opening a path, or of reading it as a link, if no node was put there.
     fn without_node(&self, path: &[u8]) -> Result<Fault, AllocError>
         ensures { IfOk result (λ fault. fault ≡ fault_without_node self.now path.now) }
     {
@@ -302,7 +302,7 @@ impl MemoryWorktree {
     }
 }
 
-/// Whether nothing can be put at a path: it is empty, or a component is empty, `.` or `..`.
+/// Returns whether a path is bad, so that nothing can be put there: it is empty, or a component is empty, `.` or `..`.
 pub fn is_bad_path(path: BStr<'_>) -> bool
     ensures { result ≡ is_bad_path (bstr_bytes path.entry) }
 {
@@ -310,7 +310,7 @@ pub fn is_bad_path(path: BStr<'_>) -> bool
     path.is_empty() || has_abnormal_component(path)
 }
 
-/// What `lstat` reports of a directory that was not put.
+/// Returns the metadata that `lstat` reports of a directory that wasn't put.
 fn bare_directory() -> Metadata
     ensures { result ≡ bare_directory }
 {
@@ -328,7 +328,8 @@ fn bare_directory() -> Metadata
     }
 }
 
-/// A file of a worktree in memory: a copy of its bytes, and the fault that stands in place of their end.
+/// An open file of a worktree in memory: a copy of its bytes, and the fault that replaces their end, if one is
+/// planted.
 #[derive(Drop)]
 pub struct MemoryFile {
     bytes: Vec<u8>,
@@ -349,7 +350,7 @@ impl Model for MemoryFile {
 }
 
 impl MemoryFile {
-    /// A file of a copy of these bytes, up to the first read at which a fault is planted.
+    /// Returns a file with a copy of these bytes, up to the first read at which a fault is planted.
     fn new(
         alloc: Global,
         bytes: &[u8],
@@ -368,7 +369,7 @@ impl MemoryFile {
         })
     }
 
-    /// The fault that stands behind the bytes, where no bytes are left.
+    /// Returns the fault after the bytes, if no bytes are left.
     fn fault_at_end(&self) -> Option<Fault>
         ensures { MatchOption result (self.now.bytes ≡ [] → self.now.fault ≡ None) (λ fault. (self.now.bytes ≡ []) × (self.now.fault ≡ Some fault)) }
     {

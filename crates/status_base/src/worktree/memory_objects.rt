@@ -9,7 +9,7 @@ use std::alloc::{AllocError, Global};
 use std::collections::BTreeMap;
 use std::marker::Model;
 
-/// Blobs in memory, by their ids. That an id is its content's digest is not looked at.
+/// Blobs in memory, by their ids. Whether an id is its content's digest isn't checked.
 #[derive(Drop)]
 pub struct MemoryObjects {
     alloc: Global,
@@ -27,7 +27,7 @@ impl Model for MemoryObjects {
 }
 
 impl MemoryObjects {
-    /// No blobs.
+    /// Returns a collection without blobs.
     pub fn new(alloc: Global) -> MemoryObjects
         ensures { result ≡ ids.empty }
     {
@@ -37,10 +37,10 @@ impl MemoryObjects {
         }
     }
 
-    /// Puts a blob, in place of the one that had the id.
+    /// Stores a blob, replacing the one with the same id.
     ///
     /// # Errors
-    /// Want of memory. The blobs are then as they were.
+    /// Out of memory. The blobs are then unchanged.
     pub fn put(&mut self, id: ObjectId, content: &[u8]) -> Result<(), AllocError>
         ensures ok { OnOk result (self.new ≡ ids.insert self.old id content.now) }
         ensures err { OnErr result (self.new ≡ self.old) }

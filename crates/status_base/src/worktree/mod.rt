@@ -1,7 +1,7 @@
-//! The worktree, and the interfaces that a caller of a status hands in.
+//! The worktree, and the interfaces that a caller passes to a status.
 //!
-//! Each interface has a meaning, which the trait's ghost members name; an implementation answers by it whatever its
-//! state, or answers want of memory.
+//! Each trait's ghost members are its specification. A modelled implementation returns the specified results whatever
+//! its state is, or that it is out of memory.
 
 pub mod disk;
 pub mod filter;

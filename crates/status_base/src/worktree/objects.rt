@@ -8,36 +8,37 @@ ghost use Rattle.status_base.specs.Lawful.{CloneKeeps};
 use status_index::ObjectId;
 use thiserror::Error;
 
-/// Why a blob was not found.
+/// Why a blob wasn't found.
 #[derive(Clone, Copy, Debug, PartialEq, Eq, Error)]
 pub enum FindError {
     /// There is no blob of that id.
     #[error("missing object")]
     Missing,
-    /// Memory ran out.
+    /// Out of memory.
     #[error("Out of memory")]
     Memory,
 }
 
-/// Blobs by their ids. They are either modelled, and then found by a function from ids, or not, as an object database on a
-/// disk.
+/// A collection of blobs, found by their ids. It is either modelled, and then a blob is a function of the id, or not,
+/// such as an object database on a disk.
 pub trait Find: Clone {
     ghost use Rattle.status_base.specs.FindAnswers.{IsFindAnswer};
 
-    /// Whether they are modelled.
+    /// Whether the collection is modelled.
     ghost modelled: { Self → Bool };
 
-    /// The content of each blob, or why there is none.
+    /// The specified content of each blob, or why there is none.
     ghost found: { Self → BlobName → Result (List ℕ) NotFound };
 
-    /// Reads a blob, in place of what `buffer` held.
+    /// Reads a blob into `buffer`, replacing its content.
     ///
     /// # Errors
-    /// Missing where there is no blob of that id. After an error what `buffer` holds is left open.
+    /// `Missing` if there is no blob of that id, or out of memory. After an error the content of `buffer` isn't
+    /// specified.
     fn find_blob(&self, id: &ObjectId, buffer: &mut Vec<u8>) -> Result<(), FindError>
         ensures { IsTrue (modelled self.now) → IsFindAnswer (found self.now id.now) result buffer.new.items };
 
-    /// A clone is modelled where its original is.
+    /// A clone is modelled exactly if its original is.
     ghost clone_keeps_modelled: { CloneKeeps Self.is_clone modelled };
 
     /// A clone has the same blobs.

@@ -1,4 +1,4 @@
-//! Which paths a status looks at.
+//! The selection of the paths that a status checks.
 
 ghost use Rattle.std.specs.Prelude.{◌≡◌, Bool, true, List, [], ℕ, refl};
 ghost use Rattle.bstr.specs.BStr.{bstr_bytes};
@@ -6,21 +6,22 @@ ghost use Rattle.status_base.specs.Lawful.{CloneKeeps};
 
 use bstr::BStr;
 
-/// Which paths a status looks at (git's pathspecs). Its meaning is a prefix and a test, which a clone has too.
+/// Selects the paths that a status checks, as git's pathspecs do. Its specification is a prefix and a test, and a
+/// clone has the same.
 pub trait Pathspec: Clone {
-    /// What entries are searched by.
+    /// The prefix by which entries are searched.
     ghost prefix: { Self → List ℕ };
 
-    /// Whether a path is included, by whether it is a directory's.
+    /// Whether a path is included. The last argument is whether it is a directory's.
     ghost included: { Self → List ℕ → Bool → Bool };
 
-    /// By which prefix entries are searched: those whose paths begin with it are considered, or all
-    /// where no path does. An included path needn't begin with it; one that doesn't is left out
-    /// where the prefix begins another. An empty one narrows nothing.
+    /// Returns the prefix by which entries are searched. Only entries whose path begins with it are considered; if no
+    /// path does, all are. So an included path that doesn't begin with the prefix is left out if another entry's path
+    /// does. An empty prefix excludes nothing.
     fn common_prefix(&self) -> BStr<'_>
         ensures { bstr_bytes result ≡ prefix self.now };
 
-    /// Whether the path is to be looked at. `is_dir` says whether it is a directory's.
+    /// Returns whether a path is included. `is_dir` is whether it is a directory's.
     fn includes(&self, path: BStr<'_>, is_dir: bool) -> bool
         ensures { result ≡ included self.now (bstr_bytes path.entry) is_dir };
 
@@ -31,7 +32,7 @@ pub trait Pathspec: Clone {
     ghost clone_keeps_included: { CloneKeeps Self.is_clone included };
 }
 
-/// Every path.
+/// A pathspec that includes every path.
 #[derive(Clone, Copy, Debug, Default, PartialEq, Eq)]
 pub struct AllPaths;
 

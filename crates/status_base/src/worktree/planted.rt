@@ -14,13 +14,13 @@ use std::marker::Model;
 /// A call on a path, at which a fault is planted.
 #[derive(Clone, Copy, Debug, PartialEq, Eq)]
 pub enum Point {
-    /// `lstat`. Where nothing is at the path, opening and reading a link answer this fault too.
+    /// `lstat`. If no node is at the path or below it, opening it and reading it as a link return this fault too.
     Lstat,
     /// Opening a file for reading.
     Open,
     /// Reading a link's target.
     ReadLink,
-    /// Reading on, once this many bytes were delivered. Of a shorter file it is in place of the end.
+    /// Reading further, once this many bytes were read. In a shorter file the fault replaces the end.
     Read(u64),
 }
 
@@ -46,7 +46,7 @@ impl Model for PlantedFaults {
 }
 
 impl PlantedFaults {
-    /// No faults.
+    /// Returns an empty set of faults.
     pub(crate) fn new(alloc: Global) -> PlantedFaults
         ensures { result ≡ no_faults }
     {
@@ -58,10 +58,10 @@ impl PlantedFaults {
         }
     }
 
-    /// Plants a fault, in place of the one at its point.
+    /// Plants a fault, replacing the one at the same point.
     ///
     /// # Errors
-    /// Want of memory. The faults are then as they were.
+    /// Out of memory. The faults are then unchanged.
     pub(crate) fn plant(&mut self, point: Point, fault: Fault) -> Result<(), AllocError>
         ensures ok { OnOk result (self.new ≡ with_fault self.old point fault) }
         ensures err { OnErr result (self.new ≡ self.old) }
@@ -78,7 +78,7 @@ impl PlantedFaults {
         Ok(())
     }
 
-    /// The first fault of reading, and the number of bytes before it.
+    /// Returns the first planted fault of reading, and the number of bytes before it.
     fn first_read(&self) -> Option<(u64, Fault)>
         ensures { result ≡ slice_get (map.entries self.now.reads) 0 }
     {
@@ -87,28 +87,28 @@ impl PlantedFaults {
     }
 }
 
-/// The fault of `lstat`, of what is planted at a path.
+/// Returns the fault that is planted at `lstat`, if any.
 pub(crate) fn lstat_fault(planted: Option<&PlantedFaults>) -> Option<Fault>
     ensures { result ≡ (planted_or_none (option_map (λ p. p.now) planted.entry)).lstat }
 {
     planted?.lstat
 }
 
-/// The fault of opening, of what is planted at a path.
+/// Returns the fault that is planted at opening, if any.
 pub(crate) fn open_fault(planted: Option<&PlantedFaults>) -> Option<Fault>
     ensures { result ≡ (planted_or_none (option_map (λ p. p.now) planted.entry)).opening }
 {
     planted?.opening
 }
 
-/// The fault of reading a link, of what is planted at a path.
+/// Returns the fault that is planted at reading a link, if any.
 pub(crate) fn read_link_fault(planted: Option<&PlantedFaults>) -> Option<Fault>
     ensures { result ≡ (planted_or_none (option_map (λ p. p.now) planted.entry)).read_link }
 {
     planted?.read_link
 }
 
-/// The first fault of reading, of what is planted at a path, and the number of bytes before it.
+/// Returns the first fault that is planted at reading, if any, and the number of bytes before it.
 pub(crate) fn first_read_fault(planted: Option<&PlantedFaults>) -> Option<(u64, Fault)>
     ensures { result ≡ slice_get (map.entries (planted_or_none (option_map (λ p. p.now) planted.entry)).reads) 0 }
 {

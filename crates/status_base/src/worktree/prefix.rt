@@ -1,4 +1,4 @@
-//! The paths that begin with a prefix.
+//! A pathspec for the paths that begin with a prefix.
 
 ghost use Rattle.std.specs.Prelude.{◌≡◌, IfOk};
 ghost use Rattle.bstr.specs.BStr.{bstr_bytes};
@@ -8,7 +8,8 @@ use bstr::BStr;
 use std::alloc::{AllocError, Global};
 use std::marker::Model;
 
-/// The paths that begin with these bytes, which may end within a component (git's pathspec of a plain path prefix).
+/// A pathspec that includes the paths that begin with these bytes, which may end within a component. In git, that is a
+/// plain path prefix followed by `*`.
 #[derive(Debug, Drop)]
 pub struct Prefix {
     bytes: Vec<u8>,
@@ -23,10 +24,10 @@ impl Model for Prefix {
 }
 
 impl Prefix {
-    /// The paths that begin with `prefix`.
+    /// Returns the pathspec of the paths that begin with `prefix`.
     ///
     /// # Errors
-    /// Want of memory.
+    /// Out of memory.
     pub fn new(alloc: Global, prefix: BStr<'_>) -> Result<Prefix, AllocError>
         ensures { IfOk result (λ p. p ≡ bstr_bytes prefix.entry) }
     {

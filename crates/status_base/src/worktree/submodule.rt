@@ -12,12 +12,12 @@ use std::alloc::AllocError;
 /// Why a submodule has no status.
 #[derive(Debug, Drop)]
 pub enum SubmoduleFault {
-    /// Something went wrong.
+    /// The status failed.
     Failed {
-        /// What, in words.
+        /// The reason, in words.
         text: ByteText,
     },
-    /// Want of memory.
+    /// Out of memory.
     Memory,
 }
 
@@ -32,24 +32,24 @@ impl From<AllocError> for SubmoduleFault {
     }
 }
 
-/// The status of submodules. They are either modelled, and then answer by a function from what the index says of an
-/// entry, or not, as repositories on a disk.
+/// The status of submodules. It is either modelled, and then a function of the submodule's index entry, or not, such
+/// as one of repositories on a disk.
 pub trait SubmoduleStatus: Clone {
     ghost use Rattle.status_base.specs.Submodules.{IsSubmoduleAnswer};
 
-    /// How a submodule changed.
+    /// A change of a submodule.
     type Output: Drop;
 
-    /// Whether they are modelled.
+    /// Whether the status is modelled.
     ghost modelled: { Self → Bool };
 
-    /// How the submodule of an entry changed, or the text of a fault.
+    /// The specified change of an entry's submodule, or the text of its fault.
     ghost meaning: { Self → IndexEntry → Result (Option Self.Output) (List ℕ) };
 
-    /// How the submodule of `entry` at `path` changed. None where it didn't.
+    /// Returns how the submodule of `entry` at `path` changed, or None if it didn't.
     ///
     /// # Errors
-    /// Where there is no status, in words of its own, and want of memory.
+    /// `Failed` with a reason in words if there is no status, or out of memory.
     fn status(
         &mut self,
         entry: &Entry,
@@ -59,10 +59,10 @@ pub trait SubmoduleStatus: Clone {
         ensures same { meaning self.new ≡ meaning self.old }
         ensures modelled { modelled self.new ≡ modelled self.old };
 
-    /// A clone is modelled where its original is.
+    /// A clone is modelled exactly if its original is.
     ghost clone_keeps_modelled: { CloneKeeps Self.is_clone modelled };
 
-    /// A clone says the same of every submodule.
+    /// A clone returns the same status of every submodule.
     ghost clone_keeps_meaning: { CloneKeeps Self.is_clone meaning };
 }
 

@@ -1,4 +1,4 @@
-//! The worktree: what `lstat`, opening and reading a link answer.
+//! The interface of a worktree: `lstat`, opening a file and reading a link.
 
 ghost use Rattle.std.specs.Prelude.{IsTrue, Bool, List, ℕ, Result};
 ghost use Rattle.bstr.specs.BStr.{bstr_bytes};
@@ -11,25 +11,25 @@ ghost use Rattle.status_base.specs.Lawful.{IsOpened, IsTarget};
 use bstr::BStr;
 use status_index::{Fault, Metadata, ReadBytes};
 
-/// A worktree, by paths from its root with `/` between components. It is either modelled, and
-/// then answered by three functions from paths, or not, as a folder of a real disk.
+/// A worktree. Paths are from its root, with `/` between components. It is either modelled, and then its results are
+/// three functions of the path, or not, such as a folder of a real disk.
 pub trait Worktree {
-    /// A file that was opened.
+    /// An open file.
     type File: ReadBytes;
 
-    /// Whether it is modelled.
+    /// Whether the worktree is modelled.
     ghost modelled: { Self → Bool };
 
-    /// What `lstat` answers.
+    /// The specified result of `lstat`.
     ghost lstat_of: { Self → List ℕ → Result NodeMetadata WorktreeFault };
 
-    /// What opening answers: what can then be read.
+    /// The specified result of opening: the content that can be read.
     ghost open_of: { Self → List ℕ → Result Content WorktreeFault };
 
-    /// What reading a link answers: its target.
+    /// The specified result of reading a link: its target.
     ghost target_of: { Self → List ℕ → Result (List ℕ) WorktreeFault };
 
-    /// What is at a path. A link is not followed.
+    /// Returns the metadata of the node at a path. A link isn't followed.
     ///
     /// # Errors
     /// The worktree's fault.
@@ -43,7 +43,7 @@ pub trait Worktree {
     fn open(&self, path: BStr<'_>) -> Result<Self::File, Fault>
         ensures { IsTrue (modelled self.now) → IsOpened Self.File.left (open_of self.now (bstr_bytes path.entry)) result };
 
-    /// Reads the target of the link at a path, in place of what `target` held. After an error `target` is empty.
+    /// Reads the target of the link at a path into `target`, replacing its content. After an error `target` is empty.
     ///
     /// # Errors
     /// The worktree's fault.

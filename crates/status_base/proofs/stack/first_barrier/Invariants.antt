@@ -4,7 +4,7 @@ use Rattle.status_base.specs.Paths.{directories_below}
 use Rattle.status_base.specs.CheckState.{IsClearBelow}
 use Rattle.status_base.proofs.stack.first_barrier.Given as goal
 
--- no directory passed is a link or a fault
+-- no directory passed so far is a link or has a fault
 abbrev pub invariant-loop-at : goal.invariant-loop-at
 invariant-loop-at g l = record {
   clear : IsTrue (g.W.Worktree.modelled l.worktree) → IsClearBelow (g.W.Worktree.lstat_of l.worktree) l.path l.from → IsClearBelow (g.W.Worktree.lstat_of l.worktree) l.path l.at;

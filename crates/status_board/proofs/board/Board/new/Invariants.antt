@@ -3,7 +3,7 @@ use Rattle.status_board.specs.Seats.{fresh}
 use Rattle.status_board.specs.Shared.{known}
 use Rattle.status_board.proofs.board.Board.new.Given as goal
 
--- each turn cuts one seat off the token
+-- each turn splits one seat off the token
 abbrev pub invariant-loop : goal.invariant-loop
 invariant-loop l = record {
   table : l.token.table_id ≡ l.table.shared.table_id;

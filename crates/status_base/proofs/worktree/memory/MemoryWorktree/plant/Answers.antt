@@ -10,7 +10,7 @@ use Rattle.status_base.proofs.Placed.{planted-beside, planted-first}
 use Rattle.status_base.proofs.worktree.memory.MemoryWorktree.plant.Goals as goal
 use Rattle.status_base.proofs.worktree.memory.MemoryWorktree.plant.Goals.{in-Ok+in-Some-1, in-Ok+in-None-1, in-Err}
 
--- the path has faults, which were written over
+-- the path had faults, which were overwritten
 pub returns-in-Some : goal.returns-in-Some
 returns-in-Some c =
     let written = c.get_mut.follows.holds c.plant.new.self in
