@@ -21,7 +21,7 @@ module _ (asked modelled : Bool) (listing : List ℕ → Listing) (table : Table
   IsKnown result = IsTrue (are_modelled asked modelled) → Keeps modelled listing table
       → IfOk result (λ node. node ≡ known_node asked listing path)
 
-  -- The look-up of a path by listings and by `lstat`, if the part of the check that was tested is clear.
+  -- The look-up of a path by listings and by `lstat`, if no directory above the path that the check keeps is a link or a fault.
   abbrev pub IsLookUp : (List ℕ → Result Metadata Fault) → List ℕ → Result Look Error → Type 0
   IsLookUp lstat tested result =
       IsTrue (are_modelled asked modelled) → IsClear lstat tested → Keeps modelled listing table

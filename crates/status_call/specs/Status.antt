@@ -30,8 +30,8 @@ use Rattle.status_call.specs.declared.index_as_worktree.types.EntryStatus.TheVar
 use Rattle.status_call.specs.Considered.{has_flag}
 use Rattle.status_call.specs.Query.{Query}
 
--- The node at an entry's path: nothing (the path or a directory above it is missing, or a link is on the way), a fault, a
--- directory, or a file, link or other node.
+-- The node at an entry's path: nothing, a fault, a directory, or a file, link or other node. Nothing is there if the path or a
+-- directory above it is missing, or a link is on the way.
 pub data Found : Type 0 where
   nothing : Found
   refused : Fault → Found

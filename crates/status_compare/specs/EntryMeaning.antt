@@ -6,8 +6,8 @@ use Rattle.status_base.specs.Conversions.{Conversion}
 use Rattle.status_base.specs.declared.worktree.objects.FindError.{FindError}
 use Rattle.status_compare.specs.Reading.{Meaning, node_reading, blob_reading}
 
--- The specification of an entry's file and blob. It takes whether a link's target is read, the conversion, the node's length, and
--- the results of opening the file, reading the link and finding the blob.
+-- The specification of an entry's file and blob. It takes whether a link's target is read, the conversion and the node's length.
+-- It also takes the results of opening the file, of reading the link and of finding the blob.
 abbrev pub entry_meaning : Bool → (Content → Conversion) → ℕ → Result Content Fault → Result (List ℕ) Fault → Result (List ℕ) FindError → Meaning
 entry_meaning is_link conversion len opened linked found =
     record { file = node_reading is_link conversion len opened linked; blob = blob_reading found }

@@ -1,5 +1,5 @@
 //! The changes that a status asks for in the index, and how a caller stores them. A caller that refreshes an index
-//! takes the changes of a recorder, applies them, and then gives the index a later timestamp.
+//! takes the changes of a recorder, applies them, and then sets a later timestamp of the index.
 
 ghost use Rattle.std.specs.Prelude.{◌≡◌, ◌<◌, IfOk, length};
 ghost use Rattle.status_index.specs.States.{backing_of, index_of, timestamp_of};

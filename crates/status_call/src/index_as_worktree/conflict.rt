@@ -14,12 +14,12 @@ use status_base::index::{Entry, PathStorage};
 const MAX_STAGES: usize = 3;
 
 impl Conflict {
-    /// Returns the conflict that the entries of `entry_path` from `start_index` on name by their stages. With it come
-    /// the number of entries that follow the first of them, and the entries of stage 1 (base), 2 (ours) and 3 (theirs).
+    /// Returns the conflict that the entries of `entry_path` from `start_index` on name by their stages. Also returns
+    /// how many entries follow the first of them, and the entries of stage 1 (base), 2 (ours) and 3 (theirs).
     ///
     /// Reads at most three entries, and stops at the first that has another path or stage 0. Of entries with the same
-    /// stage the last is returned, and all are counted. Returns `None` if no entry is left, so also for a `start_index`
-    /// past the end.
+    /// stage the last is returned, and all are counted. Returns `None` if there is no such entry, also for a
+    /// `start_index` past the end.
     pub fn try_from_entry<'e>(
         entries: &'e [Entry],
         path_backing: &PathStorage,

@@ -84,7 +84,7 @@ where
     /// Returns the node at a path, or that nothing or a directory is there.
     ///
     /// # Errors
-    /// The path isn't normal, it has a fault other than one of absence, or out of memory.
+    /// A path that isn't normal, a fault other than one of absence, or out of memory.
     fn look(&mut self, path: BStr<'_>) -> Result<Look, Error>
         ensures look { IsLooked (⟦<Decider<'w, W, C, S, O, P, T, L> as Decide>⟧.query self.old)
             (bstr_bytes path.entry) result }

@@ -19,8 +19,8 @@ use std::thread::Threads;
 /// Reports to `collector` how the worktree differs from `index`, entry by entry in index order, and returns the counts.
 ///
 /// `compare` is called for files whose stat doesn't settle that they are unchanged. `submodule` has the status of
-/// submodules, and `objects` the blobs that the index names. Nothing is written: if a record asks for it, the caller
-/// stores a new stat or size 0 in the index, and then gives the index a later timestamp.
+/// submodules, and `objects` the blobs that the index names. Nothing is written. If a record asks for it, the caller
+/// stores a new stat or size 0 in the index. The caller then sets a later timestamp of the index.
 ///
 /// The work is shared by workers, at most as many as the options' thread limit allows. One of them runs in the caller's
 /// thread, each other one in a thread that has ended when the call returns. If the context's interrupt flag is seen

@@ -59,7 +59,7 @@ pub struct Inputs<'w, W, C, S, O, P, T, L> {
     pub lister: L,
 }
 
-/// Specifies a status by its inputs, of any types.
+/// The inputs of a status, of any types.
 pub trait Ask {
     /// The comparer's report of a change.
     type Content;

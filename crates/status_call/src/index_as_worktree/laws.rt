@@ -62,8 +62,8 @@ pub fn one_conflict_a_path<T: Drop, U: Drop>()
     ensures { (q : Query T U) → OneConflictLaw q }
 {}
 
-/// An entry with a stage above 0 reports a conflict, unless it is skipped, or an unskipped entry of its path has a
-/// smaller stage above 0.
+/// An entry with a stage above 0 reports a conflict, unless it is skipped or over. It is over if an unskipped entry of
+/// its path has a smaller stage above 0.
 pub fn head_reports_a_conflict<T: Drop, U: Drop>()
     ensures { (q : Query T U) → HeadLaw q }
 {}
@@ -88,9 +88,9 @@ pub fn sizes_read_no_blob<U: Drop>()
     ensures { (q : Query (Unit {0}) U) → SizeReadsLaw q }
 {}
 
-/// Comparison by sizes reports a change of a file or link exactly if comparison by ids does. This holds if the file
-/// delivers as many bytes as its length, nothing converts it, different contents have different ids, and the entry
-/// stores its content's size or 0.
+/// Comparison by sizes reports a change of a file or link exactly if comparison by ids does. This has conditions. The
+/// file delivers as many bytes as its length, and nothing converts it. The contents at hand have different ids unless
+/// they are equal, and the entry stores its content's size or 0.
 pub fn fast_agrees_with_hash()
     ensures { (e : IndexEntry) → FastAgrees e }
 {}

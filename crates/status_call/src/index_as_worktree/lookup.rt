@@ -39,11 +39,11 @@ pub(crate) struct Look {
     pub(crate) lstat_called: bool,
 }
 
-/// Returns the node at a path. The path itself is checked only if the link check accepts each directory above it, and
-/// `lstat` is called on it only if no listing knows it.
+/// Returns the node at a path. The link check comes first. Only if it accepts each directory above the path, the path
+/// itself is looked up, by `lstat` only if no listing knows it.
 ///
 /// # Errors
-/// The path isn't normal, it has a fault other than one of absence, or out of memory.
+/// A path that isn't normal, a fault other than one of absence, or out of memory.
 pub(crate) fn look_up<W: Worktree, L: Lister>(
     worktree: &W,
     check: &mut SymlinkCheck,
@@ -115,7 +115,7 @@ fn look_at(node: Metadata, lstat_called: bool) -> Look
 /// Returns the look-up of a path that the link check refuses.
 ///
 /// # Errors
-/// The path isn't normal, it has a fault other than one of absence, or out of memory.
+/// A path that isn't normal, a fault other than one of absence, or out of memory.
 fn look_refused(error: StackError<'_>) -> Result<Look, Error>
     ensures { (check : LinkCheck) (node : Result NodeMetadata WorktreeFault) (unknown : Bool)
         → IsRefused check error.entry

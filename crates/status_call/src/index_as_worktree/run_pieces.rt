@@ -121,7 +121,7 @@ fn crew_of<D: Decide + Drop>(
 /// that didn't reach its end.
 ///
 /// # Errors
-/// A refused thread, or out of memory.
+/// A refused thread, otherwise out of memory.
 pub(crate) fn run_pieces<R: Threads + Wait, D: Decide + Send + Drop>(
     rt: &R,
     alloc: Global,

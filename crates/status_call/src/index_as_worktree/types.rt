@@ -97,7 +97,7 @@ pub enum Conflict {
 pub struct Capabilities {
     /// Whether it keeps symbolic links (git's `core.symlinks`).
     pub symlink: bool,
-    /// Whether it keeps if a file is executable (git's `core.fileMode`).
+    /// Whether it keeps the executability of files (git's `core.fileMode`).
     pub executable_bit: bool,
 }
 
@@ -115,8 +115,8 @@ impl Default for Capabilities {
     }
 }
 
-/// How a status is computed. By default links and executability count, stats are compared by the default
-/// `stat::Options`, the number of workers and the size of pieces are the usual ones, and no listing is used.
+/// How a status is computed. By default links and executability count, and no listing is used. Stats are compared by
+/// the default `stat::Options`, and the number of workers and the size of pieces are the usual ones.
 #[derive(Clone, Debug, Drop, PartialEq, Eq, Hash)]
 pub struct Options {
     /// The properties of files that the file system keeps.
