@@ -42,8 +42,8 @@ changed_result old (Err e) = Err e
 abbrev pub hash_answer : IndexEntry → Reading → Result (Option ObjectId) Error
 hash_answer entry reading = changed_result entry.id (reading_id (id_kind entry.id) reading)
 
--- Whether the sizes alone show a change. The entry's size isn't the file's length to 32 bits, and isn't 0 as a mark: the entry's
--- id is the empty blob's, or its size isn't 0.
+-- Whether the sizes alone show a change. The entry's size isn't the low 32 bits of the file's length, and isn't 0 as a mark: the
+-- entry's id is the empty blob's, or its size isn't 0.
 abbrev pub size_decides : IndexEntry → ℕ → Bool
 size_decides entry len = not (entry.stat.size == len % 2 ^ 32) && (is_empty_blob entry.id || not (entry.stat.size == 0))
 

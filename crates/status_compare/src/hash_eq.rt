@@ -44,8 +44,7 @@ impl CompareBlobs for HashEq {
     }
 }
 
-// Returns the id of the stream's bytes. If the size is known, exactly that many bytes are read and hashed; otherwise
-// all.
+// Returns the id of the stream's bytes. If the size is known, exactly that many are read and hashed; otherwise all.
 fn stream_id<F: ReadBytes>(
     alloc: Global,
     kind: HashKind,
