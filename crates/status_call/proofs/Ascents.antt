@@ -67,7 +67,7 @@ module _ (es : List IndexEntry) (index : IsIndex es) (d : IndexEntry) where
   pub less_at : (i j : ℕ) → i < j → j < length es → entry_cmp (at i) (at j) ≡ Less
   less_at i j l m = index.ascending i j d l m
 
-  -- what stands between two entries of a path has that path
+  -- An entry between two entries of a path has that path.
   pub same_between : (i j k : ℕ) → i ≤ j → j ≤ k → k < length es → same_path (at k) (at i) ≡ true → same_path (at j) (at i) ≡ true
   same_between i j k l m n h =
       elim (cases_eq i j) [
@@ -87,7 +87,7 @@ module _ (es : List IndexEntry) (index : IsIndex es) (d : IndexEntry) where
       let b = path_same (at (k - 1)) (at i) (same_between i (k - 1) j (omega arith) (omega arith) o far) in
       let c = same_from_path (at k) (at (k - 1)) (a ∙ sym b) in cc)
 
-  -- the stages of a path rise from one entry to the next
+  -- The stages of a path rise from one entry to the next.
   pub stage_climbs : (i n : ℕ) → i + n < length es → same_path (at (i + n)) (at i) ≡ true → stage_of (at i) + n ≤ stage_of (at (i + n))
   stage_climbs i zero l h =
       let same : i + 0 ≡ i = omega arith in
@@ -104,7 +104,7 @@ cut_between es k index some l h =
     All-drop_from (λ r. same_path (slice_index_or es i d) r ≡ false) es k (λ j f o p.
     rw (get_or_default es j f d p) (cut_at es index d k some l (h d) i j m o p)))
 
--- the same, of entries whose paths stand in a storage
+-- The same for entries whose paths are in a storage.
 pub cut_entries : (b : PathStorage) (entries : List Entry) (k : ℕ) (d e : Entry) → IsIndex (index_entries b entries) → 0 < k → k < length entries → same_path (index_entry b (slice_index_or entries k d)) (index_entry b (slice_index_or entries (k - 1) e)) ≡ false → IsCut (index_entries b entries) k
 cut_entries b entries k d e index some l h =
     cut_between (index_entries b entries) k index some (omega (arith, length-map entries (index_entry b))) (λ f.
@@ -117,7 +117,7 @@ IsIndex-part es a b h = record {
   one_kind = AllPairs-part es a b (λ a b. id_kind a.id ≡ id_kind b.id) h.one_kind;
 }
 
--- a path with entries on both sides of a place
+-- A path with entries on both sides of a position.
 pub not_cut : (b : PathStorage) (entries : List Entry) (k : ℕ) (d e : Entry) → 0 < k → k < length entries → same_path (index_entry b (slice_index_or entries k d)) (index_entry b (slice_index_or entries (k - 1) e)) ≡ true → IsCut (index_entries b entries) k → ⊥
 not_cut b entries k d e some l same cut =
     let es = index_entries b entries in

@@ -1,4 +1,4 @@
--- The bounds of pieces, as they grow, and what pieces in a row give.
+-- The bounds of pieces, as they grow, and the results of pieces in a row.
 use Rattle.std.proofs.Common.{◌≡◌, refl, sym, ap, ◌∙◌, subst, ℕ, zero, suc, ◌+◌, ◌-◌, ◌<◌, ◌≤◌, ◌⊎◌, inl, inr, Bool, true, List, [], ◌∷◌, ◌++◌, length, length-append, All, Option, Some, None, arith}
 use Rattle.std.specs.Prelude.{AllPairs, slice_get}
 use Rattle.std.specs.List.{slice_index_or}
@@ -16,7 +16,7 @@ use Rattle.status_call.specs.Query.{Query}
 use Rattle.status_call.specs.Rounds.{AreBounds, AreInRow, ArePieces, IsGiven, IsPieceEnd, bound, last_bound, is_short}
 use Rattle.status_call.proofs.Parts.{AllPairs-append}
 
--- bounds from a place up to another
+-- Bounds from a position up to another.
 pub record AreGrowing (es : List IndexEntry) (chunk from at : ℕ) (bounds : List ℕ) : Type 0 where
   pub some_bound : 0 < length bounds
   pub first : bound bounds 0 ≡ from
@@ -100,7 +100,7 @@ module _ {T U : Type 0} where
   abbrev pub IsShort : Piece T U → Bool
   IsShort p = is_short p.end
 
-  -- where the first is whole the last stands behind it
+  -- If the first piece is whole, the one that didn't reach its end is after it.
   ends_behind : (p : Piece T U) → p.end ≡ Whole → (ps : List (Piece T U)) → EndsShort IsShort (p ∷ ps) → EndsShort IsShort ps
   ends_behind p whole [] e = absurd (short_whole p.end whole (ap IsShort (some_same p e.0 e.1) ∙ e.2))
   ends_behind p whole (r ∷ rs) e =
@@ -114,7 +114,7 @@ module _ {T U : Type 0} (q : Query T U) (interruptible : Bool) (start : ℕ) (es
   abbrev Row : ℕ → List (Piece T U) → Type 0
   Row at ps = AreInRow q interruptible start es (last_bound bounds) at ps
 
-  -- the pieces from a number on
+  -- The pieces from a number on.
   row_from : (n : ℕ) (ps : List (Piece T U)) → n + length ps ≤ length bounds - 1
       → ((i : ℕ) (p : Piece T U) → slice_get ps i ≡ Some p → Gives (n + i) p)
       → (n + length ps < length bounds - 1 → EndsShort IsShort ps)
@@ -135,6 +135,6 @@ module _ {T U : Type 0} (q : Query T U) (interruptible : Bool) (start : ℕ) (es
             (λ h. ends_behind p whole ps (through (omega (arith, h))))),
       )
 
-  -- what a round gives is in a row
+  -- The pieces of a round are in a row.
   pub row_of : (ps : List (Piece T U)) → IsRound Gives IsShort (length bounds - 1) ps → Row (bound bounds 0) ps
   row_of ps h = row_from 0 ps (omega (arith, h.few)) (λ i p g. subst (λ (m : ℕ). Gives m p) (omega arith) (h.each i p g)) (λ l. h.through (omega (arith, l)))

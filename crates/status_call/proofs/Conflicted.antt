@@ -26,7 +26,7 @@ map_cond : {X Y : Type 0} (f : X → Y) (b : Bool) (x : X) → option_map f (con
 map_cond f true x = refl
 map_cond f false x = refl
 
--- the last stored entry of a stage is the last of those that the index shows
+-- The last stored entry of a stage is the last of the index's.
 pub stored_is : (b : PathStorage) (run : List Entry) (stage : ℕ) → option_map (index_entry b) (stored_of_stage run stage) ≡ entry_of_stage (index_entries b run) stage
 stored_is b [] stage = refl
 stored_is b (x ∷ run) stage =
@@ -45,7 +45,7 @@ shown_some : (b : PathStorage) (o : Option (Bor Entry)) → is_some (option_map 
 shown_some b None = refl
 shown_some b (Some x) = refl
 
--- what was found of a stage
+-- The search for an entry of a stage, and whether it found one.
 pub record IsStageFound (run : List Entry) (stage : ℕ) (o : Option (Bor Entry)) (found : Bool) : Type 0 where
   pub last : option_copied o ≡ stored_of_stage run stage
   pub some : found ≡ is_some o
@@ -54,11 +54,11 @@ module _ (b : PathStorage) (base ours theirs : Option (Bor Entry)) (x y z : Bool
   shown : (run : List Entry) (stage : ℕ) (o : Option (Bor Entry)) (found : Bool) → IsStageFound run stage o found → option_map (index_entry b) (option_copied o) ≡ entry_of_stage (index_entries b run) stage
   shown run stage o found f = ap (option_map (index_entry b)) f.last ∙ stored_is b run stage
 
-  -- whether a run has an entry of a stage
+  -- Whether a run has an entry of a stage.
   some_stage : (run : List Entry) (stage : ℕ) (o : Option (Bor Entry)) (found : Bool) → IsStageFound run stage o found → has_stage (index_entries b run) stage ≡ found
   some_stage run stage o found f = ap is_some (sym (shown run stage o found f)) ∙ shown_some b o ∙ sym f.some
 
-  -- a run that names a conflict has an entry
+  -- A run that names a conflict has an entry.
   last_after : (run : List IndexEntry) (c : Conflict) → conflict_of run ≡ Some c → length run - 1 + 1 ≡ length run
   last_after [] c h = cc
   last_after (e ∷ run) c h = omega arith
@@ -77,7 +77,7 @@ module _ (b : PathStorage) (base ours theirs : Option (Bor Entry)) (x y z : Bool
         rw (← same, long) (named, last_after (index_entries b run) c named, rw (shown run 1 base x f, shown run 2 ours y g, shown run 3 theirs z h) refl)
 
 module _ (x : IndexEntry) (xs : List IndexEntry) where
-  -- a run has the stage of its first entry
+  -- A run has the stage of its first entry.
   stage_found : (s : ℕ) → stage_of x ≡ s → has_stage (x ∷ xs) s ≡ true
   stage_found s e =
       ap (λ (ys : List IndexEntry). is_some (find (λ (d : IndexEntry). stage_of d == s) ys)) (reverse_onto xs x [])
@@ -98,7 +98,7 @@ none_named false true true h = cc
 none_named true true true h = cc
 none_named false false false h = (refl, refl, refl)
 
--- entries of a stage name a conflict
+-- Entries of a stage name a conflict.
 run_named : (x : IndexEntry) (xs : List IndexEntry) → 0 < stage_of x → stage_of x < 4 → conflict_of (x ∷ xs) ≡ None → ⊥
 run_named x xs low high h =
     let none = none_named (has_stage (x ∷ xs) 1) (has_stage (x ∷ xs) 2) (has_stage (x ∷ xs) 3) h in

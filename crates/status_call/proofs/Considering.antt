@@ -1,4 +1,4 @@
--- The considered entries are a stretch of the index.
+-- The considered entries are a range of the index.
 use Rattle.std.proofs.Common.{◌≡◌, refl, sym, ap, ◌∙◌, subst, ℕ, ◌+◌, ◌-◌, ◌<◌, ◌≤◌, Bool, true, false, cond, ◌||◌, List, [], ◌∷◌, ◌++◌, length, take, drop, All, arith, length-take, length-drop}
 use Rattle.std.specs.List.{filter, list_any, position_or_len}
 use Rattle.std.proofs.lemmas.List.{append-nil, take-append-drop, drop-drop}
@@ -29,7 +29,7 @@ module _ {X : Type 0} (p : X → Bool) where
   position_behind [] y ys n h = rw h refl
   position_behind (x ∷ front) y ys n h = rw (All-head (λ x. p x ≡ false) x front n) (omega (arith, position_behind front y ys (All-tail (λ x. p x ≡ false) x front n) h))
 
--- the parts of a list at two places
+-- The parts of a list at two positions.
 pub three_parts : {X : Type 0} (es : List X) (a b : ℕ) → a ≤ b → take a es ++ (part_of es a b ++ drop b es) ≡ es
 three_parts {X} es a b h =
     let e : a + (b - a) ≡ b = omega arith in
@@ -37,7 +37,7 @@ three_parts {X} es a b h =
     ∙ ap (λ (l : List X). take a es ++ l) (take-append-drop (b - a) (drop a es)) ∙ take-append-drop a es
 
 module _ (prefix : List ℕ) where
-  -- a front and a back that aren't under the prefix, and a part that is; where that is empty, all are
+  -- A front and a back that aren't under the prefix, and a part that is. If that part is empty, all are considered.
   considered_by : (front part back : List IndexEntry) → All (λ e. is_under prefix e ≡ false) front → All (λ e. is_under prefix e ≡ true) part → All (λ e. is_under prefix e ≡ false) back
       → (length part ≡ 0 → (front ≡ []) × (back ≡ []))
       → (part ≡ considered prefix (front ++ (part ++ back))) × (length front ≡ considered_start prefix (front ++ (part ++ back)))
@@ -65,7 +65,7 @@ nil_or_more : (xs : List ℕ) → (0 < length xs → ⊥) → xs ≡ []
 nil_or_more [] h = refl
 nil_or_more (x ∷ xs) h = absurd (h (omega arith))
 
--- the stretch is what is considered
+-- The range has exactly the considered entries.
 pub is_considered : (es : List IndexEntry) (prefix : List ℕ) (a b : ℕ) → IsStretch es prefix a b → (0 < length prefix → a < b)
     → (part_of es a b ≡ considered prefix es) × (a ≡ considered_start prefix es)
 is_considered es prefix a b s h =
@@ -76,6 +76,6 @@ is_considered es prefix a b s h =
     let len_front : length (take a es) ≡ a = omega (arith, length-take a es, s.inside, s.order) in
     (both.0 ∙ ap (considered prefix) parts, sym len_front ∙ both.1 ∙ ap (considered_start prefix) parts)
 
--- where nothing is under the prefix, all is considered
+-- If no entry is under the prefix, all are considered.
 pub all_considered : (es : List IndexEntry) (prefix : List ℕ) → All (λ e. is_under prefix e ≡ false) es → (es ≡ considered prefix es) × (0 ≡ considered_start prefix es)
 all_considered es prefix h = rw (list_any_none (is_under prefix) es h) (refl, refl)

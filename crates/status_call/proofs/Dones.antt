@@ -1,4 +1,4 @@
--- What is done up to a place, and how it goes on.
+-- The work that is done up to a position, and how it goes on.
 use Rattle.std.proofs.Common.{◌≡◌, sym, ap, ◌∙◌, subst, ℕ, ◌+◌, ◌-◌, ◌^◌, ◌<◌, ◌≤◌, inl, inr, Bool, true, false, ◌||◌, List, [], ◌∷◌, ◌++◌, length, take, drop, slice_index_or, All, Option, Some, None, Ok, arith}
 use Rattle.std.specs.List.{list_any}
 use Rattle.std.proofs.lemmas.Bool.{cases_lt, and_left, and_right}
@@ -24,7 +24,7 @@ use Rattle.status_compare.specs.Reads.{plus_reads}
 use Rattle.status_call.proofs.Groups.{records-append, faults-append, counts-append, reads-append}
 use Rattle.status_call.proofs.Parts.{All-take_at, All-drop_at, All-take_from, All-drop_from, All-part_at, AllPairs-append, length-part, part_none, part_split}
 
--- of two, the first is false
+-- Of two, the first is false.
 pub or_false : (a b c : Bool) → c ≡ (a || b) → a ≡ false → c ≡ b
 or_false true b c e h = cc
 or_false false b c e h = e
@@ -72,7 +72,7 @@ IsWithin-none n = record {
 }
 
 module _ {T U : Type 0} where
-  -- the entry's place is from `low` on and below `high`
+  -- The entry's position is at least `low` and below `high`.
   abbrev IsPlaced : ℕ → ℕ → Finding T U → Type 0
   IsPlaced low high f = (low ≤ f.entry_index) × (f.entry_index < high)
 
@@ -85,7 +85,7 @@ module _ {T U : Type 0} where
   one_record i (Some s) = omega arith
 
 module _ {T U : Type 0} (q : Query T U) (start : ℕ) (es : List IndexEntry) where
-  -- nothing is done yet
+  -- Nothing is done yet.
   pub done_none : (from : ℕ) → from ≤ length es → IsDone q start es from from [] no_totals
   done_none from l =
       let none = part_none es from in
@@ -103,7 +103,7 @@ module _ {T U : Type 0} (q : Query T U) (start : ℕ) (es : List IndexEntry) whe
         };
       }
 
-  -- one step
+  -- One step.
   pub done_next : (at : ℕ) (s : Step T U) → IsNext q es at s → IsDone q start es at (at + s.len) (record_by (start + at) (Ok s.status)) s.totals
   done_next at s h = record {
     low = omega arith;
@@ -121,7 +121,7 @@ module _ {T U : Type 0} (q : Query T U) (start : ℕ) (es : List IndexEntry) whe
         };
   }
 
-  -- what is done goes on with what is done from there
+  -- Work that is done is continued by work from there on.
   module _ (from at to : ℕ) (rs more : List (Finding T U)) (a b : Totals) (h : IsDone q start es from at rs a) (k : IsDone q start es at to more b) where
     pub done_more : IsDone q start es from to (rs ++ more) (plus_totals a b)
     done_more = record {
@@ -151,11 +151,11 @@ module _ {T U : Type 0} (q : Query T U) (start : ℕ) (es : List IndexEntry) whe
               clear = ap (faults_in q es) split ∙ faults-append q es xs ys ∙ ap (λ zs. zs ++ faults_in q es ys) m.clear ∙ n.clear;
             }
 
-    -- and what they count fits together
+    -- Their counts together fit.
     pub sums_fit : length es < 2 ^ 64 → IsWithin (2 ^ 64 - 1) (plus_counts a.counts b.counts)
     sums_fit l = IsWithin-more (to - from) (2 ^ 64 - 1) (plus_counts a.counts b.counts) (omega (arith, k.high)) done_more.few
 
-  -- a step doesn't go past a cut
+  -- A step doesn't go past a cut.
   pub not_past : (to at : ℕ) (s : Step T U) → IsCut es to → at < to → to ≤ length es → IsNext q es at s → at + s.len ≤ to
   not_past to at s cut l m h =
       elim (cases_lt to (at + s.len)) [
@@ -169,7 +169,7 @@ module _ {T U : Type 0} (q : Query T U) (start : ℕ) (es : List IndexEntry) whe
             cc
       ]
 
--- at a cut no entry takes over one behind it
+-- At a cut no entry takes over one after it.
 pub fresh_cut : {T U : Type 0} (q : Query T U) (es : List IndexEntry) (k : ℕ) → IsCut es k → IsFresh q (take k es) (drop k es)
 fresh_cut q es k cut =
     All-drop_from (λ r. list_any (λ d. takes_over q d r) (take k es) ≡ false) es k (λ j f l m.
@@ -179,7 +179,7 @@ fresh_cut q es k cut =
     let other : same_path (slice_index_or es i d) r ≡ false = All-drop_at (λ r. same_path (slice_index_or es i d) r ≡ false) es k apart j f l m in
     and_left _ _ (and_left _ _ (and_right _ _ other)))))
 
--- the state of the work on a piece
+-- The state of the work on a piece.
 pub record IsWorking {T U : Type 0} (q : Query T U) (start : ℕ) (es : List IndexEntry) (from to at : ℕ) (findings : List (Finding T U)) (totals : Totals) : Type 0 where
   pub done : IsDone q start es from at findings totals
   pub fresh : IsFresh q (take at es) (drop at es)

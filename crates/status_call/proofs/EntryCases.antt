@@ -29,7 +29,7 @@ use Rattle.status_call.specs.Modelled.{all_modelled}
 use Rattle.status_call.specs.Query.{Query}
 use Rattle.status_call.specs.Status.{Found, cached_or, found_by, found_node, refused, present, Case, compared, answer, found, meaning, is_trusted, case_of_found, case_of_content}
 
--- where all is modelled, each is
+-- If all is modelled, each interface is.
 pub all_worktree : (a b c d : Bool) → IsTrue (all_modelled a b c d) → IsTrue a
 all_worktree true b c d t = refl
 all_worktree false b c d t = absurd (cc)
@@ -51,22 +51,22 @@ all_listings true true false d t = absurd (cc)
 all_listings true false c d t = absurd (cc)
 all_listings false b c d t = absurd (cc)
 
--- a presence that was found by an equal check
+-- A look-up by an equal check.
 pub site_at : (meant check : LinkCheck) (node : Result Metadata Fault) (unknown : Bool) (r : Result Look Error) → check ≡ meant
     → IsLook (found_by meant node) (is_accepted meant && unknown) r → IsLook (found_by check node) (is_accepted check && unknown) r
 site_at meant check node unknown r same h =
     let P : LinkCheck → Type 0 = λ k. IsLook (found_by k node) (is_accepted k && unknown) r in subst P (sym same) h
 
--- a node that was found
+-- A node that was found.
 pub presence_node : (found : Found) (called : Bool) (look : Look) (n : Metadata) → look.presence ≡ presences.Node n → IsLook found called (Ok look) → (found ≡ present n) × (look.lstat_called ≡ called)
 presence_node found called look n same h = (h.0 ∙ ap found_presence same, h.1)
 
--- an answer that is no want of memory is the one that is meant
+-- A result that isn't out of memory is the specified one.
 pub live_answer : (meant : Result Metadata Fault) (n : Metadata) → IsAnswer meant (Ok n) → meant ≡ Ok n
 live_answer meant n (inl h) = sym h
 live_answer meant n (inr h) = absurd (cc)
 
--- a node that listings know, and one that `lstat` finds
+-- A node that listings know, and one that `lstat` finds.
 pub site_known : (check : LinkCheck) (known : Option Metadata) (answered : Result Metadata Fault) (n : Metadata) (look : Look) → check ≡ accepted → known ≡ Some n
     → IsLook (found_node (Ok n)) false (Ok look) → IsLook (found_by check (cached_or known answered)) (is_accepted check && not (is_some known)) (Ok look)
 site_known check known answered n look verified is h =
@@ -82,7 +82,7 @@ site_live check known answered n look verified is live h =
     let R : Result Metadata Fault → Type 0 = λ r. IsLook (found_node r) true (Ok look) in
     subst P (sym verified) (subst Q (sym is) (subst R (sym live) h))
 
--- a path that isn't normal
+-- A path that isn't normal.
 pub site_odd : (error : StackError) (check : LinkCheck) (node : Result Metadata Fault) (unknown : Bool)
     → (error ≡ stacks.EmptyPath) ⊎ ((component : BStr) × (error ≡ stacks.NotNormal component)) → IsRefused check error
     → IsLook (found_by check node) (is_accepted check && unknown) (Err (errors.Io faults.NotNormal))
@@ -99,18 +99,18 @@ site_odd (stacks.Fault fault) check node unknown (inr e) same = let f = e.1 in a
 site_odd stacks.Memory check node unknown (inl e) same = absurd (cc)
 site_odd stacks.Memory check node unknown (inr e) same = let f = e.1 in absurd (cc)
 
--- a decision of a case, with the look at its path counted
+-- A decision of a case, with the look-up of its path counted.
 pub counted_look : {T U : Type 0} (path : List ℕ) (case : Case T U) (called : Bool) (counted : Option Reads) (d : Decided T U)
     → IsOfCase path case false counted d → IsOfCase path case called counted (record d { lstat_called = called })
 counted_look path case called counted d h = record { status = h.status; lstat_called = refl; racy = h.racy; reads = h.reads }
 
--- what the comparer says it reads, where it says that
+-- The reads that the comparer specifies, if it does.
 pub reported_counts : (counted : Option Reads) → IsTrue (is_some counted) → counted ≡ Some (unwrap_or counted no_reads)
 reported_counts (Some k) reported = refl
 reported_counts None reported = absurd (cc)
 
 module _ {T U : Type 0} (q : Query T U) (e : IndexEntry) where
-  -- the comparer is called, but for entries that are trusted and not racy
+  -- The comparer is called, except for entries that are trusted and not racy.
   pub calls_comparer : (n : Metadata) (s : Stat) (x trusted racy : Bool) → (x || not trusted || racy) ≡ true
       → case_of_content q e n s x trusted racy ≡ compared x trusted racy s (q.compared e n.len (meaning q e n))
   calls_comparer n s true trusted racy h = refl
@@ -118,7 +118,7 @@ module _ {T U : Type 0} (q : Query T U) (e : IndexEntry) where
   calls_comparer n s false true true h = refl
   calls_comparer n s false true false h = absurd (cc)
 
-  -- the comparer's change decides
+  -- The comparer's change decides.
   pub compared_of_case : (n : Metadata) (s : Stat) (x trusted racy compares : Bool) (change : Option T) (counted : Option Reads) (d : Decided T U)
       → trusted ≡ is_trusted q e s → racy ≡ is_racy q.stat_options q.timestamp s → compares ≡ (x || not trusted || racy) → compares ≡ true
       → q.compared e n.len (meaning q e n) ≡ Ok change → IsOfCase e.path (compared x trusted racy s (Ok change)) false counted d
@@ -133,7 +133,7 @@ module _ {T U : Type 0} (q : Query T U) (e : IndexEntry) where
   abbrev reads_at : Found → Reads
   reads_at f = if is_compared_case (case_of_found q e f) then reads_of_found q e f else no_reads
 
-  -- the decision of what is found is the entry's
+  -- The decision for the node that is found is the entry's.
   pub is_decided : (f : Found) (reported : Bool) (counted : Option Reads) (r : Result (Decided T U) Error)
       → found q e ≡ f → calls_lstat q e ≡ reported → (ModelsReads q → counted ≡ Some (reads_of_found q e f))
       → IsCaseDecided e.path (case_of_found q e f) reported counted r → IsDecided q e r

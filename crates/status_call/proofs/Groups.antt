@@ -1,4 +1,4 @@
--- Records, faults, counts and readings of parts of the considered entries, and of one entry.
+-- Records, faults, counts and reads of parts of the considered entries, and of one entry.
 use Rattle.std.proofs.Common.{◌≡◌, refl, sym, ap, ◌∙◌, ℕ, ◌+◌, ◌≤◌, min, Bool, true, false, not, ◌&&◌, ◌||◌, ◌==◌, List, [], ◌∷◌, ◌++◌, length, map, All, sum_by, count_by, Option, Some, None, option_map, Ok, arith}
 use Rattle.std.specs.List.{flat_map, enumerate_from, cons_option}
 use Rattle.std.proofs.lemmas.Bool.{cond-true, cond-false, and_from, and_left, and_right, or_left, or_right, or_from, or_parts, not_from_true, not_from_false}
@@ -78,7 +78,7 @@ module _ {T U : Type 0} (q : Query T U) (es : List IndexEntry) where
   pub faults-append : (xs ys : List IndexEntry) → faults_in q es (xs ++ ys) ≡ faults_in q es xs ++ faults_in q es ys
   faults-append xs ys = filter_map-append (λ (e : IndexEntry). fault_by (verdict q es e)) xs ys
 
-  -- what each entry adds to a count
+  -- The tests by which an entry adds 1 to a count.
   abbrev is_processed : IndexEntry → Bool
   is_processed e = not (is_over q es e)
 
@@ -119,7 +119,7 @@ module _ {T U : Type 0} (q : Query T U) (es : List IndexEntry) where
       ap (λ (o : Option Error). cons_option o (faults_in q es xs)) (ap fault_by (All-head (λ (e : IndexEntry). verdict q es e ≡ Ok None) x xs h))
       ∙ faults_none xs (All-tail (λ (e : IndexEntry). verdict q es e ≡ Ok None) x xs h)
 
-  -- a later stage of a conflict that is reported already
+  -- A later stage of a conflict that is reported already.
   pub record IsLater (e : IndexEntry) : Type 0 where
     pub over : is_over q es e ≡ true
     pub staged : (stage_of e == 0) ≡ false
@@ -130,7 +130,7 @@ module _ {T U : Type 0} (q : Query T U) (es : List IndexEntry) where
   later_reads : (e : IndexEntry) → IsLater e → reads_of q e ≡ no_reads
   later_reads e h = cond-false (is_looked_at q e) _ _ (and_right _ _ h.staged)
 
-  -- what one entry counts
+  -- The counts of one entry.
   abbrev pub one_counts : IndexEntry → Counts
   one_counts x = record {
     processed = weight (is_processed x);
@@ -141,7 +141,7 @@ module _ {T U : Type 0} (q : Query T U) (es : List IndexEntry) where
     to_update = weight (is_updated x);
   }
 
-  -- an entry, and the later stages of its conflict
+  -- An entry, and the later stages of its conflict.
   module _ (x : IndexEntry) (xs : List IndexEntry) (later : All IsLater xs) where
     count_head : (p : IndexEntry → Bool) → ((e : IndexEntry) → IsLater e → p e ≡ false) → count_by p (x ∷ xs) ≡ weight (p x)
     count_head p h = count_first p x xs (All-weaker IsLater (λ e. p e ≡ false) h xs later)
@@ -181,7 +181,7 @@ module _ {T U : Type 0} (q : Query T U) (es : List IndexEntry) where
               ∙ faults_none xs quiet;
         }
 
-  -- one entry that isn't a later stage
+  -- One entry that isn't a later stage.
   module _ (x : IndexEntry) (first : is_over q es x ≡ false) where
     pub skipped_verdict : is_skipped q x ≡ true → verdict q es x ≡ Ok None
     skipped_verdict h = cond-true (is_skipped q x || is_over q es x) _ _ (or_left _ _ h)

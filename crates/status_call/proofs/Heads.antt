@@ -1,4 +1,4 @@
--- The next step at an entry whose path stands in a storage, by what was looked at of the entry.
+-- The next step at an entry whose path is in a storage, by the tests of the entry.
 use Rattle.std.proofs.Common.{◌≡◌, sym, ◌∙◌, subst, ℕ, ◌<◌, Bool, true, false, not, List, length, take, drop, slice_index_or, None, Result, Ok, Err, IsTrue, arith}
 use Rattle.std.specs.Result.{OnOk, OnErr, is_err}
 use Rattle.std.proofs.lemmas.Bool.{or_from, not-true, not-false}
@@ -62,7 +62,7 @@ module _ (b : PathStorage) (entries : List Entry) (i : ℕ) (e : Entry) (path : 
         head_fault h error decided t =
             next_fault es index i head within here q fresh kept error (sym staged ∙ h) (decided t)
 
--- the same by a query that stayed
+-- The same for an equal query.
 module _ {T U : Type 0} (q r : Query T U) (same : q ≡ r) (es : List IndexEntry) (i : ℕ) where
   pub IsNext-kept : (s : Step T U) → IsNext q es i s → IsNext r es i s
   IsNext-kept s h =

@@ -1,4 +1,4 @@
--- What is stored of a status: place by place, and of the index's own entries alone.
+-- The changes that are stored: position by position, and of the index's own entries alone.
 use Rattle.std.proofs.Common.{◌≡◌, refl, sym, ap, subst, ◌∙◌, ℕ, zero, suc, ◌<◌, arith, All, List, [], ◌∷◌, ◌++◌, map, length, Option, Some, None, Result, slice_index_or, slice_set, true, false}
 use Rattle.std.specs.List.{cons_option, filter_map}
 use Rattle.std.proofs.lemmas.List.Elements.{All-nil, All-cons, All-head, All-tail, filter_map-append}
@@ -21,9 +21,9 @@ use Rattle.status_call.specs.Query.{Query}
 use Rattle.status_call.specs.StatusTheorem.{IsMet}
 use Rattle.status_call.specs.Visits.{Visit, IsFaithful}
 
--- ---- one place
+-- ---- one position
 
--- an entry that says nothing
+-- An empty entry.
 abbrev pub no_entry : IndexEntry
 no_entry = record {
   path = [];
@@ -41,7 +41,7 @@ no_entry = record {
   mode = File;
 }
 
--- an entry changed, as the index's calls say it
+-- The list after an entry's change, as the contracts of the index state it.
 pub changes_is : (f : IndexEntry → IndexEntry) (at : ℕ) (old new : List IndexEntry) → ChangesAt f at old new → new ≡ change_at f at old
 changes_is f at old new h = h no_entry ∙ sym (set_is at old)
   where
@@ -61,17 +61,17 @@ change_behind f (x ∷ done) e es = ap (λ (l : List IndexEntry). x ∷ l) (chan
 
 -- ---- all changes
 
--- what is stored changes no number of entries
+-- Changes keep the number of entries.
 pub length-applied : (cs : List ApplyChange) (es : List IndexEntry) → length (applied cs es) ≡ length es
 length-applied [] es = refl
 length-applied (c ∷ cs) es = length-applied cs (applied_one c es) ∙ length-change_at (changed_entry c) (entry_index_of c) es
 
--- one more change, as at a step of a loop
+-- One change more, as at a step of a loop.
 pub applied-append : (cs later : List ApplyChange) (es : List IndexEntry) → applied (cs ++ later) es ≡ applied later (applied cs es)
 applied-append [] later es = refl
 applied-append (c ∷ cs) later es = applied-append cs later (applied_one c es)
 
--- nothing but stats changes
+-- Nothing but stats changes.
 pub stats_alone : (cs : List ApplyChange) (es : List IndexEntry) → DifferInStats (applied cs es) es
 stats_alone [] es s = refl
 stats_alone (c ∷ cs) es s = stats_alone cs (applied_one c es) s ∙ at_place (entry_index_of c) es
@@ -85,9 +85,9 @@ stats_alone (c ∷ cs) es s = stats_alone cs (applied_one c es) s ∙ at_place (
     at_place zero (e ∷ rest) = ap (λ (x : IndexEntry). x ∷ map (with_stat s) rest) (kept c e)
     at_place (suc n) (e ∷ rest) = ap (λ (l : List IndexEntry). with_stat s e ∷ l) (at_place n rest)
 
--- ---- what a status asks
+-- ---- changes that a status asks for
 
--- one more item, as at a step of a loop: with what it gives, or without
+-- One item more, as at a step of a loop: with its result, or without.
 pub kept_some : {X Y : Type 0} (h : X → Option Y) (xs : List X) (x : X) (y : Y) → h x ≡ Some y → filter_map h (xs ++ x ∷ []) ≡ filter_map h xs ++ y ∷ []
 kept_some {X} {Y} h xs x y same = filter_map-append h xs (x ∷ []) ∙ ap (λ (o : Option Y). filter_map h xs ++ cons_option o []) same
 
@@ -95,11 +95,11 @@ pub kept_none : {X Y : Type 0} (h : X → Option Y) (xs : List X) (x : X) → h 
 kept_none {X} {Y} h xs x same = filter_map-append h xs (x ∷ []) ∙ ap (λ (o : Option Y). filter_map h xs ++ cons_option o []) same ∙ append-nil (filter_map h xs)
 
 module _ {T U : Type 0} where
-  -- what was reported of an entry, and what that asks
+  -- The change that a record asks for, if any.
   abbrev pub asked : Visit T U → Option ApplyChange
   asked v = change_of v.entry_index v.status
 
-  -- a status asks of the entry at its place
+  -- A status asks for a change of the entry at its position.
   pub place_kept : (at : ℕ) (s : EntryStatus T U) (c : ApplyChange) → change_of at s ≡ Some c → entry_index_of c ≡ at
   place_kept at (statuses.NeedsUpdate stat) c h = cc
   place_kept at (statuses.Change (changes.Modification x k true)) c h = cc
@@ -112,7 +112,7 @@ module _ {T U : Type 0} where
       let place : entry_index_of c ≡ at = place_kept at s c h in
       All-cons (λ (x : ApplyChange). entry_index_of x < length es) c cs (omega (arith, place, within)) later
 
-  -- what is asked of entries that are the index's own is of places within it
+  -- The changes for entries that are the index's own are of positions within it.
   pub changes_inside : (index : State) (vs : List (Visit T U)) → All (IsFaithful (entries_of index) (backing_of index)) vs → AreInside (changes_of vs) (index_of index)
   changes_inside index [] all = All-nil (λ (c : ApplyChange). entry_index_of c < length (index_of index))
   changes_inside index (v ∷ vs) all =
@@ -121,7 +121,7 @@ module _ {T U : Type 0} where
       one_inside v.entry_index v.status (asked v) refl (changes_of vs) (index_of index) (omega (arith, long, within))
       (changes_inside index vs (All-tail (IsFaithful (entries_of index) (backing_of index)) v vs all))
 
-  -- a status asks nothing of a place that the index doesn't have: of a collector that had nothing before
+  -- A status asks for no change at a position that the index doesn't have, with a collector that had nothing before.
   pub status_inside : (q : Query T U) (index : State) (old : List (Visit T U)) (result : Result Outcome Error) (new : List (Visit T U)) → IsMet q index old result new
       → old ≡ [] → AreInside (changes_of new) (index_of index)
   status_inside q index old result new met none =

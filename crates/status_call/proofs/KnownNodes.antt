@@ -1,4 +1,4 @@
--- What listings know of a path, by what was looked up in them.
+-- The node that listings know at a path, by the look-ups in them.
 use Rattle.std.proofs.Common.{◌≡◌, sym, ap, ◌∙◌, ℕ, Bool, true, false, List, Option, Some, None, option_map, IsTrue}
 use Rattle.status_index.specs.declared.metadata.Metadata.{Metadata}
 use Rattle.status_base.specs.ListedNodes.{Listing, known_node, listed, listed_node}

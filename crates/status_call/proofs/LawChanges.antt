@@ -1,4 +1,4 @@
--- What a modification says, and which entries aren't read.
+-- The parts of a modification, and the entries that aren't read.
 use Rattle.std.proofs.Common.{◌≡◌, ◌⊎◌, ◌∙◌, inl, inr, refl, sym, ap, subst, ℕ, Bool, true, false, not, ◌&&◌, List, Option, Some, None, is_some, Result, Ok, Err, IsTrue, IsFalse, if◌then◌else◌}
 use Rattle.std.proofs.lemmas.Bool.{and_parts}
 use Rattle.status_index.specs.declared.metadata.Metadata.{Metadata}
@@ -25,7 +25,7 @@ use Rattle.status_call.proofs.LawRows.{row_of}
 use Rattle.status_call.proofs.LawTable.{change_of, case_gone, case_refused, case_in_submodule, case_added, case_unstamped, case_retyped, case_unchanged, status_table}
 
 module _ {T U : Type 0} where
-  -- two answers that a modification isn't
+  -- Two results that aren't a modification.
   not_error : (err : Error) (x : Bool) (c : Option T) (zero : Bool) → ◌≡◌ {A = Result (Option (EntryStatus T U)) Error} (Err err) (changed (changes.Modification x c zero)) → ⊥
   not_error err x c zero h = cc
 
@@ -34,7 +34,7 @@ module _ {T U : Type 0} where
   not_submodule path (Ok (Some u)) x c zero h = cc
   not_submodule path (Err text) x c zero h = cc
 
-  -- a modification that is another says the same
+  -- A modification that equals another has the same parts.
   same_bit : (x y : Bool) (c d : Option T) (z w : Bool) → changed {T = T} {U = U} (changes.Modification x c z) ≡ changed (changes.Modification y d w) → x ≡ y
   same_bit x y c d z w h = cc
 
@@ -45,7 +45,7 @@ module _ {T U : Type 0} where
   same_zero x y c d z w h = cc
 
 module _ {T U : Type 0} (q : Query T U) (e : IndexEntry) where
-  -- a modification is of the table's row for it
+  -- A modification is the one of the table's row for it.
   pub record Modified (x : Bool) (c : Option T) (zero : Bool) : Type 0 where
     pub node : Metadata
     pub stat : Stat
@@ -98,7 +98,7 @@ module _ {T U : Type 0} (q : Query T U) (e : IndexEntry) where
 pub modification_law : {T U : Type 0} (q : Query T U) → ModificationLaw q
 modification_law q e x c zero h = change_from q e x c zero (modified_of q e x c zero h)
 
--- an executable change, by the mode and the kind
+-- An executable change, by the mode and the kind.
 abbrev OtherFile : Metadata → Mode → Type 0
 OtherFile n mode = ((mode ≡ modes.File) × IsTrue n.executable) ⊎ ((mode ≡ modes.FileExecutable) × IsFalse n.executable)
 

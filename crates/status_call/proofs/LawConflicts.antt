@@ -31,7 +31,7 @@ is_equal Greater h = cc
 less_from_cmp : (a b : ℕ) → nat_cmp a b ≡ Less → a < b
 less_from_cmp a b h = grind (arith, nat_tests)
 
--- of two entries of one path in order the first has the smaller stage
+-- Of two entries of one path in order, the first has the smaller stage.
 stages_ascend : (a b : IndexEntry) → same_path a b ≡ true → entry_cmp (a) (b) ≡ Less → stage_of a < stage_of b
 stages_ascend a b same h =
     let paths : slice_cmp nat_cmp a.path b.path ≡ Equal = is_equal (slice_cmp nat_cmp a.path b.path) (is_eq-slice_cmp a.path b.path ∙ same) in
@@ -69,7 +69,7 @@ module _ {T U : Type 0} (q : Query T U) (es : List IndexEntry) where
 pub one_conflict_law : {T U : Type 0} (q : Query T U) → OneConflictLaw q
 one_conflict_law q es index = λ i j d h k same skipped staged. later_nothing q es index i j d h k same skipped staged
 
--- a search finds something where a test of some element says so
+-- A search finds something if the test of the first element holds, or if it finds something in the rest.
 is_some_found : {X : Type 0} (b : Bool) (x : X) (o : Option X) (c : Bool) → is_some o ≡ c → is_some (cond b (Some x) o) ≡ (b || c)
 is_some_found true x o c h = refl
 is_some_found false x o c h = h
@@ -90,7 +90,7 @@ any_filter : {X : Type 0} (p t : X → Bool) (xs : List X) → list_any p (filte
 any_filter p t [] = refl
 any_filter p t (x ∷ xs) = any_kept p x (t x) (filter t xs) (list_any (λ y. t y && p y) xs) (any_filter p t xs)
 
--- some entry of the run has the stage
+-- Some entry of the run has the stage.
 has_stage_is : (run : List IndexEntry) (stage : ℕ) → has_stage run stage ≡ list_any (λ e. stage_of e == stage) run
 has_stage_is run stage =
     is_some_find (λ e. stage_of e == stage) (reverse run)
@@ -141,12 +141,12 @@ low_stage e = omega arith
 abbrev SomeConflictOf : List IndexEntry → Type 0
 SomeConflictOf run = (c : Conflict) × (conflict_of run ≡ Some c)
 
--- a run that has a stage names a conflict
+-- A run that has a stage names a conflict.
 conflict_at : (run : List IndexEntry) (s : ℕ) → 0 < s → s < 4 → has_stage run s ≡ true → SomeConflictOf run
 conflict_at run s h k own = named (has_stage run 1) (has_stage run 2) (has_stage run 3) (stage_is run s own (stage_cases s h k))
 
 module _ {T U : Type 0} (q : Query T U) (es : List IndexEntry) (e : IndexEntry) where
-  -- what is reported where a conflict is named
+  -- The verdict by the conflict that is named, if any.
   abbrev reported : Option Conflict → Result (Option (EntryStatus T U)) Error
   reported named = Ok (option_map (λ c. statuses.Conflict c (map (option_map kept_of) (places_of (conflict_run es e)))) named)
 

@@ -1,4 +1,4 @@
--- Over a cut the entries of one side don't change what an entry of the other gives.
+-- Over a cut the entries of one side don't change the verdict of an entry of the other.
 use Rattle.std.proofs.Common.{◌≡◌, ◌∙◌, refl, sym, ap, ℕ, ◌<◌, Bool, true, false, not, ◌&&◌, ◌||◌, cond, List, [], ◌∷◌, ◌++◌, length, take, drop, get_or, Option, None, Result, Ok, if◌then◌else◌, nat_lt, nat_le, ◌==◌}
 use Rattle.std.specs.List.{All, filter}
 use Rattle.std.proofs.lemmas.Bool.{both_ways, false_from_ne_true}
@@ -33,7 +33,7 @@ pub same_path_symm : (a b : IndexEntry) → same_path a b ≡ false → same_pat
 same_path_symm a b h =
     false_from_ne_true (same_path b a) (λ t. both_ways (same_path a b) h ((bytes_eq-Decides a.path b.path).1 (sym ((bytes_eq-Decides b.path a.path).0 t))))
 
--- none of these entries has e's path
+-- None of these entries has e's path.
 abbrev pub AreOthers : IndexEntry → List IndexEntry → Type 0
 AreOthers e xs = All (λ r. same_path r e ≡ false) xs
 
@@ -56,7 +56,7 @@ module _ {T U : Type 0} (q : Query T U) where
   over_append : (e : IndexEntry) (xs ys : List IndexEntry) → is_over q (xs ++ ys) e ≡ (is_over q xs e || is_over q ys e)
   over_append e xs ys = list_any-append (λ d. takes_over q d e) xs ys
 
-  -- what e gives, by whether it is over and by the stages from its own
+  -- The verdict of e, by whether it is over and by the stages from its own.
   abbrev verdict_by : IndexEntry → Bool → List IndexEntry → Result (Option (EntryStatus T U)) Error
   verdict_by e over stages =
       if is_skipped q e || over then Ok None

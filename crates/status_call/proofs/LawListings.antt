@@ -1,4 +1,4 @@
--- Listings change nothing of what a status reports.
+-- Listings change nothing of a status.
 use Rattle.std.proofs.Common.{◌≡◌, refl, sym, ap, subst, ◌∙◌, ℕ, Bool, true, false, not, ◌&&◌, ◌||◌, ◌==◌, List, Option, Some, None, IfSome, option_map, slice_get, Result, Ok, Err, if◌then◌else◌}
 use Rattle.status_index.specs.Entries.{IndexEntry, stage_of}
 use Rattle.std.specs.List.{flat_map, filter_map, enumerate_from}
@@ -27,7 +27,7 @@ use Rattle.status_call.specs.Query.{Query}
 use Rattle.status_call.specs.Records.{conflict_status, record_by, fault_by, verdict, records_of, first_fault}
 use Rattle.status_call.specs.Status.{Found, nothing, refused, directory, present, Case, added, answer, case_of_content, case_of_change, case_of_stat, case_of_found, cached_or, found_by, found_kind, found_node, is_trusted, status_of}
 
--- where executability doesn't count, an executable file is as another
+-- If executability doesn't count, an executable file is like another.
 module _ (symlink : Bool) where
   unasked : (b : Bool) → other_executable symlink false b ≡ None
   unasked true = refl
@@ -77,7 +77,7 @@ module _ (symlink : Bool) where
     same_change : (mode : Mode) → mode_change symlink false mode other ≡ mode_change symlink false mode n
     same_change mode = same_change_at mode n.kind
 
--- two queries that know different things of paths
+-- Two queries whose listings know different things of paths.
 module _ {T U : Type 0} (q : Query T U) (uncounted : q.executable_bit ≡ false) (here there : List ℕ → Option Metadata) (e : IndexEntry) where
   abbrev one : Query T U
   one = record q { cached = here }
@@ -120,7 +120,7 @@ module _ {T U : Type 0} (q : Query T U) (uncounted : q.executable_bit ≡ false)
     same_kind kinds.Link = same_present
     same_kind kinds.Other = same_present
 
-  -- a fault and a node of their own are the same for both
+  -- Both queries have the same case for a result of `lstat`.
   same_node : (r : Result Metadata Fault) → case_of_found one e (found_node r) ≡ case_of_found two e (found_node r)
   same_node (Ok n) = same_kind n n.executable n.kind
   same_node (Err f) = same_fault (is_absence f) f

@@ -1,4 +1,4 @@
--- The records ascend, and the fault before which there is none is the first.
+-- The records ascend, and a fault before which there is none is the first.
 use Rattle.std.proofs.Common.{◌≡◌, ◌∙◌, sym, ap, ℕ, ◌+◌, ◌<◌, ◌≤◌, List, [], ◌∷◌, ◌++◌, length, take, drop, get_or, Option, Some, None, Result, Ok, Err, arith}
 use Rattle.std.specs.List.{filter_map, cons_option, slice_get, All, AllPairs}
 use Rattle.std.proofs.lemmas.List.{drop_more, take-append-drop}
@@ -13,7 +13,7 @@ use Rattle.status_call.specs.Query.{Query}
 use Rattle.status_call.specs.Records.{fault_by, faults_in, record_by, records_in, verdict}
 
 module _ {T U : Type 0} where
-  -- the records are of places from i on
+  -- The records are of positions from i on.
   abbrev pub IsFrom : ℕ → Finding T U → Type 0
   IsFrom i f = i ≤ f.entry_index
 
@@ -42,7 +42,7 @@ module _ {T U : Type 0} (q : Query T U) (es : List IndexEntry) where
   records_ascend i [] = λ a b d h k. absurd (omega arith)
   records_ascend i (e ∷ part) = ascend_cons i (verdict q es e) (records_in q es (i + 1) part) (records_from (i + 1) part) (records_ascend (i + 1) part)
 
-  -- what faults an entry gives
+  -- The faults of an entry.
   abbrev fault_of : IndexEntry → Option Error
   fault_of e = fault_by (verdict q es e)
 

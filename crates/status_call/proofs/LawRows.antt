@@ -1,4 +1,4 @@
--- The rows of the status table cover all entries, and no entry is in two; what follows for modifications and reading.
+-- The rows of the status table cover all entries, and no entry is in two. Modifications and reads follow from that.
 use Rattle.std.proofs.Common.{◌≡◌, ◌⊎◌, ◌∙◌, inl, inr, refl, sym, ap, Bool, true, false, Option, Some, None, Result, Ok, Err}
 use Rattle.status_index.specs.declared.fault.Fault.{Fault}
 use Rattle.status_index.specs.declared.fault.Fault.TheVariants as faults
@@ -22,7 +22,7 @@ use Rattle.status_call.specs.Status.{Case, changed, case_of, status_of}
 use Rattle.status_call.specs.StatusTable.{Row, gone, refused, in_submodule, added, unstamped, retyped, unchanged, failed, modified, to_update, check_of, node_of, by_link, on_the_way, at_the_path, by_directory, unnamed, oddly_named, barred, unreadable, IsPresent, IsStamped, SameType, trusted, racy, IsCompared, comparison, HasChange, IsInRow}
 use Rattle.status_call.proofs.LawTable.{change_of, case_gone, case_refused, case_in_submodule, case_added, case_unstamped, case_retyped, case_unchanged, case_compared}
 
--- the row of a case
+-- The row of a case.
 abbrev row_of_case : {T U : Type 0} → Case T U → Row
 row_of_case status.gone = gone
 row_of_case (status.fails f) = refused
@@ -94,7 +94,7 @@ module _ {T U : Type 0} (q : Query T U) (e : IndexEntry) where
   cover_check (through_link p) h = (gone, by_link p h)
   cover_check (faulty f) h = cover_way f h (is_absence f) refl
 
-  -- an entry falls in a row
+  -- An entry is in a row.
   pub row_of : (r : Row) × IsInRow q e r
   row_of = cover_check (check_of q e) refl
 
@@ -117,6 +117,6 @@ module _ {T U : Type 0} (q : Query T U) (e : IndexEntry) where
   in_row modified (n, (s, (x, (c, (p, h, change))))) = ap row_of_case (case_compared q e n s x p (Ok c) h) ∙ row_modified s x (trusted q e s) (racy q e s) c change
   in_row to_update (n, (s, (p, h))) = ap row_of_case (case_compared q e n s false p (Ok None) h)
 
-  -- and in no other
+  -- It is in no other row.
   pub one_row : (a b : Row) → IsInRow q e a → IsInRow q e b → a ≡ b
   one_row a b h k = sym (in_row a h) ∙ in_row b k

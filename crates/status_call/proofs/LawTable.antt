@@ -38,7 +38,7 @@ found_no_directory n (inr (inl h)) = ap (found_kind n) h
 found_no_directory n (inr (inr h)) = ap (found_kind n) h
 
 module _ {T U : Type 0} (q : Query T U) (e : IndexEntry) where
-  -- the case by the answer of the check, by the node, and by whether a test holds
+  -- The case by the result of the check, by the node, and by whether a test holds.
   abbrev at_check : LinkCheck → Case T U
   at_check v = case_of_found q e (found_by v (node_of q e))
 
@@ -118,7 +118,7 @@ module _ {T U : Type 0} (q : Query T U) (e : IndexEntry) where
       ∙ (content_compared n s x (trusted q e s) (racy q e s) p.unsettled
       ∙ ap (λ (b : Result (Option T) Error). status.compared x (trusted q e s) (racy q e s) s b) h)
 
-  -- what is answered in a case
+  -- The result of a case.
   abbrev answered : Case T U → Result (Option (EntryStatus T U)) Error
   answered c = answer e.path c
 

@@ -1,4 +1,4 @@
--- What the next step is: one entry that is left out or decided, or a conflict.
+-- The next step: one entry that is skipped or decided, or a conflict.
 use Rattle.std.proofs.Common.{◌≡◌, refl, sym, ap, ◌∙◌, ℕ, ◌+◌, ◌<◌, ◌≤◌, inl, inr, true, false, ◌==◌, List, [], ◌∷◌, ◌++◌, length, take, drop, slice_index_or, All, None, Ok, Err, IsTrue, arith}
 use Rattle.std.proofs.lemmas.Bool.{and_left, and_right, not_from_true, or_left, or_right, ne_eqb, eq-eqb, le-ltb}
 use Rattle.std.proofs.lemmas.List.{get_or-map}
@@ -29,13 +29,13 @@ use Rattle.status_call.proofs.Groups.{IsLater, one_counts, step_of, weight_le, s
 use Rattle.status_call.proofs.Parts.{All-part_from, part_one, part_split}
 use Rattle.status_call.proofs.Runs.{not_over, fresh_more, climb, count, inside, some, run_same, part_is_run, stages_are, later_over, run_apart}
 
--- the entry that is read at a place, with its path
+-- The entry that is read at a position, with its path.
 pub entry_read : (b : PathStorage) (entries : List Entry) (i : ℕ) (e : Entry) (path : List ℕ) → i < length entries → path ≡ path_in b (slice_index_or entries i e) → (d : IndexEntry) → slice_index_or (index_entries b entries) i d ≡ entry_at path (slice_index_or entries i e)
 entry_read b entries i e path l same d =
     let it : Entry = slice_index_or entries i e in
     get_or-map (index_entry b) entries i e d l ∙ ap (λ (p : List ℕ). entry_at p it) (sym same)
 
--- what a step says of itself
+-- The properties that a step has by itself.
 pub record IsSelf {T U : Type 0} (s : Step T U) (len : ℕ) (counts : Counts) : Type 0 where
   pub long : s.len ≡ len
   pub counted : s.totals.counts ≡ counts
@@ -98,7 +98,7 @@ module _ (es : List IndexEntry) (index : IsIndex es) (i : ℕ) (x : IndexEntry) 
     plain_apart : (stage_of x ≡ 0) → (r : IndexEntry) → takes_over q x r ≡ false
     plain_apart h r = and_left _ _ (and_right _ _ (le-ltb 0 (stage_of x) (omega arith)))
 
-    -- the step of one entry, by what it gives
+    -- The step of one entry, by its verdict.
     step_of_one : (s : Step T U) → verdict q es x ≡ Ok s.status → s.totals.counts ≡ one_counts q es x → (ModelsReads q → s.totals.reads ≡ plus_reads no_reads (reads_of q x)) → IsStepOf q es (x ∷ []) s
     step_of_one s reported counted read = step_of q es x [] (All-nil (IsLater q es)) (x ∷ []) s refl reported counted read
 
@@ -134,7 +134,7 @@ module _ (es : List IndexEntry) (index : IsIndex es) (i : ℕ) (x : IndexEntry) 
           (self.counted ∙ sym (decision_counts q es x first kept zero d h))
           (λ r. read ∙ ap (plus_reads no_reads) (sym (decision_reads q es x first kept zero d h r))))
 
-      -- x is the head of a conflict
+      -- x is the head of a conflict.
       module _ (staged : 0 < stage_of x) where
         abbrev three : 3 ≤ 3
         three = omega arith

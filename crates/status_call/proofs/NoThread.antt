@@ -1,4 +1,4 @@
--- A refused thread is answered only by a comparer.
+-- Only a comparer returns that a thread was refused.
 use Rattle.std.proofs.Common.{◌≡◌, sym, ap, ◌∙◌, ℕ, ◌==◌, ◌||◌, Bool, true, false, cond, List, Option, Some, None, Result, Ok, Err}
 use Rattle.status_index.specs.declared.fault.Fault.{Fault}
 use Rattle.status_index.specs.declared.fault.Fault.TheVariants as faults
@@ -75,12 +75,12 @@ module _ {T U : Type 0} (q : Query T U) (never : NeverSpawns q) where
   by_row e modified (n, (s, (x, (c, (p, f, change))))) h = let k = sym ((status_table q e).modified_row n s x c p f change) ∙ h in cc
   by_row e to_update (n, (s, (p, f))) h = let k = sym ((status_table q e).update_row n s p f) ∙ h in cc
 
-  -- no entry gives it
+  -- No entry has that error.
   pub never_spawned : (es : List IndexEntry) (e : IndexEntry) → verdict q es e ≡ Err SpawnThread → ⊥
   never_spawned es e h =
       by_tests {T = T} {U = U} (is_skipped q e || is_over q es e) (stage_of e == 0) (status_of q e) (conflict_status ((stages_from es e))) (by_row e (row_of q e).0 (row_of q e).1) h
 
--- the comparers by ids and by sizes never answer it
+-- The comparers by ids and by sizes never return it.
 no_result : {A : Type 0} (r : Result A Fault) → worktree_result r ≡ Err SpawnThread → ⊥
 no_result (Ok x) h = cc
 no_result {A} (Err f) h = other_error f (same_fault {A = A} (error_of f) SpawnThread h)
@@ -107,7 +107,7 @@ no_size false (Ok change) f h = cc
 no_size false (Err e) f h = f (ap (λ (x : Error). Err x) (same_fault {A = Option (Unit {0})} e SpawnThread h))
 
 module _ {T U : Type 0} (q : Query T U) (e : IndexEntry) (n : Metadata) where
-  -- by what an entry's file and its node give
+  -- A comparison of an entry with its node never returns it.
   no_hash : hash_answer e (meaning q e n).file ≡ Err SpawnThread → ⊥
   no_hash =
       no_change e.id (reading_id (id_kind e.id) (meaning q e n).file)

@@ -1,4 +1,4 @@
--- Parts of lists, by places.
+-- Parts of lists, by positions.
 use Rattle.std.proofs.Common.{◌≡◌, refl, sym, ap, ◌∙◌, ℕ, ◌+◌, ◌-◌, ◌<◌, ◌≤◌, inl, inr, Bool, true, false, cond, List, [], ◌∷◌, ◌++◌, length, map, filter, take, drop, All, slice_index_or, sum_by, count_by, arith, add-zero}
 use Rattle.std.specs.List.{AllPairs, enumerate_from}
 use Rattle.std.proofs.lemmas.Bool.{cases_lt}
@@ -124,7 +124,7 @@ module _ {X : Type 0} where
   sum_by_none f (x ∷ xs) h =
       omega (arith, sum_by-cons f x xs, All-head (λ (y : X). f y ≡ 0) x xs h, sum_by_none f xs (All-tail (λ (y : X). f y ≡ 0) x xs h))
 
-  -- a count of which only the first element can be one
+  -- A count to which only the first element can add one.
   pub count_first : (p : X → Bool) (x : X) (xs : List X) → All (λ y. p y ≡ false) xs → count_by p (x ∷ xs) ≡ cond (p x) 1 0
   count_first p x xs h =
       omega (arith, sum_by-cons (λ (y : X). weight (p y)) x xs, sum_by_none (λ (y : X). weight (p y)) xs (All-weaker (λ (y : X). p y ≡ false) (λ (y : X). weight (p y) ≡ 0) (λ y e. rw e) xs h))

@@ -1,4 +1,4 @@
--- The longest front of a few entries from a place on.
+-- The longest front of a few entries from a position on.
 use Rattle.std.proofs.Common.{◌≡◌, refl, sym, ap, ◌∙◌, ℕ, ◌-◌, ◌<◌, ◌≤◌, min, Bool, true, false, List, [], ◌∷◌, length, map, take, drop, All, slice_index_or, arith}
 use Rattle.std.specs.List.{take_while}
 use Rattle.std.proofs.lemmas.List.{length-map, get_or-map, take-map, drop-map, take_min, take_rest, drop_all, take_all}
@@ -20,7 +20,7 @@ module _ {X : Type 0} (p : X → Bool) where
       let none : take n (drop start xs) ≡ [] = ap (take n) (drop_all start xs h) ∙ take_all n [] (omega arith) in
       sym (ap (λ (ys : List X). take_while p ys) none)
 
--- ys are at most n elements of xs from a place on
+-- `ys` are at most n elements of `xs` from a position on.
 module _ {X Y : Type 0} (f : X → Y) (xs : List X) (start n k : ℕ) (at_most : k ≡ min (length (take (length xs - start) (drop start xs))) n) where
   abbrev few : List X
   few = take k (take (length xs - start) (drop start xs))

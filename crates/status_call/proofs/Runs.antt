@@ -16,7 +16,7 @@ use Rattle.status_call.proofs.Ascents.{same_from_path, same_back, path_same, sta
 use Rattle.status_call.proofs.Parts.{All-drop_at, All-take_from, All-drop_from, All-part_from, list_split, take_part, filter_none, filter_all}
 
 module _ (es : List IndexEntry) (index : IsIndex es) (i : ℕ) (x : IndexEntry) (l : i < length es) (here : (d : IndexEntry) → slice_index_or es i d ≡ x) where
-  -- the stages of x's path rise from x on
+  -- The stages of x's path rise from x on.
   pub climb : (k : ℕ) (d : IndexEntry) → i ≤ k → k < length es → same_path (slice_index_or es k d) x ≡ true → stage_of x + (k - i) ≤ stage_of (slice_index_or es k d)
   climb k d m n same =
       let e : i + (k - i) ≡ k = omega arith in
@@ -28,7 +28,7 @@ module _ (es : List IndexEntry) (index : IsIndex es) (i : ℕ) (x : IndexEntry) 
       let h : same_path (slice_index_or es k d) (slice_index_or es i d) ≡ true = rw (here d) same in
       rw (here d) at (same_between es index d i j k m n o h)
 
-  -- an entry before x has another path, or a smaller stage
+  -- An entry before x has another path, or a smaller stage.
   before : (k : ℕ) (d : IndexEntry) → k < i → same_path (slice_index_or es k d) x ≡ true → stage_of (slice_index_or es k d) < stage_of x
   before k d m same =
       let less = less_at es index d k i m l in
@@ -47,14 +47,14 @@ module _ (es : List IndexEntry) (index : IsIndex es) (i : ℕ) (x : IndexEntry) 
           | inr other ↦ and_left _ _ (and_left _ _ (and_right _ _ other))
         ])
 
-    -- none of all entries takes x over
+    -- No entry at all takes over x.
     pub not_over : is_over q es x ≡ false
     not_over =
         ap (list_any (λ d. takes_over q d x)) (sym (take-append-drop i es))
         ∙ list_any-append (λ d. takes_over q d x) (take i es) (drop i es)
         ∙ or_from _ _ none_before (list_any_none (λ d. takes_over q d x) (drop i es) none_behind)
 
-    -- once the entries up to place n take over none behind it
+    -- If the entries before position n take over none from n on, those from n on are fresh.
     pub fresh_more : (n : ℕ) → i ≤ n → ((j k : ℕ) (d e : IndexEntry) → i ≤ j → j < n → j < length es → n ≤ k → k < length es → takes_over q (slice_index_or es j d) (slice_index_or es k e) ≡ false) → IsFresh q (take n es) (drop n es)
     fresh_more n m apart =
         All-drop_from (λ r. list_any (λ d. takes_over q d r) (take n es) ≡ false) es n (λ k e o p.
@@ -65,7 +65,7 @@ module _ (es : List IndexEntry) (index : IsIndex es) (i : ℕ) (x : IndexEntry) 
         ∙ list_any-append (λ d. takes_over q d r) (take i es) (part_of es i n)
         ∙ or_from _ _ first second)
 
-  -- x is the first of at least three entries that are looked at
+  -- x is the first of the entries that are read, which are at least three if there are so many.
   module _ (m : ℕ) (three : 3 ≤ m) (staged : 0 < stage_of x) where
     abbrev front : List IndexEntry
     front = take m (drop i es)
@@ -98,7 +98,7 @@ module _ (es : List IndexEntry) (index : IsIndex es) (i : ℕ) (x : IndexEntry) 
     stays_in_run k d h n same =
         and_from _ _ same (not_from_false _ (ne_eqb (stage_of (slice_index_or es k d)) 0 (λ e. omega (arith, climb k d h n same))))
 
-    -- behind the run no entry has the path
+    -- After the run no entry has the path.
     pub run_stops : (k : ℕ) (d : IndexEntry) → i + count ≤ k → k < length es → same_path (slice_index_or es k d) x ≡ false
     run_stops k d h n =
         false_from_ne_true _ (λ same.
@@ -147,7 +147,7 @@ module _ (es : List IndexEntry) (index : IsIndex es) (i : ℕ) (x : IndexEntry) 
         ∙ append-nil part
 
     module _ {T U : Type 0} (q : Query T U) where
-      -- x takes over the rest of the run
+      -- x takes over the rest of the run.
       pub later_over : is_skipped q x ≡ false → (k : ℕ) (d : IndexEntry) → i < k → k < i + count → is_over q es (slice_index_or es k d) ≡ true
       later_over kept k d m n =
           let r = slice_index_or es k d in
@@ -155,7 +155,7 @@ module _ (es : List IndexEntry) (index : IsIndex es) (i : ℕ) (x : IndexEntry) 
           let takes : takes_over q x r ≡ true = and_from _ _ (and_from _ _ (and_from _ _ (not_from_false _ kept) (same_back r x same)) (lt-ltb 0 (stage_of x) staged)) (lt-ltb (stage_of x) (stage_of r) (omega (arith, climb k d (omega arith) (omega (arith, inside)) same))) in
           list_any_at (λ e. takes_over q e r) es i x l (rw (here x) takes)
 
-      -- and none behind it
+      -- It takes over none after the run.
       pub run_apart : (j k : ℕ) (d e : IndexEntry) → i ≤ j → j < i + count → i + count ≤ k → k < length es → takes_over q (slice_index_or es j d) (slice_index_or es k e) ≡ false
       run_apart j k d e u v w o =
           let a = slice_index_or es j d in

@@ -1,4 +1,4 @@
--- A decider may go to another thread, as a set for `search`.
+-- A decider may be sent to another thread, as a rule set for `search`.
 use denote.RattleType.{RattleType}
 use denote.Ref.{NamedLft}
 use denote.Param.Send.{IsSend, IsSync, sendable}

@@ -30,11 +30,11 @@ use Rattle.status_call.proofs.Groups.{records-append}
 use Rattle.status_call.proofs.LawRecords.{fault_law}
 use Rattle.status_call.proofs.NoThread.{never_spawned}
 
--- a part from the front
+-- A part from the front.
 pub part_front : {X : Type 0} (xs : List X) (n : ℕ) → part_of xs 0 n ≡ take n xs
 part_front xs n = ap (λ (k : ℕ). take k xs) (omega arith)
 
--- what ascends goes on to ascend at its front
+-- If a list ascends, its front does.
 pub front_ascends : {X : Type 0} (R : X → X → Type 0) (xs ys zs : List X) → xs ++ ys ≡ zs → AllPairs R zs → AllPairs R xs
 front_ascends {X} R xs ys zs e h =
     let k : AllPairs R (xs ++ ys) = subst (λ l. AllPairs R l) (sym e) h in
@@ -44,7 +44,7 @@ front_ascends {X} R xs ys zs e h =
     let r = k i j d l (omega (arith, length-append xs ys)) in
     subst (λ (y : X). R (slice_index_or xs i d) y) second (subst (λ (x : X). R x (slice_index_or (xs ++ ys) j d)) first r)
 
--- what ascends in a list's image ascends in the list
+-- If a list's image ascends, the list does.
 pub map_ascends : {T U : Type 0} (vs : List (Visit T U)) (fs : List (Finding T U)) → map finding_of vs ≡ fs
     → AllPairs (λ a b. a.entry_index < b.entry_index) fs → AllPairs (λ a b. a.entry_index < b.entry_index) vs
 map_ascends {T} {U} vs fs e h =
@@ -68,7 +68,7 @@ pub take_all : {X : Type 0} (xs : List X) → take (length xs) xs ≡ xs
 take_all [] = refl
 take_all (x ∷ xs) = ap (λ (l : List _). x ∷ l) (take_all xs)
 
--- an entry's own fault
+-- An entry's own fault.
 fault_here : {T U : Type 0} (q : Query T U) (es : List IndexEntry) (n : ℕ) (e : Error) → e ≢ Memory → IsFaultAt q es n e → (d : IndexEntry) → verdict q es (slice_index_or es n d) ≡ Err e
 fault_here q es n e other (inl h) = h
 fault_here q es n e other (inr h) = absurd (other h)
@@ -79,18 +79,18 @@ fault_not_thread q never (x ∷ es) n e inside spawned (inl h) = never_spawned q
 fault_not_thread q never es n e inside spawned (inr h) = cc
 
 module _ {T U : Type 0} (q : Query T U) (start : ℕ) (es : List IndexEntry) where
-  -- the records of the first entries are a beginning of all
+  -- The records of the first entries are a beginning of all.
   pub records_begin : (n : ℕ) → IsBeginning (records_in q es start (take n es)) (records_of q start es)
   records_begin n = (
     records_in q es (start + length (take n es)) (drop n es),
     sym (records-append q es start (take n es) (drop n es)) ∙ ap (records_in q es start) (take-append-drop n es),
   )
 
-  -- where no entry has a fault there is no first one
+  -- If no entry has a fault, there is no first one.
   pub none_first : faults_in q es es ≡ [] → first_fault q es ≡ None
   none_first h = ap (λ (l : List Error). slice_get l 0) h
 
-  -- the records of a part from the front
+  -- The records of a part from the front.
   front_records : (n : ℕ) → records_in q es (start + 0) (part_of es 0 n) ≡ records_in q es start (take n es)
   front_records n = ap (λ (i : ℕ). records_in q es i (part_of es 0 n)) (omega arith) ∙ ap (records_in q es start) (part_front es n)
 
@@ -114,13 +114,13 @@ module _ {T U : Type 0} (q : Query T U) (index : State) (has_flag : Bool) (old n
     abbrev outcome : Outcome
     outcome = outcome_of p all range
 
-    -- no entry is skipped twice
+    -- No entry is skipped twice.
     skipped_fits : skipped_of outcome < 2 ^ 64
     skipped_fits =
         let few = work.ended.done.few in
         omega (arith, few.skipped, work.ended.done.high, room)
 
-    -- what the outcome counts of the first considered entries
+    -- The counts of the outcome for the first considered entries.
     front_outcome : (n : ℕ) (reported : List (Finding T U)) → IsAsMeant q start es 0 n reported p.totals → IsOutcome q (index_of index) es (take n es) outcome
     front_outcome n reported m =
         let counts : p.totals.counts ≡ counts_in q es (take n es) = m.counts ∙ ap (counts_in q es) (part_front es n) in
@@ -140,7 +140,7 @@ module _ {T U : Type 0} (q : Query T U) (index : State) (has_flag : Bool) (old n
           objects = λ r. ap (λ (k : Reads). k.objects) (reads r);
         }
 
-    -- the first of the considered entries were worked through
+    -- The first of the considered entries were processed.
     first_status : IsTrue q.modelled → IsStatusOf q index work.ended.place (map finding_of work.fed.more) outcome
     first_status t =
         let m = work.ended.done.meant t in
@@ -159,7 +159,7 @@ module _ {T U : Type 0} (q : Query T U) (index : State) (has_flag : Bool) (old n
           outcome = subst (λ (part : List IndexEntry). IsOutcome q (index_of index) es part outcome) all_of h.outcome;
         }
 
-    -- all considered entries were worked through, or an interrupt flag was seen
+    -- All considered entries were processed, or the interrupt flag was seen.
     pub status_ok : IsMet q index old (Ok outcome) new
     status_ok = record {
       more = work.fed.more;
@@ -180,7 +180,7 @@ module _ {T U : Type 0} (q : Query T U) (index : State) (has_flag : Bool) (old n
     abbrev By : Type 0
     By = ((work.reported ≡ stop.found) × (stop.place < length es) × (IsTrue q.modelled → IsFaultAt q es stop.place e)) ⊎ (IsShortage workers e × IsBeginning work.reported stop.found)
 
-    -- what was found up to the stop is a beginning of the records
+    -- The findings up to the stop are a beginning of the records.
     found_begins : IsTrue q.modelled → IsBeginning stop.found (records_of q start es)
     found_begins t =
         let m = stop.done.meant t in
@@ -217,7 +217,7 @@ module _ {T U : Type 0} (q : Query T U) (index : State) (has_flag : Bool) (old n
     no_thread t one never (inl h) spawned = fault_not_thread q never es stop.place e h.1 spawned (h.2 t)
     no_thread t one never (inr h) spawned = lone_shortage one h.0 spawned
 
-    -- the work ended
+    -- The work ended.
     pub status_err : IsMet q index old (Err e) new
     status_err = record {
       more = work.fed.more;
@@ -231,12 +231,12 @@ module _ {T U : Type 0} (q : Query T U) (index : State) (has_flag : Bool) (old n
       fits = tt;
     }
 
-    -- with one worker no thread is refused
+    -- With one worker no thread is refused.
     pub status_alone : (limit : Option ℕ) → workers ≡ most_workers limit → IsTrue q.modelled → limit ≡ Some 1 → NeverSpawns q → result_err e ≢ Err SpawnThread
     status_alone limit same t one never h =
         no_thread t (same ∙ ap most_workers one) never stop.by (err_same e SpawnThread h)
 
--- the same work, by an equal query and of an equal part
+-- The same work, for an equal query and an equal part.
 pub work_kept : {T U : Type 0} (q r : Query T U) (faithful : Visit T U → Type 0) (interruptible : Bool) (workers start place : ℕ) (whole part : List IndexEntry) (old new : List (Visit T U)) (result : Result Progress Error)
     → r ≡ q → place ≡ start → part ≡ whole → IsReportedWork r place part 0 faithful interruptible workers (length part) old result new → IsReportedWork q start whole 0 faithful interruptible workers (length whole) old result new
 work_kept q r faithful interruptible workers start place whole part old new result same at of work =
@@ -244,15 +244,15 @@ work_kept q r faithful interruptible workers start place whole part old new resu
     (subst (λ n. IsReportedWork q n part 0 faithful interruptible workers (length part) old result new) at
     (subst (λ x. IsReportedWork x place part 0 faithful interruptible workers (length part) old result new) same work))
 
--- what is met by an equal query
+-- The theorem, for an equal query.
 pub met_along : {T U : Type 0} (q r : Query T U) → r ≡ q → (index : State) (old : List (Visit T U)) (result : Result Outcome Error) (new : List (Visit T U)) → IsMet r index old result new → IsMet q index old result new
 met_along q r same index old result new met = subst (λ x. IsMet x index old result new) same met
 
--- the same of threads, and by an equal limit
+-- The same about threads, for an equal limit.
 pub unspawned_along : {T U : Type 0} (q r : Query T U) → r ≡ q → (m n : Option ℕ) → n ≡ m → (result : Result Outcome Error) → IsUnspawned r n result → IsUnspawned q m result
 unspawned_along q r same m n limit result alone = subst (λ x. IsUnspawned x m result) same (subst (λ x. IsUnspawned r x result) limit alone)
 
--- how many entries are considered, and how many aren't
+-- The number of considered entries, and of the others.
 module _ {X Y : Type 0} (all whole : List X) (entries : List Y) (s e : ℕ) (part : part_of all s e ≡ whole) (order : s ≤ e) (inside : e ≤ length entries) (same : length all ≡ length entries) where
   pub part_len : e - s ≡ length whole
   part_len = sym (ap length (sym part) ∙ omega (arith, length-take (e - s) (drop s all), length-drop s all, order, inside, same))
@@ -260,6 +260,6 @@ module _ {X Y : Type 0} (all whole : List X) (entries : List Y) (s e : ℕ) (par
   pub rest_len : (n : ℕ) → n ≡ length entries → n - (e - s) ≡ length all - length whole
   rest_len n h = omega (arith, part_len, h, same)
 
-  -- the considered and the others are all
+  -- The considered and the other entries are all, so their sum fits.
   pub skip_room : (n : ℕ) → n ≡ length entries → n < 2 ^ 64 → n - (e - s) + length whole < 2 ^ 64
   skip_room n h few = omega (arith, part_len, order, inside, h, few)

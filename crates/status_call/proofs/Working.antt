@@ -22,7 +22,7 @@ use Rattle.status_call.specs.WorkInOrder.{IsShortage, IsUnderWay, IsReportedWork
 use Rattle.status_call.proofs.Dones.{done_none, done_more, sums_fit}
 use Rattle.status_call.proofs.Feeding.{reports_none, reports_more}
 
--- a flag that was seen is there
+-- If a flag was seen, there is one.
 pub not_set : {X : Type 0} (o : Option X) (b : Bool) → (o ≡ None → b ≡ false) → b ≡ true → is_some o ≡ false → ⊥
 not_set None b h seen still = let same : b ≡ false = h refl in cc
 not_set (Some x) b h seen still = cc
@@ -31,7 +31,7 @@ true_or_false : (b : Bool) → b ≡ true → b ≡ false → ⊥
 true_or_false b h k = cc
 
 module _ {T U : Type 0} (q : Query T U) (start : ℕ) (es : List IndexEntry) (from : ℕ) (faithful : Visit T U → Type 0) where
-  -- nothing is done yet
+  -- Nothing is done yet.
   pub way_none : (old : List (Visit T U)) → from ≤ length es → IsUnderWay q start es from faithful from no_totals old old
   way_none old inside = record {
     reported = [];
@@ -39,12 +39,12 @@ module _ {T U : Type 0} (q : Query T U) (start : ℕ) (es : List IndexEntry) (fr
     done = done_none q start es from inside;
   }
 
-  -- the findings of a piece are of entries of the index
+  -- The findings of a piece are of entries of the index.
   pub piece_placed : (count at to : ℕ) (p : Piece T U) → start + length es ≤ count → IsPiece q start es at to p → All (IsPlacedIn count) p.findings.items
   piece_placed count at to p h piece =
       All-weaker (λ f. (start + at ≤ f.entry_index) × (f.entry_index < start + p.reached)) (IsPlacedIn count) (λ f m. omega (arith, m.1, piece.done.high)) p.findings.items piece.done.placed
 
-  -- all is done
+  -- All is done.
   pub way_end : (interruptible : Bool) (workers at to : ℕ) (totals : Totals) (old now : List (Visit T U)) → at ≡ to
       → IsUnderWay q start es from faithful at totals old now → IsReportedWork q start es from faithful interruptible workers to old (Ok (record { totals = totals; interrupted = false })) now
   way_end interruptible workers at to totals old now e way = record {
@@ -53,7 +53,7 @@ module _ {T U : Type 0} (q : Query T U) (start : ℕ) (es : List IndexEntry) (fr
     ended = record { place = at; done = way.done; reached = λ _. e; uninterrupted = λ _. refl };
   }
 
-  -- the interrupt flag was seen
+  -- The interrupt flag was seen.
   pub way_cut : (interruptible : Bool) (workers at to : ℕ) (totals : Totals) (old now : List (Visit T U)) → (interruptible ≡ false → ⊥)
       → IsUnderWay q start es from faithful at totals old now → IsReportedWork q start es from faithful interruptible workers to old (Ok (record { totals = totals; interrupted = true })) now
   way_cut interruptible workers at to totals old now still way = record {
@@ -67,7 +67,7 @@ module _ {T U : Type 0} (q : Query T U) (start : ℕ) (es : List IndexEntry) (fr
     };
   }
 
-  -- the work could not go on
+  -- The work couldn't go on.
   pub way_short : (interruptible : Bool) (workers at to : ℕ) (totals : Totals) (e : Error) (old now : List (Visit T U)) → IsShortage workers e
       → IsUnderWay q start es from faithful at totals old now → IsReportedWork q start es from faithful interruptible workers to old (Err e) now
   way_short interruptible workers at to totals e old now h way = record {
@@ -76,13 +76,13 @@ module _ {T U : Type 0} (q : Query T U) (start : ℕ) (es : List IndexEntry) (fr
     ended = record { place = at; found = way.reported; totals = totals; done = way.done; by = inr (h, ([], append-nil way.reported)) };
   }
 
-  -- a round that reported nothing
+  -- A round that reported nothing.
   pub no_work : (interruptible : Bool) (workers to : ℕ) (e : Error) (old : List (Visit T U)) → from ≤ length es → IsShortage workers e → IsReportedWork q start es from faithful interruptible workers to old (Err e) old
   no_work interruptible workers to e old inside h =
       way_short interruptible workers from to no_totals e old old h (way_none old inside)
 
   module _ (interruptible : Bool) (workers end at : ℕ) (totals : Totals) (old now : List (Visit T U)) (way : IsUnderWay q start es from faithful at totals old now) (p : Piece T U) (row : IsInRow q interruptible start es at p) where
-    -- what is done up to where the piece ended
+    -- The work that is done up to the end of a piece.
     done_upto : IsDone q start es from p.reached (way.reported ++ p.findings.items) (plus_totals totals p.totals)
     done_upto = done_more q start es from at p.reached way.reported p.findings.items totals p.totals way.done row.given.piece.done
 
@@ -92,17 +92,17 @@ module _ {T U : Type 0} (q : Query T U) (start : ℕ) (es : List IndexEntry) (fr
     fits_upto : length es < 2 ^ 64 → IsWithin (2 ^ 64 - 1) (plus_counts totals.counts p.totals.counts)
     fits_upto few = sums_fit q start es from at p.reached way.reported p.findings.items totals p.totals way.done row.given.piece.done few
 
-    -- what the piece counts fits
+    -- The counts of the piece fit.
     pub piece_fits : (o : Progress) → length es < 2 ^ 64 → IsCounted p o → Fits o
     piece_fits o few (inl h) = subst (λ (x : Progress). Fits x) (sym h.1) (fits_upto few)
     piece_fits o few (inr h) = subst (λ (x : Progress). Fits x) (sym h.1) (fits_upto few)
 
-    -- the same, by the sum
+    -- The same, by the sum.
     done_sum : (o : Progress) (c : Totals) (seen : Bool) → o ≡ record { totals = p.totals; interrupted = seen } → c ≡ plus_totals totals o.totals → IsDone q start es from p.reached (way.reported ++ p.findings.items) c
     done_sum o c seen same sums =
         subst (λ (x : Totals). IsDone q start es from p.reached (way.reported ++ p.findings.items) x) (sym (sums ∙ ap (λ (x : Progress). plus_totals totals x.totals) same)) done_upto
 
-    -- a whole piece was reported
+    -- A whole piece was reported.
     pub way_more : (new : List (Visit T U)) (o : Progress) (c : Totals) → IsPieceFed faithful p now (Ok o) new → c ≡ plus_totals totals o.totals → o.interrupted ≡ false
         → (p.end ≡ Whole) × IsUnderWay q start es from faithful p.reached c old new
     way_more new o c (inl h, fed) sums still = (
@@ -116,7 +116,7 @@ module _ {T U : Type 0} (q : Query T U) (start : ℕ) (es : List IndexEntry) (fr
     way_more new o c (inr h, fed) sums still =
         absurd (true_or_false o.interrupted (ap (λ (x : Progress). x.interrupted) h.1) still)
 
-    -- the piece was cut
+    -- The piece was cut.
     pub stop_cut : (new : List (Visit T U)) (o : Progress) (c : Totals) → IsPieceFed faithful p now (Ok o) new → c ≡ plus_totals totals o.totals → o.interrupted ≡ true
         → IsReportedWork q start es from faithful interruptible workers end old (Ok (record { totals = c; interrupted = true })) new
     stop_cut new o c (inl h, fed) sums seen =
@@ -132,7 +132,7 @@ module _ {T U : Type 0} (q : Query T U) (start : ℕ) (es : List IndexEntry) (fr
       };
     }
 
-    -- the piece ended at a fault, and what it found was reported
+    -- The piece ended at a fault, and its findings were reported.
     stop_fault : (new : List (Visit T U)) (x : Error) → p.end ≡ Faulty x → Reports faithful p.findings.items now new → IsReportedWork q start es from faithful interruptible workers end old (Err x) new
     stop_fault new x faulty fed =
         let through : (p.reached < row.to) × (IsTrue q.modelled → IsFaultAt q es p.reached x) = subst (λ (e : End). IsThrough q es row.to p.reached e) faulty row.given.piece.through in
@@ -148,7 +148,7 @@ module _ {T U : Type 0} (q : Query T U) (start : ℕ) (es : List IndexEntry) (fr
           };
         }
 
-    -- the collector was refused memory after n findings of the piece
+    -- The collector ran out of memory after n findings of the piece.
     stop_memory : (new : List (Visit T U)) (n : ℕ) → Reports faithful (take n p.findings.items) now new → IsReportedWork q start es from faithful interruptible workers end old (Err Memory) new
     stop_memory new n fed = record {
       reported = way.reported ++ take n p.findings.items;
@@ -162,7 +162,7 @@ module _ {T U : Type 0} (q : Query T U) (start : ℕ) (es : List IndexEntry) (fr
       };
     }
 
-    -- the work ended in a piece
+    -- The work ended in a piece.
     pub stop_piece : (new : List (Visit T U)) (x : Error) → IsPieceFed faithful p now (Err x) new → IsReportedWork q start es from faithful interruptible workers end old (Err x) new
     stop_piece new x (inl h) = stop_fault new x h.0 h.1
     stop_piece new x (inr h) = subst (λ (e : Error). IsReportedWork q start es from faithful interruptible workers end old (Err e) new) (sym h.0) (stop_memory new h.1 h.2)
@@ -172,7 +172,7 @@ module _ {T U : Type 0} (q : Query T U) (start : ℕ) (es : List IndexEntry) (fa
   Round result = IsReportedWork q start es at faithful interruptible workers to now result new
 
   module _ (o : Progress) (round : Round (Ok o)) where
-    -- what a round counts fits
+    -- The counts of a round fit.
     pub round_fits : length es < 2 ^ 64 → IsWithin (2 ^ 64 - 1) (plus_counts totals.counts o.totals.counts)
     round_fits few =
         sums_fit q start es from at round.ended.place way.reported round.reported totals o.totals way.done round.ended.done few
@@ -180,7 +180,7 @@ module _ {T U : Type 0} (q : Query T U) (start : ℕ) (es : List IndexEntry) (fa
     round_done : IsDone q start es from round.ended.place (way.reported ++ round.reported) (plus_totals totals o.totals)
     round_done = done_more q start es from at round.ended.place way.reported round.reported totals o.totals way.done round.ended.done
 
-    -- a round came to its end
+    -- A round reached its end.
     pub round_more : o.interrupted ≡ false → IsUnderWay q start es from faithful to (plus_totals totals o.totals) old new
     round_more still = record {
       reported = way.reported ++ round.reported;
@@ -188,7 +188,7 @@ module _ {T U : Type 0} (q : Query T U) (start : ℕ) (es : List IndexEntry) (fa
       done = subst (λ n. IsDone q start es from n (way.reported ++ round.reported) (plus_totals totals o.totals)) (round.ended.reached still) round_done;
     }
 
-    -- an interrupt was seen in it
+    -- The interrupt flag was seen in it.
     pub round_cut : o.interrupted ≡ true → IsReportedWork q start es from faithful interruptible most end old (Ok (record { totals = plus_totals totals o.totals; interrupted = true })) new
     round_cut seen = record {
       reported = way.reported ++ round.reported;
@@ -205,7 +205,7 @@ module _ {T U : Type 0} (q : Query T U) (start : ℕ) (es : List IndexEntry) (fa
   more_workers e l (inl h) = inl h
   more_workers e l (inr h) = inr (h.0, omega (arith, h.1, l))
 
-  -- it ended
+  -- It ended.
   pub round_stop : (e : Error) → workers ≤ most → Round (Err e) → IsReportedWork q start es from faithful interruptible most end old (Err e) new
   round_stop e l round =
       let stop = round.ended in
@@ -224,18 +224,18 @@ module _ {T U : Type 0} (q : Query T U) (start : ℕ) (es : List IndexEntry) (fa
         };
       }
 
--- a round, once some of its pieces were reported
+-- A round, after some of its pieces were reported.
 pub record IsMidRound {T U : Type 0} (q : Query T U) (interruptible : Bool) (start : ℕ) (es : List IndexEntry) (faithful : Visit T U → Type 0) (from to : ℕ) (totals : Totals) (old now : List (Visit T U)) (rest : List (Piece T U)) : Type 0 where
   pub at : ℕ
   pub way : IsUnderWay q start es from faithful at totals old now
   pub rows : AreInRow q interruptible start es to at rest
 
--- the first of the pieces that are left, and those behind it
+-- The first of the pieces that are left, and those after it.
 pub row_next : {T U : Type 0} (q : Query T U) (interruptible : Bool) (start : ℕ) (es : List IndexEntry) (to at : ℕ) (rest ps : List (Piece T U)) (p : Piece T U) → rest ≡ p ∷ ps → AreInRow q interruptible start es to at rest
     → IsInRow q interruptible start es at p × (p.end ≡ Whole → AreInRow q interruptible start es to p.reached ps)
 row_next q interruptible start es to at rest ps p e h = subst (λ l. AreInRow q interruptible start es to at l) e h
 
--- the same work, by an equal flag and from an equal place
+-- The same work, for an equal flag and from an equal position.
 pub work_as : {T U : Type 0} (q : Query T U) (start : ℕ) (es : List IndexEntry) (faithful : Visit T U → Type 0) (interruptible other : Bool) (workers from place to : ℕ) (old new : List (Visit T U)) (result : Result Progress Error)
     → other ≡ interruptible → place ≡ from → IsReportedWork q start es place faithful other workers to old result new → IsReportedWork q start es from faithful interruptible workers to old result new
 work_as q start es faithful interruptible other workers from place to old new result flag at work =

@@ -1,4 +1,4 @@
--- What a status counts.
+-- Entries processed and skipped (not those over), `lstat` calls, racy entries, stats to update, modelled reads.
 use Rattle.std.specs.Prelude.{◌≡◌, ℕ, ◌+◌, ◌-◌, ◌≤◌, ◌==◌, Bool, true, false, not, ◌&&◌, List, length, count_by, sum_by, Option, Some, is_some, unwrap_or, Result, Ok, IsTrue, if◌then◌else◌}
 use Rattle.status_index.specs.Content.{saturate}
 use Rattle.status_index.specs.declared.metadata.Metadata.{Metadata}
@@ -17,7 +17,7 @@ use Rattle.status_call.specs.Query.{Query}
 use Rattle.status_call.specs.Records.{verdict}
 use Rattle.status_call.specs.Status.{Case, compared, case_of, Found, present, found, meaning}
 
--- numbers of entries
+-- The counts of no entries.
 abbrev pub no_counts : Counts
 no_counts = record {
   processed = 0;
@@ -38,7 +38,7 @@ plus_counts a b = record {
   to_update = a.to_update + b.to_update;
 }
 
--- what was counted of entries, and of what was read for them
+-- The totals of no entries: the counts of entries, and of the reads for them.
 abbrev pub no_totals : Totals
 no_totals = record { counts = no_counts; reads = no_reads }
 
@@ -48,7 +48,7 @@ plus_totals a b = record {
   reads = plus_reads a.reads b.reads;
 }
 
--- each number is at most n, and so are those that were skipped together
+-- Each number is at most n, and so is the sum of the skipped entries.
 pub record IsWithin (n : ℕ) (k : Counts) : Type 0 where
   pub processed : k.processed ≤ n
   pub skipped_by_flags : k.skipped_by_flags ≤ n
@@ -58,7 +58,7 @@ pub record IsWithin (n : ℕ) (k : Counts) : Type 0 where
   pub racy_clean : k.racy_clean ≤ n
   pub to_update : k.to_update ≤ n
 
--- the path may be looked at
+-- The link check accepts the path.
 abbrev pub is_accepted : LinkCheck → Bool
 is_accepted accepted = true
 is_accepted empty_path = false
@@ -66,12 +66,12 @@ is_accepted (not_normal _) = false
 is_accepted (through_link _) = false
 is_accepted (faulty _) = false
 
--- trusted and racy, without an executable change
+-- Trusted and racy, without an executable change.
 abbrev pub is_racy_case : {T U : Type 0} → Case T U → Bool
 is_racy_case (compared x trusted racy s c) = not x && trusted && racy
 is_racy_case _ = false
 
--- whether the comparer is called
+-- Whether the comparer is called.
 abbrev pub is_compared_case : {T U : Type 0} → Case T U → Bool
 is_compared_case (compared x trusted racy s c) = true
 is_compared_case _ = false
@@ -81,11 +81,11 @@ is_update (Ok (Some (statuses.NeedsUpdate s))) = true
 is_update _ = false
 
 module _ {T U : Type 0} (q : Query T U) where
-  -- compared with the worktree: of stage 0, and not skipped
+  -- An entry that is compared with the worktree: of stage 0, and not skipped.
   abbrev pub is_looked_at : IndexEntry → Bool
   is_looked_at e = not (is_skipped q e) && stage_of e == 0
 
-  -- lstat is called: the path is accepted, and the listings don't know it
+  -- `lstat` is called: the link check accepts the path, and the listings don't know it.
   abbrev pub calls_lstat : IndexEntry → Bool
   calls_lstat e = is_accepted (link_check q.lstat e.path) && not (is_some (q.cached e.path))
 
@@ -93,21 +93,21 @@ module _ {T U : Type 0} (q : Query T U) where
   reads_of_found e (present n) = unwrap_or (q.counted e n.len (meaning q e n) no_reads) no_reads
   reads_of_found e _ = no_reads
 
-  -- what the comparer reads of an entry, where it is called and that is modelled
+  -- The comparer's reads of an entry, if it is called and its reads are modelled.
   abbrev pub reads_of_case : IndexEntry → Reads
   reads_of_case e = if is_compared_case (case_of q e) then reads_of_found e (found q e)
       else no_reads
 
-  -- what is read of an entry
+  -- The reads for an entry.
   abbrev pub reads_of : IndexEntry → Reads
   reads_of e = if is_looked_at e then reads_of_case e else no_reads
 
-  -- what the comparer reads is modelled
+  -- The comparer's reads are modelled.
   abbrev pub ModelsReads : Type 0
   ModelsReads = (e : IndexEntry) (n : Metadata)
       → IsTrue (is_some (q.counted e n.len (meaning q e n) no_reads))
 
--- the counts of a part of the considered entries, es being all of them
+-- The counts of a part of the considered entries, `es` being all of them.
 abbrev pub counts_in : {T U : Type 0} → Query T U → List IndexEntry → List IndexEntry → Counts
 counts_in q es part = record {
   processed = count_by (λ e. not (is_over q es e)) part;
@@ -119,7 +119,7 @@ counts_in q es part = record {
   to_update = count_by (λ e. is_update (verdict q es e)) part;
 }
 
--- what is read for a part of the considered entries: sums that stop at the greatest u64
+-- The reads for a part of the considered entries: sums up to the greatest u64.
 abbrev pub reads_in : {T U : Type 0} → Query T U → List IndexEntry → Reads
 reads_in q part = record {
   bytes = saturate (sum_by (λ e. (reads_of q e).bytes) part);
@@ -128,7 +128,7 @@ reads_in q part = record {
   objects = saturate (sum_by (λ e. (reads_of q e).objects) part);
 }
 
--- what an outcome says of a part of the considered entries, of all entries
+-- The outcome counts a part of the considered entries `es` of an index with the entries `all`.
 pub record IsOutcome {T U : Type 0} (q : Query T U) (all es : List IndexEntry)
     (part : List IndexEntry) (o : Outcome) : Type 0 where
   pub to_process : o.entries_to_process ≡ length es

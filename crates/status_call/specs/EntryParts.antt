@@ -20,25 +20,25 @@ use Rattle.status_call.specs.Counts.{is_accepted, is_racy_case, is_compared_case
 use Rattle.status_call.specs.Query.{Query}
 use Rattle.status_call.specs.Status.{Found, nothing, refused, directory, present, Case, compared, answer, found_by, cached_or, case_of_found, case_of_content, is_trusted, meaning}
 
--- what stands at a path, as it is found
+-- The node at a path, from a look-up's result.
 abbrev pub found_presence : AtPath → Found
 found_presence presences.Nothing = nothing
 found_presence presences.Directory = directory
 found_presence (presences.Node n) = present n
 
--- what is found, and whether `lstat` was called; the fault that is found, or want of memory
+-- The specified node and whether `lstat` was called; the specified fault; or out of memory.
 abbrev pub IsLook : Found → Bool → Result Look Error → Type 0
 IsLook found called (Ok look) = (found ≡ found_presence look.presence) × (look.lstat_called ≡ called)
 IsLook found called (Err e) = ((f : Fault) × (found ≡ refused f) × (e ≡ error_of f)) ⊎ (e ≡ Memory)
 
--- what is found at a path, by lstat's answers and by what listings know of it
+-- The look-up of a path, by the results of `lstat` and by the node that listings know.
 abbrev pub IsLookAt : (List ℕ → Result Metadata Fault) → Option Metadata → List ℕ
     → Result Look Error → Type 0
 IsLookAt lstat known path result =
     IsLook (found_by (link_check lstat path) (cached_or known (lstat path)))
     (is_accepted (link_check lstat path) && not (is_some known)) result
 
--- the answer of a case, and what that took: whether `lstat` was called, and what the comparer reads where it is called
+-- The result of a case, and its work: whether `lstat` was called, and the comparer's reads if it is called.
 pub record IsOfCase {T U : Type 0} (path : List ℕ) (case : Case T U) (called : Bool)
     (counted : Option Reads) (d : Decided T U) : Type 0 where
   pub status : answer path case ≡ Ok d.status
@@ -46,40 +46,40 @@ pub record IsOfCase {T U : Type 0} (path : List ℕ) (case : Case T U) (called :
   pub racy : d.racy ≡ is_racy_case case
   pub reads : IfSome counted (λ k. d.reads ≡ (if is_compared_case case then k else no_reads))
 
--- the decision of a case, its error, or want of memory
+-- The decision of a case, its error, or out of memory.
 abbrev pub IsCaseDecided : {T U : Type 0} → List ℕ → Case T U → Bool → Option Reads
     → Result (Decided T U) Error → Type 0
 IsCaseDecided path case called counted (Ok d) = IsOfCase path case called counted d
 IsCaseDecided path case called counted (Err x) = (answer path case ≡ Err x) ⊎ (x ≡ Memory)
 
--- the comparer's answer, and what it read where that is modelled; its error, or want of memory
+-- The comparer's result, and its reads if they are modelled; its error; or out of memory.
 abbrev pub IsComparison : {T : Type 0} → Result (Option T) Error → Option Reads → Result (Comparison T) Error → Type 0
 IsComparison meant counted (Ok c) = (meant ≡ Ok c.change) × HasRead counted c.reads
 IsComparison meant counted (Err x) = (meant ≡ Err x) ⊎ (x ≡ Memory)
 
--- what a comparison decides of an entry whose node has this stat
+-- The decision by a comparison, for an entry whose node has this stat.
 abbrev pub IsDecisionOf : {T U : Type 0} → Comparison T → Stat → Bool → Bool → Bool → Decided T U
     → Type 0
 IsDecisionOf c stat executable_changed trusted racy d =
     (path : List ℕ) (counted : Option Reads) → IfSome counted (λ k. c.reads ≡ k)
     → IsOfCase path (compared executable_changed trusted racy stat (Ok c.change)) false counted d
 
--- what was found at a path is what a query says
+-- The look-up of a path is the one of a query.
 abbrev pub IsLooked : {T U : Type 0} → Query T U → List ℕ → Result Look Error → Type 0
 IsLooked q path result = IsTrue q.modelled → IsLookAt q.lstat (q.cached path) path result
 
 module _ {T U : Type 0} (q : Query T U) (e : IndexEntry) (n : Metadata) where
-  -- what the comparer reads of an entry and its node
+  -- The comparer's reads of an entry and its node.
   abbrev pub counted_of : Option Reads
   counted_of = q.counted e n.len (meaning q e n) no_reads
 
-  -- the decision of an entry at whose path a node was found; it calls no more `lstat`
+  -- The decision of an entry whose path has this node. It calls `lstat` no more.
   abbrev pub IsNodeDecided : Result (Decided T U) Error → Type 0
   IsNodeDecided result =
       IsTrue q.modelled
       → IsCaseDecided e.path (case_of_found q e (present n)) false counted_of result
 
-  -- the same of one whose node has the entry's type, and this stat
+  -- The same if the node has the entry's type and this stat.
   abbrev pub IsContentDecided : Stat → Bool → Result (Decided T U) Error → Type 0
   IsContentDecided s executable_changed result =
       IsTrue q.modelled → IsCaseDecided e.path
@@ -87,7 +87,7 @@ module _ {T U : Type 0} (q : Query T U) (e : IndexEntry) (n : Metadata) where
       (is_racy q.stat_options q.timestamp s))
       false counted_of result
 
-  -- the comparison of an entry's content with its node's
+  -- The comparison of an entry's content with its node's.
   abbrev pub IsContentCompared : Result (Comparison T) Error → Type 0
   IsContentCompared result =
       IsTrue q.modelled → IsComparison (q.compared e n.len (meaning q e n)) counted_of result

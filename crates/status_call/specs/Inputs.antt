@@ -1,4 +1,4 @@
--- What a caller hands in, put together.
+-- A status depends on options, timestamp, and the specifications of all interfaces passed. Here they are put together.
 use Rattle.std.specs.Borrow.{Bor}
 use Rattle.std.specs.FinMap as ids
 use Rattle.status_base.specs.Objects.{Contents}
@@ -24,8 +24,7 @@ given worktree compare submodule objects context = record {
   lister = context.lister;
 }
 
--- the usual interfaces beside a worktree, a comparer and a pathspec: no submodule, no blob, nothing is converted, and no
--- listings
+-- The usual interfaces, with a worktree, a comparer and a pathspec: no submodule, no blob, no conversion, and no listings.
 abbrev pub usual : {W C P : Type 0} → Bor W → C → P
     → Inputs W C NoSubmodules Contents P NoFilter NoLister
 usual worktree compare pathspec = record {
@@ -38,7 +37,7 @@ usual worktree compare pathspec = record {
   lister = record {};
 }
 
--- the part of the options that decides entries, with the index's timestamp
+-- The part of the options that decides entries, with the index's timestamp.
 abbrev pub settings : Options → State → Settings
 settings options index =
     record {

@@ -1,4 +1,4 @@
--- What is found at a path with the help of listings.
+-- The look-up of a path with the help of listings.
 use Rattle.std.specs.Prelude.{◌≡◌, ℕ, Bool, List, Option, IfOk, Result, IsTrue}
 use Rattle.std.specs.declared.alloc.AllocError.{AllocError}
 use Rattle.status_index.specs.declared.fault.Fault.{Fault}
@@ -11,17 +11,17 @@ use Rattle.status_call.specs.EntryParts.{IsLookAt}
 use Rattle.status_call.specs.Modelled.{are_modelled}
 use Rattle.status_call.specs.declared.index_as_worktree.lookup.Look.{Look}
 
--- a table keeps what a lister lists, where the lister is modelled
+-- A table has the lister's listings, if the lister is modelled.
 abbrev pub Keeps : Bool → (List ℕ → Listing) → Table → Type 0
 Keeps modelled listing table = IsTrue modelled → IsOf listing table
 
 module _ (asked modelled : Bool) (listing : List ℕ → Listing) (table : Table) (path : List ℕ) where
-  -- what listings know of a path, where they are asked
+  -- The node that listings know at a path, if they are used.
   abbrev pub IsKnown : Result (Option Metadata) AllocError → Type 0
   IsKnown result = IsTrue (are_modelled asked modelled) → Keeps modelled listing table
       → IfOk result (λ node. node ≡ known_node asked listing path)
 
-  -- what stands at a path by them and by `lstat`, where the part of the check that was tested is clear
+  -- The look-up of a path by listings and by `lstat`, if no directory above the path that the check keeps is a link or a fault.
   abbrev pub IsLookUp : (List ℕ → Result Metadata Fault) → List ℕ → Result Look Error → Type 0
   IsLookUp lstat tested result =
       IsTrue (are_modelled asked modelled) → IsClear lstat tested → Keeps modelled listing table

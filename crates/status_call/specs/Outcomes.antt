@@ -1,10 +1,11 @@
--- The outcome of a status, put together.
+-- Entries processed and skipped (not those over), `lstat` calls, racy entries, stats to update, modelled reads. An outcome has
+-- them all.
 use Rattle.std.specs.Prelude.{ℕ, ◌+◌, ◌-◌}
 use Rattle.std.specs.declared.ops.Range.{Range}
 use Rattle.status_call.specs.declared.index_as_worktree.counts.Progress.{Progress}
 use Rattle.status_call.specs.declared.index_as_worktree.types.Outcome.{Outcome}
 
--- of work on a range of so many entries
+-- The outcome of work on the range `considered` of an index with this many entries.
 abbrev pub outcome_of : Progress → ℕ → Range ℕ → Outcome
 outcome_of p entries considered = record {
   entries_to_process = considered.end - considered.start;
@@ -22,7 +23,7 @@ outcome_of p entries considered = record {
   interrupted = p.interrupted;
 }
 
--- how many entries were skipped
+-- The number of skipped entries.
 abbrev pub skipped_of : Outcome → ℕ
 skipped_of o = o.entries_skipped_by_common_prefix + o.entries_skipped_by_pathspec
     + o.entries_skipped_by_entry_flags

@@ -1,4 +1,4 @@
--- What of a piece was reported to a collector.
+-- The part of a piece that was reported to a collector.
 use Rattle.std.specs.Prelude.{◌≡◌, ◌⊎◌, ℕ, true, false, List, take, Result, Ok, Err}
 use Rattle.status_compare.specs.declared.error.Error.{Error}
 use Rattle.status_compare.specs.declared.error.Error.TheVariants.{Memory}
@@ -8,14 +8,14 @@ use Rattle.status_call.specs.declared.index_as_worktree.counts.Progress.{Progres
 use Rattle.status_call.specs.Reporting.{Reports}
 use Rattle.status_call.specs.Visits.{Visit}
 
--- what a piece counts, and whether the interrupt flag was seen in it
+-- The counts of a piece, and whether the interrupt flag was seen in it.
 abbrev pub IsCounted : {T U : Type 0} → Piece T U → Progress → Type 0
 IsCounted p o =
     ((p.end ≡ Whole) × (o ≡ record { totals = p.totals; interrupted = false }))
     ⊎ ((p.end ≡ Cut) × (o ≡ record { totals = p.totals; interrupted = true }))
 
--- all findings of a piece that was whole or cut; all findings of a piece that ended at a fault; or the first of them, and
--- want of memory
+-- All findings are reported of a piece that was whole or cut, and of one that ended at a fault. If memory runs out, the first n
+-- of them are.
 abbrev pub IsPieceFed : {T U : Type 0} → (Visit T U → Type 0) → Piece T U → List (Visit T U)
     → Result Progress Error → List (Visit T U) → Type 0
 IsPieceFed faithful p old (Ok o) new = IsCounted p o × Reports faithful p.findings.items old new

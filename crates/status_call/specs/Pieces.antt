@@ -1,4 +1,4 @@
--- Parts of the considered entries, and what they give.
+-- Parts of the considered entries, and their records and counts.
 use Rattle.std.specs.Prelude.{◌≡◌, ◌⊎◌, ℕ, ◌+◌, ◌-◌, ◌<◌, ◌≤◌, false, IsTrue, List, [], length, take, drop, All, AllPairs, Err, ⊤}
 use Rattle.std.specs.List.{slice_index_or}
 use Rattle.status_index.specs.Entries.{IndexEntry}
@@ -15,19 +15,19 @@ use Rattle.status_call.specs.Counts.{IsWithin, counts_in, reads_in, ModelsReads}
 use Rattle.status_call.specs.Query.{Query}
 use Rattle.status_call.specs.Records.{verdict, records_in, faults_in}
 
--- no path has entries on both sides of place k
+-- No path has entries on both sides of position k.
 abbrev pub IsCut : List IndexEntry → ℕ → Type 0
 IsCut es k = All (λ d. All (λ r. same_path d r ≡ false) (drop k es)) (take k es)
 
--- no interrupt flag was seen
+-- The interrupt flag wasn't seen.
 abbrev pub IsUncut : End → Type 0
 IsUncut Whole = ⊤
 IsUncut (Faulty x) = ⊤
 IsUncut Cut = ⊥
 
 module _ {T U : Type 0} (q : Query T U) where
-  -- the records and counts of the considered entries from place `from` up to place `at`, none of which gives a fault;
-  -- the first considered entry is at place `start` of the whole index
+  -- The records and counts of the considered entries from position `from` up to position `at`, none of which has a fault. The
+  -- first considered entry is at position `start` of the whole index.
   pub record IsAsMeant (start : ℕ) (es : List IndexEntry) (from at : ℕ)
       (findings : List (Finding T U)) (t : Totals) : Type 0 where
     pub records : findings ≡ records_in q es (start + from) (part_of es from at)
@@ -35,7 +35,7 @@ module _ {T U : Type 0} (q : Query T U) where
     pub reads : ModelsReads q → t.reads ≡ reads_in q (part_of es from at)
     pub clear : faults_in q es (part_of es from at) ≡ []
 
-  -- the same where all is modelled; over any worktree the findings ascend and are of these entries
+  -- The same if all is modelled. Over any worktree the findings ascend and are of these entries.
   pub record IsDone (start : ℕ) (es : List IndexEntry) (from at : ℕ) (findings : List (Finding T U))
       (t : Totals) : Type 0 where
     pub low : from ≤ at
@@ -45,18 +45,18 @@ module _ {T U : Type 0} (q : Query T U) where
     pub ascending : AllPairs (λ a b. a.entry_index < b.entry_index) findings
     pub meant : IsTrue q.modelled → IsAsMeant start es from at findings t
 
-  -- the error is what the entry at a place gives, or want of memory
+  -- The error of the entry at a position, or out of memory.
   abbrev pub IsFaultAt : List IndexEntry → ℕ → Error → Type 0
   IsFaultAt es at x = ((d : IndexEntry) → verdict q es (slice_index_or es at d) ≡ Err x)
       ⊎ (x ≡ Memory)
 
-  -- a piece ends at its last entry, before an entry, or at an entry that gives a fault or was refused memory
+  -- A piece ends after its last entry, before an entry, or at an entry that has a fault or runs out of memory.
   abbrev pub IsThrough : List IndexEntry → ℕ → ℕ → End → Type 0
   IsThrough es to reached Whole = reached ≡ to
   IsThrough es to reached Cut = reached < to
   IsThrough es to reached (Faulty x) = (reached < to) × (IsTrue q.modelled → IsFaultAt es reached x)
 
-  -- the findings and counts of the entries from `from` on, up to where the piece ended
+  -- The findings and counts of the entries from `from` on, up to the position at which the piece ended.
   pub record IsPiece (start : ℕ) (es : List IndexEntry) (from to : ℕ) (p : Piece T U) : Type 0 where
     pub done : IsDone start es from p.reached p.findings.items p.totals
     pub through : IsThrough es to p.reached p.end

@@ -1,4 +1,4 @@
--- What a status is computed from: all that its answer depends on, by the meanings of what was handed in.
+-- A status depends on options, timestamp, and the specifications of all interfaces passed. A query has them all.
 use Rattle.std.specs.Prelude.{ℕ, Bool, List, Option, Result}
 use Rattle.status_index.specs.Content.{Content}
 use Rattle.status_index.specs.Entries.{IndexEntry}
@@ -13,29 +13,29 @@ use Rattle.status_compare.specs.declared.error.Error.{Error}
 use Rattle.status_compare.specs.Reading.{Meaning}
 use Rattle.status_compare.specs.declared.reads.Reads.{Reads}
 
--- T is what a comparer reports of a change, U what a submodule reports
+-- `T` is the type of a comparer's report of a change, `U` of a submodule's.
 pub record Query (T U : Type 0) : Type 0 where
-  -- all that was handed in is modelled: it answers by the functions below
+  -- All interfaces passed are modelled: their results are those of the functions below.
   pub modelled : Bool
   pub stat_options : Options
-  -- whether symbolic links count, and executability
+  -- Whether symbolic links count, and executability.
   pub symlink : Bool
   pub executable_bit : Bool
-  -- when the index was written
+  -- The time at which the index was written.
   pub timestamp : Moment
-  -- the worktree
+  -- The worktree.
   pub lstat : List ℕ → Result Metadata Fault
   pub opened : List ℕ → Result Content Fault
   pub linked : List ℕ → Result (List ℕ) Fault
-  -- what the listings of directories know of a path; nothing where none are used
+  -- The node that listings of directories know at a path; none if listings aren't used.
   pub cached : List ℕ → Option Metadata
-  -- the pathspec: the common prefix, and whether a path is included, by whether it is a directory's
+  -- The pathspec: the common prefix, and whether a path is included, by whether it is a directory's.
   pub prefix : List ℕ
   pub included : List ℕ → Bool → Bool
-  -- the filter, the object database, the submodules
+  -- The filter, the object database, the submodules.
   pub conversion : Content → List ℕ → Conversion
   pub blob : ObjectId → Result (List ℕ) FindError
   pub submodule : IndexEntry → Result (Option U) (List ℕ)
-  -- the comparer: its answer, and what it reads
+  -- The comparer: its result, and its reads.
   pub compared : IndexEntry → ℕ → Meaning → Result (Option T) Error
   pub counted : IndexEntry → ℕ → Meaning → Reads → Option Reads

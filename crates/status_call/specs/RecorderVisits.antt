@@ -1,4 +1,4 @@
--- What a recorder was given.
+-- A collector gets the whole index, an entry's position, path and status. A recorder's records have them.
 use Rattle.std.specs.Prelude.{List, map}
 use Rattle.bstr.specs.BStr.{bstr_bytes}
 use Rattle.status_call.specs.declared.index_as_worktree.recorder.Record.{Record}

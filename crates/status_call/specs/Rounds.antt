@@ -8,34 +8,34 @@ use Rattle.status_call.specs.declared.index_as_worktree.piece.Piece.{Piece}
 use Rattle.status_call.specs.Pieces.{IsCut, IsPiece, IsUncut}
 use Rattle.status_call.specs.Query.{Query}
 
--- where the first piece begins, and where each ends: no path has entries in two of them
+-- The start of the first piece, and the end of each. No path has entries in two pieces.
 pub record AreBounds (es : List IndexEntry) (bounds : List ℕ) : Type 0 where
   pub pieces : 1 < length bounds
   pub ascending : AllPairs (λ a b. a < b) bounds
   pub inside : All (λ b. b ≤ length es) bounds
   pub cuts : All (λ b. IsCut es b) bounds
 
--- where the piece of a number begins
+-- The start of the piece with this number.
 abbrev pub bound : List ℕ → ℕ → ℕ
 bound bounds n = slice_index_or bounds n 0
 
--- where the last ends
+-- The end of the last piece.
 abbrev pub last_bound : List ℕ → ℕ
 last_bound bounds = bound bounds (length bounds - 1)
 
--- where a piece of `chunk` entries ends that begins at a place: no earlier than that many entries on, and no later than
--- the next place behind those that parts no path
+-- The end of a piece of `chunk` entries that begins at a position. It has at least that many entries, or all that are left. It
+-- ends no later than the next position after those that separates no path.
 pub record IsPieceEnd (es : List IndexEntry) (chunk from end : ℕ) : Type 0 where
   pub more : from < end
   pub full : min (from + chunk) (length es) ≤ end
   pub tight : (k : ℕ) → from + chunk ≤ k → from < k → k < end → IsCut es k → ⊥
 
--- each piece ends so
+-- Each piece ends like that.
 abbrev pub ArePieces : List IndexEntry → ℕ → List ℕ → Type 0
 ArePieces es chunk bounds =
     (k : ℕ) → k + 1 < length bounds → IsPieceEnd es chunk (bound bounds k) (bound bounds (k + 1))
 
--- a piece that didn't come to its end
+-- A piece that didn't reach its end.
 abbrev pub is_short : End → Bool
 is_short Whole = false
 is_short Cut = true
@@ -43,18 +43,18 @@ is_short (Faulty x) = true
 
 module _ {T U : Type 0} (q : Query T U) (interruptible : Bool) (start : ℕ) (es : List IndexEntry)
   where
-    -- what the piece from place `at` to place `to` may give
+    -- The possible results of the piece from position `at` to position `to`.
     pub record IsGiven (at to : ℕ) (p : Piece T U) : Type 0 where
       pub piece : IsPiece q start es at to p
       pub uncut : interruptible ≡ false → IsUncut p.end
 
-    -- a piece from place `at` on
+    -- A piece from position `at` on.
     pub record IsInRow (at : ℕ) (p : Piece T U) : Type 0 where
       pub to : ℕ
       pub inside : to ≤ length es
       pub given : IsGiven at to p
 
-    -- pieces in a row from place `at` on: whole ones up to place `to`, or up to one that didn't come to its end
+    -- Pieces in a row from position `at` on: whole ones up to position `to`, or up to one that didn't reach its end.
     abbrev pub AreInRow : ℕ → ℕ → List (Piece T U) → Type 0
     AreInRow to at [] = at ≡ to
     AreInRow to at (p ∷ ps) = IsInRow at p × (p.end ≡ Whole → AreInRow to p.reached ps)

@@ -1,4 +1,4 @@
--- The considered entries of a call, as its workers run through them.
+-- The considered entries of a call, as its workers process them.
 use Rattle.std.specs.Prelude.{ℕ, List, is_some, Result}
 use Rattle.status_index.specs.Entries.{IndexEntry, index_entries}
 use Rattle.status_index.specs.Stretch.{part_of}
@@ -10,15 +10,15 @@ use Rattle.status_call.specs.Query.{Query}
 use Rattle.status_call.specs.Visits.{Visit, IsFaithful}
 use Rattle.status_call.specs.WorkInOrder.{IsReportedWork}
 
--- what the index says of the considered entries
+-- The index's considered entries.
 abbrev pub part_entries : Considered → List IndexEntry
 part_entries c = index_entries c.backing.now (part_of c.entries.now c.start c.end)
 
--- the collector is given the index's own entry
+-- The collector gets the index's own entry.
 abbrev pub IsFaithfulTo : {T U : Type 0} → Considered → Visit T U → Type 0
 IsFaithfulTo c = IsFaithful c.entries.now c.backing.now
 
--- what was reported of the considered entries from place `from` on, and how that ended
+-- The records of the considered entries from position `from` on that were reported, and how the work ended.
 abbrev pub IsRun : {T U : Type 0} → Query T U → Considered → Workers → ℕ → ℕ → List (Visit T U)
     → Result Progress Error → List (Visit T U) → Type 0
 IsRun q c w from to old result new =

@@ -1,4 +1,5 @@
--- The status of one entry of stage 0 that isn't skipped: the case that it falls in, and what each case answers.
+-- The status of one unskipped entry of stage 0: its case, and the result of each case. An unskipped entry of stage 0 has the
+-- status of its row in `StatusTable`.
 use Rattle.std.specs.Prelude.{ℕ, ◌==◌, Bool, true, false, not, ◌&&◌, List, Option, Some, None, Result, Ok, Err, if◌then◌else◌}
 use Rattle.status_index.specs.declared.fault.Fault.{Fault}
 use Rattle.status_index.specs.declared.fault.Fault.TheVariants as faults
@@ -29,15 +30,15 @@ use Rattle.status_call.specs.declared.index_as_worktree.types.EntryStatus.TheVar
 use Rattle.status_call.specs.Considered.{has_flag}
 use Rattle.status_call.specs.Query.{Query}
 
--- what is found at an entry's path: nothing (a directory on the way or the path itself is missing, or a link is on the
--- way), a fault, a directory, or a file, link or other node
+-- The node at an entry's path: nothing, a fault, a directory, or a file, link or other node. Nothing is there if the path or a
+-- directory above it is missing, or a link is on the way.
 pub data Found : Type 0 where
   nothing : Found
   refused : Fault → Found
   directory : Found
   present : Metadata → Found
 
--- a fault that says that nothing is there, or another
+-- A fault of absence, or another fault.
 abbrev pub found_fault : Fault → Found
 found_fault f = if is_absence f then nothing else refused f
 
@@ -51,7 +52,7 @@ abbrev pub found_node : Result Metadata Fault → Found
 found_node (Ok n) = found_kind n n.kind
 found_node (Err f) = found_fault f
 
--- by the check of the path, and what lstat answers for it
+-- The node by the link check of the path, and by the result of `lstat`.
 abbrev pub found_by : LinkCheck → Result Metadata Fault → Found
 found_by accepted node = found_node node
 found_by (through_link _) node = nothing
@@ -59,11 +60,11 @@ found_by (faulty f) node = found_fault f
 found_by (not_normal _) node = refused faults.NotNormal
 found_by empty_path node = refused faults.NotNormal
 
--- what is found at a path without listings, by lstat's answers
+-- The node at a path without listings, by the results of `lstat`.
 abbrev pub found_at : (List ℕ → Result Metadata Fault) → List ℕ → Found
 found_at lstat path = found_by (link_check lstat path) (lstat path)
 
--- what the listings know, else what lstat answers
+-- The node that the listings know, otherwise the result of `lstat`.
 abbrev pub cached_or : Option Metadata → Result Metadata Fault → Result Metadata Fault
 cached_or (Some n) answered = Ok n
 cached_or None answered = answered
@@ -72,26 +73,26 @@ abbrev pub same_bool : Bool → Bool → Bool
 same_bool true b = b
 same_bool false b = not b
 
--- the cases of the status table
+-- The cases of the status table.
 pub data Case (T U : Type 0) : Type 0 where
-  -- nothing is there
+  -- Nothing is there.
   gone : Case T U
   fails : Fault → Case T U
-  -- a directory at a submodule's entry, with what the submodule says
+  -- A directory at a submodule's entry, with the submodule's result.
   in_submodule : Result (Option U) (List ℕ) → Case T U
   added : Case T U
   unstamped : Case T U
   retyped : Mode → Case T U
-  -- trusted and not racy, without an executable change
+  -- Trusted and not racy, without an executable change.
   unchanged : Case T U
-  -- whether the executable bit changed, the entry is trusted, its stat is racy; the node's stat; the comparer's answer
+  -- Whether the executable bit changed, the entry is trusted, its stat is racy; the node's stat; the comparer's result.
   compared : Bool → Bool → Bool → Stat → Result (Option T) Error → Case T U
 
 module _ {T U : Type 0} where
   abbrev pub changed : Change T U → Result (Option (EntryStatus T U)) Error
   changed c = Ok (Some (statuses.Change c))
 
-  -- what each case answers, at a path
+  -- The result of each case, at a path.
   abbrev pub answer : List ℕ → Case T U → Result (Option (EntryStatus T U)) Error
   answer path gone = changed changes.Removed
   answer path (fails f) = Err (error_of f)
@@ -109,14 +110,14 @@ module _ {T U : Type 0} where
       changed (changes.Modification true None false)
   answer path (compared false trusted racy s (Ok None)) = Ok (Some (statuses.NeedsUpdate s))
 
--- whether links count at a node: it is a link, or the file system has links
+-- Whether links count at a node: it is a link, or the file system has links.
 abbrev pub links_count : Bool → NodeKind → Bool
 links_count symlink kinds.Link = true
 links_count symlink kinds.File = symlink
 links_count symlink kinds.Directory = symlink
 links_count symlink kinds.Other = symlink
 
--- whether an entry is read as a link's target
+-- Whether an entry is read as a link's target.
 abbrev pub reads_link : Bool → Mode → NodeKind → Bool
 reads_link symlink modes.Symlink kind = links_count symlink kind
 reads_link symlink modes.Dir kind = false
@@ -125,16 +126,16 @@ reads_link symlink modes.FileExecutable kind = false
 reads_link symlink modes.Commit kind = false
 
 module _ {T U : Type 0} (q : Query T U) where
-  -- what is found at an entry's path
+  -- The node at an entry's path.
   abbrev pub found : IndexEntry → Found
   found e = found_by (link_check q.lstat e.path) (cached_or (q.cached e.path) (q.lstat e.path))
 
-  -- the entry's stat agrees with the node's, and its id is the empty blob's exactly where its size is 0
+  -- The stat agrees, and the size is 0 exactly if the id is the empty blob's.
   abbrev pub is_trusted : IndexEntry → Stat → Bool
   is_trusted e s = stat_agrees q.stat_options s e.stat
       && same_bool (is_empty_blob e.id) (e.stat.size == 0)
 
-  -- what there is to be read of an entry and its node
+  -- The reading of an entry's node.
   abbrev pub reading : IndexEntry → Metadata → Reading
   reading e n =
       node_reading (reads_link q.symlink e.mode n.kind) (λ content. q.conversion content e.path)
@@ -143,7 +144,7 @@ module _ {T U : Type 0} (q : Query T U) where
   abbrev pub meaning : IndexEntry → Metadata → Meaning
   meaning e n = record { file = reading e n; blob = blob_reading (q.blob e.id) }
 
-  -- by whether the executable bit changed, the entry is trusted, and its stat is racy
+  -- The case by whether the executable bit changed, the entry is trusted, and its stat is racy.
   abbrev pub case_of_content : IndexEntry → Metadata → Stat → Bool → Bool → Bool → Case T U
   case_of_content e n s false true false = unchanged
   case_of_content e n s x trusted racy =
@@ -167,10 +168,10 @@ module _ {T U : Type 0} (q : Query T U) where
   case_of_found e (present n) =
       if has_flag e INTENT_TO_ADD then added else case_of_stat e n (stat_of n)
 
-  -- the case of an entry
+  -- The case of an entry.
   abbrev pub case_of : IndexEntry → Case T U
   case_of e = case_of_found e (found e)
 
-  -- the status of an entry
+  -- The status of an entry.
   abbrev pub status_of : IndexEntry → Result (Option (EntryStatus T U)) Error
   status_of e = answer e.path (case_of e)

@@ -1,4 +1,5 @@
--- The status table: which row an unskipped entry of stage 0 falls in, and what the row answers.
+-- The status table: the row of an entry, and the result of each row. An unskipped entry of stage 0 has the status of its row in
+-- `StatusTable`.
 use Rattle.std.specs.Prelude.{◌≡◌, ◌⊎◌, ℕ, Bool, true, false, ◌&&◌, List, Option, Some, None, is_some, Result, Ok, Err, IsTrue, IsFalse}
 use Rattle.status_index.specs.declared.fault.Fault.{Fault}
 use Rattle.status_index.specs.declared.fault.Fault.TheVariants as faults
@@ -23,36 +24,36 @@ use Rattle.status_call.specs.Considered.{has_flag}
 use Rattle.status_call.specs.Query.{Query}
 use Rattle.status_call.specs.Status.{cached_or, changed, is_trusted, meaning, status_of}
 
--- the rows of the table
+-- The rows of the table.
 pub data Row : Type 0 where
-  -- nothing is there, or a directory in place of a file
+  -- Nothing is there, or a directory in place of a file.
   gone : Row
-  -- a fault keeps the path from being looked at
+  -- The path isn't normal, or has a fault other than one of absence.
   refused : Row
-  -- a directory at a submodule's entry
+  -- A directory at a submodule's entry.
   in_submodule : Row
-  -- a node at an entry that is to be added; a node of which a stamp isn't known; a node of another type
+  -- A node at an entry that is to be added; a node of which a time isn't known; a node of another type.
   added : Row
   unstamped : Row
   retyped : Row
-  -- a stat that settles it
+  -- The stat settles that the entry is unchanged.
   unchanged : Row
-  -- one that doesn't: the comparer fails; there is a change of executability or of content; there is none
+  -- It doesn't settle it: the comparer fails; executability or content differs; neither does.
   failed : Row
   modified : Row
   to_update : Row
 
 module _ {T U : Type 0} (q : Query T U) (e : IndexEntry) where
-  -- what a fresh check of the entry's path answers
+  -- The result of a new link check of the entry's path.
   abbrev pub check_of : LinkCheck
   check_of = link_check q.lstat e.path
 
-  -- what the listings know of the path, else what lstat answers
+  -- The node that the listings know at the path, otherwise the result of `lstat`.
   abbrev pub node_of : Result Metadata Fault
   node_of = cached_or (q.cached e.path) (q.lstat e.path)
 
-  -- the path leads through a link; a fault of absence is on the way or at the path; or there is a directory, and the
-  -- entry is no submodule's
+  -- The path leads through a link; a fault of absence is on the way or at the path; or a directory is at the path of an entry
+  -- that is no submodule's.
   pub data IsGone : Type 0 where
     by_link : (p : List ℕ) → check_of ≡ through_link p → IsGone
     on_the_way : (f : Fault) → check_of ≡ faulty f → IsTrue (is_absence f) → IsGone
@@ -61,7 +62,7 @@ module _ {T U : Type 0} (q : Query T U) (e : IndexEntry) where
     by_directory : (n : Metadata) → check_of ≡ accepted → node_of ≡ Ok n → n.kind ≡ kinds.Directory
         → IsFalse (is_submodule e.mode) → IsGone
 
-  -- a path that isn't normal, or another fault on the way or at the path
+  -- A path that isn't normal, or another fault on the way or at the path.
   pub data IsUnreachable (f : Fault) : Type 0 where
     unnamed : check_of ≡ empty_path → f ≡ faults.NotNormal → IsUnreachable f
     oddly_named : (component : List ℕ) → check_of ≡ not_normal component → f ≡ faults.NotNormal
@@ -69,7 +70,7 @@ module _ {T U : Type 0} (q : Query T U) (e : IndexEntry) where
     barred : check_of ≡ faulty f → IsFalse (is_absence f) → IsUnreachable f
     unreadable : check_of ≡ accepted → node_of ≡ Err f → IsFalse (is_absence f) → IsUnreachable f
 
-  -- a directory at a submodule's entry
+  -- A directory at a submodule's entry.
   pub record IsInSubmodule : Type 0 where
     pub node : Metadata
     pub clear : check_of ≡ accepted
@@ -77,39 +78,39 @@ module _ {T U : Type 0} (q : Query T U) (e : IndexEntry) where
     pub directory : node.kind ≡ kinds.Directory
     pub submodule : IsTrue (is_submodule e.mode)
 
-  -- a file, a link or another node that is no directory
+  -- A file, a link or another node that is no directory.
   pub record IsPresent (n : Metadata) : Type 0 where
     pub clear : check_of ≡ accepted
     pub answered : node_of ≡ Ok n
     pub no_directory : (n.kind ≡ kinds.File) ⊎ ((n.kind ≡ kinds.Link) ⊎ (n.kind ≡ kinds.Other))
 
-  -- a node at an entry that is to be added
+  -- A node at an entry that is to be added.
   pub record IsAdded : Type 0 where
     pub node : Metadata
     pub present : IsPresent node
     pub intended : IsTrue (has_flag e INTENT_TO_ADD)
 
-  -- a node of which a stamp isn't known
+  -- A node of which a time isn't known.
   pub record IsUnstamped : Type 0 where
     pub node : Metadata
     pub present : IsPresent node
     pub not_intended : IsFalse (has_flag e INTENT_TO_ADD)
     pub unknown : stat_of node ≡ None
 
-  -- a node whose stat is known
+  -- A node whose stat is known.
   pub record IsStamped (n : Metadata) (s : Stat) : Type 0 where
     pub present : IsPresent n
     pub not_intended : IsFalse (has_flag e INTENT_TO_ADD)
     pub known : stat_of n ≡ Some s
 
-  -- a node of another type
+  -- A node of another type.
   pub record IsRetyped (mode : Mode) : Type 0 where
     pub node : Metadata
     pub stat : Stat
     pub stamped : IsStamped node stat
     pub other_type : mode_change q.symlink q.executable_bit e.mode node ≡ Some (TypeChange mode)
 
-  -- a node of the same type, by whether its executability changed
+  -- A node of the same type, by whether its executability changed.
   abbrev pub SameType : Metadata → Bool → Type 0
   SameType n true = mode_change q.symlink q.executable_bit e.mode n ≡ Some ExecutableBit
   SameType n false = mode_change q.symlink q.executable_bit e.mode n ≡ None
@@ -120,7 +121,7 @@ module _ {T U : Type 0} (q : Query T U) (e : IndexEntry) where
   abbrev pub racy : Stat → Bool
   racy s = is_racy q.stat_options q.timestamp s
 
-  -- a stat that settles it
+  -- The stat settles that the entry is unchanged.
   pub record IsUnchanged : Type 0 where
     pub node : Metadata
     pub stat : Stat
@@ -129,22 +130,22 @@ module _ {T U : Type 0} (q : Query T U) (e : IndexEntry) where
     pub trusted_stat : IsTrue (trusted stat)
     pub not_racy : IsFalse (racy stat)
 
-  -- a stat that doesn't: the executability changed, the entry isn't trusted, or the stat is racy
+  -- It doesn't settle it: the executability changed, the entry isn't trusted, or the stat is racy.
   pub record IsCompared (n : Metadata) (s : Stat) (executable_changed : Bool) : Type 0 where
     pub stamped : IsStamped n s
     pub same_type : SameType n executable_changed
     pub unsettled : IsTrue executable_changed ⊎ (IsFalse (trusted s) ⊎ IsTrue (racy s))
 
-  -- the comparer's answer
+  -- The comparer's result.
   abbrev pub comparison : Metadata → Result (Option T) Error
   comparison n = q.compared e n.len (meaning q e n)
 
-  -- a change of executability or of content
+  -- A change of executability or of content.
   abbrev pub HasChange : Bool → Option T → Type 0
   HasChange executable_changed content_change =
       IsTrue executable_changed ⊎ IsTrue (is_some content_change)
 
-  -- what a directory at a submodule's entry gives, by what the submodule reports
+  -- The status of a submodule's entry whose path has a directory, by the submodule's report.
   pub record SubmoduleRow : Type 0 where
     pub same : q.submodule e ≡ Ok None → status_of q e ≡ Ok None
     pub other : (u : U) → q.submodule e ≡ Ok (Some u)
@@ -152,7 +153,7 @@ module _ {T U : Type 0} (q : Query T U) (e : IndexEntry) where
     pub fault : (text : List ℕ) → q.submodule e ≡ Err text
         → status_of q e ≡ Err (errors.SubmoduleStatus e.path text)
 
-  -- what each row answers
+  -- The status of each row.
   pub record StatusTable : Type 0 where
     pub gone_row : IsGone → status_of q e ≡ changed changes.Removed
     pub refused_row : (f : Fault) → IsUnreachable f → status_of q e ≡ Err (error_of f)
@@ -170,7 +171,7 @@ module _ {T U : Type 0} (q : Query T U) (e : IndexEntry) where
     pub update_row : (n : Metadata) (s : Stat) → IsCompared n s false → comparison n ≡ Ok None
         → status_of q e ≡ Ok (Some (statuses.NeedsUpdate s))
 
-  -- the entry falls in a row
+  -- The entry is in a row.
   abbrev pub IsInRow : Row → Type 0
   IsInRow gone = IsGone
   IsInRow refused = (f : Fault) × IsUnreachable f

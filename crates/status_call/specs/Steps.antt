@@ -1,4 +1,4 @@
--- What the next of the considered entries give: one entry, or the later stages of a conflict with it.
+-- The next step over the considered entries: one entry, or a conflict's first entry with its later stages.
 use Rattle.std.specs.Prelude.{◌≡◌, ℕ, ◌+◌, ◌<◌, ◌≤◌, true, false, IsTrue, List, [], length, take, drop, All, Result, Ok, Err, if◌then◌else◌}
 use Rattle.std.specs.List.{slice_index_or, list_any}
 use Rattle.status_index.specs.Entries.{IndexEntry}
@@ -13,7 +13,7 @@ use Rattle.status_call.specs.Pieces.{IsFaultAt}
 use Rattle.status_call.specs.Query.{Query}
 use Rattle.status_call.specs.Records.{records_in, record_by, faults_in}
 
--- what an entry counts that isn't compared with the worktree
+-- The counts of an entry that isn't compared with the worktree.
 abbrev pub processed_counts : ℕ → ℕ → Counts
 processed_counts flags pathspec = record {
   processed = 1;
@@ -24,7 +24,7 @@ processed_counts flags pathspec = record {
   to_update = 0;
 }
 
--- what an entry counts that is
+-- The counts of an entry that is.
 abbrev pub decided_counts : {T U : Type 0} → Decided T U → Counts
 decided_counts d = record {
   processed = 1;
@@ -36,18 +36,18 @@ decided_counts d = record {
 }
 
 module _ {T U : Type 0} (q : Query T U) where
-  -- no entry of the first part takes over one of the second
+  -- No entry of the first part takes over one of the second.
   abbrev pub IsFresh : List IndexEntry → List IndexEntry → Type 0
   IsFresh before rest = All (λ r. list_any (λ d. takes_over q d r) before ≡ false) rest
 
-  -- the entries of a part give this step's record and counts, and no fault
+  -- The entries of a part have this step's record and counts, and no fault.
   pub record IsStepOf (es part : List IndexEntry) (s : Step T U) : Type 0 where
     pub records : (j : ℕ) → records_in q es j part ≡ record_by j (Ok s.status)
     pub counts : s.totals.counts ≡ counts_in q es part
     pub reads : ModelsReads q → s.totals.reads ≡ reads_in q part
     pub clear : faults_in q es part ≡ []
 
-  -- the entries from place i on that a step took have one path, and take over none behind them
+  -- The entries of a step from position i on have one path, and take over none after them.
   pub record IsNext (es : List IndexEntry) (i : ℕ) (s : Step T U) : Type 0 where
     pub more : 0 < s.len
     pub inside : i + s.len ≤ length es

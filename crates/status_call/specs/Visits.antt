@@ -1,4 +1,4 @@
--- What a collector is given.
+-- A collector gets the whole index, an entry's position, path and status.
 use Rattle.std.specs.Prelude.{◌≡◌, ℕ, List, slice_get, Some}
 use Rattle.status_index.specs.declared.entry.Entry.{Entry}
 use Rattle.status_index.specs.declared.entry.PathStorage.{PathStorage}
@@ -6,7 +6,7 @@ use Rattle.status_index.specs.Entries.{path_in}
 use Rattle.status_call.specs.declared.index_as_worktree.types.EntryStatus.{EntryStatus}
 use Rattle.status_call.specs.declared.index_as_worktree.types.Finding.{Finding}
 
--- the list of entries that is handed along, an entry with its place in it, its path, and its status
+-- The list of entries that is passed, an entry with its position in it, its path, and its status.
 pub record Visit (T U : Type 0) : Type 0 where
   pub entries : List Entry
   pub entry : Entry
@@ -24,11 +24,11 @@ visit entries entry entry_index path status =
       status = status;
     }
 
--- what is reported of the entry at a place
+-- The finding of a record: the entry's position, and its status.
 abbrev pub finding_of : {T U : Type 0} → Visit T U → Finding T U
 finding_of v = record { entry_index = v.entry_index; status = v.status }
 
--- the list is the whole index, the entry is the index's at that place, and the path is its own
+-- The list is the whole index, the entry is the index's at that position, and the path is its own.
 pub record IsFaithful {T U : Type 0} (entries : List Entry) (backing : PathStorage)
     (v : Visit T U) : Type 0 where
   pub whole : v.entries ≡ entries

@@ -1,4 +1,4 @@
--- Considered entries from a place on, worked through in order.
+-- Considered entries from a position on, processed in order.
 use Rattle.std.specs.Prelude.{◌≡◌, ◌⊎◌, ℕ, ◌<◌, Bool, false, IsTrue, List, length, Option, Some, Result, Ok, Err}
 use Rattle.status_index.specs.Entries.{IndexEntry}
 use Rattle.status_compare.specs.declared.error.Error.{Error}
@@ -14,17 +14,17 @@ use Rattle.status_call.specs.Query.{Query}
 use Rattle.status_call.specs.StatusTheorem.{IsBeginning}
 use Rattle.status_call.specs.Visits.{Visit}
 
--- the error of a round that could not be worked through
+-- The error of a round that couldn't be processed.
 abbrev pub shortage_of : Refused → Error
 shortage_of refusals.Thread = SpawnThread
 shortage_of refusals.Memory = Memory
 
--- memory was refused, or, where there may be more than one worker, a thread
+-- Memory was refused, or, if there may be more than one worker, a thread.
 abbrev pub IsShortage : ℕ → Error → Type 0
 IsShortage workers e = (e ≡ Memory) ⊎ ((e ≡ SpawnThread) × (1 < workers))
 
 module _ {T U : Type 0} (q : Query T U) (start : ℕ) (es : List IndexEntry) (from : ℕ) where
-  -- the work ended: at an entry that gives a fault or was refused memory, or where it could not go on
+  -- The work ended: at an entry that has a fault or runs out of memory, or because it couldn't go on.
   pub record IsStopped (workers : ℕ) (reported : List (Finding T U)) (e : Error) : Type 0 where
     pub place : ℕ
     pub found : List (Finding T U)
@@ -34,7 +34,7 @@ module _ {T U : Type 0} (q : Query T U) (start : ℕ) (es : List IndexEntry) (fr
         × (IsTrue q.modelled → IsFaultAt q es place e))
         ⊎ (IsShortage workers e × IsBeginning reported found)
 
-  -- the entries up to a place are done: it is `to`, or an interrupt flag was seen there
+  -- The entries up to a position are done: it is `to`, or the interrupt flag was seen there.
   pub record IsReached (interruptible : Bool) (to : ℕ) (reported : List (Finding T U))
       (p : Progress) : Type 0 where
     pub place : ℕ
@@ -47,20 +47,20 @@ module _ {T U : Type 0} (q : Query T U) (start : ℕ) (es : List IndexEntry) (fr
   IsEnded interruptible workers to reported (Err e) = IsStopped workers reported e
 
   module _ (faithful : Visit T U → Type 0) where
-    -- the entries before a place are done and reported
+    -- The entries before a position are done and reported.
     pub record IsUnderWay (at : ℕ) (totals : Totals) (old now : List (Visit T U)) : Type 0 where
       pub reported : List (Finding T U)
       pub fed : Reports faithful reported old now
       pub done : IsDone q start es from at reported totals
 
-    -- what was reported, and how the work ended
+    -- The records that were reported, and how the work ended.
     pub record IsReportedWork (interruptible : Bool) (workers to : ℕ) (old : List (Visit T U))
         (result : Result Progress Error) (new : List (Visit T U)) : Type 0 where
       pub reported : List (Finding T U)
       pub fed : Reports faithful reported old new
       pub ended : IsEnded interruptible workers to reported result
 
--- the same of all considered entries, by a thread limit
+-- The same for all considered entries, by a thread limit.
 pub record IsLimitedWork {T U : Type 0} (q : Query T U) (start : ℕ) (es : List IndexEntry)
     (faithful : Visit T U → Type 0) (interruptible : Bool) (limit : Option ℕ)
     (old : List (Visit T U)) (result : Result Progress Error) (new : List (Visit T U)) : Type 0 where

@@ -1,10 +1,10 @@
 //! The status call: how a worktree differs from an index, entry by entry.
 //!
-//! Read `types` in `index_as_worktree` first, what the call takes and returns, and `function`, the call, which puts its
-//! arguments into one value (`inputs`). Then what one entry takes: `step`, `decide`, `decider`, `lookup`, `content` and
-//! `conflict`. Then how entries are shared out and reported: `status_by`, `considered`, `workers`, `run_rounds`, `run_pieces`,
-//! `piece`, `feed`, `counts` and `recorder`. `apply` stores in an index what a status asked of it. `laws` has what is proved of the definitions. Callers use the names of the
-//! crate `gix_status`.
+//! Read `types` in `index_as_worktree` first: what the call takes and returns. Then read `function`, the call, which
+//! puts its arguments into one value (`inputs`). The parts for one entry are `step`, `decide`, `decider`, `lookup`,
+//! `content` and `conflict`. Entries are shared among workers and reported by `status_by`, `considered`, `workers`,
+//! `run_rounds`, `run_pieces`, `piece`, `feed`, `counts` and `recorder`. `apply` stores in an index the changes that a
+//! status asks for. `laws` has theorems about the definitions. Callers use the names of the crate `gix_status`.
 #![tactic(auto)]
 
 pub mod index_as_worktree;

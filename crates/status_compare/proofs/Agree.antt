@@ -17,7 +17,7 @@ use Rattle.status_compare.specs.Comparers.{changed_id, hash_answer, size_decides
 use Rattle.status_compare.specs.FastAgrees.{FastAgrees, HasOwnId, IsKeptSize, IsWholly, reports_change}
 use Rattle.status_compare.specs.Reading.{Reading, fails, streams, target}
 
--- ids that pass the test are one
+-- Ids that pass the test are equal.
 same_id_is : (a b : ObjectId) → same_id a b ≡ true → a ≡ b
 same_id_is (Sha1Id a) (Sha1Id b) e = let same = (bytes_eq-Decides a b).0 e in cc
 same_id_is (Sha256Id a) (Sha256Id b) e = let same = (bytes_eq-Decides a b).0 e in cc
@@ -28,40 +28,40 @@ kind_of_blob : (kind : HashKind) (bytes : List ℕ) → id_kind (blob_id kind by
 kind_of_blob Sha1 bytes = refl
 kind_of_blob Sha256 bytes = refl
 
--- as many first bytes as there are, are all
+-- The first bytes, as many as there are, are all bytes.
 first_of_all : (kind : HashKind) (content : Content) → first_bytes_id kind content (length content.bytes) ≡ Ok (blob_id kind content.bytes)
 first_of_all kind content = rw (le-ltb (length content.bytes) (length content.bytes) (omega arith), take-length content.bytes)
 
--- another id is a change
+-- Another id is a change.
 reports_by_test : (same : Bool) (new : ObjectId) → (same ≡ true → ⊥) → reports_change {A = ObjectId} (Ok (if same then None else Some new)) ≡ true
 reports_by_test true new other = absurd (other refl)
 reports_by_test false new other = refl
 
--- where sizes decide, it is enough that ids show a change
+-- If sizes decide, it is enough that ids show a change.
 agree_by_test : (decides : Bool) (answer : Result (Option ObjectId) Error) → (decides ≡ true → reports_change answer ≡ true) → reports_change (if decides then Ok (Some tt) else answer_without_id answer) ≡ reports_change answer
 agree_by_test true answer h = sym (h refl)
 agree_by_test false (Ok (Some _)) h = refl
 agree_by_test false (Ok None) h = refl
 agree_by_test false (Err _) h = refl
 
--- where sizes decide, the entry's size is another, and it is 0 only for the empty blob
+-- If sizes decide, the entry's size is another, and it is 0 only for the empty blob.
 decides_parts : (size low : ℕ) (empty : Bool) → (not (size == low) && (empty || not (size == 0))) ≡ true → (size ≢ low) × (size ≡ 0 → empty ≡ true)
 decides_parts size low true h = (grind (arith, nat_tests), λ _. refl)
 decides_parts size low false h = (grind (arith, nat_tests), grind (arith, nat_tests))
 
--- an entry whose id is that of no bytes has no bytes staged
+-- An entry whose id is that of no bytes has no bytes staged.
 staged_empty : (id : ObjectId) (kind : HashKind) (staged : List ℕ) → id ≡ blob_id kind staged → HasOwnId kind staged [] → is_empty_blob id ≡ true → staged ≡ []
 staged_empty id kind staged e own empty =
     let same : id ≡ blob_id (id_kind id) [] = same_id_is _ _ empty in
     let one : id_kind id ≡ kind = ap id_kind e ∙ kind_of_blob kind staged in
     own (sym e ∙ same ∙ ap (λ k. blob_id k []) one)
 
--- a kept size of the file's own content, or 0, doesn't decide
+-- The stored size of the file's own content, or 0, doesn't decide.
 size_kept : (size : ℕ) (staged bytes : List ℕ) → IsKeptSize size staged → staged ≡ bytes → (size ≡ 0 → staged ≡ []) → size ≡ length bytes % 2 ^ 32
 size_kept size staged bytes (inl kept) same empty = kept ∙ ap (λ xs. length xs % 2 ^ 32) same
 size_kept size staged bytes (inr zero) same empty = zero ∙ ap (λ xs. length xs % 2 ^ 32) (sym (empty zero) ∙ same)
 
--- where sizes decide, the file's id is another
+-- If sizes decide, the file's id is another.
 other_id : (entry : IndexEntry) (kind : HashKind) (staged bytes : List ℕ) → entry.id ≡ blob_id kind staged →
     IsKeptSize entry.stat.size staged → HasOwnId kind staged bytes → HasOwnId kind staged [] →
     size_decides entry (length bytes) ≡ true → same_id entry.id (blob_id kind bytes) ≡ true → ⊥
@@ -70,7 +70,7 @@ other_id entry kind staged bytes id kept own own_empty decides same =
     let one : staged ≡ bytes = own (sym id ∙ same_id_is _ _ same) in
     parts.0 (size_kept entry.stat.size staged bytes kept one (λ zero. staged_empty entry.id kind staged id own_empty (parts.1 zero)))
 
--- the comparison by ids of a whole file or link
+-- The comparison by ids of a whole file or link.
 hash_of_whole : (entry : IndexEntry) (kind : HashKind) (staged bytes : List ℕ) (reading : Reading) → entry.id ≡ blob_id kind staged →
     IsWholly bytes reading → hash_answer entry reading ≡ Ok (changed_id entry.id (blob_id kind bytes))
 hash_of_whole entry kind staged bytes (streams content size) id whole =

@@ -1,10 +1,10 @@
--- The blob that is meant.
+-- The specified result of reading a blob.
 use Rattle.std.specs.Prelude.{◌≡◌, ◌⊎◌, ℕ, List, Result, Ok, Err}
 use Rattle.std.specs.Borrow.{Bor}
 use Rattle.status_compare.specs.declared.error.Error.{Error}
 use Rattle.status_compare.specs.declared.error.Error.TheVariants.{Memory}
 
--- the bytes that are meant, the error that is meant, or want of memory
+-- The specified bytes, the specified error, or out of memory.
 abbrev pub IsBlob : Result (List ℕ) Error → Result (Bor (List ℕ)) Error → Type 0
 IsBlob meant (Ok bytes) = meant ≡ Ok bytes.now
 IsBlob meant (Err e) = (meant ≡ Err e) ⊎ (e ≡ Memory)

@@ -1,4 +1,4 @@
--- What there is to be read of one entry.
+-- The file and the blob that can be read of one entry.
 use Rattle.std.specs.Prelude.{ℕ, Bool, true, false, List, Option, Some, None, Result}
 use Rattle.status_index.specs.Content.{Content}
 use Rattle.status_index.specs.declared.fault.Fault.{Fault}
@@ -6,12 +6,13 @@ use Rattle.status_base.specs.Conversions.{Conversion}
 use Rattle.status_base.specs.declared.worktree.objects.FindError.{FindError}
 use Rattle.status_compare.specs.Reading.{Meaning, node_reading, blob_reading}
 
--- by whether links count and the conversion, the node's length, what opening and reading a link answer, and the blob
+-- The specification of an entry's file and blob. It takes whether a link's target is read, the conversion and the node's length.
+-- It also takes the results of opening the file, of reading the link and of finding the blob.
 abbrev pub entry_meaning : Bool → (Content → Conversion) → ℕ → Result Content Fault → Result (List ℕ) Fault → Result (List ℕ) FindError → Meaning
 entry_meaning is_link conversion len opened linked found =
     record { file = node_reading is_link conversion len opened linked; blob = blob_reading found }
 
--- what there is to be read, where worktree and blobs are modelled
+-- The specification, if worktree and blobs are modelled.
 abbrev pub if_modelled : Bool → Bool → Meaning → Option Meaning
 if_modelled true true m = Some m
 if_modelled true false m = None

@@ -1,4 +1,4 @@
--- The errors of a status that faults become.
+-- The error of a status that a fault becomes.
 use Rattle.status_index.specs.declared.fault.Fault.{Fault}
 use Rattle.status_index.specs.declared.fault.Fault.TheVariants as faults
 use Rattle.status_base.specs.declared.worktree.objects.FindError.{FindError}

@@ -1,4 +1,5 @@
--- What std's readers answer of a worktree's file.
+-- A stream has bytes of a file or of memory left, then its fault, and may count what it returns. Here are the errors that std's
+-- readers report for its faults.
 use Rattle.std.specs.Prelude.{◌≡◌, ◌⊎◌, ℕ, List, [], Option, Some, None, option_map}
 use Rattle.std.specs.declared.io.ErrorKind.{ErrorKind}
 use Rattle.std.specs.declared.io.ErrorKind.TheVariants as kinds
@@ -6,11 +7,11 @@ use Rattle.status_index.specs.declared.fault.Fault.{Fault}
 use Rattle.status_index.specs.declared.fault.Fault.TheVariants as faults
 use Rattle.status_index.specs.Content.{Content}
 
--- the bytes that are left, where they are known
+-- The bytes that are left, if they are known.
 abbrev pub known_bytes : Option Content → Option (List ℕ)
 known_bytes left = option_map (λ l. l.bytes) left
 
--- the kind of error that stands for a fault
+-- The kind of error that std's readers report for a fault.
 abbrev pub kind_of : Fault → ErrorKind
 kind_of faults.NotFound = kinds.NotFound
 kind_of faults.NotADirectory = kinds.NotADirectory
@@ -22,11 +23,11 @@ kind_of faults.NotNormal = kinds.InvalidData
 kind_of faults.Memory = kinds.OutOfMemory
 kind_of (faults.Other number) = kinds.Other
 
--- the kind of the fault that stands behind the bytes, where no bytes are left
+-- The kind of the fault after the bytes, if no bytes are left.
 abbrev pub IsKindBehind : List ℕ → Option Fault → ErrorKind → Type 0
 IsKindBehind bytes None kind = ⊥
 IsKindBehind bytes (Some f) kind = (bytes ≡ []) × (kind ≡ kind_of f)
 
--- the kind of what a read fails by: want of memory, or the fault that stands behind the bytes, where none are left
+-- The kind of error that a read fails with: out of memory, or the fault after the bytes, if none are left.
 abbrev pub IsKindOf : Content → ErrorKind → Type 0
 IsKindOf l kind = (kind ≡ kinds.OutOfMemory) ⊎ IsKindBehind l.bytes l.fault kind

@@ -1,4 +1,4 @@
--- How much was read: sums that stop at the greatest number of 64 bits.
+-- Reads count bytes, files and blobs, each up to the greatest u64.
 use Rattle.std.specs.Prelude.{◌≡◌, ℕ, ◌+◌, Option, IfSome}
 use Rattle.status_index.specs.Content.{saturate}
 use Rattle.status_compare.specs.declared.reads.Reads.{Reads}
@@ -14,7 +14,7 @@ plus_reads a b = record {
   objects = saturate (a.objects + b.objects);
 }
 
--- with more bytes of a file or link, with one more file or link, with one more blob
+-- The counts with more bytes of a file or link; below with one file or link more, and with one blob more.
 abbrev pub with_bytes : Reads → ℕ → Reads
 with_bytes k n = record k { bytes = saturate (k.bytes + n) }
 
@@ -24,6 +24,6 @@ with_file k = record k { files = saturate (k.files + 1) }
 abbrev pub with_object : Reads → ℕ → Reads
 with_object k n = record k { object_bytes = saturate (k.object_bytes + n); objects = saturate (k.objects + 1) }
 
--- so much was read, where that is modelled
+-- The counts are exactly these, if reads are modelled.
 abbrev pub HasRead : Option Reads → Reads → Type 0
 HasRead counted reads = IfSome counted (λ k. reads ≡ k)

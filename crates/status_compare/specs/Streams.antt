@@ -1,11 +1,11 @@
--- What a stream has left, and what it counted.
+-- A stream has bytes of a file or of memory left, then its fault, and may count what it returns.
 use Rattle.std.specs.Prelude.{ℕ, List, Option, Some, None, if◌then◌else◌}
 use Rattle.status_index.specs.Content.{Content}
 use Rattle.status_base.specs.declared.worktree.filter.ToGitOutcome.{ToGitOutcome}
 use Rattle.status_base.specs.declared.worktree.filter.ToGitOutcome.TheVariants.{Unchanged, Buffer}
 use Rattle.status_compare.specs.declared.stream.Stream.{Stream}
 
--- bytes in memory, whole
+-- Bytes in memory, with no fault after them.
 abbrev pub whole : List ℕ → Content
 whole bytes = record { bytes = bytes; fault = None }
 
@@ -13,15 +13,15 @@ abbrev pub outcome_left : {F : Type 0} → (F → Option Content) → ToGitOutco
 outcome_left left (Unchanged file) = left file
 outcome_left left (Buffer buffer) = Some (whole buffer.now)
 
--- the bytes that are in memory
+-- The bytes that are in memory; none for a file.
 abbrev pub outcome_buffer : {F : Type 0} → ToGitOutcome F → Option (List ℕ)
 outcome_buffer (Unchanged file) = None
 outcome_buffer (Buffer buffer) = Some buffer.now
 
--- what a stream has left, where its file is modelled
+-- The content that a stream has left, if its file is modelled.
 abbrev pub stream_left : {F : Type 0} → (F → Option Content) → Stream F → Option Content
 stream_left left s = outcome_left left s.source
 
--- how many bytes a stream counted, where it counts
+-- The number of bytes that a stream counted, if it counts.
 abbrev pub stream_taken : {F : Type 0} → Stream F → Option ℕ
 stream_taken s = if s.counts then Some s.counted else None

@@ -15,19 +15,20 @@ use std::alloc::Global;
 
 /// Compares a worktree's file with the blob that an index entry names.
 pub trait CompareBlobs: Clone {
-    /// What is reported of a change.
+    /// The value that reports a change, such as the new id.
     type Output: Drop;
 
-    /// The answer, by what the index says of the entry, the file's length, and what there is to be read.
+    /// The specified result, by the index entry, the file's length, and the file and blob that can be read.
     ghost answer: { Self → IndexEntry → ℕ → Meaning → Result (Option Self.Output) StatusError };
 
-    /// How much was read in all after an answer, by how much was read before. None where that isn't modelled.
+    /// The counts of reads after a successful comparison, by those before it. `None` if the reads aren't modelled.
     ghost counts_after: { Self → IndexEntry → ℕ → Meaning → Reads → Option Reads } = { λ _ _ _ _ _. None };
 
-    /// Compares the file with the blob of `entry`: None where they are the same. `size` is the file's length by `lstat`, `data` reads file and blob, and `buffer` may be used for either.
+    /// Compares the file with the blob of `entry`, and returns `None` if they are equal. `size` is the file's length by
+    /// `lstat`, `data` reads file and blob, and `buffer` may be used for either.
     ///
     /// # Errors
-    /// An error of reading.
+    /// An error of reading the file or the blob, or out of memory.
     fn compare_blobs<R: ReadData>(
         &mut self,
         alloc: Global,
@@ -42,7 +43,7 @@ pub trait CompareBlobs: Clone {
         ensures counts { (path : List ℕ) → OnOk result (IfSome (R.means «data».old) (λ m.
             HasRead (counts_after self.old (entry_at path entry.now) size m (R.counts «data».old)) (R.counts «data».new))) };
 
-    /// A clone answers the same.
+    /// A clone returns the same results.
     ghost clone_keeps_answer: { CloneKeeps Self.is_clone answer };
 
     /// A clone reads as much.

@@ -17,21 +17,21 @@ use status_base::worktree::{Find, ToGit, ToGitOutcome, Worktree};
 /// Reads one entry's file, as git would store it, and its blob.
 #[derive(Drop)]
 pub struct EntryReader<'w, 'r, W, T, O> {
-    /// Has the file.
+    /// The worktree that has the file.
     pub worktree: &'w W,
-    /// Converts the file to what git would store.
+    /// The filter that converts the file to what git would store.
     pub filter: &'r T,
-    /// Has the blob.
+    /// The object database that has the blob.
     pub objects: &'r O,
     /// The blob's id.
     pub id: ObjectId,
     /// The file's path.
     pub path: BStr<'r>,
-    /// Whether the target of a link is to be read in place of a file.
+    /// Whether the target of a link is read instead of a file.
     pub is_link: bool,
     /// The file's length.
     pub len: u64,
-    /// How much was read.
+    /// The counts of reads so far.
     pub reads: Reads,
 }
 
@@ -70,7 +70,7 @@ impl<'w, 'r, W: Worktree, T: ToGit, O: Find> EntryReader<'w, 'r, W, T, O> {
         }
     }
 
-    // The target of the link, which is counted at once.
+    // Reads the link's target into `buffer`, and counts it at once. The stream doesn't count it again.
     fn stream_target<'a>(&mut self, buffer: &'a mut Vec<u8>) -> Result<Stream<'a, W::File>, Error>
         ensures stream { let r = self.old in IsTrue (W.modelled r.worktree.now)
             → IsReading W.File.left (target_reading (W.target_of r.worktree.now (bstr_bytes r.path))) result }
@@ -90,7 +90,7 @@ impl<'w, 'r, W: Worktree, T: ToGit, O: Find> EntryReader<'w, 'r, W, T, O> {
         })
     }
 
-    // The file, converted. Its length is its size only where it is stored as it is.
+    // Opens and converts the file. The stream's size is the file's length if the filter keeps the file unchanged.
     fn stream_file<'a>(&mut self, buffer: &'a mut Vec<u8>) -> Result<Stream<'a, W::File>, Error>
         ensures stream { let r = self.old in IsTrue (W.modelled r.worktree.now) → IsReading W.File.left
             (file_at (T.conversion r.filter.now) (W.open_of r.worktree.now) r.len (bstr_bytes r.path)) result }

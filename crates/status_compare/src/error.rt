@@ -11,10 +11,10 @@ use thiserror::Error;
 /// Why the status of an index failed.
 #[derive(Debug, Drop, Error)]
 pub enum Error {
-    /// A path isn't UTF-8, where the system's paths have to be.
+    /// A path isn't UTF-8, on a system whose paths have to be.
     #[error("Could not convert path to UTF8")]
     IllformedUtf8,
-    /// A stamp of a file is not known.
+    /// A time of a file isn't known.
     #[error("The clock was off when reading file related metadata after updating a file on disk")]
     Time,
     /// A fault of the worktree, of reading a file, or of a filter.
@@ -28,13 +28,13 @@ pub enum Error {
     SubmoduleStatus {
         /// The submodule's path.
         rela_path: ByteText,
-        /// What went wrong.
+        /// The submodule's error text.
         text: ByteText,
     },
     /// The system refused a thread.
     #[error("Could not start a worker thread")]
     SpawnThread,
-    /// Memory ran out.
+    /// Out of memory.
     #[error("Out of memory")]
     Memory,
 }

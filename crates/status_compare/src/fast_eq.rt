@@ -1,4 +1,4 @@
-//! Comparison by sizes where these decide, else by ids.
+//! Comparison by sizes if they show a change, otherwise by ids.
 
 ghost use Rattle.std.specs.Prelude.{◌≡◌, ℕ, List, Some, refl};
 ghost use Rattle.status_compare.specs.Comparers.{fast_answer, counts_after_fast, size_decides};
@@ -11,8 +11,8 @@ use crate::read_data::ReadData;
 use status_base::index::Entry;
 use std::alloc::Global;
 
-/// Compares by sizes where these decide, and else by ids. A change is reported without the new id,
-/// since the file may not have been read.
+/// Compares by sizes if they show a change, and otherwise by ids. A change is reported without the new id, since the
+/// file may not have been read.
 #[derive(Clone, Copy, Debug, Default, PartialEq, Eq)]
 pub struct FastEq;
 
@@ -43,8 +43,8 @@ impl CompareBlobs for FastEq {
     }
 }
 
-// Whether the sizes alone show a change. An entry keeps the low 32 bits of a length. One that was marked as not to be
-// trusted has size 0, which for the empty blob alone is a length.
+// Returns whether the sizes alone show a change. An entry has the low 32 bits of a length. Size 0 marks an entry that
+// isn't to be trusted; only for the empty blob it is a length.
 fn size_decides(entry: &Entry, size: u64) -> bool
     ensures { (path : List ℕ) → result ≡ size_decides (entry_at path entry.now) size }
 {

@@ -14,8 +14,7 @@ use status_base::worktree::ReadBytes;
 use status_index::{compute_hash, compute_stream_hash};
 use std::alloc::Global;
 
-/// Compares by ids: the file is read and hashed, and a change is reported by the id of its new
-/// content.
+/// Compares by ids: the file is read and hashed, and a change is reported by the id of its new content.
 #[derive(Clone, Copy, Debug, Default, PartialEq, Eq)]
 pub struct HashEq;
 
@@ -45,8 +44,7 @@ impl CompareBlobs for HashEq {
     }
 }
 
-// The id of what the stream gives: with a known size of just that many bytes, which are then read no further, else of
-// all.
+// Returns the id of the stream's bytes. If the size is known, exactly that many are read and hashed; otherwise all.
 fn stream_id<F: ReadBytes>(
     alloc: Global,
     kind: HashKind,

@@ -1,4 +1,4 @@
-//! What a comparer may read.
+//! The file and the blob that a comparer may read.
 
 ghost use Rattle.std.specs.Prelude.{◌≡◌, Option, IfSome, IfOk, OnOk, OnErr, length};
 ghost use Rattle.status_compare.specs.Reading.{Meaning, IsReading, counts_at_stream};
@@ -10,32 +10,33 @@ use crate::error::Error;
 use crate::stream::Stream;
 use status_base::worktree::ReadBytes;
 
-/// What a comparer may read of one entry: the file as git would store it, and the blob. Nothing is
-/// read before the call for it.
+/// Reads the file and the blob of one entry for a comparer, the file as git would store it. Nothing is read before the
+/// method for it is called.
 pub trait ReadData {
     /// The file that a stream reads.
     type File: ReadBytes;
 
-    /// What there is to be read. None for a reader that isn't modelled.
+    /// The file and the blob that can be read. `None` for a reader that isn't modelled.
     ghost means: { Self → Option Meaning };
 
-    /// How much was read.
+    /// The counts of reads so far.
     ghost counts: { Self → Reads };
 
-    /// The entry's blob, read into `buffer`.
+    /// Reads the entry's blob into `buffer`, and returns its bytes.
     ///
     /// # Errors
-    /// Find where there is no such blob. An error counts nothing.
+    /// `Find` if there is no such blob, or out of memory. An error counts nothing.
     fn read_blob<'a>(&mut self, buffer: &'a mut Vec<u8>) -> Result<&'a [u8], Error>
         ensures blob { IfSome (means self.old) (λ m. IsBlob m.blob result) }
         ensures same_meaning { means self.new ≡ means self.old }
         ensures counts { IfOk result (λ b. counts self.new ≡ with_object (counts self.old) (length b.now)) }
         ensures uncounted { OnErr result (counts self.new ≡ counts self.old) };
 
-    /// The worktree's file as git would store it. Where it was converted, or is a link's target, it is in `buffer`.
+    /// Returns the worktree's file as git would store it, or a link's target. A link's target and a converted file are
+    /// in `buffer`.
     ///
     /// # Errors
-    /// A fault of the worktree or of the filter. An error counts nothing.
+    /// A fault of the worktree or of the filter, or out of memory. An error counts nothing.
     fn stream_worktree_file<'a>(
         &mut self,
         buffer: &'a mut Vec<u8>,

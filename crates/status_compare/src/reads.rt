@@ -1,9 +1,9 @@
-//! How much was read.
+//! Counts of reads.
 
 ghost use Rattle.std.specs.Prelude.{◌≡◌};
 ghost use Rattle.status_compare.specs.Reads.{no_reads, plus_reads, with_bytes, with_file, with_object};
 
-/// How much was read. Each number stops growing at its type's greatest.
+/// Counts of reads. Each number stops at the greatest of its type.
 #[derive(Clone, Copy, Debug, Default, PartialEq, Eq)]
 pub struct Reads {
     /// The bytes of worktree files and links.
@@ -17,7 +17,7 @@ pub struct Reads {
 }
 
 impl Reads {
-    /// Nothing was read.
+    /// Returns the counts of no reads.
     pub fn none() -> Reads
         ensures { result ≡ no_reads }
     {
@@ -29,7 +29,7 @@ impl Reads {
         }
     }
 
-    /// Adds what `other` says.
+    /// Adds the counts of `other`.
     pub fn add(&mut self, other: &Reads)
         ensures { self.new ≡ plus_reads self.old other.now }
     {
@@ -53,7 +53,7 @@ impl Reads {
         self.files = self.files.saturating_add(1);
     }
 
-    /// Adds a blob of that many bytes.
+    /// Adds a blob of `bytes` bytes.
     pub(crate) fn add_object(&mut self, bytes: u64)
         ensures { self.new ≡ with_object self.old bytes }
     {

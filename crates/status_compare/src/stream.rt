@@ -1,4 +1,4 @@
-//! A worktree's file as git would store it, to be read in pieces.
+//! A worktree's file as git would store it, to be read in parts.
 
 ghost use Rattle.std.specs.Prelude.{◌≡◌, ℕ, ◌-◌, ◌<◌, ◌≤◌, [], ◌++◌, length, take, Option, None, Some, IfSome, true, OnOk, IfErr, option_map};
 ghost use Rattle.std.specs.Io.{ReadsAtMost};
@@ -14,7 +14,7 @@ use status_base::worktree::{Fault, ReadBytes, ToGitOutcome};
 use status_index::read_all;
 use std::io;
 
-/// A worktree's file as git would store it, to be read in pieces or, where it is in memory, as a slice.
+/// A worktree's file as git would store it, to be read in parts, or as a slice if it is in memory.
 #[derive(Drop)]
 pub struct Stream<'a, F> {
     pub(crate) source: ToGitOutcome<'a, F>,
@@ -24,8 +24,8 @@ pub struct Stream<'a, F> {
 }
 
 impl<'a, F> Stream<'a, F> {
-    /// A stream that counts its bytes, for readers of callers' own. `size` is how many bytes there are to be read, where
-    /// that is known before.
+    /// Makes a stream that counts its bytes, for a caller's own reader. `size` is the number of bytes to be read, if it
+    /// is known before.
     pub fn new(source: ToGitOutcome<'a, F>, size: Option<u64>) -> Stream<'a, F>
         ensures source { result.source ≡ source.entry }
         ensures size { result.size ≡ size }
@@ -39,8 +39,8 @@ impl<'a, F> Stream<'a, F> {
         }
     }
 
-    /// What is left of a buffer in memory, whole, or None for a file. The stream stays where it stands, and counts the
-    /// buffer's bytes at each call.
+    /// Returns the rest of a buffer in memory as a whole, or `None` for a file. The stream doesn't advance, and counts
+    /// the buffer's bytes at each call.
     pub fn as_bytes(&mut self) -> Option<&'a [u8]>
         ensures bytes { option_map (λ b. b.now) result ≡ outcome_buffer self.old.source }
         ensures same_source { self.new.source ≡ self.old.source }
@@ -56,21 +56,21 @@ impl<'a, F> Stream<'a, F> {
         Some(bytes)
     }
 
-    /// How many bytes there are to be read, where that was known before.
+    /// Returns the number of bytes to be read, if it was known before.
     pub fn size(&self) -> Option<u64>
         ensures { result ≡ self.now.size }
     {
         self.size
     }
 
-    /// How many bytes the stream counted: 0 where it doesn't count.
+    /// Returns the number of bytes that the stream counted, or 0 if it doesn't count.
     pub fn bytes(&self) -> u64
         ensures { result ≡ count_reported self.now }
     {
         if self.counts { self.counted } else { 0 }
     }
 
-    // Counts bytes that were handed out, where the stream counts.
+    // Counts bytes that were returned, if the stream counts.
     fn count(&mut self, count: usize)
         ensures { self.new ≡ record self.old { counted = count_after self.old.counts self.old.counted count } }
     {
@@ -80,7 +80,7 @@ impl<'a, F> Stream<'a, F> {
     }
 }
 
-// Moves bytes from the front of `bytes` to the front of `buffer`, as many as both have, and answers how many.
+// Moves bytes from the front of `bytes` to the front of `buffer`, as many as both have, and returns their number.
 fn take_front(bytes: &mut &[u8], buffer: &mut [u8]) -> usize
     ensures fits { result ≤ length buffer.new }
     ensures taken { bytes.old.now ≡ take result buffer.new ++ bytes.new.now }
@@ -110,8 +110,8 @@ impl<'a, F: ReadBytes> ReadBytes for Stream<'a, F> {
 }
 
 impl<'a, F: ReadBytes> Stream<'a, F> {
-    // Appends all that is left to `into`, and counts it. A fault is the file's, or Memory: the bytes that came before it
-    // stay appended, and aren't counted.
+    // Appends all bytes that are left to `into`, and counts them. A fault is the file's, or `Memory`. The bytes before
+    // it stay appended, and aren't counted.
     pub(crate) fn read_rest(&mut self, into: &mut Vec<u8>) -> Result<(), Fault>
         ensures all { ReadsAll (stream_left F.left self.old) (stream_left F.left self.new) into.old.items into.new.items result }
         ensures same_counts { self.new.counts ≡ self.old.counts }
@@ -130,7 +130,7 @@ impl<'a, F: ReadBytes> Stream<'a, F> {
     }
 }
 
-// The kind of error that std's readers answer for a fault.
+// Returns the kind of error that std's readers report for a fault.
 fn kind_of(fault: Fault) -> io::ErrorKind
     ensures { result ≡ kind_of fault }
 {

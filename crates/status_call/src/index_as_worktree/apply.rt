@@ -1,5 +1,5 @@
-//! What a status asks of the index, and how a caller stores it. A caller who refreshes an index takes the changes of a
-//! recorder, applies them, and then gives the index a later timestamp.
+//! The changes that a status asks for in the index, and how a caller stores them. A caller that refreshes an index
+//! takes the changes of a recorder, applies them, and then sets a later timestamp of the index.
 
 ghost use Rattle.std.specs.Prelude.{◌≡◌, ◌<◌, IfOk, length};
 ghost use Rattle.status_index.specs.States.{backing_of, index_of, timestamp_of};
@@ -11,17 +11,17 @@ use crate::index_as_worktree::types::{Change, EntryStatus};
 use status_base::index::{Stat, State};
 use std::alloc::AllocError;
 
-/// What a status asks of an entry of the index, at its place there.
+/// A change that a status asks for, of the entry at a position of the index.
 #[derive(Clone, Copy, Debug, PartialEq, Eq)]
 pub enum ApplyChange {
-    /// The entry's content is as it was staged, so its stat becomes this one.
+    /// The entry's content is as staged, so its stat becomes this one.
     NewStat(usize, Stat),
-    /// The entry's stat would hide a change, so its size becomes 0: the next status then reads the file.
+    /// The entry's stat would hide a change, so its size becomes 0. The next status then reads the file.
     SetSizeToZero(usize),
 }
 
 impl<T, U> EntryStatus<T, U> {
-    /// What this status of the entry at `entry_index` asks of the index, if anything.
+    /// Returns the change that this status of the entry at `entry_index` asks for, if any.
     pub fn apply_change(&self, entry_index: usize) -> Option<ApplyChange>
         ensures { result ≡ change_of entry_index self.now }
     {
@@ -39,10 +39,10 @@ impl<T, U> EntryStatus<T, U> {
 }
 
 impl<'index, T, U> Recorder<'index, T, U> {
-    /// What the recorded status asks of the index, in the order of the index.
+    /// Returns the changes that the recorded status asks for, in index order.
     ///
     /// # Errors
-    /// Want of memory.
+    /// Out of memory.
     pub fn changes(&self) -> Result<Vec<ApplyChange>, AllocError>
         ensures { IfOk result (λ changes. changes.items ≡ changes_of (visits_of self.now)) }
     {
@@ -56,9 +56,9 @@ impl<'index, T, U> Recorder<'index, T, U> {
     }
 }
 
-/// Stores in an index what a status asked of it. Stats change, and nothing else: no other part of an entry, and not the
-/// timestamp. The caller then sets that to the time of the status, so that the next one needn't read the files whose stats
-/// changed within the old one's moment.
+/// Stores in an index the changes that a status asked for. Only stats change: no other part of an entry, and not the
+/// timestamp. The caller then sets the timestamp to the time of the status. Otherwise a stat whose mtime isn't before
+/// the old timestamp stays racy, and the next status reads its file.
 pub fn apply_changes(index: &mut State, changes: &[ApplyChange])
     requires inside { AreInside changes.now (index_of index.old) }
     ensures index { index_of index.new ≡ applied changes.now (index_of index.old) }

@@ -1,4 +1,4 @@
-//! Which conflict the stages of a path name.
+//! The conflict that the stages of a path name.
 
 ghost use Rattle.std.specs.Prelude.{◌≡◌};
 ghost use Rattle.std.specs.Option.{option_copied};
@@ -10,16 +10,16 @@ use crate::index_as_worktree::types::Conflict;
 use bstr::BStr;
 use status_base::index::{Entry, PathStorage};
 
-/// The most stages that one path can have in a conflict: base, ours and theirs.
+/// The greatest number of stages of one path in a conflict: base, ours and theirs.
 const MAX_STAGES: usize = 3;
 
 impl Conflict {
-    /// The conflict that the entries of `entry_path` from `start_index` on name by their stages, how many entries follow
-    /// the first of them, and the entries of stage 1 (base), 2 (ours) and 3 (theirs).
+    /// Returns the conflict that the entries of `entry_path` from `start_index` on name by their stages. Also returns
+    /// how many entries follow the first of them, and the entries of stage 1 (base), 2 (ours) and 3 (theirs).
     ///
-    /// Looks at no more than three entries, and stops at the first that has another path or stage 0. Of entries with the
-    /// same stage the last is kept, and all are counted. None where no entry is left, so also for a `start_index` past the
-    /// end.
+    /// Reads at most three entries, and stops at the first that has another path or stage 0. Of entries with the same
+    /// stage the last is returned, and all are counted. Returns `None` if there is no such entry, also for a
+    /// `start_index` past the end.
     pub fn try_from_entry<'e>(
         entries: &'e [Entry],
         path_backing: &PathStorage,
@@ -39,7 +39,7 @@ impl Conflict {
     }
 }
 
-/// The conflict of a path that has stage 1, 2 and 3.
+/// Returns the conflict of a path, by whether it has stage 1 (base), 2 (ours) and 3 (theirs).
 fn conflict_named(base: bool, ours: bool, theirs: bool) -> Option<Conflict>
     ensures { result ≡ conflict_named base ours theirs }
 {
@@ -56,7 +56,7 @@ fn conflict_named(base: bool, ours: bool, theirs: bool) -> Option<Conflict>
     Some(summary)
 }
 
-/// The entries from `start` on, at most three, that have this path and a stage.
+/// Returns the entries in a row from `start` on, at most three, that have this path and a stage above 0.
 fn conflict_run<'e>(
     entries: &'e [Entry],
     backing: &PathStorage,
@@ -79,14 +79,14 @@ fn conflict_run<'e>(
     few
 }
 
-/// Whether an entry has this path and a stage.
+/// Returns whether an entry has this path and a stage above 0.
 fn is_in_run(entry: &Entry, backing: &PathStorage, path: BStr<'_>) -> bool
     ensures { result ≡ is_in_run (bstr_bytes path.entry) (index_entry backing.now entry.now) }
 {
     entry.path_in(backing) == path && entry.stage_raw() != 0
 }
 
-/// The last of the entries that has this stage.
+/// Returns the last of the entries that have this stage.
 fn last_of_stage(run: &[Entry], stage: u32) -> Option<&Entry>
     ensures { option_copied result ≡ stored_of_stage run.now stage }
 {

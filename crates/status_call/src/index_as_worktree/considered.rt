@@ -5,7 +5,7 @@ ghost use Rattle.status_index.specs.Entries.{IsIndex, index_entries};
 
 use status_base::index::{Entry, PathStorage};
 
-/// The considered entries: those from place `start` up to `end` of the whole index.
+/// The considered entries: those from position `start` up to `end`, exclusive, of the whole index.
 #[derive(Drop)]
 pub struct Considered<'index> {
     pub entries: &'index [Entry],

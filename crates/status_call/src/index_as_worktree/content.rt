@@ -1,4 +1,4 @@
-//! What an entry's content says, and when it has to be read.
+//! Comparison of an entry's content, and when it is needed.
 
 ghost use Rattle.std.specs.Prelude.{◌≡◌, ◌==◌, not, ◌&&◌, ◌||◌, false};
 ghost use Rattle.status_index.specs.BlobId.{is_empty_blob};
@@ -19,11 +19,11 @@ use status_base::worktree::{
 use status_compare::{CompareBlobs, EntryReader, Reads};
 use std::alloc::Global;
 
-/// What a comparer answered of an entry.
+/// A comparer's result for an entry.
 pub struct Comparison<T> {
-    /// What it reported of a change.
+    /// The comparer's report of a change, if there is one.
     pub change: Option<T>,
-    /// What it read.
+    /// The counts of its reads.
     pub reads: Reads,
 }
 
@@ -59,7 +59,7 @@ pub(crate) fn compare_node<
     buffer.clear();
     let is_link = reads_link(entry.mode, node.kind, settings.fs.symlink);
     let (filter, objects) = (&inputs.filter, &inputs.objects);
-    // Reborrowed, so that what the reader holds is of one lifetime.
+    // Reborrowed, so that the reader's references have one lifetime.
     let path = BStr::new(&*path);
     let mut reader = EntryReader::new(
         inputs.worktree,
@@ -78,15 +78,15 @@ pub(crate) fn compare_node<
     })
 }
 
-/// Whether an entry is read as a link's target: it is a link, and so is the node, or the file system has links.
+/// Returns whether an entry is read as a link's target: it is a link, and so is the node or the file system has links.
 pub(crate) fn reads_link(mode: Mode, kind: NodeKind, symlink: bool) -> bool
     ensures { result ≡ reads_link symlink mode kind }
 {
     mode == Mode::Symlink && (symlink || kind == NodeKind::Link)
 }
 
-/// Whether an entry's stat may be trusted: it agrees with the node's, and says that the content is empty exactly where
-/// the id does. Size 0 beside another id marks an entry whose content has to be compared (git's racy-git document: a
+/// Returns whether an entry is trusted: its stat agrees with the node's, and its size is 0 exactly if its id is the
+/// empty blob's. Size 0 with another id marks an entry whose content has to be compared (git's racy-git document: a
 /// racily clean entry is written with size 0).
 pub(crate) fn is_trusted(entry: &Entry, stat: &Stat, options: stat::Options) -> bool
     ensures { result
@@ -96,16 +96,17 @@ pub(crate) fn is_trusted(entry: &Entry, stat: &Stat, options: stat::Options) -> 
     stat.matches(&entry.stat, options) && entry.id.is_empty_blob() == (entry.stat.size == 0)
 }
 
-/// Whether an entry has to be compared: the stats alone decide where they are trusted and hide no write, and the
-/// executable bit didn't change. A stat is racy, and so may hide a write, where the node is as new as the index or newer:
-/// it may have been written once more after its stat was stored, within the clock's resolution (git's racy-git document).
+/// Returns whether an entry has to be compared. The stats alone decide if they are trusted and not racy, and the
+/// executable bit didn't change. A stat is racy if the node is as new as the index or newer. It may then hide a write:
+/// the node may have been written once more after its stat was stored, within the clock's resolution (git's racy-git
+/// document).
 pub(crate) fn needs_comparison(executable_bit_changed: bool, trusted: bool, racy: bool) -> bool
     ensures { result ≡ (executable_bit_changed || not trusted || racy) }
 {
     executable_bit_changed || !trusted || racy
 }
 
-/// A decision for which nothing was read.
+/// Returns a decision for which nothing was read.
 pub(crate) fn unread<T, U>(status: Option<EntryStatus<T, U>>, lstat_called: bool) -> Decided<T, U>
     ensures { result
         ≡ record { status = status; lstat_called = lstat_called; racy = false; reads = no_reads } }
@@ -118,7 +119,7 @@ pub(crate) fn unread<T, U>(status: Option<EntryStatus<T, U>>, lstat_called: bool
     }
 }
 
-/// What a comparison decides of an entry whose node has this stat.
+/// Returns the decision by a comparison, for an entry whose node has this stat.
 pub(crate) fn decision_of<T, U>(
     comparison: Comparison<T>,
     stat: Stat,

@@ -1,29 +1,29 @@
-//! What a status counts.
+//! The counts of a status.
 
 ghost use Rattle.std.specs.Prelude.{◌≡◌, ◌-◌, ◌^◌};
 ghost use Rattle.status_call.specs.Counts.{IsWithin, no_counts, no_totals, plus_counts, plus_totals};
 
 use status_compare::Reads;
 
-/// Numbers of entries, of those that were worked through.
+/// Numbers of processed entries.
 #[derive(Clone, Copy, Debug, Default, PartialEq, Eq)]
 pub struct Counts {
-    /// Those whose turn came. A conflict counts once.
+    /// All processed entries. A conflict counts once.
     pub processed: usize,
-    /// Those that flags leave out.
+    /// Those that are skipped by flags.
     pub skipped_by_flags: usize,
-    /// Those that the pathspec leaves out.
+    /// Those that are skipped by the pathspec.
     pub skipped_by_pathspec: usize,
     /// Those on whose own path `lstat` was called.
     pub lstat_calls: usize,
-    /// Those, without an executable change, whose stat is trusted but may hide a write.
+    /// Those, without an executable change, whose stat is trusted but racy: it may hide a write.
     pub racy_clean: usize,
-    /// Those that need another stat.
+    /// Those that need a new stat.
     pub to_update: usize,
 }
 
 impl Counts {
-    /// No entries.
+    /// Returns the counts of no entries.
     pub(crate) fn none() -> Counts
         ensures { result ≡ no_counts }
     {
@@ -37,7 +37,7 @@ impl Counts {
         }
     }
 
-    /// Adds what `other` counts.
+    /// Adds the counts of `other`.
     pub(crate) fn add(&mut self, other: &Counts)
         requires { IsWithin (2 ^ 64 - 1) (plus_counts self.old other.now) }
         ensures { self.new ≡ plus_counts self.old other.now }
@@ -51,17 +51,17 @@ impl Counts {
     }
 }
 
-/// What was counted of entries, and of what was read for them.
+/// The counts of entries, and of the reads for them.
 #[derive(Clone, Copy, Debug, PartialEq, Eq)]
 pub struct Totals {
     /// Numbers of entries.
     pub counts: Counts,
-    /// What was read.
+    /// The counts of reads.
     pub reads: Reads,
 }
 
 impl Totals {
-    /// Nothing was counted.
+    /// Returns the totals of no entries.
     pub(crate) fn none() -> Totals
         ensures { result ≡ no_totals }
     {
@@ -71,7 +71,7 @@ impl Totals {
         }
     }
 
-    /// What counts of entries for which nothing was read.
+    /// Returns the totals of entries for which nothing was read.
     pub(crate) fn unread(counts: Counts) -> Totals
         ensures { result ≡ record no_totals { counts = counts } }
     {
@@ -81,7 +81,7 @@ impl Totals {
         }
     }
 
-    /// Adds what `other` counts.
+    /// Adds the totals of `other`.
     pub(crate) fn add(&mut self, other: &Totals)
         requires { IsWithin (2 ^ 64 - 1) (plus_counts self.old.counts other.now.counts) }
         ensures { self.new ≡ plus_totals self.old other.now }
@@ -91,11 +91,11 @@ impl Totals {
     }
 }
 
-/// How far some work came: what it counted, and whether the interrupt flag was seen before its end.
+/// The progress of some work: its counts, and whether the interrupt flag was seen set before its end.
 #[derive(Clone, Copy, Debug, PartialEq, Eq)]
 pub struct Progress {
-    /// What was counted.
+    /// The counts.
     pub totals: Totals,
-    /// Whether the interrupt flag was seen.
+    /// Whether the interrupt flag was seen set.
     pub interrupted: bool,
 }

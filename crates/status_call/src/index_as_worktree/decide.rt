@@ -12,36 +12,36 @@ use status_base::index::Entry;
 use status_compare::Reads;
 use std::alloc::AllocError;
 
-/// What was decided of an entry, and what that took.
+/// The decision of an entry, with the counts of its work.
 #[derive(Drop)]
 pub struct Decided<T, U> {
-    /// What is reported of the entry. None where nothing is.
+    /// The entry's status. `None` if nothing is reported.
     pub status: Option<EntryStatus<T, U>>,
     /// Whether `lstat` was called on the entry's path.
     pub lstat_called: bool,
-    /// Whether the stat agrees, but may hide a write.
+    /// Whether the entry, without an executable change, is trusted but racy: its stat may hide a write.
     pub racy: bool,
-    /// What was read.
+    /// The counts of reads.
     pub reads: Reads,
 }
 
-/// Who decides entries, by a query that stays the same.
+/// Decides entries, by a query that stays the same.
 pub trait Decide {
     ghost use Rattle.status_call.specs.Decisions.{IsDecided};
 
-    /// What a comparer reports of a change.
+    /// The comparer's report of a change.
     type Content: Drop;
-    /// What a submodule reports of a change.
+    /// The submodule's report of a change.
     type Submodule: Drop;
 
-    /// What decisions depend on.
+    /// All that decisions depend on.
     ghost query: { Self → Query Self.Content Self.Submodule };
 
-    /// With what the path of each considered entry begins, where any entry's does.
+    /// Returns the prefix with which the path of each considered entry starts, if the path of any entry does.
     fn common_prefix(&self) -> BStr<'_>
         ensures { bstr_bytes result ≡ (query self.now).prefix };
 
-    /// Whether the pathspec includes an entry.
+    /// Returns whether the pathspec includes an entry.
     fn includes(&self, entry: &Entry, path: BStr<'_>) -> bool
         ensures { result
             ≡ not (is_excluded (query self.now) (entry_at (bstr_bytes path.entry) entry.now)) };
@@ -59,10 +59,10 @@ pub trait Decide {
             → IsDecided (query self.old) (entry_at (bstr_bytes path.entry) entry.now) result }
         ensures same { query self.new ≡ query self.old };
 
-    /// Another one that decides by the same query, for another worker.
+    /// Returns another decider of the same query, for another worker.
     ///
     /// # Errors
-    /// Want of memory.
+    /// Out of memory.
     fn another(&self) -> Result<Self, AllocError>
         ensures { IfOk result (λ other. query other ≡ query self.now) };
 }

@@ -1,4 +1,4 @@
-//! Who decides entries over a worktree.
+//! The decider of entries over a worktree.
 
 ghost use Rattle.std.specs.Prelude.{◌≡◌, List, Option, Result, IsTrue};
 ghost use Rattle.std.proofs.Props.{props};
@@ -27,8 +27,8 @@ use status_base::worktree::{
 use status_compare::CompareBlobs;
 use std::alloc::{AllocError, Global};
 
-/// Decides entries over a worktree. It keeps the buffers and what was listed, so that an entry whose stat decides takes
-/// no memory, unless its directory is to be listed first.
+/// Decides entries over a worktree. It keeps its buffers and listings, so an entry whose stat decides takes no memory,
+/// unless its directory has to be listed first.
 #[derive(Drop)]
 pub struct Decider<'w, W: Worktree, C, S, O, P, T, L: Lister> {
     alloc: Global,
@@ -59,7 +59,7 @@ where
 {
     ghost use Rattle.status_call.specs.EntryParts.{IsNodeDecided, IsContentDecided, IsLooked};
 
-    /// A decider by these settings.
+    /// Makes a decider with these settings.
     pub fn new(
         alloc: Global,
         inputs: Inputs<'w, W, C, S, O, P, T, L>,
@@ -81,10 +81,10 @@ where
         }
     }
 
-    /// What stands at a path.
+    /// Returns the node at a path, or that nothing or a directory is there.
     ///
     /// # Errors
-    /// The path isn't normal, another fault than that nothing is there, or want of memory.
+    /// A path that isn't normal, a fault other than one of absence, or out of memory.
     fn look(&mut self, path: BStr<'_>) -> Result<Look, Error>
         ensures look { IsLooked (⟦<Decider<'w, W, C, S, O, P, T, L> as Decide>⟧.query self.old)
             (bstr_bytes path.entry) result }
@@ -101,10 +101,10 @@ where
         )
     }
 
-    /// Decides an entry at whose path something stands that is no directory.
+    /// Decides an entry whose path has a node that is no directory.
     ///
     /// # Errors
-    /// An unknown stamp of the node, or the comparer's error.
+    /// A time of the node isn't known, or the comparer's error.
     fn decide_node(
         &mut self,
         entry: &Entry,
@@ -137,7 +137,8 @@ where
         }
     }
 
-    /// Decides an entry whose node has the entry's type: by the stats where they may be trusted, else by the content.
+    /// Decides an entry whose node has the entry's type: by the stats if they settle that it is unchanged, otherwise by
+    /// the content.
     ///
     /// # Errors
     /// The comparer's error.
@@ -242,10 +243,10 @@ where
     }
 }
 
-/// What is reported of a submodule's entry whose directory is there.
+/// Returns the status of a submodule's entry whose directory is there.
 ///
 /// # Errors
-/// What the submodule answers, with the entry's path.
+/// The submodule's error, with the entry's path, or out of memory.
 fn submodule_status<T, S: SubmoduleStatus>(
     alloc: Global,
     submodule: &mut S,

@@ -14,14 +14,14 @@ use std::alloc::Global;
 use std::sync::Wait;
 use std::thread::Threads;
 
-/// A worktree, a comparer and a pathspec beside the usual interfaces.
+/// A worktree, a comparer and a pathspec, with the usual interfaces.
 type Usual<'w, W, C, P> = Inputs<'w, W, C, NoSubmodules, MemoryObjects, P, NoFilter, NoLister>;
 
-/// Reports what `index_as_worktree` does where files are stored as they are, no submodule is checked out, no blob is at
-/// hand, no directory is listed, and nothing interrupts it.
+/// Calls `index_as_worktree` with the usual interfaces: files are stored unchanged, no submodule is checked out, no
+/// blob is found, no directory is listed, and nothing interrupts the call.
 ///
 /// # Errors
-/// Those of that call.
+/// Those of `index_as_worktree`.
 pub fn index_as_worktree_with_defaults<
     'index,
     'w,

@@ -1,4 +1,4 @@
-//! Feeding of a collector.
+//! Reports of findings to a collector.
 
 ghost use Rattle.std.specs.Prelude.{◌≡◌, ◌++◌, ◌<◌, length, All};
 ghost use Rattle.status_call.specs.Reporting.{IsFed, IsFedOne, IsPlacedIn};
@@ -33,7 +33,7 @@ fn feed_finding<'index, V: VisitEntry<'index>>(
 /// Reports findings to a collector in order.
 ///
 /// # Errors
-/// Want of memory; then a beginning of them was reported.
+/// Out of memory, after a beginning of the findings was reported.
 fn feed<'index, V: VisitEntry<'index>>(
     entries: &'index [Entry],
     backing: &'index PathStorage,
@@ -55,10 +55,11 @@ where
     Ok(())
 }
 
-/// Reports to a collector what a piece found, and answers what the piece counts, and whether it was interrupted.
+/// Reports a piece's findings to a collector. Returns the piece's counts, and whether it was interrupted.
 ///
 /// # Errors
-/// The fault at which the piece ended, once its findings were reported. Want of memory; then a beginning of them was.
+/// The fault at which the piece ended, after its findings were reported. Out of memory, after a beginning of the
+/// findings was reported.
 pub(crate) fn feed_piece<'index, V: VisitEntry<'index>>(
     entries: &'index [Entry],
     backing: &'index PathStorage,

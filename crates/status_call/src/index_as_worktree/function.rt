@@ -16,21 +16,23 @@ use std::alloc::Global;
 use std::sync::Wait;
 use std::thread::Threads;
 
-/// Reports to `collector` how the worktree differs from `index`, entry by entry in the order of the index, and answers
-/// what that took.
+/// Reports to `collector` how the worktree differs from `index`, entry by entry in index order, and returns the counts.
 ///
-/// `compare` sees the files whose stat doesn't settle that they are unchanged; `submodule` has the status of submodules,
-/// and `objects` the blobs that the index names. Nothing is written: where a record says so, the caller puts a new
-/// stat into the index or sets a size to zero, and then gives the index a later timestamp.
+/// `compare` is called for files whose stat doesn't settle that they are unchanged. `submodule` has the status of
+/// submodules, and `objects` the blobs that the index names. Nothing is written. If a record asks for it, the caller
+/// stores a new stat or size 0 in the index. The caller then sets a later timestamp of the index.
 ///
-/// The work is shared by as many workers as the options' thread limit has it: one in the caller's thread, each other one in
-/// a thread that has ended when the call returns. Where the context's interrupt flag is seen set, the call ends early, and
-/// the outcome says so: it then counts the first of the considered entries, whose records were reported.
+/// The work is shared by workers, at most as many as the options' thread limit allows. One of them runs in the caller's
+/// thread, each other one in a thread that has ended when the call returns. If the context's interrupt flag is seen
+/// set, the call ends early, and the outcome reports that. It then counts the first of the considered entries, whose
+/// records were reported.
 ///
 /// # Errors
-/// The fault of the first entry that has one, once the records before it were reported. A refused thread, or want of
-/// memory; then a beginning of the records was reported. Just these records are promised where all that is handed in is
-/// modelled; else they ascend, and each is of the index's own entry.
+/// The fault of the first entry that has one, after the records before it were reported. A refused thread or out of
+/// memory, after a beginning of the records was reported.
+///
+/// Exactly these records are promised if all interfaces passed are modelled. Otherwise the records ascend, and each is
+/// of the index's own entry.
 pub fn index_as_worktree<
     'index,
     'w,

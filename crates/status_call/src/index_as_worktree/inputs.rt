@@ -1,4 +1,4 @@
-//! What a caller hands in, and what it means.
+//! The interfaces and settings that a caller passes, and the query that they specify.
 
 ghost use Rattle.std.specs.Prelude.{◌≡◌, IfOk};
 ghost use Rattle.status_base.specs.ListedNodes.{known_node};
@@ -13,21 +13,21 @@ use status_base::worktree::{Find, Lister, Pathspec, SubmoduleStatus, ToGit, Work
 use status_compare::CompareBlobs;
 use std::alloc::AllocError;
 
-/// What a status is computed by, beside the interfaces: a part of the options, and the index's timestamp.
+/// The settings that a status depends on besides the interfaces: a part of the options, and the index's timestamp.
 #[derive(Clone, Copy, Debug)]
 pub struct Settings {
-    /// When the index was written.
+    /// The time at which the index was written.
     pub timestamp: Moment,
     /// Which parts of stats have to be equal.
     pub stat: stat::Options,
-    /// What the file system can keep.
+    /// The properties of files that the file system keeps.
     pub fs: Capabilities,
-    /// Whether listings of directories are asked before `lstat`.
+    /// Whether listings of directories are used before `lstat`.
     pub fscache: bool,
 }
 
 impl Settings {
-    /// Those that the options and the index name.
+    /// Returns the settings of these options and this index.
     pub fn of(options: &Options, index: &State) -> Settings
         ensures { result ≡ settings options.now index.now }
     {
@@ -40,7 +40,7 @@ impl Settings {
     }
 }
 
-/// The worktree and the interfaces that a caller hands in.
+/// The worktree and the interfaces that a caller passes.
 #[derive(Drop)]
 pub struct Inputs<'w, W, C, S, O, P, T, L> {
     /// The worktree.
@@ -51,28 +51,28 @@ pub struct Inputs<'w, W, C, S, O, P, T, L> {
     pub submodule: S,
     /// Has the blobs.
     pub objects: O,
-    /// Says which paths are looked at.
+    /// Decides which paths are included.
     pub pathspec: P,
     /// Converts a file to what git would store.
     pub filter: T,
-    /// Lists directories, where the settings have it.
+    /// Lists directories, if the settings have `fscache`.
     pub lister: L,
 }
 
-/// What a status is computed from, whoever hands it in.
+/// The inputs of a status, of any types.
 pub trait Ask {
-    /// What a comparer reports of a change.
+    /// The comparer's report of a change.
     type Content;
-    /// What a submodule reports of a change.
+    /// The submodule's report of a change.
     type Submodule;
 
-    /// What a status by these settings depends on.
+    /// All that a status with these settings depends on.
     ghost query: { Self → StatusSettings → Query Self.Content Self.Submodule };
 
-    /// The same by clones, for another worker.
+    /// Returns clones of these inputs, for another worker.
     ///
     /// # Errors
-    /// Want of memory.
+    /// Out of memory.
     fn another(&self) -> Result<Self, AllocError>
         ensures { IfOk result (λ other. query other ≡ query self.now) };
 }

@@ -1,4 +1,4 @@
-//! What stands at an entry's path.
+//! The look-up of the node at an entry's path.
 
 ghost use Rattle.std.specs.Prelude.{◌≡◌, ◌&&◌, Bool, IsTrue, Ok, Result};
 ghost use Rattle.bstr.specs.BStr.{bstr_bytes};
@@ -19,31 +19,31 @@ use status_base::stack::{StackError, SymlinkCheck};
 use status_base::worktree::{Fault, Lister, Metadata, NodeKind, Worktree};
 use std::alloc::AllocError;
 
-/// What stands at an entry's path.
+/// The node at an entry's path.
 #[derive(Clone, Copy)]
 pub(crate) enum AtPath {
-    /// Nothing: it, or a directory above it, is missing, or it leads through a link.
+    /// Nothing: the path or a directory above it is missing, or it leads through a link.
     Nothing,
     /// A directory.
     Directory,
-    /// Anything else.
+    /// Any other node.
     Node(Metadata),
 }
 
-/// What was found at an entry's path.
+/// The result of a look-up.
 #[derive(Clone, Copy)]
 pub(crate) struct Look {
-    /// What stands there.
+    /// The node at the path.
     pub(crate) presence: AtPath,
     /// Whether `lstat` was called on the path itself.
     pub(crate) lstat_called: bool,
 }
 
-/// What stands at a path. The path itself is looked at only where each directory above it may be stepped through, and
-/// `lstat` is called on it only where no listing knows it.
+/// Returns the node at a path. The link check comes first. Only if it accepts each directory above the path, the path
+/// itself is looked up, by `lstat` only if no listing knows it.
 ///
 /// # Errors
-/// The path isn't normal, another fault than that nothing is there, or want of memory.
+/// A path that isn't normal, a fault other than one of absence, or out of memory.
 pub(crate) fn look_up<W: Worktree, L: Lister>(
     worktree: &W,
     check: &mut SymlinkCheck,
@@ -74,10 +74,10 @@ pub(crate) fn look_up<W: Worktree, L: Lister>(
     }
 }
 
-/// What listings know of a path, where they are asked.
+/// Returns the node that listings know at a path, if listings are used.
 ///
 /// # Errors
-/// Want of memory.
+/// Out of memory.
 fn known_at<L: Lister>(
     fscache: bool,
     lister: &L,
@@ -98,7 +98,7 @@ fn known_at<L: Lister>(
     }
 }
 
-/// A node that was found.
+/// Returns the look-up of a node that was found.
 fn look_at(node: Metadata, lstat_called: bool) -> Look
     ensures { IsLook (found_node (Ok node)) lstat_called (Ok result) }
 {
@@ -112,10 +112,10 @@ fn look_at(node: Metadata, lstat_called: bool) -> Look
     }
 }
 
-/// What stands at a path that the check for links refuses.
+/// Returns the look-up of a path that the link check refuses.
 ///
 /// # Errors
-/// The path isn't normal, or another fault than that nothing is there.
+/// A path that isn't normal, a fault other than one of absence, or out of memory.
 fn look_refused(error: StackError<'_>) -> Result<Look, Error>
     ensures { (check : LinkCheck) (node : Result NodeMetadata WorktreeFault) (unknown : Bool)
         → IsRefused check error.entry
@@ -134,10 +134,10 @@ fn look_refused(error: StackError<'_>) -> Result<Look, Error>
     }
 }
 
-/// What stands at a path with a fault.
+/// Returns the look-up of a path with a fault.
 ///
 /// # Errors
-/// Another fault than that nothing is there.
+/// A fault other than one of absence.
 fn look_at_fault(fault: Fault, lstat_called: bool) -> Result<Look, Error>
     ensures { IsLook (found_fault fault) lstat_called result }
 {

@@ -1,4 +1,4 @@
-//! A piece of the considered entries, worked through in order.
+//! A piece of the considered entries, processed in order.
 
 ghost use Rattle.std.specs.Prelude.{◌≡◌, ◌++◌, ◌+◌, ◌^◌, ◌<◌, ◌≤◌, ℕ, None, Ok, false, min, length, OnOk, OnErr};
 ghost use Rattle.status_index.specs.Entries.{IsIndex, index_entry, index_entries};
@@ -17,29 +17,28 @@ use std::sync::atomic::{AtomicBool, Ordering};
 /// How a piece ended.
 #[derive(Debug, Drop)]
 pub enum End {
-    /// All its entries were worked through.
+    /// All its entries were processed.
     Whole,
     /// The interrupt flag was seen before an entry.
     Cut,
-    /// An entry gave an error, or memory was refused.
+    /// An entry has an error, or an allocation failed.
     Faulty(Error),
 }
 
-/// What one piece gives: the findings and counts of its entries up to where it ended.
+/// The result of one piece: the findings and counts of its entries, up to the position at which it ended.
 #[derive(Debug, Drop)]
 pub struct Piece<T, U> {
     /// The findings, in ascending order of their entries.
     pub findings: Vec<Finding<T, U>>,
-    /// What was counted.
+    /// The counts.
     pub totals: Totals,
-    /// The place among the considered entries at which it ended.
+    /// The position among the considered entries at which it ended.
     pub reached: usize,
     /// How it ended.
     pub end: End,
 }
 
 impl<T, U> Piece<T, U> {
-    /// A piece that ended at a place.
     fn ended(findings: Vec<Finding<T, U>>, totals: Totals, reached: usize, end: End) -> Piece<T, U>
         ensures { result
             ≡ record { findings = findings; totals = totals; reached = reached; end = end } }
@@ -53,7 +52,8 @@ impl<T, U> Piece<T, U> {
     }
 }
 
-/// The end of a piece of `chunk` entries that begins at `from`: later, where it would part entries of one path.
+/// Returns the end of a piece of `chunk` entries that begins at `from`. It is later if it would separate entries of one
+/// path.
 pub fn piece_end(entries: &[Entry], backing: &PathStorage, from: usize, chunk: usize) -> usize
     requires index { IsIndex (index_entries backing.now entries.now) }
     requires inside { from < length entries.now }
@@ -71,22 +71,22 @@ pub fn piece_end(entries: &[Entry], backing: &PathStorage, from: usize, chunk: u
     end
 }
 
-/// Whether two entries have one path.
+/// Returns whether two entries have the same path.
 fn same_path(a: &Entry, b: &Entry, backing: &PathStorage) -> bool
     ensures { result ≡ same_path (index_entry backing.now a.now) (index_entry backing.now b.now) }
 {
     a.path_in(backing) == b.path_in(backing)
 }
 
-/// Whether the interrupt flag is set. None never is.
+/// Returns whether the interrupt flag is set. `None` is never set.
 pub(crate) fn is_set(interrupt: Option<&AtomicBool>) -> bool
     ensures { interrupt.entry ≡ None → result ≡ false }
 {
     interrupt.is_some_and(|flag| flag.load(Ordering::Relaxed))
 }
 
-/// Works through the considered entries from place `from` up to `to`, and looks at the interrupt flag before each. `start`
-/// is the place of the first considered entry in the whole index.
+/// Processes the considered entries from position `from` up to `to`, and checks the interrupt flag before each step.
+/// `start` is the position of the first considered entry in the whole index.
 pub(crate) fn walk_piece<D: Decide>(
     alloc: Global,
     entries: &[Entry],
@@ -128,7 +128,7 @@ pub(crate) fn walk_piece<D: Decide>(
     Piece::ended(findings, totals, at, End::Whole)
 }
 
-/// Appends the finding of the entry at place `entry_index`, if there is one.
+/// Appends the finding of the entry at position `entry_index`, if there is one.
 fn push_status<T: Drop, U: Drop>(
     findings: &mut Vec<Finding<T, U>>,
     entry_index: usize,

@@ -1,4 +1,4 @@
-//! Who is given the records of a status.
+//! Collectors of the records of a status.
 
 ghost use Rattle.std.specs.Prelude.{◌≡◌, ◌++◌, ◌∷◌, [], List, Some, OnOk, OnErr, slice_get};
 ghost use Rattle.bstr.specs.BStr.{bstr_bytes};
@@ -11,21 +11,22 @@ use std::alloc::{AllocError, Global};
 use std::fmt;
 use std::marker::PhantomData;
 
-/// Who is given the records of a status, in ascending order of their entries. Its meaning is the list of what it was given.
+/// Collects the records of a status, which are reported in ascending order of their entries. The specification of a
+/// collector is the list of the records that it got.
 pub trait VisitEntry<'index> {
-    /// What a comparer reports of a change.
+    /// The comparer's report of a change.
     type ContentChange;
-    /// What a submodule reports of a change.
+    /// The submodule's report of a change.
     type SubmoduleStatus;
 
-    /// What it was given so far.
+    /// The records that it got so far.
     ghost visits: { Self → List (Visit Self.ContentChange Self.SubmoduleStatus) };
 
-    /// Takes the status of `entry`, which stands at `entry_index` in `entries`, the whole index, and has the path
+    /// Takes the status of `entry`, which is at position `entry_index` of `entries`, the whole index, and has the path
     /// `rela_path`.
     ///
     /// # Errors
-    /// Want of memory; then it wasn't taken.
+    /// Out of memory; then the status wasn't taken.
     fn visit_entry(
         &mut self,
         entries: &'index [Entry],
@@ -41,7 +42,7 @@ pub trait VisitEntry<'index> {
         ensures err { OnErr result (visits self.new ≡ visits self.old) };
 }
 
-/// A list of entries, of which a debug text shows nothing.
+/// A list of entries that isn't shown in a debug text.
 #[derive(Clone, Copy)]
 struct Whole<'index>(&'index [Entry]);
 
@@ -56,22 +57,22 @@ impl<'index> fmt::Debug for Whole<'index> {
 pub struct Record<'index, T, U> {
     /// The entry.
     pub entry: &'index Entry,
-    /// The entry's place in the whole index.
+    /// The entry's position in the whole index.
     pub entry_index: usize,
     /// The entry's path.
     pub relative_path: BStr<'index>,
-    /// What is reported of it.
+    /// The entry's status.
     pub status: EntryStatus<T, U>,
-    /// The list of entries that was handed along.
+    /// The list of entries that was passed with it.
     whole: Whole<'index>,
-    /// Names the types that a status is made of: the proof of a drop finds them only where they are named.
+    /// Names the types that a status is made of, since the proof of a drop finds only types that are named.
     parts: PhantomData<(Change<T, U>, Option<T>)>,
 }
 
 impl<'index, T, U> Record<'index, T, U> {
     ghost use Rattle.std.specs.Prelude.{◌≡◌};
 
-    /// The list of entries that was handed along: the whole index.
+    /// Returns the list of entries that was passed with the record: the whole index.
     pub fn entries(&self) -> &'index [Entry]
         ensures { result.now ≡ self.now.whole.0.now }
     {
@@ -79,7 +80,7 @@ impl<'index, T, U> Record<'index, T, U> {
     }
 }
 
-/// Keeps the records of a status in a list. One that is refused memory stays as it was.
+/// Keeps the records of a status in a list, which is unchanged if an allocation fails.
 #[derive(Debug, Drop)]
 pub struct Recorder<'index, T, U> {
     /// The records, in ascending order of their entries.
@@ -90,7 +91,7 @@ impl<'index, T, U> Recorder<'index, T, U> {
     ghost use Rattle.std.specs.Prelude.{◌≡◌, []};
     ghost use Rattle.status_call.specs.RecorderVisits.{visits_of};
 
-    /// A recorder with no record.
+    /// Makes a recorder with no record.
     pub fn new(alloc: Global) -> Recorder<'index, T, U>
         ensures { visits_of result ≡ [] }
     {

@@ -1,4 +1,4 @@
-//! The pieces of one round, shared by workers.
+//! The pieces of one round, shared among workers.
 
 ghost use Rattle.std.specs.Prelude.{◌≡◌, ◌≢◌, ◌+◌, ◌-◌, ◌*◌, ◌^◌, ◌<◌, ◌≤◌, None, length, vec_len, All, IfOk, IfErr, is_some};
 ghost use Rattle.status_index.specs.Entries.{IsIndex, index_entries};
@@ -20,8 +20,8 @@ use std::sync::Wait;
 use std::sync::atomic::AtomicBool;
 use std::thread::Threads;
 
-/// The bounds of at most `most` pieces from place `from` on: where the first begins, and where each ends. There are fewer
-/// only where the last ends with the entries.
+/// Returns the bounds of at most `most` pieces from position `from` on: the start of the first, and the end of each.
+/// There are fewer pieces only if the last ends with the entries.
 pub(crate) fn round_bounds(
     alloc: Global,
     entries: &[Entry],
@@ -51,7 +51,7 @@ pub(crate) fn round_bounds(
     Ok(bounds)
 }
 
-/// The pieces of a round: the considered entries between each two bounds.
+/// The pieces of a round: the considered entries from each bound to the next.
 #[derive(Drop)]
 struct Round<'a, D: Decide> {
     alloc: Global,
@@ -101,7 +101,7 @@ impl<'a, D: Decide> Work for Round<'a, D> {
     }
 }
 
-/// As many deciders of one query as there are workers.
+/// Returns as many deciders of the same query as there are workers.
 fn crew_of<D: Decide + Drop>(
     alloc: Global,
     decide: &D,
@@ -117,11 +117,11 @@ fn crew_of<D: Decide + Drop>(
     Ok(crew)
 }
 
-/// Works through the entries between the bounds with as many workers as `workers` has at most: what the pieces give in
-/// order, up to the first that didn't come to its end.
+/// Processes the entries between the bounds with `workers.most` workers. Returns the pieces in order, up to the first
+/// that didn't reach its end.
 ///
 /// # Errors
-/// A refused thread, or else want of memory.
+/// A refused thread, otherwise out of memory.
 pub(crate) fn run_pieces<R: Threads + Wait, D: Decide + Send + Drop>(
     rt: &R,
     alloc: Global,
@@ -164,7 +164,7 @@ where
     }
 }
 
-/// The error of a round that could not be worked through.
+/// Returns the error of a round that couldn't be processed.
 fn shortage(refused: Refused) -> Error
     ensures { result ≡ shortage_of refused }
 {

@@ -1,4 +1,4 @@
-//! The considered entries, worked through in rounds and reported in order.
+//! The considered entries, processed in rounds and reported in order.
 
 ghost use Rattle.std.specs.Prelude.{◌^◌, ◌≤◌, length};
 ghost use Rattle.status_call.specs.Rounds.{AreBounds, bound, last_bound};
@@ -16,15 +16,15 @@ use std::alloc::Global;
 use std::sync::Wait;
 use std::thread::Threads;
 
-/// How many pieces a worker has in a round, at most.
+/// The greatest number of pieces of a round for each worker.
 const PIECES_OF_A_WORKER: usize = 8;
 
-/// Works through the considered entries in rounds of pieces, and reports to the collector in the order of the index what
-/// the pieces find. Ends early where the interrupt flag is set.
+/// Processes the considered entries in rounds of pieces, and reports the pieces' findings to the collector in index
+/// order. Ends early if the interrupt flag is set.
 ///
 /// # Errors
-/// The first fault, once what stands before it was reported. A refused thread; then nothing of its round was reported.
-/// Want of memory.
+/// The first fault, after the records before it were reported. A refused thread; then no record of its round was
+/// reported. Out of memory.
 pub fn run_rounds<
     'index,
     R: Threads + Wait,
@@ -82,10 +82,10 @@ where
     })
 }
 
-/// Works through the entries between the bounds, and reports to the collector what the pieces find.
+/// Processes the entries between the bounds, and reports the pieces' findings to the collector.
 ///
 /// # Errors
-/// As those of `run_rounds`.
+/// Those of `run_rounds`.
 fn run_round<
     'index,
     R: Threads + Wait,

@@ -1,4 +1,4 @@
-//! The status of an index by whoever decides its entries.
+//! The status of an index, for any decider of its entries.
 
 ghost use Rattle.std.specs.Prelude.{◌≡◌, ◌≤◌, None, IfOk, false, length};
 ghost use Rattle.status_index.specs.States.{entries_of, backing_of, index_of};
@@ -22,10 +22,10 @@ use std::sync::Wait;
 use std::sync::atomic::AtomicBool;
 use std::thread::Threads;
 
-/// How many entries a piece of work has where nothing is said, as git has it.
+/// The usual number of entries of a piece of work, as in git.
 const CHUNK_SIZE: usize = 500;
 
-/// The places of the considered entries: of those whose paths begin with the prefix, or of all, where none does.
+/// Returns the positions of the considered entries: those whose paths start with the prefix, or all if no path does.
 fn considered_range(index: &State, prefix: BStr<'_>) -> Range<usize>
     ensures order { result.start ≤ result.end }
     ensures inside { result.end ≤ length (entries_of index.now) }
@@ -39,7 +39,7 @@ fn considered_range(index: &State, prefix: BStr<'_>) -> Range<usize>
     }
 }
 
-/// The considered entries of an index: those whose paths begin with the prefix, or all, where none does.
+/// Returns the considered entries of an index: those whose paths start with the prefix, or all if no path does.
 fn considered_entries<'index>(index: &'index State, prefix: BStr<'_>) -> Considered<'index>
     ensures entries { result.entries.now ≡ entries_of index.entry.now }
     ensures backing { result.backing.now ≡ backing_of index.entry.now }
@@ -59,7 +59,7 @@ fn considered_entries<'index>(index: &'index State, prefix: BStr<'_>) -> Conside
     }
 }
 
-/// The number of entries of a piece, by what the options say.
+/// Returns the number of entries of a piece, by the options' `chunk_size`.
 fn chunk_size_of(chunk_size: usize) -> usize
     ensures { result ≡ chunk_size_of chunk_size }
 {
@@ -69,12 +69,12 @@ fn chunk_size_of(chunk_size: usize) -> usize
     }
 }
 
-/// Reports to `collector` how what the decider sees differs from `index`, entry by entry in the order of the index, and
-/// answers what that took. Where the interrupt flag is seen set, the call ends early, and the outcome says so.
+/// Reports to `collector` how the worktree that `decider` compares differs from `index`, entry by entry in index order,
+/// and returns the counts. If the interrupt flag is seen set, the call ends early, and the outcome reports that.
 ///
 /// # Errors
-/// The fault of the first entry that has one, once the records before it were reported. A refused thread, or want of
-/// memory; then a beginning of the records was reported.
+/// The fault of the first entry that has one, after the records before it were reported. A refused thread or out of
+/// memory, after a beginning of the records was reported.
 pub fn status_by<
     'index,
     R: Threads + Wait,

@@ -1,4 +1,4 @@
-//! What the next entries give: one entry, or the stages of a conflict.
+//! The next step over the entries: one entry, or the stages of a conflict.
 
 ghost use Rattle.std.specs.Prelude.{◌≡◌, ◌<◌, List, [], ℕ, None, option_map, take, drop, length};
 ghost use Rattle.std.specs.Option.{option_copied};
@@ -18,7 +18,7 @@ use bitflags::Flags as _;
 use bstr::BStr;
 use status_base::index::{Entry, Flags, PathStorage};
 
-/// The flags that leave an entry out: git takes it to be unchanged, or not to be there.
+/// The flags that skip an entry: git takes it to be unchanged, or not to be there.
 const SKIP_FLAGS: [Flags; 4] = [
     Flags::UPTODATE,
     Flags::SKIP_WORKTREE,
@@ -26,18 +26,21 @@ const SKIP_FLAGS: [Flags; 4] = [
     Flags::FSMONITOR_VALID,
 ];
 
-/// What the next entries give: one, or all stages of a conflict.
+/// The result of a step: of one entry, or of all stages of a conflict.
 #[derive(Debug, Drop)]
 pub struct Step<T, U> {
-    /// What is reported of the first of them.
+    /// The status of the first of its entries, if one is reported.
     pub status: Option<EntryStatus<T, U>>,
-    /// How many entries it took.
+    /// The number of its entries.
     pub len: usize,
-    /// What was counted.
+    /// The counts.
     pub totals: Totals,
 }
 
-/// What the entry at place `i` gives, or all later stages of a conflict with it.
+/// Returns the step at position `i`: of one entry, or of a conflict's first entry with all its later stages.
+///
+/// # Errors
+/// The error that keeps the entry from being decided.
 pub(crate) fn next_step<D: Decide>(
     entries: &[Entry],
     backing: &PathStorage,
@@ -68,14 +71,14 @@ pub(crate) fn next_step<D: Decide>(
     }
 }
 
-/// Whether a flag leaves an entry out.
+/// Returns whether a flag skips an entry.
 fn is_flagged(entry: &Entry) -> bool
     ensures { (path : List ℕ) → result ≡ is_flagged (entry_at path entry.now) }
 {
     SKIP_FLAGS.iter().any(|flag| entry.flags.intersects(*flag))
 }
 
-/// The step of one entry that is left out, by its flags or by the pathspec.
+/// Returns the step of one entry that is skipped, by its flags or by the pathspec.
 fn skipped_step<T: Drop, U: Drop>(by_flags: usize, by_pathspec: usize) -> Step<T, U>
     ensures { result
         ≡ record {
@@ -97,7 +100,7 @@ fn skipped_step<T: Drop, U: Drop>(by_flags: usize, by_pathspec: usize) -> Step<T
     }
 }
 
-/// The step of the conflict whose first entry is at place `i`, and has this path.
+/// Returns the step of the conflict whose first entry is at position `i` and has this path.
 fn conflict_step<T: Drop, U: Drop>(
     entries: &[Entry],
     backing: &PathStorage,
@@ -130,14 +133,14 @@ fn conflict_step<T: Drop, U: Drop>(
     }
 }
 
-/// What a conflict keeps of an entry.
+/// Returns the part of an entry that a conflict keeps.
 fn kept(entry: Option<&Entry>) -> Option<ConflictIndexEntry>
     ensures { result ≡ option_map (λ e. kept_of (entry_at [] e)) (option_copied entry.entry) }
 {
     entry.map(ConflictIndexEntry::from)
 }
 
-/// The step of one entry that was compared with the worktree.
+/// Returns the step of one entry that was compared with the worktree.
 fn decided_step<T: Drop, U: Drop>(decided: Decided<T, U>) -> Step<T, U>
     ensures status { result.status ≡ decided.status }
     ensures len { result.len ≡ 1 }

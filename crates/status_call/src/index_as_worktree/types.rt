@@ -1,4 +1,4 @@
-//! What a status takes, and what it answers.
+//! The types that a status takes and returns.
 
 ghost use Rattle.std.specs.Prelude.{◌≡◌, ◌+◌, ◌<◌, ◌^◌, []};
 ghost use Rattle.status_index.specs.Entries.{entry_at};
@@ -11,42 +11,42 @@ pub use status_compare::Error;
 use std::ops::Range;
 use std::sync::atomic::AtomicBool;
 
-/// How an entry has to change to be what the worktree has.
+/// How an entry has to change to match the worktree.
 #[derive(Clone, Debug, Drop, PartialEq, Eq, PartialOrd, Ord)]
 pub enum Change<T, U> {
     /// There is no file: nothing is there, a directory is, or the path leads through a symbolic link.
     Removed,
-    /// The node is of another type, as a link in place of a file.
+    /// The node is of another type, such as a link in place of a file.
     TypeChange {
         /// The mode of the node.
         worktree_mode: Mode,
     },
-    /// The file was modified: in its executability, its content, or both.
+    /// The file was modified: its executability, its content, or both.
     Modification {
         /// Whether the executability changed.
         executable_bit_changed: bool,
-        /// What the comparer reported of the content. None where only the executability changed.
+        /// The comparer's report of a content change. `None` if only the executability changed.
         content_change: Option<T>,
-        /// Whether the caller has to set the size of the entry's stat to 0: once the index has a later timestamp, the
-        /// change would hide behind the entry's stat.
+        /// Whether the caller has to set the size of the entry's stat to 0. Otherwise the entry's stat would hide the
+        /// change once the index has a later timestamp.
         set_entry_stat_size_zero: bool,
     },
     /// A submodule changed, as it reported.
     SubmoduleModification(U),
 }
 
-/// What a conflict keeps of an entry.
+/// The part of an entry that a conflict keeps.
 #[derive(Clone, Copy, Debug, PartialEq, Eq, PartialOrd, Ord)]
 pub struct ConflictIndexEntry {
     /// The id of the content.
     pub id: ObjectId,
     /// The flags, the stage among them.
     pub flags: Flags,
-    /// What kind of thing the entry is.
+    /// The mode.
     pub mode: Mode,
 }
 
-/// What is reported of an entry.
+/// The status that is reported of an entry.
 #[derive(Clone, Debug, Drop, PartialEq, Eq, PartialOrd, Ord)]
 pub enum EntryStatus<T, U> {
     /// The entry's path has a conflict, reported once for all its stages.
@@ -58,18 +58,18 @@ pub enum EntryStatus<T, U> {
     },
     /// The entry differs from the worktree.
     Change(Change<T, U>),
-    /// The entry doesn't differ, but that took a comparison: with this stat in the index the next status is spared it.
+    /// The entry doesn't differ, but that took a comparison. With this stat in the index the next status needs none.
     NeedsUpdate(Stat),
-    /// The entry is a promise of a file to be added (git's `add --intent-to-add`), and the file is there.
+    /// The entry is marked as intended to be added (git's `add --intent-to-add`), and the file is there.
     IntentToAdd,
 }
 
-/// What is reported of the entry at a place of the whole index.
+/// The status that is reported of the entry at a position of the whole index.
 #[derive(Debug, Drop)]
 pub struct Finding<T, U> {
-    /// The entry's place in the whole index.
+    /// The entry's position in the whole index.
     pub entry_index: usize,
-    /// What is reported of it.
+    /// The entry's status.
     pub status: EntryStatus<T, U>,
 }
 
@@ -92,12 +92,12 @@ pub enum Conflict {
     BothModified,
 }
 
-/// What a file system can keep.
+/// The properties of files that a file system keeps.
 #[derive(Clone, Copy, Debug, PartialEq, Eq, Hash)]
 pub struct Capabilities {
-    /// Symbolic links (git's `core.symlinks`).
+    /// Whether it keeps symbolic links (git's `core.symlinks`).
     pub symlink: bool,
-    /// Whether a file is executable (git's `core.fileMode`).
+    /// Whether it keeps the executability of files (git's `core.fileMode`).
     pub executable_bit: bool,
 }
 
@@ -115,22 +115,22 @@ impl Default for Capabilities {
     }
 }
 
-/// How a status is computed. By default links and executability count, stats are compared as `stat::Options` has it, the
-/// number of workers is the usual one, no listing is used, and pieces are of the usual size.
+/// How a status is computed. By default links and executability count, and no listing is used. Stats are compared by
+/// the default `stat::Options`, and the number of workers and the size of pieces are the usual ones.
 #[derive(Clone, Debug, Drop, PartialEq, Eq, Hash)]
 pub struct Options {
-    /// What the file system can keep.
+    /// The properties of files that the file system keeps.
     pub fs: Capabilities,
-    /// The greatest number of workers. None or 0 mean 4; there are never more than 64. One of them is the caller; each other
-    /// one takes a thread.
+    /// The greatest number of workers. It is 4 for `None` and 0, and never more than 64. One of them is the caller's
+    /// thread; each other one takes a thread.
     pub thread_limit: Option<usize>,
     /// Which parts of stats have to be equal.
     pub stat: stat::Options,
-    /// Whether listings of directories stand in place of `lstat` where they know a path. The directories above a path are
-    /// looked at all the same. A listed file isn't executable, so where executability counts each one that the index has as
+    /// Whether listings of directories replace `lstat` for paths that they know. The directories above a path are still
+    /// checked by `lstat`. A listed file isn't executable, so if executability counts, each one that the index has as
     /// executable is reported. Each worker lists a directory at most once a round.
     pub fscache: bool,
-    /// How many entries a piece of work has. 0 means 500.
+    /// The number of entries of a piece of work. 0 is the usual 500.
     pub chunk_size: usize,
 }
 
@@ -151,37 +151,37 @@ impl Default for Options {
     }
 }
 
-/// What a status is computed with.
+/// The pathspec, filter, lister and interrupt flag that a status is computed with.
 #[derive(Clone, Drop)]
 pub struct Context<'a, P, T, L> {
-    /// Which paths are looked at.
+    /// Which paths are included.
     pub pathspec: P,
     /// How files are converted to what git stores.
     pub filter: T,
-    /// Listings of directories, which are asked where the options have `fscache`.
+    /// Lists directories, if the options have `fscache`.
     pub lister: L,
-    /// Once it is seen set the status ends early. None is never set.
+    /// The interrupt flag. Once it is seen set, the status ends early. `None` is never set.
     pub should_interrupt: Option<&'a AtomicBool>,
 }
 
-/// What a status took.
+/// The counts of a status, and whether it ended early.
 #[derive(Clone, Debug, Default, Drop, PartialEq, Eq, PartialOrd, Ord)]
 pub struct Outcome {
-    /// The entries that were considered: those whose path begins with the pathspec's common prefix.
+    /// The considered entries: those whose path starts with the pathspec's common prefix, or all if no path does.
     pub entries_to_process: usize,
-    /// The considered entries that were gone through, also those that were skipped. A conflict's later stages aren't.
+    /// The considered entries that were processed, including skipped ones. A conflict's later stages aren't counted.
     pub entries_processed: usize,
-    /// The entries whose path doesn't begin with the common prefix.
+    /// The entries that aren't considered, since their path doesn't start with the common prefix.
     pub entries_skipped_by_common_prefix: usize,
     /// The considered entries that the pathspec excludes and no flag does. A conflict's later stages aren't counted.
     pub entries_skipped_by_pathspec: usize,
-    /// The considered entries that a flag excludes. A conflict's later stages aren't counted.
+    /// The considered entries that are skipped by a flag. A conflict's later stages aren't counted.
     pub entries_skipped_by_entry_flags: usize,
     /// The calls of `lstat` on entries' own paths.
     pub symlink_metadata_calls: usize,
-    /// The entries that need another stat.
+    /// The entries that need a new stat.
     pub entries_to_update: usize,
-    /// The entries, without an executable change, whose stat is trusted but may hide a write.
+    /// The entries, without an executable change, whose stat is trusted but racy: it may hide a write.
     pub racy_clean: usize,
     /// The bytes read from the worktree.
     pub worktree_bytes: u64,
@@ -199,7 +199,7 @@ impl Outcome {
     ghost use Rattle.status_call.specs.Outcomes.{outcome_of, skipped_of};
     ghost use Rattle.std.specs.Prelude.{◌≡◌, ◌≤◌, ◌<◌, ◌^◌};
 
-    /// The entries that were skipped: by common prefix, by pathspec and by flags.
+    /// Returns the number of skipped entries: by common prefix, by pathspec and by flags.
     pub fn skipped(&self) -> usize
         requires { skipped_of self.now < 2 ^ 64 }
         ensures { result ≡ skipped_of self.now }
@@ -209,7 +209,7 @@ impl Outcome {
             + self.entries_skipped_by_entry_flags
     }
 
-    /// The outcome of work on a range of so many entries.
+    /// Returns the outcome of work on the range `considered` of an index with `entries` entries.
     pub(crate) fn of(progress: Progress, entries: usize, considered: Range<usize>) -> Outcome
         requires order { considered.start ≤ considered.end }
         requires inside { considered.end ≤ entries }

@@ -1,4 +1,4 @@
-//! How many workers there are, and how they run.
+//! The number of workers, and how they run.
 
 ghost use Rattle.std.specs.Prelude.{◌≡◌, ◌≤◌, min};
 ghost use Rattle.status_call.specs.Workers.{most_workers};
@@ -9,20 +9,20 @@ use std::sync::atomic::AtomicBool;
 /// The greatest number of workers.
 const MOST_WORKERS: usize = 64;
 
-/// How many workers there are where nothing is said.
+/// The usual number of workers.
 const WORKERS: usize = 4;
 
-/// How the work is shared out.
+/// How the work is shared among workers.
 #[derive(Clone, Copy, Debug)]
 pub struct Limits {
-    /// How many workers there are at most; the usual number for None and 0.
+    /// The greatest number of workers, which is the usual number for `None` and 0.
     pub thread_limit: Option<usize>,
-    /// How many entries a piece of work has, or 0 for the usual number.
+    /// The number of entries of a piece of work, or 0 for the usual number.
     pub chunk_size: usize,
 }
 
 impl Limits {
-    /// Those that the options name.
+    /// Returns the limits of these options.
     pub fn of(options: &Options) -> Limits
         ensures thread_limit { result.thread_limit ≡ options.now.thread_limit }
         ensures chunk_size { result.chunk_size ≡ options.now.chunk_size }
@@ -37,18 +37,18 @@ impl Limits {
 /// The workers of a call.
 #[derive(Drop)]
 pub struct Workers<'a> {
-    /// How many there are at most.
+    /// The greatest number of workers.
     pub most: usize,
-    /// The bytes of the stack of each one's thread, or None for the usual ones.
+    /// The stack size of each worker's thread in bytes, or `None` for the usual size.
     pub stack_size: Option<usize>,
-    /// The flag that they look at.
+    /// The interrupt flag that they check.
     pub interrupt: Option<&'a AtomicBool>,
     ghost some: { 1 ≤ most },
     ghost few: { most ≤ 64 },
 }
 
 impl<'a> Workers<'a> {
-    /// The workers that a thread limit allows, with the usual stacks.
+    /// Returns the workers that a thread limit allows, with the usual stacks.
     pub(crate) fn by_limit(limit: Option<usize>, interrupt: Option<&'a AtomicBool>) -> Workers<'a>
         ensures most { result.most ≡ most_workers limit }
         ensures interrupt { result.interrupt ≡ interrupt.entry }
@@ -60,7 +60,7 @@ impl<'a> Workers<'a> {
         }
     }
 
-    /// As many of them as there are pieces, at most.
+    /// Returns these workers, at most as many as there are pieces.
     pub(crate) fn for_pieces(&self, pieces: usize) -> Workers<'a>
         requires { 1 ≤ pieces }
         ensures most { result.most ≡ min self.entry.now.most pieces }
@@ -74,7 +74,7 @@ impl<'a> Workers<'a> {
     }
 }
 
-/// How many workers there are at most by a thread limit. 0 is no limit.
+/// Returns the greatest number of workers for a thread limit. 0 is no limit.
 fn most_workers(limit: Option<usize>) -> usize
     ensures { result ≡ most_workers limit }
 {

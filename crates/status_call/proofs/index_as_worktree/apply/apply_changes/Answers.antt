@@ -11,7 +11,7 @@ use Rattle.status_call.proofs.index_as_worktree.apply.apply_changes.Goals as goa
 pub loop-change-init : goal.loop-change-init
 loop-change-init c = record { index = refl; storage = refl; timestamp = refl }
 
--- a change that says nothing, in place of what lies past the end
+-- An empty change, instead of an element past the end.
 abbrev blank : ApplyChange
 blank = NewStat 0 no_entry.stat
 

@@ -2,7 +2,7 @@ use Rattle.status_call.proofs.Sent.{decider_crosses}
 use Rattle.status_call.proofs.StatusProof.{met_along, unspawned_along}
 use Rattle.status_call.proofs.index_as_worktree.function.index_as_worktree.Goals as goal
 
--- a decider may go to another thread, with its table of listings
+-- A decider may be sent to another thread, with its table of listings.
 pub status_by-requires : goal.status_by-requires
 status_by-requires g c κs = (search decider_crosses depth 60, search decider_crosses depth 60)
 

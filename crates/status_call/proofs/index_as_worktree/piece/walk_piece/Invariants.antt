@@ -3,7 +3,7 @@ use Rattle.status_index.specs.Entries.{index_entries}
 use Rattle.status_call.proofs.Dones.{IsWorking}
 use Rattle.status_call.proofs.index_as_worktree.piece.walk_piece.Given as goal
 
--- the entries before `at` are done
+-- The entries before `at` are done.
 abbrev pub invariant-loop-at : goal.invariant-loop-at
 invariant-loop-at g l = record {
   working : IsWorking (g.D.Decide.query l.fn.decide) l.start (index_entries l.backing l.entries) l.from l.to l.at l.findings.items l.totals;
