@@ -1,4 +1,4 @@
--- What a reader has left after some bytes.
+-- The content that a reader has left after some bytes.
 use Rattle.std.specs.Prelude.{◌≡◌, ℕ, List, ◌++◌, Option, Some, None}
 use Rattle.status_index.specs.Content.{Content}
 

@@ -1,4 +1,4 @@
--- What a reader has left, and what one read returns.
+-- The content that a reader has left, and the results of a read.
 use Rattle.std.specs.Prelude.{◌≡◌, ℕ, ◌+◌, ◌-◌, ◌<◌, ◌≤◌, ◌^◌, ◌⊎◌, min, List, [], ◌++◌, length, take, Option, Some, None, Result, Ok, Err, ⊤}
 use Rattle.status_index.specs.declared.fault.Fault.{Fault}
 use Rattle.status_index.specs.declared.fault.Fault.TheVariants.{Memory}

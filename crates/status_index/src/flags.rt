@@ -11,7 +11,7 @@ pub struct Flags(u32);
 
 bitflag_items! {
     impl Flags: u32 {
-        /// The file is known to be unchanged since it was staged.
+        /// The file is known to match its entry.
         const UPTODATE = 0x1;
         /// The file isn't to be in the worktree (sparse checkout).
         const SKIP_WORKTREE = 0x2;

@@ -1,11 +1,11 @@
-//! Binary search for the first index at which a question's answer is no.
+//! Binary search for the first index at which a question turns from yes to no.
 
 ghost use Rattle.std.specs.Prelude.{◌≡◌, ℕ, ◌+◌, ◌<◌, ◌≤◌, ◌^◌, ◌↔◌, min, IsTrue};
 ghost use Rattle.status_index.specs.Probes.{once_more};
 
-/// A question about indices: the answer is yes below the cut, and no from there on.
+/// A question about indices: yes below the cut, and no from there on.
 pub trait Probe {
-    /// The first index whose answer is no.
+    /// The cut: the first index for which the question is no.
     ghost cut: { Self → ℕ };
 
     /// How often the question was asked, up to the greatest `u32`.

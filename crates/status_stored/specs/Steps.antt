@@ -1,4 +1,4 @@
--- What the steps of storing return.
+-- The results of the steps of storing.
 use Rattle.std.specs.Prelude.{◌≡◌, List, map, Vec, Result, Ok, Err, All, ⊤}
 use Rattle.std.specs.Str.{IsUtf8}
 use Rattle.std.specs.declared.alloc.Global.{Global}

@@ -1,4 +1,4 @@
--- What a run reads of a node if no fault is planted.
+-- A run's reading of a node, if no fault is planted.
 use Rattle.std.proofs.Common.{◌≡◌, ◌∙◌, refl, ap, ℕ, Bool, true, false, List, length, Option, Some, None, Result, Err, IsTrue}
 use Rattle.std.specs.FinMap as paths
 use Rattle.std.specs.Ordering.{nat_cmp}

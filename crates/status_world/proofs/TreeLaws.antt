@@ -27,7 +27,7 @@ use Rattle.status_base.proofs.Placed.{looked_below}
 use Rattle.status_world.specs.PlainWorld.{with_value}
 use Rattle.status_world.proofs.EntryLists.{is_path, path_of}
 
--- What a lookup finds in a map with another value at a path.
+-- The result of a lookup in a map with another value at a path.
 pub get-with : {A : Type 0} (m : PathMap A) (p : List ℕ) (v : Option A) (q : List ℕ) → paths.get (with_value m p v) q ≡ cond (is_path q p) v (paths.get m q)
 get-with m p (Some v) q = paths.get-insert nat_list_cmp_total m p v q
 get-with m p None q = paths.get-remove nat_list_cmp_total m p q

@@ -24,8 +24,8 @@ abbrev pub IsChanged : {A : Type 0} → Event → StampedWorld → Result A Refu
 IsChanged event old (Ok _) new = (refusal_of event old ≡ None) × (new ≡ after_event event old)
 IsChanged event old (Err r) new = IsRefused r event old × (new ≡ old)
 
--- The same for a write, which puts a node at a path. It is refused if it has to be, or if memory runs out after the paths
--- below its own are looked up.
+-- The same for a write, which puts a node at a path. It is refused if a refusal is due. It may also be refused for memory,
+-- once the paths below its own are looked up.
 abbrev pub IsWritten : {A : Type 0} → List ℕ → List ℕ → Placed → StampedWorld → Result A Refusal → StampedWorld → Type 0
 IsWritten path bytes node old (Ok _) new = (write_refusal old path bytes ≡ None) × (new ≡ with_node old path (Some node))
 IsWritten path bytes node old (Err r) new =

@@ -18,7 +18,7 @@ abbrev pub IsIn : {A : Type 0} → A → List A → Type 0
 IsIn x [] = ⊥
 IsIn x (y ∷ ys) = (x ≡ y) ⊎ IsIn x ys
 
--- None of the events has to be refused.
+-- No event of the list has a refusal that is due.
 abbrev pub AreAccepted : List Event → StampedWorld → Type 0
 AreAccepted [] w = ⊤
 AreAccepted (e ∷ es) w = (refusal_of e w ≡ None) × AreAccepted es (after_event e w)

@@ -53,7 +53,7 @@ pub record IsFormedPair (n : Placed) (e : IndexEntry) : Type 0 where
   pub mtime : IsKnownSince e.stat.mtime n.metadata.mtime
   pub ctime : IsKnownSince e.stat.ctime n.metadata.ctime
 
--- The same for one path: its node, its entry, and what was staged there.
+-- One path is formed: its node, its entry, and what was staged there. It has an entry exactly if something was staged.
 abbrev pub IsFormedAt : StampedWorld → Option Placed → Option IndexEntry → Option Plain → Type 0
 IsFormedAt w n None None = IfSome n (IsFormedNode w.clock)
 IsFormedAt w n (Some e) None = ⊥

@@ -53,7 +53,7 @@ pub record StampedWorld : Type 0 where
   -- The entries of the index, and when it was written.
   pub entries : List IndexEntry
   pub timestamp : Moment
-  -- What was staged last, by path.
+  -- The files and links that were staged last, by path.
   pub staged : PathMap Plain
 
 -- A world without nodes, entries and staged paths.
@@ -193,7 +193,7 @@ abbrev pub query_of : StampedWorld → Comparer → Query (Option ObjectId) (Uni
 query_of w comparer = status_query (options_of w) w.timestamp true (lstat_in w.tree) (open_in w.tree) (target_in w.tree)
     (compared_by comparer) (counted_by comparer)
 
--- The status, nothing or the fault of an entry in a run.
+-- The verdict of an entry in a run: its status, none, or its fault.
 abbrev pub verdict_in : StampedWorld → Comparer → IndexEntry → Result (Option RunStatus) Error
 verdict_in w comparer e = verdict (query_of w comparer) w.entries e
 
