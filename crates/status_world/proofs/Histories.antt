@@ -137,7 +137,7 @@ module _ (w : StampedWorld) (es : List Event) where
     empty = in_right [] (of_nodes ++ of_staged ++ contents_of_events es) ([] ∷ []) (inl refl);
   }
 
--- If a world's index can be trusted, it still can after accepted events, and the report of each run is exact for the plain
+-- If a world's index can be trusted, it still can after accepted events. The report of each run is then exact for the plain
 -- world at the run.
 pub history : (es : List Event) (w : StampedWorld) → IsFormed w → IsSound w → HaveDistinctIds w.kind (contents_at_hand w es) → AreAccepted es w
     → AreExact w.executable_bit (reports_of es w) (plains_of es (plain_world_of w)) × IsSound (after_events es w)
