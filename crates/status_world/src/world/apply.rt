@@ -17,8 +17,8 @@ use std::thread::Threads;
 impl World {
     /// Applies an event. Returns a report for a run, and None for other events.
     ///
-    /// A run reports a change of exactly the paths that were staged and now differ, if contents with equal ids are
-    /// equal and the world is one that [`World::new`] returned and events changed.
+    /// A run reports a change of exactly the paths that were staged and now differ. This holds in a world that
+    /// [`World::new`] returned and events changed, if contents with equal ids are equal.
     ///
     /// # Errors
     /// Returns why the event is refused. The world is then unchanged.
