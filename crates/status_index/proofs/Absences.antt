@@ -1,4 +1,4 @@
--- A fault is an absence, or it isn't: the one place where proofs go through all faults.
+-- A fault is an absence, or it isn't. Only here do proofs go through all faults.
 use Rattle.std.proofs.Common.{◌≡◌, ◌⊎◌, ◌∙◌, inl, inr, refl, sym, ap, true, false}
 use Rattle.std.proofs.lemmas.Bool.{false≢true}
 use Rattle.status_index.specs.Absence.{is_absence}
@@ -20,6 +20,6 @@ absence_cases _ = inr refl
 pub not_absent : (f : Fault) → (IsOneOfTwo f → ⊥) → is_absence f ≡ false
 not_absent f h = elim (absence_cases f) [ inl e ↦ absurd (h e) | inr e ↦ e ]
 
--- each fault is an absence, or isn't
+-- Each fault is an absence, or isn't.
 pub absent_or_not : (f : Fault) → IsOneOfTwo f ⊎ (IsOneOfTwo f → ⊥)
 absent_or_not f = elim (absence_cases f) [ inl e ↦ inl e | inr e ↦ inr (λ h. false≢true (sym e ∙ is_absent f h)) ]

@@ -1,9 +1,9 @@
--- How often a search by halves still asks.
+-- How many questions a binary search has left.
 use Rattle.std.proofs.Common.{ℕ, zero, suc, ◌+◌, ◌<◌, ◌≤◌, ◌^◌, arith}
 use Rattle.std.proofs.Math.Nat.{pow-suc}
 use Rattle.status_index.specs.Probes.{once_more}
 
--- with digits for all places, what was asked since and digits for the places left come to no more
+-- The questions asked since the start and the digits of the positions left are together at most the digits of all positions.
 pub record IsHalved (start now left len : ℕ) : Type 0 where
   pub few : (digits : ℕ) → len < 2 ^ digits → (rest : ℕ) × (left < 2 ^ rest) × (now + rest ≤ start + digits)
 

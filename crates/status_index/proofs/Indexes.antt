@@ -1,4 +1,4 @@
--- Entries in whose place others stand, and what stays of an index then.
+-- An index stays valid if an entry is replaced by one that differs only in stat and mode.
 use Rattle.std.proofs.Common.{refl, inl, inr, ◌≡◌, ℕ, ◌<◌, List, length, slice_index_or, slice_set, sym, ap, ◌∙◌, arith, length-set}
 use Rattle.std.proofs.lemmas.List.{length-map, get_or-map, get_or-set_same, get_or-set_other, map-set}
 use Rattle.std.proofs.lemmas.Bool.{cases_eq}
@@ -6,7 +6,7 @@ use Rattle.status_index.specs.declared.entry.Entry.{Entry}
 use Rattle.status_index.specs.declared.entry.PathStorage.{PathStorage}
 use Rattle.status_index.specs.Entries.{IndexEntry, IsIndex, index_entry, index_entries}
 
--- two entries that are one to an index, but for stat and mode
+-- Two entries that differ at most in stat and mode.
 pub record IsAlike (a b : IndexEntry) : Type 0 where
   pub path : b.path ≡ a.path
   pub id : b.id ≡ a.id
@@ -44,11 +44,11 @@ pub IsIndex-set : (xs : List IndexEntry) (i : ℕ) (y : IndexEntry) → i < leng
 IsIndex-set xs i y l same h =
     IsIndex-alike xs (slice_set xs i y) (length-set xs i y) (alike_at_set xs i y l same) h
 
--- what a storage has for an entry that is read from the list
+-- The entry of the index for a stored entry that is read from the list.
 pub index_entry_read : (b : PathStorage) (es : List Entry) (i : ℕ) (x : Entry) → i < length es → x ≡ slice_index_or es i x → (d : IndexEntry) → slice_index_or (index_entries b es) i d ≡ index_entry b x
 index_entry_read b es i x l e d = get_or-map (index_entry b) es i x d l ∙ ap (index_entry b) (sym e)
 
--- another entry of the same path, by a function of what stood there
+-- A stored entry is replaced by one of the same path, which is a function of the old one.
 pub index_after : (b : PathStorage) (es : List Entry) (i : ℕ) (x y : Entry) (f : IndexEntry → IndexEntry) → i < length es → x ≡ slice_index_or es i x → f (index_entry b x) ≡ index_entry b y → (d : IndexEntry) → index_entries b (slice_set es i y) ≡ slice_set (index_entries b es) i (f (slice_index_or (index_entries b es) i d))
 index_after b es i x y f l e same d =
     map-set (index_entry b) es i y ∙ ap (slice_set (index_entries b es) i) (sym (ap f (index_entry_read b es i x l e d) ∙ same))

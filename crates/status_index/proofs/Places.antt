@@ -1,4 +1,4 @@
--- What stands below a path, at it and above it in an index.
+-- The entries of an index below a path, at it and above it.
 use lib.Seq.{drop-drop}
 use Rattle.std.proofs.Common.{◌≡◌, refl, sym, ap, ◌∙◌, ℕ, ◌+◌, ◌-◌, ◌<◌, ◌≤◌, inl, inr, Bool, true, false, not, List, [], ◌∷◌, ◌++◌, length, take, drop, slice_index_or, Option, All, arith}
 use Rattle.std.specs.List.{Any, filter, prefix_len}
@@ -54,7 +54,7 @@ apart_from_gt Less h = cc
 apart_from_gt Equal h = cc
 apart_from_gt Greater h = refl
 
--- what isn't up to a path is above it
+-- An entry that isn't up to a path is above it.
 above_or_not : (p : List ℕ) (e : IndexEntry) → is_above p e ≡ not (is_up_to p e)
 above_or_not p e =
     ap is_lt (nat_list_cmp_total.antisymm p e.path) ∙ le_or_reversed (slice_cmp nat_cmp e.path p)
@@ -74,7 +74,7 @@ pub IsFront-up_to : (es : List IndexEntry) (p : List ℕ) → IsIndex es → IsF
 IsFront-up_to es p h i j d l m low =
     le_from_gt _ (upto nat_list_cmp_total (slice_index_or es i d).path (slice_index_or es j d).path p (ascends es h i j d l m) (gt_from_le _ low))
 
--- what a test keeps where all pass, and where none does
+-- A filter keeps all entries if all pass, and none if none passes.
 filter_all : (test : IndexEntry → Bool) (es : List IndexEntry) → All (λ e. test e ≡ true) es → filter test es ≡ es
 filter_all test [] h = refl
 filter_all test (e ∷ es) h =
@@ -89,7 +89,7 @@ filter_none test (e ∷ es) h =
     let rest = filter_none test es (All-tail (λ (x : IndexEntry). test x ≡ false) e es h) in
     rw (first, rest)
 
--- where what passes stands in front, it is the front, and what doesn't pass is the rest
+-- If the entries that pass come first, a filter keeps exactly the front, and the others are the rest.
 module _ (test : IndexEntry → Bool) (es : List IndexEntry) (front : IsFront test es) where
   passes_in_front : All (λ e. test e ≡ true) (take (prefix_len test es) es)
   passes_in_front k d l =
@@ -115,7 +115,7 @@ module _ (test : IndexEntry → Bool) (es : List IndexEntry) (front : IsFront te
       ap (filter other) (sym (take-append-drop n es)) ∙ filter-append other (take n es) (drop n es)
       ∙ rw (filter_none other (take n es) before, filter_all other (drop n es) after)
 
--- the places of a path in an index
+-- The positions of a path's entries in an index.
 module _ (es : List IndexEntry) (p : List ℕ) (h : IsIndex es) where
   pub below_is : filter (is_below p) es ≡ take (prefix_len (is_below p) es) es
   below_is = filter-front (is_below p) es (IsFront-below es p h)
@@ -140,11 +140,11 @@ module _ (es : List IndexEntry) (p : List ℕ) (h : IsIndex es) where
         | inr l ↦ l
       ]
 
-  -- an index with other entries at a path: what stands before its places, those, and what stands behind
+  -- An index with another entry at a path: the entries before its positions, the new one, and those after them.
   pub with_entry-parts : (new : Option IndexEntry) → with_entry es p new ≡ take (prefix_len (is_below p) es) es ++ option_to_list new ++ drop (prefix_len (is_up_to p) es) es
   with_entry-parts new = rw (below_is, above_is)
 
-  -- the entries between the places have the path
+  -- The entries between the positions have the path.
   pub path_between : (k : ℕ) (d : IndexEntry) → prefix_len (is_below p) es ≤ k → k < prefix_len (is_up_to p) es → (slice_index_or es k d).path ≡ p
   path_between k d from to =
       let inside : k < length es = omega (arith, prefix_len-le-length (is_up_to p) es) in
@@ -176,7 +176,7 @@ module _ (es : List IndexEntry) (p : List ℕ) (h : IsIndex es) where
       let sum : a + (b - a) ≡ b = omega arith in
       drop-drop (b - a) a es ∙ ap (λ n. drop n es) sum
 
-  -- the path's entries stand between its places
+  -- The path's entries are those between its positions.
   pub filter-at : filter (is_at p) es ≡ part_of es (prefix_len (is_below p) es) (prefix_len (is_up_to p) es)
   filter-at =
       let a = prefix_len (is_below p) es in
@@ -190,7 +190,7 @@ module _ (es : List IndexEntry) (p : List ℕ) (h : IsIndex es) where
       ap (filter (is_at p)) (sym (take-append-drop a es)) ∙ filter-append (is_at p) (take a es) (drop a es)
       ∙ rw (filter_none (is_at p) (take a es) none_before) rest
 
--- where the places are one, no entry has the path
+-- If both positions are equal, no entry has the path.
 pub none_at : (es : List IndexEntry) (p : List ℕ) → IsIndex es → prefix_len (is_below p) es ≡ prefix_len (is_up_to p) es → Any (λ e. e.path ≡ p) es → ⊥
 none_at es p h none (k, x, inside, read, is) =
     let same : slice_cmp nat_cmp x.path p ≡ Equal = ap (λ q. slice_cmp nat_cmp q p) is ∙ tied_itself nat_list_cmp_total p in

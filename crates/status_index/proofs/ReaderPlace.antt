@@ -1,8 +1,8 @@
--- Where a reader stands after some bytes.
+-- The content that a reader has left after some bytes.
 use Rattle.std.specs.Prelude.{◌≡◌, ℕ, List, ◌++◌, Option, Some, None}
 use Rattle.status_index.specs.Content.{Content}
 
--- the new content is what the old one has behind these bytes; a reader that isn't modelled stays so
+-- The new content is the part of the old one after these bytes. A reader that isn't modelled stays so.
 abbrev pub StandsAfter : Option Content → Option Content → List ℕ → Type 0
 StandsAfter None new done = new ≡ None
 StandsAfter (Some old) None done = ⊥

@@ -1,4 +1,4 @@
--- When an entry may stand behind an index, and how a refusal goes over to a longer list.
+-- When an entry may be appended to an index, and why the refusal of a front is one of the longer list.
 use Rattle.std.proofs.Common.{◌≡◌, ◌≢◌, refl, sym, ap, ◌∙◌, ℕ, ◌+◌, ◌-◌, ◌<◌, inl, inr, Bool, true, false, not, List, [], ◌∷◌, ◌++◌, length, map, take, drop, slice_index_or, arith}
 use Rattle.std.specs.Cmp.{IsTotalOrder}
 use Rattle.std.specs.Ordering.{is_ge}
@@ -42,7 +42,7 @@ same-from_ne Sha1 Sha256 r h e = cc
 same-from_ne Sha256 Sha1 r h e = cc
 same-from_ne Sha256 Sha256 r h e = refl
 
--- x is the last of a list
+-- x is the last element of a list.
 pub record IsLast (es : List IndexEntry) (x : IndexEntry) : Type 0 where
   pub some : 0 < length es
   pub at_end : (d : IndexEntry) → slice_index_or es (length es - 1) d ≡ x
@@ -80,7 +80,7 @@ IsIndex-push es x y h last named less kind = record {
   one_kind = all_pairs_push (λ a b. id_kind a.id ≡ id_kind b.id) es y h.one_kind (λ k d l. same_kind es x h last k d l ∙ kind);
 }
 
--- the first place that may be refused is the one behind an index
+-- The first position that may be refused is the one after a valid index.
 module _ (es : List IndexEntry) (n : ℕ) (y : IndexEntry) (long : n ≡ length es) (h : IsIndex es) where
   IsFirstAt-push : IsFirstAt (es ++ y ∷ []) n
   IsFirstAt-push = (omega (arith, length_push es y), rw (take_at es (y ∷ []) n (sym long)) h)
@@ -110,7 +110,7 @@ module _ (es : List IndexEntry) (n : ℕ) (y : IndexEntry) (long : n ≡ length 
   MixedHash-push x last named less other =
       (IsFirstAt-push, named-push named, ascends-push x last less, IsOfOtherKind-push x last other)
 
--- what a front is refused for, the whole list is refused for
+-- A refusal of a front is a refusal of the whole list.
 module _ (es rest : List IndexEntry) (at : ℕ) (l : at < length es) where
   front_read : (k : ℕ) (d : IndexEntry) → k < length es → slice_index_or (es ++ rest) k d ≡ slice_index_or es k d
   front_read k d m = get_or_append_left es rest d k m
@@ -149,7 +149,7 @@ pub listed_in : (es : List IndexEntry) (k : ℕ) → k < length es → IndexEntr
 listed_in [] k h = absurd (omega arith)
 listed_in (e ∷ es) k h = e
 
--- only want of memory keeps an index from being one
+-- A valid index is refused only for memory.
 pub Memory-from_index : (es : List IndexEntry) (error : IndexError) → IsIndex es → IsRefusal es error → error ≡ Memory
 Memory-from_index es (EmptyPath at) h refused =
     let d = listed_in es at refused.0.0 in
@@ -165,7 +165,7 @@ Memory-from_index es (MixedHash at) h refused =
     ]
 Memory-from_index es Memory h refused = refl
 
--- the new entries, cut behind the one that is at turn
+-- The new entries, cut after the current one.
 pub new_entry-cut : (xs all : List NewEntry) (x : NewEntry) → map (λ (y : NewEntry). y) xs ≡ take (length xs) all → (length xs < length all) × (x ≡ slice_index_or all (length xs) x) → map new_entry all ≡ (map new_entry xs ++ new_entry x ∷ []) ++ map new_entry (drop (length xs + 1) all)
 new_entry-cut xs all x front turn =
     let before : xs ≡ take (length xs) all = sym (map-id xs) ∙ front in

@@ -1,4 +1,4 @@
--- What an index is once another entry stands at a path, or none.
+-- An index stays valid if another entry is put at a path, or if the path is removed.
 use Rattle.std.proofs.Common.{◌≡◌, refl, sym, ap, ◌∙◌, ℕ, ◌+◌, ◌-◌, ◌<◌, ◌≤◌, ◌⊎◌, inl, inr, Bool, true, false, cond, List, [], ◌∷◌, ◌++◌, length, take, drop, slice_index_or, slice_set, Option, Some, None, All, AllPairs, arith}
 use Rattle.std.specs.List.{Contains, filter, insert, prefix_len, remove_range}
 use Rattle.std.specs.Option.{option_to_list}
@@ -26,7 +26,7 @@ use Rattle.status_index.proofs.Storages.{index-insert, index-remove, index-repla
 use Rattle.status_index.proofs.Stretches.{Less-from_lt}
 use Rattle.status_index.proofs.Places.{below_is, above_is, with_entry-parts, path_between}
 
--- two lists in which all pairs are so related, where each of the first is to each of the second
+-- All pairs of two appended lists are related if those of each list are, and each of the first list with each of the second.
 AllPairs-append : (R : IndexEntry → IndexEntry → Type 0) (xs ys : List IndexEntry) → AllPairs R xs → AllPairs R ys → ((i j : ℕ) (d : IndexEntry) → i < length xs → j < length ys → R (slice_index_or xs i d) (slice_index_or ys j d)) → AllPairs R (xs ++ ys)
 AllPairs-append R xs ys front rest across i j d l m =
     let n = length-append xs ys in
@@ -38,14 +38,14 @@ AllPairs-append R xs ys front rest across i j d l m =
       ]
     ]
 
--- all ids are of one kind
+-- All ids are of this kind.
 abbrev pub AreOfKind : HashKind → List IndexEntry → Type 0
 AreOfKind kind es = All (λ e. id_kind e.id ≡ kind) es
 
 one_kind-from_all : (kind : HashKind) (es : List IndexEntry) → AreOfKind kind es → AllPairs (λ a b. id_kind a.id ≡ id_kind b.id) es
 one_kind-from_all kind es h i j d l m = h i d (omega arith) ∙ sym (h j d m)
 
--- an index has ids of any entry's kind
+-- All ids of an index are of the kind of any of its entries.
 pub all_of_kind : (es : List IndexEntry) (i : ℕ) (x : IndexEntry) → i < length es → ((d : IndexEntry) → slice_index_or es i d ≡ x) → IsIndex es → AreOfKind (id_kind x.id) es
 all_of_kind es i x l read h k d m =
     elim (cases_lt k i) [
@@ -61,7 +61,7 @@ all_of_kind es i x l read h k d m =
 less_by_path : (a b : IndexEntry) → slice_cmp nat_cmp a.path b.path ≡ Less → entry_cmp a b ≡ Less
 less_by_path a b h = rw h
 
--- what is below a path and what is above it
+-- The entries below a path, and those above it.
 module _ (es : List IndexEntry) (p : List ℕ) where
   below_less : (k : ℕ) (d : IndexEntry) → k < length (filter (is_below p) es) → slice_cmp nat_cmp (slice_index_or (filter (is_below p) es) k d).path p ≡ Less
   below_less k d l = Less-from_lt _ (filter_passes (is_below p) es k d l)
@@ -75,7 +75,7 @@ module _ (es : List IndexEntry) (p : List ℕ) where
       let b = slice_index_or (filter (is_above p) es) j d in
       less_by_path a b (nat_list_cmp_total.trans a.path p b.path (below_less i d l) (above_less j d m))
 
--- an index without a path
+-- An index without a path has ids of one kind.
 kinds-without : (es : List IndexEntry) (p : List ℕ) → IsIndex es → AllPairs (λ a b. id_kind a.id ≡ id_kind b.id) (filter (is_below p) es ++ filter (is_above p) es)
 kinds-without [] p h = λ i j d l m. absurd (omega arith)
 kinds-without (x ∷ xs) p h =
@@ -95,7 +95,7 @@ IsIndex-without es p h =
       one_kind = kinds-without es p h;
     })
 
--- an index with an entry at its path
+-- An index with an entry at its path.
 module _ (es : List IndexEntry) (e : IndexEntry) where
   across_entry : (i j : ℕ) (d : IndexEntry) → i < length (filter (is_below e.path) es ++ e ∷ []) → j < length (filter (is_above e.path) es) → entry_cmp (slice_index_or (filter (is_below e.path) es ++ e ∷ []) i d) (slice_index_or (filter (is_above e.path) es) j d) ≡ Less
   across_entry i j d l m =
@@ -119,7 +119,7 @@ module _ (es : List IndexEntry) (e : IndexEntry) where
         one_kind = one_kind-from_all (id_kind e.id) _ (All-append kind _ _ (All-push kind _ e low refl) high);
       }
 
-  -- what stands there
+  -- The index has this entry.
   itself : Contains (with_entry es e.path (Some e)) e
   itself =
       let below = filter (is_below e.path) es in
@@ -140,7 +140,7 @@ module _ (es : List IndexEntry) (e : IndexEntry) where
       let stands = itself in
       all_of_kind all stands.0 e stands.1 (λ d. get_or_default all stands.0 d e stands.1 ∙ stands.2) h
 
-  -- only want of memory keeps an entry out that an index may have
+  -- An entry that may be in the index is refused only for memory.
   pub Memory-from_with : (error : IndexError) → IsIndex (with_entry es e.path (Some e)) → IsPutRefusal es e error → error ≡ Memory
   Memory-from_with (EmptyPath at) h refused =
       let named = All-contains (λ (x : IndexEntry). 0 < length x.path) _ e h.named itself in
@@ -151,8 +151,8 @@ module _ (es : List IndexEntry) (e : IndexEntry) where
       absurd (odd.4 (All-contains (λ (x : IndexEntry). id_kind x.id ≡ id_kind e.id) _ odd.1 (all_of_its_kind h) (others odd.1 (odd.0, odd.2, odd.3))))
   Memory-from_with Memory h refused = refl
 
--- the place whose entry shows the kind of the others: the first one where entries stand below the path, else the first
--- one above it
+-- The position whose entry shows the kind of all: the first if there are entries below the path, otherwise the first one
+-- above it.
 abbrev pub ShowsKind : List IndexEntry → List ℕ → ℕ → Type 0
 ShowsKind es p k = ((0 < prefix_len (is_below p) es) × (k ≡ 0)) ⊎ ((prefix_len (is_below p) es ≡ 0) × (k ≡ prefix_len (is_up_to p) es))
 
@@ -178,14 +178,14 @@ module _ (es : List IndexEntry) (p : List ℕ) (h : IsIndex es) (x : IndexEntry)
       Contains-append_right (filter (is_below p) es ++ []) (filter (is_above p) es) x
       (first_above (omega (arith, at.1)) (ap (λ n. slice_index_or es n x) (sym at.1) ∙ read))
 
--- an entry may stand among entries of its kind
+-- The index stays valid if an entry is put among entries of its kind.
 pub IsIndex-among : (es : List IndexEntry) (e : IndexEntry) → IsIndex es → 0 < length e.path → (k : ℕ) (x : IndexEntry) → k < length es → ((d : IndexEntry) → slice_index_or es k d ≡ x) → id_kind x.id ≡ id_kind e.id → IsIndex (with_entry es e.path (Some e))
 IsIndex-among es e h named k x l read same =
     let kind = λ (y : IndexEntry). id_kind y.id ≡ id_kind e.id in
     let all : AreOfKind (id_kind e.id) es = λ i d m. all_of_kind es k x l read h i d m ∙ same in
     IsIndex-with es e h named (All-filter (is_below e.path) kind es all) (All-filter (is_above e.path) kind es all)
 
--- and where the path has all entries
+-- The index stays valid if an entry is put at a path that has all entries.
 pub IsIndex-alone : (es : List IndexEntry) (e : IndexEntry) → IsIndex es → 0 < length e.path → (k : ℕ) → length es ≤ k → ShowsKind es e.path k → IsIndex (with_entry es e.path (Some e))
 IsIndex-alone es e h named k past (inl at) = absurd (omega (arith, at.0, at.1, prefix_len-le-length (is_below e.path) es))
 IsIndex-alone es e h named k past (inr at) =
@@ -194,7 +194,7 @@ IsIndex-alone es e h named k past (inr at) =
     let none_above : filter (is_above e.path) es ≡ [] = above_is es e.path h ∙ drop_all (prefix_len (is_up_to e.path) es) es (omega (arith, at.1)) in
     IsIndex-with es e h named (All-same kind _ [] none_below (All-nil kind)) (All-same kind _ [] none_above (All-nil kind))
 
--- the stored entries, where another stands at a path of which the places are known
+-- The stored entries, if another is put at a path whose positions are known.
 module _ (b : PathStorage) (es : List Entry) (path : List ℕ) (h : IsIndex (index_entries b es)) (start stop : ℕ) (first : start ≡ prefix_len (is_below path) (index_entries b es)) (last : stop ≡ prefix_len (is_up_to path) (index_entries b es)) where
   parts : (new : Option IndexEntry) → take start (index_entries b es) ++ option_to_list new ++ drop stop (index_entries b es) ≡ with_entry (index_entries b es) path new
   parts new = rw (first, last) (sym (with_entry-parts (index_entries b es) path h new))
@@ -202,21 +202,21 @@ module _ (b : PathStorage) (es : List Entry) (path : List ℕ) (h : IsIndex (ind
   pub stored-without : index_entries b (remove_range es start stop) ≡ with_entry (index_entries b es) path None
   stored-without = index-remove b es start stop ∙ parts None
 
-  -- one whose path is what was put behind
+  -- The new entry's path was appended to the storage.
   pub stored-new : (grown : PathStorage) (e : Entry) → start ≡ stop → grown.bytes.items ≡ b.bytes.items ++ path → e.path.start ≡ length b.bytes.items → e.path.end ≡ length grown.bytes.items → index_entries grown (insert es start e) ≡ with_entry (index_entries b es) path (Some (entry_at path e))
   stored-new grown e none more from to =
       index-insert b grown es e path (entry_at path e) more from to refl h start
       ∙ ap (λ n. take start (index_entries b es) ++ entry_at path e ∷ [] ++ drop n (index_entries b es)) none
       ∙ parts (Some (entry_at path e))
 
-  -- one with the path of the first that stood there
+  -- The new entry has the path of the first one that it replaces.
   pub stored-over : (x e : Entry) → start < stop → start < length es → x ≡ slice_index_or es start x → e.path ≡ x.path → index_entries b (remove_range (slice_set es start e) (start + 1) stop) ≡ with_entry (index_entries b es) path (Some (entry_at path e))
   stored-over x e some inside read same =
       let there : path_in b x ≡ path = ap (λ (y : IndexEntry). y.path) (sym (index_entry_read b es start x inside read (index_entry b x))) ∙ path_between (index_entries b es) path h start (index_entry b x) (omega (arith, first)) (omega (arith, last)) in
       index-replace b es start stop e (entry_at path e) some inside (ap (λ p. entry_at (bytes_within b.bytes.items p.start p.end) e) same ∙ ap (λ p. entry_at p e) there)
       ∙ parts (Some (entry_at path e))
 
--- an insertion that may fail
+-- An insertion that may fail.
 pub IsIndex-either : (b : PathStorage) (ok : Bool) (xs ys : List Entry) → IsIndex (index_entries b xs) → IsIndex (index_entries b ys) → IsIndex (index_entries b (cond ok xs ys))
 IsIndex-either b true xs ys done failed = done
 IsIndex-either b false xs ys done failed = failed

@@ -1,4 +1,4 @@
--- What a storage has for an entry once more bytes stand behind its own.
+-- A storage has the same path for an entry after more bytes are appended.
 use Rattle.std.proofs.Common.{◌≡◌, refl, sym, ap, ◌∙◌, ℕ, ◌+◌, ◌-◌, ◌<◌, ◌≤◌, ◌⊎◌, inl, inr, Bool, true, false, cond, List, [], ◌∷◌, ◌++◌, length, take, drop, slice_set, All, arith}
 use Rattle.std.specs.List.{insert, remove_range, slice_range}
 use Rattle.std.proofs.lemmas.Bool.{cases_lt}
@@ -45,7 +45,7 @@ within-behind xs ys =
     ∙ ap (take (length xs + length ys - length xs)) (drop-append_seam xs ys)
     ∙ take_all (length xs + length ys - length xs) ys (omega arith)
 
--- a storage that has another's bytes, and perhaps more behind them
+-- The new storage has the bytes of the old one, and perhaps more after them.
 pub record Extends (old new : PathStorage) : Type 0 where
   pub rest : List ℕ
   pub same : new.bytes.items ≡ old.bytes.items ++ rest
@@ -64,18 +64,18 @@ entries_kept old new (e ∷ es) h named =
     let others = entries_kept old new es h (All-tail (λ (x : IndexEntry). 0 < length x.path) (index_entry old e) (index_entries old es) named) in
     rw (first, others)
 
--- an entry of an index has a path in its storage, so it keeps it
+-- An entry of an index has a path in its storage, so it keeps this path.
 pub index_entries-kept : (old new : PathStorage) (es : List Entry) → Extends old new → IsIndex (index_entries old es) → index_entries new es ≡ index_entries old es
 index_entries-kept old new es h index = entries_kept old new es h index.named
 
--- an entry whose path is what was put behind
+-- An entry whose path was appended to the storage.
 stored-push : (old new : PathStorage) (e : Entry) (path : List ℕ) (x : IndexEntry) → new.bytes.items ≡ old.bytes.items ++ path → e.path.start ≡ length old.bytes.items → e.path.end ≡ length new.bytes.items → x ≡ entry_at path e → index_entry new e ≡ x
 stored-push old new e path x grown start stop is =
     let long : e.path.end ≡ length old.bytes.items + length path = omega (arith, stop, ap length grown, length-append old.bytes.items path) in
     let stored : path_in new e ≡ path = rw (grown, start, long) (within-behind old.bytes.items path) in
     rw (stored, is)
 
--- such an entry behind the others, and at a place among them
+-- Such an entry is appended to the others, or inserted among them.
 module _ (old new : PathStorage) (es : List Entry) (e : Entry) (path : List ℕ) (x : IndexEntry) (grown : new.bytes.items ≡ old.bytes.items ++ path) (start : e.path.start ≡ length old.bytes.items) (stop : e.path.end ≡ length new.bytes.items) (is : x ≡ entry_at path e) (index : IsIndex (index_entries old es)) where
   kept-push : index_entries new es ≡ index_entries old es
   kept-push = index_entries-kept old new es (record { rest = path; same = grown }) index
@@ -88,7 +88,7 @@ module _ (old new : PathStorage) (es : List Entry) (e : Entry) (path : List ℕ)
       rw (map-append (index_entry new) (take i es) (e ∷ drop i es), ← take-map (index_entry new) i es, ← drop-map (index_entry new) i es, kept-push, stored-push old new e path x grown start stop is)
       (sym (append_assoc (take i (index_entries old es)) (x ∷ []) (drop i (index_entries old es))))
 
--- entries from a place up to another are gone, or one stands in their stead
+-- The entries from one position up to another are removed, or one entry replaces them.
 module _ (b : PathStorage) (es : List Entry) (i j : ℕ) where
   pub index-remove : index_entries b (remove_range es i j) ≡ take i (index_entries b es) ++ [] ++ drop j (index_entries b es)
   index-remove =

@@ -1,4 +1,4 @@
--- In an index, what begins with a prefix stands together, behind what is below it.
+-- In an index, the paths that start with a prefix are in a row, after the lower paths.
 use Rattle.std.proofs.Common.{◌≡◌, refl, sym, ap, subst, ◌∙◌, ℕ, ◌+◌, ◌-◌, ◌<◌, ◌≤◌, min, ◌⊎◌, ◌↔◌, inl, inr, Bool, true, false, List, [], ◌∷◌, length, take, drop, slice_index_or, nat_eq, All, arith}
 use Rattle.std.specs.List.{starts_with, prefix_len}
 use Rattle.std.specs.Ordering.{nat_cmp, ordering_then, ordering_reverse, is_lt, is_gt}
@@ -24,7 +24,7 @@ not_above Less p h = refl
 not_above Equal p h = refl
 not_above Greater p h = cc
 
--- the first bytes ascend, or are equal and the rest isn't above
+-- The first bytes ascend, or they are equal and the rest isn't greater.
 heads : (a b : ℕ) (o : Ordering) → is_gt (ordering_then (nat_cmp a b) o) ≡ false → (a < b) ⊎ ((a ≡ b) × (is_gt o ≡ false))
 heads a b o h = grind (arith, nat_tests)
 
@@ -57,7 +57,7 @@ begins_itself (c ∷ p) = begins_same c c p p refl (begins_itself p)
 lower_heads : (a b : ℕ) (o : Ordering) → is_lt (ordering_then (nat_cmp a b) o) ≡ true → (a < b) ⊎ ((a ≡ b) × (is_lt o ≡ true))
 lower_heads a b o h = grind (arith, nat_tests)
 
--- what is below a prefix doesn't begin with it
+-- A path below a prefix doesn't start with it.
 not_begun : (p x : List ℕ) → is_lt (slice_cmp nat_cmp x p) ≡ true → starts_with nat_eq x p ≡ true → ⊥
 not_begun [] [] low begun = cc
 not_begun [] (a ∷ x) low begun = cc
@@ -87,7 +87,7 @@ lower Less x y p e h low = ap is_lt (nat_list_cmp_total.trans x y p e (Less-from
 lower Equal x y p e h low = ap is_lt (nat_list_cmp_total.congr x y p e) ∙ low
 lower Greater x y p e h low = cc
 
--- the paths of an index ascend
+-- The paths of an index ascend.
 pub ascends : (es : List IndexEntry) → IsIndex es → (i j : ℕ) (d : IndexEntry) → i < j → j < length es → is_gt (slice_cmp nat_cmp (slice_index_or es i d).path (slice_index_or es j d).path) ≡ false
 ascends es h i j d l m = not_above _ _ (h.ascending i j d l m)
 
@@ -95,7 +95,7 @@ pub IsFront-below : (es : List IndexEntry) (p : List ℕ) → IsIndex es → IsF
 IsFront-below es p h i j d l m low =
     lower (slice_cmp nat_cmp (slice_index_or es i d).path (slice_index_or es j d).path) (slice_index_or es i d).path (slice_index_or es j d).path p refl (ascends es h i j d l m) low
 
--- of a front, what passes is just what stands before its end
+-- The entries that pass are exactly those before the end of the front.
 module _ (test : IndexEntry → Bool) (es : List IndexEntry) (front : IsFront test es) where
   front_before : (k m : ℕ) (d : IndexEntry) → m ≤ k → k < length es → test (slice_index_or es k d) ≡ true → test (slice_index_or es m d) ≡ true
   front_before k m d le inside passes =
@@ -127,7 +127,7 @@ module _ (test : IndexEntry → Bool) (es : List IndexEntry) (front : IsFront te
 pub cut_inside : (test : IndexEntry → Bool) (es : List IndexEntry) (n : ℕ) → length es ≡ n → min (prefix_len test es) n ≡ prefix_len test es
 cut_inside test es n all = omega (arith, prefix_len-le-length test es)
 
--- the same of stored entries
+-- The same for stored entries.
 module _ (test : IndexEntry → Bool) (b : PathStorage) (entries : List Entry) (front : IsFront test (index_entries b entries)) where
   pub stored_answer : (k : ℕ) (e : Entry) (answer : Bool) → k < length entries → e ≡ slice_index_or entries k e → answer ≡ test (index_entry b e) → (answer ≡ true) ↔ (k < prefix_len test (index_entries b entries))
   stored_answer k e answer inside same is =
@@ -139,7 +139,7 @@ module _ (test : IndexEntry → Bool) (b : PathStorage) (entries : List Entry) (
   stored_outside k outside =
       front_outside test (index_entries b entries) front k (omega (arith, length-map entries (index_entry b)))
 
--- behind what is below the prefix, what begins with it stands in front
+-- After the paths below the prefix, those that start with it come first.
 module _ (es : List IndexEntry) (p : List ℕ) (h : IsIndex es) where
   behind : (k : ℕ) (d : IndexEntry) → prefix_len (is_below p) es ≤ k → k < length es → is_below p (slice_index_or es k d) ≡ false
   behind k d le inside = front_fails (is_below p) es (IsFront-below es p h) k d le inside
@@ -179,7 +179,7 @@ module _ (es : List IndexEntry) (p : List ℕ) (h : IsIndex es) where
             rw (get_or-drop (a + n) es k d, ← place, ← get_or-drop a es (n + k) d) far;
       }
 
--- the same of the stored entries from a place on, as a slice of them shows it
+-- The same for the stored entries from a position on, as a slice has them.
 rest_all : (entries : List Entry) (a : ℕ) → take (length entries - a) (drop a entries) ≡ drop a entries
 rest_all entries a = take_all (length entries - a) (drop a entries) (omega (arith, length-drop a entries))
 
@@ -194,7 +194,7 @@ stored_under b entries p a h e =
 pub stored_count : (b : PathStorage) (entries : List Entry) (p : List ℕ) (a n : ℕ) → n ≡ prefix_len (is_under p) (index_entries b (take (length entries - a) (drop a entries))) → n ≡ prefix_len (is_under p) (drop a (index_entries b entries))
 stored_count b entries p a n e = e ∙ ap (prefix_len (is_under p)) (shown_rest b entries a)
 
--- an empty stretch has no entry
+-- If the range is empty, no path starts with the prefix.
 pub none_under : (es : List IndexEntry) (p : List ℕ) (a b : ℕ) → b ≤ a → IsStretch es p a b → All (λ e. is_under p e ≡ false) es
 none_under es p a b le h k d l =
     elim (cases_lt k a) [

@@ -1,4 +1,4 @@
--- What an index's entries say, and which lists of them are an index.
+-- The entries of an index, and which lists of entries are a valid index.
 use Rattle.std.specs.Prelude.{◌≡◌, ◌≢◌, ℕ, ◌<◌, ◌-◌, nat_le, ◌&&◌, cond, List, [], length, take, map, All, AllPairs, ⊤}
 use Rattle.std.specs.List.{slice_index_or, slice_range}
 use Rattle.std.specs.Ordering.{nat_cmp, ordering_then}
@@ -18,7 +18,7 @@ use Rattle.status_index.specs.declared.state.IndexError.TheVariants.{EmptyPath, 
 use Rattle.status_index.specs.FlagBits.{stage_of_bits}
 use Rattle.status_index.specs.BlobId.{id_kind}
 
--- what an index says of one entry
+-- An entry has a path (empty if not in its storage), stat, id, flags and mode.
 pub record IndexEntry : Type 0 where
   pub path : List ℕ
   pub stat : Stat
@@ -26,63 +26,65 @@ pub record IndexEntry : Type 0 where
   pub flags : Flags
   pub mode : Mode
 
--- the stage of an entry
+-- The stage of an entry.
 abbrev pub stage_of : IndexEntry → ℕ
 stage_of e = stage_of_bits e.flags.0
 
--- what a stored entry says, with its path
+-- A stored entry with this path.
 abbrev pub entry_at : List ℕ → Entry → IndexEntry
 entry_at path e = record { path = path; stat = e.stat; id = e.id; flags = e.flags; mode = e.mode }
 
--- the bytes from one place up to another, or none where that is no part of them
+-- The bytes from one position up to another, or none if these positions aren't a range of the bytes.
 unfoldable pub bytes_within : List ℕ → ℕ → ℕ → List ℕ
 bytes_within bytes from to = cond (nat_le from to && nat_le to (length bytes)) (slice_range bytes from to) []
 
--- the path that a storage has for an entry, or the empty one
+-- The path that a storage has for an entry, or the empty path.
 abbrev pub path_in : PathStorage → Entry → List ℕ
 path_in backing e = bytes_within backing.bytes.items e.path.start e.path.end
 
+-- A stored entry, with its path from the storage.
 abbrev pub index_entry : PathStorage → Entry → IndexEntry
 index_entry backing e = entry_at (path_in backing e) e
 
 abbrev pub index_entries : PathStorage → List Entry → List IndexEntry
 index_entries backing = map (index_entry backing)
 
--- what an entry says that is to be put into an index
+-- An entry that is to be put into an index.
 abbrev pub new_entry : NewEntry → IndexEntry
 new_entry e = record { path = bstring_bytes e.path; stat = e.stat; id = e.id; flags = e.flags; mode = e.mode }
 
--- the same of an entry whose path is lent
+-- An entry of these fields.
 abbrev pub said_of : List ℕ → Stat → ObjectId → Flags → Mode → IndexEntry
 said_of path stat id flags mode = record { path = path; stat = stat; id = id; flags = flags; mode = mode }
 
--- by the paths' bytes, a proper prefix first, and then by stage
+-- Compares by the bytes of the paths, with a proper prefix first, and then by stage.
 abbrev pub entry_cmp : IndexEntry → IndexEntry → Ordering
 entry_cmp a b = ordering_then (slice_cmp nat_cmp a.path b.path) (nat_cmp (stage_of a) (stage_of b))
 
--- no path is empty, the entries ascend strictly, and their ids are of one kind
+-- No path is empty, entries ascend strictly by path bytes, then stage, and ids are of one kind.
 pub record IsIndex (es : List IndexEntry) : Type 0 where
   pub named : All (λ e. 0 < length e.path) es
   pub ascending : AllPairs (λ a b. entry_cmp a b ≡ Less) es
   pub one_kind : AllPairs (λ a b. id_kind a.id ≡ id_kind b.id) es
 
--- the entry at a place has an empty path
+-- The entry at this position has an empty path.
 abbrev pub IsUnnamed : List IndexEntry → ℕ → Type 0
 IsUnnamed es at = (d : IndexEntry) → (slice_index_or es at d).path ≡ []
 
--- the entry at a place isn't above its predecessor
+-- The entry at this position isn't greater than its predecessor.
 abbrev pub IsOutOfOrder : List IndexEntry → ℕ → Type 0
 IsOutOfOrder es at = (0 < at) × ((d : IndexEntry) → entry_cmp (slice_index_or es (at - 1) d) (slice_index_or es at d) ≢ Less)
 
--- the id at a place is of another kind than that of entry 0
+-- The id at this position is of another kind than that of entry 0.
 abbrev pub IsOfOtherKind : List IndexEntry → ℕ → Type 0
 IsOfOtherKind es at = (d : IndexEntry) → id_kind (slice_index_or es at d).id ≢ id_kind (slice_index_or es 0 d).id
 
--- the place is in the list, and the entries before it are an index
+-- The position is in the list, and the entries before it are a valid index.
 abbrev pub IsFirstAt : List IndexEntry → ℕ → Type 0
 IsFirstAt es at = (at < length es) × IsIndex (take at es)
 
--- when a list of entries is refused: at the lowest place at which it is no index, and there for the first reason
+-- A list is refused at its lowest invalid position: empty path, then order, then mixed kind of id.
+-- A refusal for memory claims nothing of the list.
 abbrev pub IsRefusal : List IndexEntry → IndexError → Type 0
 IsRefusal es (EmptyPath at) = IsFirstAt es at × IsUnnamed es at
 IsRefusal es (NotAscending at) = IsFirstAt es at × (IsUnnamed es at → ⊥) × IsOutOfOrder es at

@@ -7,7 +7,7 @@ use Rattle.status_index.specs.declared.id.HashKind.TheVariants.{Sha1, Sha256}
 use Rattle.status_index.specs.declared.hash.Hasher.{Hasher}
 use Rattle.status_index.specs.declared.hash.Hasher.TheVariants.{Sha1 as Sha1Hasher, Sha256 as Sha256Hasher}
 
--- the hasher is of this kind, and was fed these bytes
+-- The hasher is of this kind, and was updated with exactly these bytes.
 abbrev pub HoldsMessage : Hasher → HashKind → List ℕ → Type 0
 HoldsMessage (Sha1Hasher h) Sha1 m = Holds h m
 HoldsMessage (Sha256Hasher h) Sha256 m = Holds256 h m

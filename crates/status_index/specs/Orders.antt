@@ -1,4 +1,5 @@
 -- The orders of the public types.
+-- Times by seconds, then nanoseconds; stats by fields; ids by kind, then bytes; flags and modes by bits.
 use Rattle.std.specs.Prelude.{ℕ}
 use Rattle.std.specs.Ordering.{nat_cmp, ordering_then}
 use Rattle.std.specs.Cmp.Lexicographic.{slice_cmp}
@@ -14,14 +15,14 @@ use Rattle.status_index.specs.declared.stat.Time.{Time}
 use Rattle.status_index.specs.BlobId.{id_kind, id_bytes}
 use Rattle.status_index.specs.Mode.{mode_bits}
 
--- by seconds, and then by nanoseconds
+-- By seconds, and then by nanoseconds.
 abbrev pub moment_cmp : Moment → Moment → Ordering
 moment_cmp a b = ordering_then (nat_cmp a.secs b.secs) (nat_cmp a.nsecs b.nsecs)
 
 abbrev pub time_cmp : Time → Time → Ordering
 time_cmp a b = ordering_then (nat_cmp a.secs b.secs) (nat_cmp a.nsecs b.nsecs)
 
--- by mtime, ctime, device, inode, owner, group and size, the first that differs deciding
+-- By the first that differs of mtime, ctime, device, inode, owner, group and size.
 abbrev pub stat_cmp : Stat → Stat → Ordering
 stat_cmp a b =
     ordering_then (time_cmp a.mtime b.mtime)
@@ -32,19 +33,19 @@ stat_cmp a b =
     (ordering_then (nat_cmp a.gid b.gid)
     (nat_cmp a.size b.size))))))
 
--- SHA-1 before SHA-256
+-- SHA-1 is before SHA-256.
 abbrev pub kind_rank : HashKind → ℕ
 kind_rank Sha1 = 0
 kind_rank Sha256 = 1
 
--- by kind, and then by bytes
+-- By kind, and then by bytes.
 abbrev pub id_cmp : ObjectId → ObjectId → Ordering
 id_cmp a b = ordering_then (nat_cmp (kind_rank (id_kind a)) (kind_rank (id_kind b))) (slice_cmp nat_cmp (id_bytes a) (id_bytes b))
 
--- by the bits, as a number
+-- By the bits, as a number.
 abbrev pub flags_cmp : Flags → Flags → Ordering
 flags_cmp a b = nat_cmp a.0 b.0
 
--- by git's bits
+-- By git's bits, as a number.
 abbrev pub mode_cmp : Mode → Mode → Ordering
 mode_cmp a b = nat_cmp (mode_bits a) (mode_bits b)

@@ -1,4 +1,4 @@
--- Putting an entry into an index, and taking a path out.
+-- Putting an entry into an index, and removing a path.
 use Rattle.std.specs.Prelude.{◌≡◌, ◌≢◌, ℕ, Bool, List, [], ◌++◌, length, Option, Some, None, filter, ⊤}
 use Rattle.std.specs.List.{Any}
 use Rattle.std.specs.Option.{option_to_list}
@@ -10,28 +10,28 @@ use Rattle.status_index.specs.BlobId.{id_kind}
 use Rattle.status_index.specs.Entries.{IndexEntry}
 use Rattle.status_index.specs.Stretch.{is_below}
 
--- whether an entry's path is above a path
+-- Whether an entry's path is greater than this path.
 abbrev pub is_above : List ℕ → IndexEntry → Bool
 is_above path e = is_lt (slice_cmp nat_cmp path e.path)
 
--- an index in which a path has this entry, or none: the entries of lower paths, this one, and those of higher paths
+-- An index in which a path has this entry, or none: the entries of lower paths, this one, and those of greater paths.
 abbrev pub with_entry : List IndexEntry → List ℕ → Option IndexEntry → List IndexEntry
 with_entry es path new = filter (is_below path) es ++ option_to_list new ++ filter (is_above path) es
 
--- an index in which an entry is the only one of its path
+-- A put entry replaces all of its path; refused for an empty path or a mixed kind of id.
 abbrev pub with_put : List IndexEntry → IndexEntry → List IndexEntry
 with_put es e = with_entry es e.path (Some e)
 
--- how many entries have lower paths: the place of a path's first entry
+-- How many entries have lower paths. This is the position of the path's first entry.
 abbrev pub place_of : List IndexEntry → List ℕ → ℕ
 place_of es path = length (filter (is_below path) es)
 
--- an entry of another path has an id of another kind than this entry
+-- An entry of another path has an id of another kind than this entry.
 abbrev pub IsOddKind : List IndexEntry → IndexEntry → Type 0
 IsOddKind es e = Any (λ x. id_kind x.id ≢ id_kind e.id) (with_entry es e.path None)
 
--- why an entry isn't put at its path: the path is empty, or an entry of another path has an id of another kind; `at` is
--- the place at which it would stand
+-- Why an entry isn't put: its path is empty, or otherwise an entry of another path has an id of another kind. `at` is the
+-- position that the entry would have. A refusal for memory claims nothing of the entry.
 abbrev pub IsPutRefusal : List IndexEntry → IndexEntry → IndexError → Type 0
 IsPutRefusal es e (EmptyPath at) = (at ≡ place_of es e.path) × (e.path ≡ [])
 IsPutRefusal es e (NotAscending at) = ⊥

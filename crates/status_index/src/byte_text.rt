@@ -1,4 +1,4 @@
-//! Bytes that are text by convention, owned.
+//! Owned bytes that are text by convention.
 
 ghost use Rattle.std.specs.Prelude.{◌≡◌, IfOk};
 
@@ -7,7 +7,7 @@ use std::alloc::{AllocError, Global};
 use std::fmt;
 use std::marker::Model;
 
-/// Bytes that are text by convention, as a path or a message: what a clause compares is the bytes alone.
+/// Bytes that are text by convention, such as a path or a message. Clauses compare only the bytes.
 #[derive(Drop)]
 pub struct ByteText {
     bytes: Vec<u8>,
@@ -22,14 +22,18 @@ impl Model for ByteText {
 }
 
 impl ByteText {
-    /// The text of these bytes, with no copy.
+    /// Returns a text of these bytes, without a copy.
     pub fn new(bytes: Vec<u8>) -> ByteText
         ensures { result ≡ bytes.items }
     {
         ByteText { bytes }
     }
 
-    /// A copy of these bytes.
+    /// Returns a text that copies these bytes.
+    ///
+    /// # Errors
+    ///
+    /// Returns an error if an allocation fails.
     pub fn from_slice(alloc: Global, bytes: &[u8]) -> Result<ByteText, AllocError>
         ensures { IfOk result (λ t. t ≡ bytes.now) }
     {
@@ -37,7 +41,7 @@ impl ByteText {
         Ok(ByteText { bytes })
     }
 
-    /// The bytes.
+    /// Returns the bytes.
     pub fn as_bytes(&self) -> &[u8]
         ensures { result.now ≡ self.now }
     {

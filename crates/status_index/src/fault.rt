@@ -1,29 +1,29 @@
-//! Why a worktree doesn't answer.
+//! The faults of a worktree.
 
 use std::alloc::{AllocError, AllocFailed};
 use std::error::Error;
 use std::fmt;
 
-/// Why a worktree doesn't answer. The names are those of `std::io::ErrorKind` where it has one.
+/// Why a call of a worktree fails. The names are those of `std::io::ErrorKind`, if it has the same kind.
 #[derive(Clone, Copy, Debug, PartialEq, Eq)]
 pub enum Fault {
     /// Nothing is there.
     NotFound,
-    /// A directory on the way is something else.
+    /// A component above the path isn't a directory.
     NotADirectory,
     /// The system refuses access.
     PermissionDenied,
-    /// The call was interrupted. It isn't tried again.
+    /// The call was interrupted. It isn't retried.
     Interrupted,
-    /// A path isn't UTF-8, where the system's paths have to be.
+    /// A path isn't UTF-8, and the system's paths have to be.
     IllformedUtf8,
     /// A file ended before its stated length.
     UnexpectedEnd,
     /// A path has a component that is empty, `.` or `..`.
     NotNormal,
-    /// Memory ran out.
+    /// An allocation failed.
     Memory,
-    /// Another fault, by a number of the worktree's own.
+    /// Another fault, with a number that the worktree defines.
     Other(u32),
 }
 

@@ -1,26 +1,25 @@
-//! What an index says of an entry beside its content.
+//! The flags of an index entry, with its stage.
 
 ghost use Rattle.std.specs.Prelude.{◌≡◌};
 ghost use Rattle.status_index.specs.FlagBits.{bits_of_stage, stage_of_bits};
 
 use bitflags::{Flag, bitflag_items};
 
-/// What an index says of an entry beside its content: a set of flags, and the stage in two bits (this library's own
-/// places of bits).
+/// The flags of an index entry, with its stage in two bits. The positions of the bits are this library's own.
 #[derive(Clone, Copy, Debug, Default, PartialEq, Eq, PartialOrd, Ord)]
 pub struct Flags(u32);
 
 bitflag_items! {
     impl Flags: u32 {
-        /// The file is known to be as the index has it.
+        /// The file is known to match its entry.
         const UPTODATE = 0x1;
-        /// The file isn't wanted in the worktree.
+        /// The file isn't to be in the worktree (sparse checkout).
         const SKIP_WORKTREE = 0x2;
-        /// A monitor of the file system vouches for the file.
+        /// A file system monitor states that the file is unchanged.
         const FSMONITOR_VALID = 0x4;
-        /// Only the path was added so far.
+        /// Only the path was added so far (`git add --intent-to-add`).
         const INTENT_TO_ADD = 0x8;
-        /// The user vouches for the file.
+        /// The user states that the file is unchanged.
         const ASSUME_VALID = 0x10;
         /// The two bits of the stage.
         const STAGE = 0x3000;
@@ -52,15 +51,15 @@ impl bitflags::Flags for Flags {
 }
 
 impl Flags {
-    /// The flag that puts an entry at this stage: 0 for a plain entry, 1 to 3 for the sides of a conflict. Of a greater
-    /// number the two low bits are taken.
+    /// Returns flags with only this stage: 0 for a plain entry, 1 to 3 for the sides of a conflict. Of a greater number
+    /// only the two low bits count.
     pub fn from_stage(stage: u32) -> Flags
         ensures { result.0 ≡ bits_of_stage stage }
     {
         Flags((stage % 4) * 0x1000)
     }
 
-    /// The stage: 0 for a plain entry, 1 to 3 for the sides of a conflict.
+    /// Returns the stage: 0 for a plain entry, 1 to 3 for the sides of a conflict.
     pub fn stage(self) -> u32
         ensures { result ≡ stage_of_bits self.0 }
     {

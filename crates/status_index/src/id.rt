@@ -1,21 +1,21 @@
-//! Ids of objects.
+//! The ids of objects.
 
 ghost use Rattle.std.specs.Prelude.{◌≡◌, ◌↔◌, IsTrue, []};
 ghost use Rattle.status_index.specs.BlobId.{id_kind, id_bytes, id_from_bytes, null_id, blob_id, is_empty_blob};
 
-// SHA-1 of the empty blob.
+// The SHA-1 id of the empty blob.
 const EMPTY_SHA1: [u8; 20] = [
     0xe6, 0x9d, 0xe2, 0x9b, 0xb2, 0xd1, 0xd6, 0x43, 0x4b, 0x8b, 0x29, 0xae, 0x77, 0x5a, 0xd8, 0xc2,
     0xe4, 0x8c, 0x53, 0x91,
 ];
 
-// SHA-256 of the empty blob.
+// The SHA-256 id of the empty blob.
 const EMPTY_SHA256: [u8; 32] = [
     0x47, 0x3a, 0x0f, 0x4c, 0x3b, 0xe8, 0xa9, 0x36, 0x81, 0xa2, 0x67, 0xe3, 0xb1, 0xe9, 0xa7, 0xdc,
     0xda, 0x11, 0x85, 0x43, 0x6f, 0xe1, 0x41, 0xf7, 0x74, 0x91, 0x20, 0xa3, 0x03, 0x72, 0x18, 0x13,
 ];
 
-/// How ids are made: the digests of FIPS 180-4.
+/// The digest that makes ids, from FIPS 180-4.
 #[derive(Clone, Copy, Debug, PartialEq, Eq, PartialOrd, Ord, Hash)]
 pub enum HashKind {
     /// SHA-1, of 20 bytes.
@@ -24,7 +24,7 @@ pub enum HashKind {
     Sha256,
 }
 
-/// The id of an object: its digest, ordered by kind and then by bytes.
+/// The id of an object: its digest. Ids are ordered by kind, and then by bytes.
 #[derive(Clone, Copy, Debug, PartialEq, Eq, PartialOrd, Ord)]
 pub enum ObjectId {
     /// A SHA-1 digest.
@@ -34,7 +34,8 @@ pub enum ObjectId {
 }
 
 impl ObjectId {
-    /// The id of these bytes, by their number: 20 for SHA-1, 32 for SHA-256. None for any other number.
+    /// Returns the id of these bytes: a SHA-1 id for 20 bytes, a SHA-256 id for 32. Returns None for any other number
+    /// of bytes.
     pub fn from_bytes(bytes: &[u8]) -> Option<ObjectId>
         ensures { result ≡ id_from_bytes bytes.now }
     {
@@ -47,7 +48,7 @@ impl ObjectId {
         }
     }
 
-    /// How the id was made.
+    /// Returns the kind of digest.
     pub fn kind(&self) -> HashKind
         ensures { result ≡ id_kind self.now }
     {
@@ -57,7 +58,7 @@ impl ObjectId {
         }
     }
 
-    /// The digest's bytes.
+    /// Returns the digest's bytes.
     pub fn as_bytes(&self) -> &[u8]
         ensures { result.now ≡ id_bytes self.now }
     {
@@ -67,7 +68,7 @@ impl ObjectId {
         }
     }
 
-    /// The id of all zero bytes, which is no object's.
+    /// Returns the id of all zero bytes, which no object has.
     pub fn null(kind: HashKind) -> ObjectId
         ensures { result ≡ null_id kind }
     {
@@ -77,14 +78,14 @@ impl ObjectId {
         }
     }
 
-    /// Whether all bytes are zero.
+    /// Returns whether all bytes are zero.
     pub fn is_null(&self) -> bool
         ensures { IsTrue result ↔ (self.now ≡ null_id (id_kind self.now)) }
     {
         *self == ObjectId::null(self.kind())
     }
 
-    /// The id of the blob with no bytes. It is a constant: nothing is hashed.
+    /// Returns the id of the blob without bytes. It is a constant, so nothing is hashed.
     #[tactic(auto, using(crate::proofs::EmptyBlob::empty_ids))]
     pub fn empty_blob(kind: HashKind) -> ObjectId
         ensures { result ≡ blob_id kind [] }
@@ -95,7 +96,7 @@ impl ObjectId {
         }
     }
 
-    /// Whether it is the id of the blob with no bytes, of its own kind.
+    /// Returns whether this is the id of the blob without bytes, for its own kind of digest.
     pub fn is_empty_blob(&self) -> bool
         ensures { result ≡ is_empty_blob self.now }
     {

@@ -1,9 +1,9 @@
 //! A git index in memory: entries with their stats, modes, flags and ids, and the search for a path.
 //!
-//! Read `entry` first, with `stat`, `mode`, `flags` and `id`, of which an entry is made. Then `state`, the index, which
-//! finds a path by `path_probe` and `probe`. `metadata`, `fault` and `reader` are what a worktree reports of a file,
-//! `reading` reads it whole, and `hash` computes the id of its bytes. `orders` compares these values, and `byte_text`
-//! is a text in an error.
+//! Read `entry` first, with `stat`, `mode`, `flags` and `id`, which are its fields. Then read `state`, the index, which
+//! finds a path by `path_probe` and `probe`. `metadata` is what a worktree reports of a file, `fault` is why it fails,
+//! and `reader` is an open file. `reading` reads a file to its end, and `hash` computes the id of its bytes. `orders`
+//! states how these values are compared, and `byte_text` is a text in an error.
 #![tactic(auto)]
 
 pub mod byte_text;

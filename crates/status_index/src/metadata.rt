@@ -1,4 +1,4 @@
-//! What a worktree reports of a node.
+//! The metadata that a worktree reports of a node.
 
 ghost use Rattle.std.specs.Prelude.{◌≡◌};
 ghost use Rattle.std.specs.Result.{result_ok};
@@ -7,7 +7,7 @@ ghost use Rattle.status_index.specs.NodeStat.{stat_of};
 use crate::stat::{Stat, Time};
 use thiserror::Error;
 
-/// What a node of a worktree is.
+/// The kind of a node of a worktree.
 #[derive(Clone, Copy, Debug, PartialEq, Eq)]
 pub enum NodeKind {
     /// A regular file.
@@ -16,22 +16,22 @@ pub enum NodeKind {
     Link,
     /// A directory.
     Directory,
-    /// Anything else, as a pipe or a device.
+    /// Anything else, such as a pipe or a device.
     Other,
 }
 
-/// What `lstat` reports of a node.
+/// The metadata that `lstat` reports of a node.
 #[derive(Clone, Copy, Debug, PartialEq, Eq)]
 pub struct Metadata {
-    /// What the node is.
+    /// The kind of the node.
     pub kind: NodeKind,
     /// The length in bytes.
     pub len: u64,
     /// Whether a regular file's owner may execute it.
     pub executable: bool,
-    /// When the content was last changed. None where that is unknown or doesn't fit.
+    /// The time of the content's last change. None if it is unknown or doesn't fit.
     pub mtime: Option<Time>,
-    /// When the metadata was last changed. None where that is unknown or doesn't fit.
+    /// The time of the metadata's last change. None if it is unknown or doesn't fit.
     pub ctime: Option<Time>,
     /// The device.
     pub dev: u32,
@@ -43,16 +43,16 @@ pub struct Metadata {
     pub gid: u32,
 }
 
-/// A stamp of a node is not known.
+/// A time of a node is unknown.
 #[derive(Clone, Copy, Debug, PartialEq, Eq, Error)]
 #[error("The clock was off when reading file related metadata after updating a file on disk")]
 pub struct TimeError;
 
 impl Metadata {
-    /// The stat that an index keeps of this node. Its size is the low 32 bits of the length.
+    /// Returns the stat that an index keeps of this node. Its size is the low 32 bits of the length.
     ///
     /// # Errors
-    /// Where a stamp is not known.
+    /// Returns an error if `mtime` or `ctime` is unknown.
     pub fn to_stat(&self) -> Result<Stat, TimeError>
         ensures { result_ok result ≡ stat_of self.now }
     {

@@ -1,11 +1,11 @@
-//! What kind of thing an index entry is.
+//! The mode of an index entry.
 
 ghost use Rattle.std.specs.Prelude.{◌≡◌};
 ghost use Rattle.status_index.specs.Mode.{new_mode, mode_change, mode_bits, mode_from_bits, is_submodule, entry_kind_of};
 
 use crate::metadata::{Metadata, NodeKind};
 
-/// What kind of thing an index entry is: git's five modes, in the order of their bits.
+/// The mode of an index entry: one of git's five modes, in the order of their bits.
 #[derive(Clone, Copy, Debug, PartialEq, Eq, PartialOrd, Ord)]
 pub enum Mode {
     /// A directory of a sparse index, 040000.
@@ -20,7 +20,7 @@ pub enum Mode {
     Commit,
 }
 
-/// What an entry is in a tree object.
+/// The kind of an entry in a tree object.
 #[derive(Clone, Copy, Debug, PartialEq, Eq, PartialOrd, Ord, Hash)]
 pub enum EntryKind {
     /// A directory.
@@ -35,19 +35,20 @@ pub enum EntryKind {
     Commit,
 }
 
-/// How an entry's mode has to change to be that of a node.
+/// The change of an entry's mode that makes it a node's mode.
 #[derive(Clone, Copy, Debug, PartialEq, Eq)]
 pub enum Change {
     /// The node is of another type.
     TypeChange {
-        /// The mode that the node has.
+        /// The node's mode.
         new_mode: Mode,
     },
-    /// The node is a file as the entry is, and only its executability differs.
+    /// Node and entry are both files, and only their executability differs.
     ExecutableBit,
 }
 
-/// The mode that an entry for this node has.
+/// Returns the mode of an entry for this node. `executable_bit` is whether executability counts (git's
+/// `core.fileMode`).
 pub fn mode_of_node(node: &Metadata, executable_bit: bool) -> Mode
     ensures { result ≡ new_mode executable_bit node.now.kind node.now.executable }
 {
@@ -60,7 +61,7 @@ pub fn mode_of_node(node: &Metadata, executable_bit: bool) -> Mode
 }
 
 impl Mode {
-    /// The mode's bits, as in git's index format.
+    /// Returns the mode's bits, as in git's index format.
     pub fn bits(self) -> u32
         ensures { result ≡ mode_bits self }
     {
@@ -73,7 +74,7 @@ impl Mode {
         }
     }
 
-    /// The mode of these bits. None for all but the five modes.
+    /// Returns the mode that has these bits, or None if none of the five modes has them.
     pub fn from_bits(bits: u32) -> Option<Mode>
         ensures { result ≡ mode_from_bits bits }
     {
@@ -87,14 +88,14 @@ impl Mode {
         }
     }
 
-    /// Whether the entry is a submodule's commit.
+    /// Returns whether the entry is a submodule's commit.
     pub fn is_submodule(self) -> bool
         ensures { result ≡ is_submodule self }
     {
         self == Mode::Commit
     }
 
-    /// What the entry is in a tree object. Each of the five modes is something there.
+    /// Returns the kind of the entry in a tree object. It is never None, since each of the five modes has a kind.
     pub fn to_tree_entry_mode(&self) -> Option<EntryKind>
         ensures { result ≡ entry_kind_of self.now }
     {
@@ -107,8 +108,9 @@ impl Mode {
         })
     }
 
-    /// How the mode has to change to be that of `node`, or None where it fits. `symlink` says whether the file system
-    /// has symbolic links (git's `core.symlinks`), `executable_bit` whether executability counts (`core.fileMode`).
+    /// Returns the change that makes this the mode of `node`, or None if the mode fits. `symlink` is whether the file
+    /// system has symbolic links (git's `core.symlinks`). `executable_bit` is whether executability counts
+    /// (`core.fileMode`).
     pub fn change_to_match_fs(
         self,
         node: &Metadata,

@@ -1,4 +1,4 @@
-//! The orders of the public types: the function's contract is a law, and it does nothing.
+//! The orders of the public types. The function does nothing: its contract states the orders.
 
 ghost use Rattle.std.specs.Prelude.{◌≡◌};
 ghost use Rattle.status_index.specs.Orders.{moment_cmp, time_cmp, stat_cmp, id_cmp, flags_cmp, mode_cmp};
@@ -8,8 +8,13 @@ use crate::id::ObjectId;
 use crate::mode::Mode;
 use crate::stat::{Moment, Stat, Time};
 
-/// What each order compares: moments and times their seconds, and then their nanoseconds; stats their fields, the first that
-/// differs deciding; ids their kinds, and then their bytes; flags their bits, as numbers; modes git's bits.
+/// States the order of each type:
+///
+/// - moments and times: by seconds, and then by nanoseconds
+/// - stats: by the first field that differs
+/// - ids: by kind, and then by bytes
+/// - flags: by their bits, as a number
+/// - modes: by git's bits
 pub fn order_laws()
     ensures moments { (a b : Moment) → ⟦<Moment as Ord>⟧.cmp a b ≡ moment_cmp a b }
     ensures times { (a b : Time) → ⟦<Time as Ord>⟧.cmp a b ≡ time_cmp a b }

@@ -1,4 +1,4 @@
-//! Questions about the paths of an index's entries, and how many paths were compared.
+//! Searches an index by questions about its paths, and counts the paths that it compares.
 
 ghost use Rattle.std.specs.Prelude.{◌≡◌, ℕ, ◌<◌, ◌≤◌, ◌^◌, length};
 ghost use Rattle.std.specs.List.{prefix_len};
@@ -8,18 +8,18 @@ ghost use Rattle.status_index.specs.Stretch.{meets, IsFront};
 use crate::entry::{Entry, PathStorage};
 use crate::probe::{Probe, search};
 
-/// What is asked of a path.
+/// A question about a path and a prefix.
 #[derive(Clone, Copy)]
 pub(crate) enum Question {
-    /// Whether it is below the prefix.
+    /// Whether the path is less than the prefix.
     Below,
-    /// Whether it begins with the prefix.
+    /// Whether the path starts with the prefix.
     Under,
-    /// Whether it is the prefix or below it.
+    /// Whether the path is the prefix or less than it.
     UpTo,
 }
 
-/// Entries of which those that meet a question stand in front.
+/// Entries of which those that meet a question come first.
 #[derive(Drop)]
 struct PathProbe<'a> {
     entries: &'a [Entry],
@@ -44,7 +44,7 @@ impl<'a> Probe for PathProbe<'a> {
     }
 }
 
-/// The answer to the question of this entry, by one comparison.
+/// Returns whether this entry meets the question, by one comparison.
 fn is_met(question: Question, entry: &Entry, backing: &PathStorage, prefix: &[u8]) -> bool
     ensures { result ≡ meets question prefix.now (index_entry backing.now entry.now) }
 {
@@ -56,7 +56,8 @@ fn is_met(question: Question, entry: &Entry, backing: &PathStorage, prefix: &[u8
     }
 }
 
-/// How many entries meet a question, where these stand in front, and how many paths were compared.
+/// Returns how many entries meet a question, and how many paths were compared. The entries that meet it must come
+/// first.
 pub(crate) fn front_len(
     entries: &[Entry],
     backing: &PathStorage,

@@ -1,4 +1,4 @@
-//! Bytes that come in pieces.
+//! Readers of bytes.
 
 ghost use Rattle.std.specs.Prelude.{Option, None, ℕ};
 ghost use Rattle.status_index.specs.Content.{Content, ReadFits, ReadKeeps, CountsRead};
@@ -7,15 +7,15 @@ use crate::fault::Fault;
 
 /// A reader whose faults are a worktree's.
 pub trait ReadBytes: Drop {
-    /// What is left to read: bytes, then the end or a fault. None for a reader that isn't modelled.
+    /// The content that is left to read: bytes, then the end or a fault. None for a reader that isn't modelled.
     ghost left: { Self → Option Content } = { λ _. None };
 
-    /// How many bytes it counted. None for a reader that doesn't count.
+    /// How many bytes the reader counted. None for a reader that doesn't count.
     ghost taken: { Self → Option ℕ } = { λ _. None };
 
-    /// Reads bytes into the front of `buffer` and answers how many. Fewer than there is room for is
-    /// no end; 0 is the end where `buffer` has room. After a fault the reader stands where it
-    /// stood.
+    /// Reads bytes into the front of `buffer`, and returns how many. Fewer bytes than `buffer` holds
+    /// don't mean the end. 0 means the end if `buffer` isn't empty. A fault leaves the reader's
+    /// position unchanged.
     fn read_bytes(&mut self, buffer: &mut [u8]) -> Result<usize, Fault>
         ensures fits { ReadFits result buffer.new }
         ensures bytes { ReadKeeps (left self.old) (left self.new) result buffer.new }

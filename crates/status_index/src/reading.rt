@@ -1,4 +1,4 @@
-//! Reading to the end.
+//! Reads to the end.
 
 ghost use Rattle.std.specs.Prelude.{◌≡◌, ◌-◌, length, take, OnOk};
 ghost use Rattle.status_index.specs.Content.{CountsMore};
@@ -7,18 +7,19 @@ ghost use Rattle.status_index.specs.ReadAll.{ReadsAll};
 use crate::fault::Fault;
 use crate::reader::ReadBytes;
 
-// How many bytes one read has room for.
+// How many bytes one read returns at most.
 pub(crate) const CHUNK_LEN: usize = 4096;
 
-// How many bytes one read has room for where there are more than a chunk. It is not taken for all,
-// since a chunk is filled with zeros before it is read into.
+// The same if there are more bytes than `CHUNK_LEN`. It isn't used for fewer, since a chunk is
+// filled with zeros before it is read into.
 pub(crate) const LARGE_CHUNK_LEN: usize = 1 << 16;
 
-/// Appends all that the reader has left.
+/// Reads to the end, and appends all bytes to `into`.
 ///
 /// # Errors
 ///
-/// The reader's fault, and `Memory`. No read is tried again, and the bytes that came before stay appended.
+/// Returns the reader's fault, or `Memory` if an allocation fails. No read is retried, and the bytes that were read
+/// before stay appended.
 pub fn read_all<R: ReadBytes>(reader: &mut R, into: &mut Vec<u8>) -> Result<(), Fault>
     ensures all { ReadsAll (R.left reader.old) (R.left reader.new) into.old.items into.new.items result }
     ensures kept { take (length into.old.items) into.new.items ≡ into.old.items }

@@ -1,9 +1,9 @@
-//! What an index keeps of a file's metadata, and when it may be trusted.
+//! The part of a file's metadata that an index keeps, and whether it may hide a change.
 
 ghost use Rattle.std.specs.Prelude.{◌≡◌};
 ghost use Rattle.status_index.specs.Stat.{time_agrees, owner_agrees, stat_agrees, is_racy};
 
-/// A stamp of a file: seconds since 1970 and nanoseconds.
+/// A time of a file: seconds since 1970 and nanoseconds. Times are ordered by seconds, and then by nanoseconds.
 #[derive(Clone, Copy, Debug, Default, PartialEq, Eq, PartialOrd, Ord)]
 pub struct Time {
     /// The seconds since 1970.
@@ -12,7 +12,7 @@ pub struct Time {
     pub nsecs: u32,
 }
 
-/// A moment, ordered by seconds and then by nanoseconds.
+/// A moment of the clock. Moments are ordered by seconds, and then by nanoseconds.
 #[derive(Clone, Copy, Debug, Default, PartialEq, Eq, PartialOrd, Ord)]
 pub struct Moment {
     /// The seconds since 1970.
@@ -21,12 +21,12 @@ pub struct Moment {
     pub nsecs: u32,
 }
 
-/// What an index entry keeps of a file's metadata (git's index format, `struct stat` data).
+/// The part of a file's metadata that an index entry keeps (git's index format, `struct stat` data).
 #[derive(Clone, Copy, Debug, Default, PartialEq, Eq, PartialOrd, Ord)]
 pub struct Stat {
-    /// When the content was last changed.
+    /// The time of the content's last change.
     pub mtime: Time,
-    /// When the metadata was last changed.
+    /// The time of the metadata's last change.
     pub ctime: Time,
     /// The device.
     pub dev: u32,
@@ -36,7 +36,7 @@ pub struct Stat {
     pub uid: u32,
     /// The owner's group.
     pub gid: u32,
-    /// The low 32 bits of the length. 0 at a content that isn't empty marks an entry that has to be compared.
+    /// The low 32 bits of the length. If it is 0 and the content isn't empty, the entry's content has to be compared.
     pub size: u32,
 }
 
@@ -45,7 +45,7 @@ pub struct Stat {
 pub struct Options {
     /// Whether `ctime` counts.
     pub trust_ctime: bool,
-    /// Whether owner, inode and, where `use_nsec` is on, nanoseconds count.
+    /// Whether owner and inode count and, if `use_nsec` is on, nanoseconds.
     pub check_stat: bool,
     /// Whether nanoseconds count, together with `check_stat`.
     pub use_nsec: bool,
@@ -69,14 +69,14 @@ impl Default for Options {
     }
 }
 
-/// Equal seconds, and equal nanoseconds where these count.
+/// Returns whether the seconds are equal, and the nanoseconds if they count.
 fn times_agree(a: Time, b: Time, options: Options) -> bool
     ensures { result ≡ time_agrees options a b }
 {
     a.secs == b.secs && (!(options.check_stat && options.use_nsec) || a.nsecs == b.nsecs)
 }
 
-/// Equal inode, group and owner, and equal device where that counts.
+/// Returns whether inode, group and owner are equal, and the device if it counts.
 fn owners_agree(a: &Stat, b: &Stat, options: Options) -> bool
     ensures { result ≡ owner_agrees options a.now b.now }
 {
@@ -84,7 +84,7 @@ fn owners_agree(a: &Stat, b: &Stat, options: Options) -> bool
 }
 
 impl Stat {
-    /// Whether the two stats agree in all that `options` counts.
+    /// Returns whether the two stats agree in all parts that count by `options`.
     pub fn matches(&self, other: &Stat, options: Options) -> bool
         ensures { result ≡ stat_agrees options self.now other.now }
     {
@@ -94,7 +94,7 @@ impl Stat {
             && (!options.check_stat || owners_agree(self, other, options))
     }
 
-    /// Whether a write in the same moment as `timestamp` or after it may hide behind this stat ("racy git").
+    /// Returns whether this stat may hide a write at the moment `timestamp` or after it ("racy git").
     pub fn is_racy(&self, timestamp: Moment, options: Options) -> bool
         ensures { result ≡ is_racy options timestamp self.now }
     {

@@ -1,4 +1,4 @@
-//! An index: its entries in order, and the moment at which it was written.
+//! The index: its entries in order, and the moment at which it was written.
 
 ghost use Rattle.std.specs.Prelude.{map};
 ghost use Rattle.status_index.specs.Entries.{IsIndex, index_entries};
@@ -18,28 +18,28 @@ use std::cmp::Ordering;
 use std::ops::Range;
 use thiserror::Error;
 
-/// Why a list of entries is no index. `at` is the lowest place that has a fault.
+/// Why a list of entries is not a valid index. `at` is the lowest invalid position.
 #[derive(Clone, Copy, Debug, PartialEq, Eq, Error)]
 pub enum IndexError {
     /// The entry's path is empty.
     #[error("empty path at {at}")]
     EmptyPath {
-        /// The entry's place.
+        /// The entry's position.
         at: usize,
     },
-    /// The entry isn't above its predecessor, by path and then by stage.
+    /// The entry isn't greater than its predecessor, by path and then by stage.
     #[error("not ascending at {at}")]
     NotAscending {
-        /// The entry's place.
+        /// The entry's position.
         at: usize,
     },
     /// The entry's id is of another kind than the first entry's.
     #[error("mixed hash at {at}")]
     MixedHash {
-        /// The entry's place.
+        /// The entry's position.
         at: usize,
     },
-    /// Memory ran out.
+    /// An allocation failed.
     #[error("Out of memory")]
     Memory,
 }
@@ -66,7 +66,7 @@ impl<T: Drop> From<AllocFailed<T>> for IndexError {
     }
 }
 
-/// An index: entries that ascend strictly by path and stage, and the moment at which it was written.
+/// An index: entries that ascend strictly by path and stage, and the moment at which the index was written.
 #[derive(Drop)]
 pub struct State {
     entries: Vec<Entry>,
@@ -85,11 +85,12 @@ impl State {
     ghost use Rattle.status_index.specs.States.{entries_of, backing_of, timestamp_of, index_of, ChangesAt, with_stat, smudged};
     ghost use Rattle.status_index.specs.Stretch.{IsPrefixed};
 
-    /// The index of these entries. The paths are copied into one buffer; on an error the list is given up.
+    /// Returns the index of these entries. The paths are copied into one buffer. On an error the list is dropped.
     ///
     /// # Errors
-    /// At the lowest place that has a fault: where the path is empty, else where the entry isn't above its predecessor,
-    /// else where its id is of another kind than the first entry's. Or where memory runs out.
+    /// Returns the error of the lowest invalid position. The entry there has an empty path; otherwise it isn't greater
+    /// than its predecessor; otherwise its id is of another kind than the first entry's. Returns `Memory` if an
+    /// allocation fails.
     pub fn from_entries(
         alloc: Global,
         entries: Vec<NewEntry>,
@@ -106,7 +107,7 @@ impl State {
         Ok(state)
     }
 
-    /// An index of no entries. It takes no memory.
+    /// Returns an index without entries. Allocates no memory.
     pub fn new(alloc: Global, timestamp: Moment) -> State
         ensures index { (index_of result) ≡ [] }
         ensures timestamp { timestamp_of result ≡ timestamp }
@@ -120,7 +121,7 @@ impl State {
         }
     }
 
-    /// An index of no entries, with room for these.
+    /// Returns an index without entries, with room for these.
     fn with_room(
         alloc: Global,
         entries: &[NewEntry],
@@ -138,7 +139,7 @@ impl State {
         })
     }
 
-    /// Adds an entry behind the others, or says why it can't stand there.
+    /// Appends an entry, or returns why it can't be appended.
     fn append(&mut self, entry: NewEntry) -> Result<(), IndexError>
         ensures ok { OnOk result ((index_of self.new) ≡ (index_of self.old) ++ new_entry entry ∷ []) }
         ensures refused { IfErr result (IsRefusal ((index_of self.old) ++ new_entry entry ∷ [])) }
@@ -154,11 +155,12 @@ impl State {
         self.push_entry(stat, id, flags, mode, path.as_bstr())
     }
 
-    /// Adds an entry behind the others. Its path is copied.
+    /// Appends an entry. Its path is copied.
     ///
     /// # Errors
-    /// `at` is the number of entries: where the path is empty, else where the entry isn't above the last one, else where
-    /// its id is of another kind. Or where memory runs out. The index then is as it was.
+    /// Returns an error if the path is empty; otherwise if the entry isn't greater than the last one; otherwise if its
+    /// id is of another kind. The error's `at` is the number of entries. Returns `Memory` if an allocation fails. An
+    /// error leaves the index unchanged.
     pub fn push_entry(
         &mut self,
         stat: Stat,
@@ -187,7 +189,8 @@ impl State {
         Ok(())
     }
 
-    /// Whether an entry of this path may stand behind the others. The last of them decides, since they are an index.
+    /// Checks whether an entry of this path may be appended. It is compared only with the last entry, since the entries
+    /// are a valid index.
     fn check_next(&self, id: ObjectId, flags: Flags, path: &[u8]) -> Result<(), IndexError>
         ensures ok { (stat : Stat) (mode : Mode) → OnOk result (IsIndex ((index_of self.now) ++ said_of path.now stat id flags mode ∷ [])) }
         ensures refused { (stat : Stat) (mode : Mode) → IfErr result (IsRefusal ((index_of self.now) ++ said_of path.now stat id flags mode ∷ [])) }
@@ -208,7 +211,7 @@ impl State {
         Ok(())
     }
 
-    /// How `last`, an entry of this index, stands to an entry of this path: by path and then by stage.
+    /// Compares `last`, an entry of this index, with an entry of this path: by path, and then by stage.
     fn order(&self, last: &Entry, flags: Flags, path: &[u8]) -> Ordering
         ensures { result ≡ ordering_then (slice_cmp nat_cmp (path_in (backing_of self.now) last.now) path.now) (nat_cmp (stage_of_bits last.now.flags.0) (stage_of_bits flags.0)) }
     {
@@ -216,7 +219,7 @@ impl State {
         by_path.then(last.stage_raw().cmp(&flags.stage()))
     }
 
-    /// The entries, in ascending order of path and stage.
+    /// Returns the entries, in ascending order of path and stage.
     pub fn entries(&self) -> &[Entry]
         ensures value { result.now ≡ entries_of self.now }
         ensures valid { IsIndex (index_of self.now) }
@@ -224,30 +227,30 @@ impl State {
         self.entries.as_slice()
     }
 
-    /// The storage of the entries' paths.
+    /// Returns the storage of the entries' paths.
     pub fn path_backing(&self) -> &PathStorage
         ensures { result.now ≡ backing_of self.now }
     {
         &self.backing
     }
 
-    /// When the index was written: what was changed then or later may hide behind an equal stat.
+    /// Returns the moment at which the index was written. A change at that moment or later may leave the stat equal.
     pub fn timestamp(&self) -> Moment
         ensures { result ≡ timestamp_of self.now }
     {
         self.timestamp
     }
 
-    /// The stretch of entries whose paths begin with `prefix`: the whole list for an empty prefix, None where no path
-    /// begins with it.
+    /// Returns the range of entries whose paths start with `prefix`. It is the whole list for an empty prefix, and None
+    /// if the prefix isn't empty and no path starts with it.
     pub fn prefixed_entries_range(&self, prefix: BStr<'_>) -> Option<Range<usize>>
         ensures { IsPrefixed (index_of self.now) (bstr_bytes prefix.entry) result }
     {
         self.prefixed_entries_range_counted(prefix).0
     }
 
-    /// The same, and how many paths were compared with the prefix: none for an empty prefix, else at most twice as many
-    /// as the number of entries has binary digits.
+    /// Returns the same range, and how many paths were compared with the prefix. These are none for an empty prefix,
+    /// and otherwise at most twice as many as the number of entries has binary digits.
     pub fn prefixed_entries_range_counted(&self, prefix: BStr<'_>) -> (Option<Range<usize>>, u32)
         ensures range { IsPrefixed (index_of self.now) (bstr_bytes prefix.entry) result.0 }
         ensures few { (digits : ℕ) → length (entries_of self.now) < 2 ^ digits → result.1 ≤ 2 * digits }
@@ -278,7 +281,7 @@ impl State {
         self.entries[i].stat = stat;
     }
 
-    /// Makes the size in the stat of the entry at `i` 0, so that the next status compares its content.
+    /// Sets the size in the stat of the entry at `i` to 0, so that the next status compares its content.
     pub fn smudge(&mut self, i: usize)
         requires { i < length (entries_of self.old) }
         ensures len { length (entries_of self.new) ≡ length (entries_of self.old) }
@@ -289,7 +292,7 @@ impl State {
         self.entries[i].stat.size = 0;
     }
 
-    /// Says that the index is written at this moment.
+    /// Sets the moment at which the index was written.
     pub fn set_timestamp(&mut self, timestamp: Moment)
         ensures timestamp { timestamp_of self.new ≡ timestamp }
         ensures entries { entries_of self.new ≡ entries_of self.old }
@@ -299,7 +302,7 @@ impl State {
     }
 }
 
-/// How many bytes the paths have in all, up to the greatest `usize`.
+/// Returns how many bytes all paths have together, up to the greatest `usize`.
 fn path_bytes(entries: &[NewEntry]) -> usize {
     let mut count: usize = 0;
     for entry in entries {

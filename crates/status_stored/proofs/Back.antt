@@ -1,4 +1,4 @@
--- What is read of a stored index is that index, with its known flags alone.
+-- The index read from a stored index is the same, with only its known flags.
 use Rattle.std.proofs.Common.{◌≡◌, ℕ, ◌^◌, ◌<◌, List, [], ◌∷◌, map, length, slice_index_or, Some, Ok, All, AllPairs, refl, sym, ap, subst, ◌∙◌, arith}
 use Rattle.std.specs.Ordering.{nat_cmp, ordering_then}
 use Rattle.std.specs.Cmp.Lexicographic.{slice_cmp}
@@ -91,7 +91,7 @@ index_back es t h = rw (moment_back t h.secs h.nsecs, entries_back es h.entries)
 entry_same : (e : IndexEntry) → IsKnown e.flags.0 → known_entry e ≡ e
 entry_same e known = λ i. record { path = e.path; stat = e.stat; id = e.id; flags = record { 0 = sym known i }; mode = e.mode }
 
--- entries whose flags are known stay as they are
+-- Entries whose flags are known stay unchanged.
 pub entries_same : (es : List IndexEntry) → AreKnown es → map known_entry es ≡ es
 entries_same [] known = refl
 entries_same (e ∷ es) known = λ i.
@@ -100,7 +100,7 @@ entries_same (e ∷ es) known = λ i.
 pub index_same : (es : List IndexEntry) (t : Moment) → IsStorableIndex es t → AreKnown es → index_in (stored_index es t) ≡ Some (es, t)
 index_same es t h known = index_back es t h ∙ ap (λ (l : List IndexEntry). Some (l, t)) (entries_same es known)
 
--- ---- the entries that are read are an index
+-- ---- the entries that are read are a valid index
 
 pairs_map : (R : IndexEntry → IndexEntry → Type 0) (f : IndexEntry → IndexEntry) (es : List IndexEntry) → AllPairs (λ a b. R (f a) (f b)) es → AllPairs R (map f es)
 pairs_map R f es h = λ i j d l m.

@@ -1,4 +1,4 @@
--- A stored index doesn't nest deeper than what is parsed.
+-- A stored index isn't nested deeper than the parser accepts.
 use Rattle.std.proofs.Common.{◌≡◌, ◌≤◌, ℕ, List, [], ◌∷◌, map, refl, arith}
 use Rattle.serde_json.specs.Data.{depth, items_depth, string}
 use Rattle.serde_json.specs.View.{items_of}

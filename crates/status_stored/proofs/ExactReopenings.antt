@@ -18,7 +18,7 @@ use Rattle.status_world.proofs.Histories.{replay_exact}
 use Rattle.status_stored.proofs.Glued.{all_replayed, glued, shifted}
 use Rattle.status_stored.proofs.Stretches.{events_more}
 
--- ---- fewer events bring fewer contents
+-- ---- fewer events have fewer contents
 
 brought_more : (es fs : List Event) (x : List ℕ) → IsIn x (contents_of_events es) → IsIn x (contents_of_events (es ++ fs))
 brought_more [] fs x h = absurd h
@@ -46,11 +46,11 @@ module _ (w : StampedWorld) (es fs : List Event) where
   distinct_fewer : HasDistinctContents w (es ++ fs) → HasDistinctContents w es
   distinct_fewer distinct = λ a b first second same. distinct a b (at_hand_more a first) (at_hand_more b second) same
 
--- so do the first of some events
+-- The same for the first n events.
 distinct_front : (w : StampedWorld) (n : ℕ) (es : List Event) → HasDistinctContents w es → HasDistinctContents w (take n es)
 distinct_front w n es distinct = distinct_fewer w (take n es) (drop n es) (subst (HasDistinctContents w) (sym (take-append-drop n es)) distinct)
 
--- ---- where there was no memory for a stretch's reports
+-- ---- out of memory for a stretch's reports
 
 at_place : (ss : List (Vec Event Global)) (k : ℕ) → k < length ss → (s : Vec Event Global) × (s ≡ slice_index_or ss k s)
 at_place [] k inside = absurd (omega arith)

@@ -1,4 +1,4 @@
--- What is read of stored flags, by trying all that there are.
+-- Stored flags are read back, proved by trying all flags.
 use Rattle.std.proofs.Common.{◌≡◌, ℕ, zero, suc, ◌+◌, ◌*◌, ◌/◌, ◌%◌, ◌^◌, ◌<◌, ◌==◌, Bool, true, ◌&&◌, List, [], ◌∷◌, ◌++◌, map, Option, Some, None, unwrap_or, inl, inr, refl, sym, ap, subst, ◌∙◌, if◌then◌else◌, arith}
 use Rattle.std.specs.Prelude.{codes}
 use Rattle.std.proofs.lemmas.Bool.{and_parts, cases_lt, eqb-true}
@@ -11,14 +11,14 @@ use Rattle.status_stored.specs.Storable.{known_bits}
 use Rattle.status_stored.specs.StoredIndex.{stored_flags}
 use Rattle.status_stored.specs.Words.{flag_words, word_in}
 
--- the flags of a number: its five low bits, and above them the stage
+-- The flags of a number: its five low bits, and the stage from the bits above them.
 abbrev bits_at : ℕ → ℕ
 bits_at k = k / 32 * 0x1000 + k % 32
 
 abbrev read_back : ℕ → Option ℕ
 read_back bits = flags_in (bits_of_stage (stage_of_bits bits)) (stored_flags bits)
 
--- whether the flags of this number are read back; no flags are as great as the default
+-- Whether the flags of this number are read back. All flags are below the default 0x10000.
 abbrev is_back : ℕ → Bool
 is_back k = unwrap_or (read_back (bits_at k)) 0x10000 == bits_at k
 
@@ -47,12 +47,12 @@ back_of k lt =
     some_from_unwrap (read_back (bits_at k)) (bits_at k) small
     (eqb-true (unwrap_or (read_back (bits_at k)) 0x10000) (bits_at k) (back_at 128 k refl lt))
 
--- ---- the bits that are stored say the same as all of them
+-- ---- the known bits have the same words as all bits
 
 pub stage_known : (bits : ℕ) → stage_of_bits (known_bits bits) ≡ stage_of_bits bits
 stage_known bits = omega arith
 
--- whether a flag's bit is set
+-- A flag's word is the same if its bit is.
 word_known : (bits : ℕ) (word : List ℕ) (k : ℕ) → known_bits bits / 2 ^ k % 2 ≡ bits / 2 ^ k % 2 → word_in (known_bits bits) (word, 2 ^ k) ≡ word_in bits (word, 2 ^ k)
 word_known bits word k same =
     ap (λ (n : ℕ). if n == 2 ^ k then word ∷ [] else []) (and_pow (known_bits bits) k ∙ ap (λ b. b * 2 ^ k) same ∙ sym (and_pow bits k))
@@ -66,7 +66,7 @@ words_known bits =
     let fifth = word_known bits (codes "intent-to-add") 3 (omega arith) in
     λ i. first i ++ (second i ++ (third i ++ (fourth i ++ (fifth i ++ []))))
 
--- what is read are the known flags, which are those of a number below 128
+-- The known flags are read back, since they are those of a number below 128.
 pub flags_back : (bits : ℕ) → flags_in (bits_of_stage (stage_of_bits bits)) (stored_flags bits) ≡ Some (known_bits bits)
 flags_back bits =
     let k = bits / 0x1000 % 4 * 32 + bits % 32 in

@@ -1,4 +1,4 @@
--- A front of a list, put before what is read of the rest.
+-- The front of a list, put before the list that is read from the rest.
 use Rattle.std.proofs.Common.{List, ◌++◌, Option, Some, None}
 
 abbrev pub with_front : {A : Type 0} → List A → Option (List A) → Option (List A)

@@ -1,4 +1,4 @@
--- Replays in turn, each from the world that the one before it left.
+-- Replays one after another, each from the last world of the one before it.
 use Rattle.std.proofs.Common.{◌≡◌, refl, sym, ap, subst, ◌∙◌, ℕ, zero, suc, ◌+◌, ◌≤◌, ◌<◌, List, [], ◌∷◌, ◌++◌, length, length-append, take, drop, Option, Some, None, append_assoc, arith}
 use Rattle.std.proofs.Math.Seq.{take-append-add, take-append-le, drop-append-add, drop-append-le}
 use Rattle.std.proofs.lemmas.List.{take_all}
@@ -25,9 +25,9 @@ reports_all (e ∷ es) fs w =
     ap (λ l. reports_at e w ++ l) (reports_all es fs (after_event e w))
     ∙ sym (append_assoc (reports_at e w) (reports_of es (after_event e w)) (reports_of fs (after_events es (after_event e w))))
 
--- ---- one replay behind another
+-- ---- one replay after another
 
--- where a replay stopped, with so many events before it
+-- The stop of a replay, if n events are before it.
 abbrev pub shifted : ℕ → Option (ℕ × Refusal) → Option (ℕ × Refusal)
 shifted n None = None
 shifted n (Some stop) = Some (n + stop.0, stop.1)
@@ -35,7 +35,7 @@ shifted n (Some stop) = Some (n + stop.0, stop.1)
 whole : (es : List Event) → take (length es) es ≡ es
 whole es = take_all (length es) es (omega arith)
 
--- a replay to the end
+-- A replay to the end.
 pub all_replayed : (es : List Event) (w now : StampedWorld) (earlier : List RunReport) → IsReplay w es now earlier None → AreReplayed es w now earlier
 all_replayed es w now earlier replay = record {
   accepted = subst (λ l. AreAccepted l w) (whole es) replay.accepted;
@@ -74,7 +74,7 @@ glued es fs w between final first later stop before replay =
       stop = subst (λ l. IsStop l final (shifted (length es) stop)) (sym dropped) (stop_shifted (length es) (drop n fs) final stop replay.stop);
     }
 
--- ---- events behind the one that was refused
+-- ---- events after the one that was refused
 
 pub stop_inside : (es : List Event) (n : ℕ) (w : StampedWorld) (stop : ℕ × Refusal) → IsStop (drop n es) w (Some stop) → n < length es
 stop_inside [] zero w stop h = absurd h

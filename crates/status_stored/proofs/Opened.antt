@@ -1,4 +1,4 @@
--- The index of a world that events made is the same after it was stored and loaded.
+-- The index of a formed world is the same after it was stored and loaded.
 use Rattle.std.proofs.Common.{◌≡◌, refl, sym, subst, ◌∙◌, ℕ, List, map, Result, Ok, Err, IfErr, OnOk}
 use Rattle.status_index.specs.declared.stat.Moment.{Moment}
 use Rattle.status_index.specs.declared.state.State.{State}
@@ -17,14 +17,14 @@ use Rattle.status_world.specs.Sound.{IsFormed}
 use Rattle.status_world.specs.StampedWorld.{StampedWorld}
 use Rattle.status_world.proofs.EntryVerdicts.{each_entry}
 
--- no flag is set
+-- Without a flag besides the stage, all flags are known.
 known : (bits : ℕ) → bits ≡ bits_of_stage 0 → IsKnown bits
 known bits none = subst IsKnown (sym none) refl
 
 pub known_flags : (w : StampedWorld) → IsFormed w → AreKnown w.entries
 known_flags w formed k d inside = known _ (each_entry w formed k d inside).formed.flags
 
--- ---- what is answered
+-- ---- the result
 
 pub not_text : (w : StampedWorld) (es : List IndexEntry) (t : Moment) (at : ℕ) → es ≡ w.entries → IsRoundTrip es t (Err (errors.NotUtf8 at))
     → IsOpeningRefusal w OtherIndex
@@ -34,13 +34,13 @@ pub unread : (w : StampedWorld) (es : List IndexEntry) (t : Moment) → es ≡ w
     → IsOpeningRefusal w OtherIndex
 unread w es t own h = absurd h
 
--- what was loaded was storable
+-- A loaded index was storable.
 pub storable : (w : StampedWorld) (es : List IndexEntry) (t : Moment) (s : State) (r : Result (Unit {0}) Refusal) → es ≡ w.entries → t ≡ w.timestamp
     → IsRoundTrip es t (Ok s) → OnOk r (IsStorableIndex w.entries w.timestamp)
 storable w es t s (Ok _) own own_time loaded = subst (λ u. IsStorableIndex w.entries u) own_time (subst (λ l. IsStorableIndex l t) own loaded.0)
 storable w es t s (Err r) own own_time loaded = tt
 
--- what was loaded isn't refused
+-- A loaded index isn't refused in a formed world.
 pub refused : (w : StampedWorld) (es : List IndexEntry) (t : Moment) (s : State) (r : Result (Unit {0}) Refusal) (new : StampedWorld) → es ≡ w.entries
     → t ≡ w.timestamp → IsRoundTrip es t (Ok s) → opens.IsIndexReplaced (index_of s) (timestamp_of s) w r new → IfErr r (IsOpeningRefusal w)
 refused w es t s (Ok _) new own own_time loaded opened = tt

@@ -1,4 +1,4 @@
--- What is loaded of a stored index.
+-- The index loaded from a stored index.
 use Rattle.std.proofs.Common.{◌≡◌, List, map, Some, None, Err, sym, ap, ◌∙◌}
 use Rattle.serde_json.specs.Data.{Data}
 use Rattle.status_index.specs.declared.stat.Moment.{Moment}
@@ -14,7 +14,7 @@ use Rattle.status_stored.specs.Storable.{known_entry, IsStorableIndex}
 use Rattle.status_stored.specs.StoredIndex.{stored_index}
 use Rattle.status_stored.proofs.Back.{index_back, known_index}
 
--- what isn't parsed is refused for want of memory
+-- If a written value isn't parsed, the error is out of memory.
 pub parse_refused : (es : List IndexEntry) (t : Moment) (d : Data) (e : ReopenError) → IsReadAgain d (Err e) → IsRoundTrip es t (Err e)
 parse_refused es t d (NotUtf8 at) h = absurd h
 parse_refused es t d Unreadable h = absurd h

@@ -1,4 +1,4 @@
--- Lists of another length than two are no stamp.
+-- Lists of another length than two are no time.
 use Rattle.std.proofs.Common.{◌≡◌, ◌<◌, List, [], ◌∷◌, length, None, refl, arith}
 use Rattle.serde_json.specs.View.{items_view}
 use Rattle.serde_json.specs.declared.value.Value.{Value}

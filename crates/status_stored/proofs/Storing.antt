@@ -1,4 +1,4 @@
--- One more entry is stored, or the first whose path isn't UTF-8 is met.
+-- One more entry is stored, or it is the first whose path isn't UTF-8.
 use Rattle.std.proofs.Common.{◌≡◌, ℕ, ◌+◌, ◌<◌, List, [], ◌∷◌, ◌++◌, length, map, take, get_or, All, ap, sym, subst, ◌∙◌, arith}
 use Rattle.std.proofs.lemmas.List.{get_or_default, map_more, map_push, take-map, get_or-map, length-map}
 use Rattle.std.proofs.lemmas.List.Elements.{All-push}
@@ -11,7 +11,7 @@ use Rattle.status_stored.specs.Steps.{AreValuesOf}
 use Rattle.status_stored.specs.Storable.{IsStorable, IsNotUtf8At}
 use Rattle.status_stored.specs.StoredIndex.{stored_entry}
 
--- the element at a place, with what holds there
+-- The element at a position, and the fact that holds for it.
 pub record Placed {X : Type 0} (P : X → Type 0) (xs : List X) (i : ℕ) : Type 0 where
   pub it : X
   pub is : (d : X) → get_or xs i d ≡ it
@@ -34,7 +34,7 @@ one_more es e values value before storable shown =
           ∙ sym (map_push stored_entry es e);
     }
 
--- an entry's value behind those of the entries before it
+-- An entry's value is appended to those of the entries before it.
 pub values_more : {X : Type 0} (f : X → IndexEntry) (xs : List X) (i : ℕ) (values : List Value) (value : Value) → i < length xs
     → AreValuesOf (map f (take i xs)) values
     → HoldsAt (λ x. IsStorable (f x) × (view value ≡ stored_entry (f x))) xs i
@@ -45,7 +45,7 @@ values_more f xs i values value h before holds =
     map_more f xs i here.it h ∙ ap (λ x. map f (take i xs) ++ f x ∷ []) (here.is here.it) in
     rw more (one_more (map f (take i xs)) (f here.it) values value before here.holds.0 here.holds.1)
 
--- the first path that isn't UTF-8
+-- The entry is the first whose path isn't UTF-8.
 pub not_utf8_at : {X : Type 0} (f : X → IndexEntry) (xs : List X) (i : ℕ) → i < length xs
     → All IsStorable (map f (take i xs)) → HoldsAt (λ x. IsUtf8 (f x).path → ⊥) xs i → IsNotUtf8At (map f xs) i
 not_utf8_at f xs i h before holds =

@@ -1,4 +1,4 @@
--- One stretch of events behind others.
+-- One stretch of events after others.
 use Rattle.std.proofs.Common.{◌≡◌, refl, sym, ap, subst, ◌∙◌, ℕ, ◌+◌, ◌<◌, List, [], ◌∷◌, ◌++◌, length, take, drop, Option, Some, None, Vec, slice_index_or, append_assoc, append-nil, take-append-drop}
 use Rattle.std.specs.declared.alloc.Global.{Global}
 use Rattle.std.proofs.lemmas.List.{get_or_default, take_more}
@@ -48,7 +48,7 @@ module _ (w : StampedWorld) (ss : List (Vec Event Global)) (k : ℕ) (s : Vec Ev
       (subst (λ o. IsReplay w (events_in (take (k + 1) ss)) new (earlier ++ more) (shifted (length (events_in (take k ss))) o)) some
       (next_stretch so_far same these replay)))
 
-  -- the stretch by itself, behind those before it
+  -- The replay of the stretch alone, after those before it.
   pub alone : AreReplayed (events_in (take k ss)) w old earlier → before ≡ old → events ≡ s.items → IsReplay before events new more stop
       → IsReplay w (events_in (take k ss)) old earlier None × ((d : Vec Event Global) → IsReplay old (slice_index_or ss k d).items new more stop)
   alone so_far same these replay = (
@@ -58,7 +58,7 @@ module _ (w : StampedWorld) (ss : List (Vec Event Global)) (k : ℕ) (s : Vec Ev
         (subst (λ u. IsReplay u s.items new more stop) same (subst (λ l. IsReplay before l new more stop) these replay)),
   )
 
--- where a stretch stops
+-- The position at which a stretch stops.
 pub stop_place : (ss : List (Vec Event Global)) (k : ℕ) (s : Vec Event Global) (before new : StampedWorld) (more : List RunReport) (stop : Option (ℕ × Refusal))
     (events : List Event) (at : ℕ) (r : Refusal) → k < length ss → s ≡ slice_index_or ss k s → events ≡ s.items → IsReplay before events new more stop → stop ≡ Some (at, r)
     → IsPlaceIn ss k at

@@ -1,4 +1,4 @@
--- What reading an index gives.
+-- What loading an index returns.
 use Rattle.std.specs.Prelude.{◌≡◌, List, Option, Some, None, Result, Ok, Err, ⊤}
 use Rattle.status_index.specs.declared.stat.Moment.{Moment}
 use Rattle.status_index.specs.declared.state.IndexError.{IndexError}
@@ -11,25 +11,26 @@ use Rattle.status_stored.specs.declared.error.FieldError.TheVariants as fields
 use Rattle.status_stored.specs.declared.error.LoadError.{LoadError}
 use Rattle.status_stored.specs.declared.error.LoadError.TheVariants.{Form, Index, Memory}
 
--- the error for a list of entries that isn't made an index
+-- The error of loading for an error of the index.
 abbrev pub error_of_index : IndexError → LoadError
 error_of_index refusals.Memory = Memory
 error_of_index (refusals.EmptyPath at) = Index (refusals.EmptyPath at)
 error_of_index (refusals.NotAscending at) = Index (refusals.NotAscending at)
 error_of_index (refusals.MixedHash at) = Index (refusals.MixedHash at)
 
+-- The error of loading for an error of a field.
 abbrev pub error_of_field : FieldError → LoadError
 error_of_field fields.Form = Form
 error_of_field fields.Memory = Memory
 
--- something is meant, whose entries are no index, for this reason; want of memory is none
+-- An index is stated, and its entries are invalid for this reason. Out of memory isn't such a reason.
 abbrev pub IsRefusedIndex : Option (List IndexEntry × Moment) → IndexError → Type 0
 IsRefusedIndex None e = ⊥
 IsRefusedIndex (Some meant) refusals.Memory = ⊥
 IsRefusedIndex (Some meant) e = IsRefusal meant.0 e × (IsIndex meant.0 → ⊥)
 
--- by what is meant: Ok where it is an index, which then is the one that is given; Form just where nothing is meant; and
--- else why the entries are no index, or want of memory
+-- Loading returns the stated index, why its entries are invalid, or that none is stated.
+-- It may also return that it is out of memory, of which no more is claimed.
 abbrev pub IsLoaded : Option (List IndexEntry × Moment) → Result State LoadError → Type 0
 IsLoaded meant (Ok s) = meant ≡ Some (index_of s, timestamp_of s)
 IsLoaded meant (Err Form) = meant ≡ None

@@ -1,4 +1,4 @@
--- What a JSON value says of an index, or None where it has a wrong form.
+-- The index that a JSON value states, or None if it has a wrong form.
 use Rattle.std.specs.Prelude.{◌≡◌, ℕ, ◌^◌, nat_lt, List, [], ◌∷◌, codes, Option, Some, None, Result, Ok, Err, ⊤, if◌then◌else◌}
 use Rattle.std.specs.Int.RustNames.{bit_or}
 use Rattle.serde_json.specs.Data.{Data, Items, no_items, item}
@@ -14,26 +14,26 @@ use Rattle.status_stored.specs.declared.error.FieldError.{FieldError}
 use Rattle.status_stored.specs.declared.error.FieldError.TheVariants.{Form, Memory}
 use Rattle.status_stored.specs.Words.{mode_named, flag_named, id_named}
 
--- a step, where the one before it gave something
+-- The next step, if the step before it has a value.
 infixl 10 ◌>>=◌
 abbrev pub ◌>>=◌ : {A B : Type 0} → Option A → (A → Option B) → Option B
 Some x >>= f = f x
 None >>= f = None
 
--- an answer that shows what is meant, or Form where nothing is, or want of memory
+-- A result of reading: a value that shows the stated one, or Form if none is stated, or out of memory.
 abbrev pub Reads : {A B : Type 0} → (A → B) → Result A FieldError → Option B → Type 0
 Reads shown (Ok x) meant = meant ≡ Some (shown x)
 Reads shown (Err Form) meant = meant ≡ None
 Reads shown (Err Memory) meant = ⊤
 
--- a whole number below 2^32, with no point, exponent or sign
+-- A whole number below 2^32, without a point, an exponent and a sign.
 abbrev pub number_in : Data → Option ℕ
 number_in d = do
   number ← as_number d
   n ← as_u64 number
   if nat_lt n (2 ^ 32) then Some n else None
 
--- two numbers, and no more
+-- A list of exactly two numbers.
 abbrev pub two_in : Items → Option (ℕ × ℕ)
 two_in no_items = None
 two_in (item d no_items) = None
@@ -43,28 +43,30 @@ two_in (item d (item e no_items)) = do
   Some (a, b)
 two_in (item d (item e (item f ds))) = None
 
--- a stamp: a list of seconds and nanoseconds
+-- A time: a list of seconds and nanoseconds.
 abbrev pub time_in : Data → Option Time
 time_in d = do
   items ← as_array d
   two ← two_in items
   Some (record { secs = two.0; nsecs = two.1 })
 
+-- A moment: a list of seconds and nanoseconds.
 abbrev pub moment_in : Data → Option Moment
 moment_in d = do
   time ← time_in d
   Some (record { secs = time.secs; nsecs = time.nsecs })
 
--- the epoch
+-- The epoch, the default of a time.
 abbrev pub first_time : Time
 first_time = record { secs = 0; nsecs = 0 }
 
+-- A stage: a number below 4.
 abbrev pub stage_in : Data → Option ℕ
 stage_in d = do
   n ← number_in d
   if nat_lt n 4 then Some n else None
 
--- these bits and those of the flags that are listed
+-- These bits and those of the flags that are listed.
 abbrev pub flags_from : ℕ → Items → Option ℕ
 flags_from bits no_items = Some bits
 flags_from bits (item d ds) = do
@@ -81,20 +83,20 @@ mode_in d = as_str d >>= mode_named
 abbrev pub id_in : Data → Option ObjectId
 id_in d = as_str d >>= id_named
 
--- the value of a key that has to be there
+-- The value of a key that may not be missing.
 abbrev pub needed : {A : Type 0} → List ℕ → (Data → Option A) → Data → Option A
 needed key read d = get key d >>= read
 
--- what is read at a key, or the default where there is none
+-- The value that is read, or the default if there is none.
 abbrev pub or_default : {A : Type 0} → (Data → Option A) → A → Option Data → Option A
 or_default read default None = Some default
 or_default read default (Some d) = read d
 
--- the value of a key that may be missing
+-- The value of a key, or the default if the key is missing.
 abbrev pub given : {A : Type 0} → List ℕ → (Data → Option A) → A → Data → Option A
 given key read default d = or_default read default (get key d)
 
--- an entry object; its other keys count for nothing
+-- The entry of an object. Other keys are ignored.
 unfoldable pub entry_in : Data → Option IndexEntry
 entry_in d = do
   path ← needed (codes "path") as_str d
@@ -127,7 +129,8 @@ entries_from (item d ds) = do
 abbrev pub entries_in : Data → Option (List IndexEntry)
 entries_in d = as_array d >>= entries_from
 
--- the entries and the timestamp of an index; the object's other keys count for nothing
+-- A value's index has its timestamp and entries with path and id; other fields have defaults.
+-- Other keys are ignored.
 unfoldable pub index_in : Data → Option (List IndexEntry × Moment)
 index_in d = do
   timestamp ← needed (codes "timestamp") moment_in d

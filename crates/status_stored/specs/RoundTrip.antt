@@ -1,4 +1,4 @@
--- What an index is after it was stored, written as text, parsed and loaded.
+-- An index after it was stored, written as text, parsed and loaded.
 use Rattle.std.specs.Prelude.{◌≡◌, List, map, Result, Ok, Err, ⊤}
 use Rattle.serde_json.specs.Data.{Data}
 use Rattle.serde_json.specs.View.{view}
@@ -11,18 +11,19 @@ use Rattle.status_stored.specs.declared.error.ReopenError.{ReopenError}
 use Rattle.status_stored.specs.declared.error.ReopenError.TheVariants.{NotUtf8, Unreadable, Memory}
 use Rattle.status_stored.specs.Storable.{known_entry, IsNotUtf8At, IsStorableIndex}
 
--- the entries and the timestamp of an index are these
+-- An index has these entries and this timestamp.
 abbrev pub IsStateOf : List IndexEntry → Moment → State → Type 0
 IsStateOf es t s = (index_of s ≡ es) × (timestamp_of s ≡ t)
 
--- the same index, with its known flags alone; what was written is never unreadable
+-- The index read back is the same, except for bits that name no stage or flag.
+-- The error is the first path that isn't UTF-8, or out of memory. A written text is never unreadable.
 abbrev pub IsRoundTrip : List IndexEntry → Moment → Result State ReopenError → Type 0
 IsRoundTrip es t (Ok s) = IsStorableIndex es t × IsStateOf (map known_entry es) t s
 IsRoundTrip es t (Err (NotUtf8 at)) = IsNotUtf8At es at
 IsRoundTrip es t (Err Unreadable) = ⊥
 IsRoundTrip es t (Err Memory) = ⊤
 
--- a value that was written and parsed is the same
+-- A value that was written and parsed is the same.
 abbrev pub IsReadAgain : Data → Result Value ReopenError → Type 0
 IsReadAgain d (Ok value) = view value ≡ d
 IsReadAgain d (Err (NotUtf8 at)) = ⊥

@@ -1,4 +1,4 @@
--- What the steps of storing give.
+-- The results of the steps of storing.
 use Rattle.std.specs.Prelude.{◌≡◌, List, map, Vec, Result, Ok, Err, All, ⊤}
 use Rattle.std.specs.Str.{IsUtf8}
 use Rattle.std.specs.declared.alloc.Global.{Global}
@@ -11,18 +11,18 @@ use Rattle.status_stored.specs.declared.error.StoreError.{StoreError}
 use Rattle.status_stored.specs.Storable.{IsStorable, IsStoreRefusal}
 use Rattle.status_stored.specs.StoredIndex.{stored_entry}
 
--- an entry's value, or that its path isn't UTF-8
+-- An entry's value, or `Form` if its path isn't UTF-8.
 abbrev pub IsEntryStored : IndexEntry → Result Value FieldError → Type 0
 IsEntryStored e (Ok value) = IsStorable e × (view value ≡ stored_entry e)
 IsEntryStored e (Err Form) = IsUtf8 e.path → ⊥
 IsEntryStored e (Err Memory) = ⊤
 
--- these are the values of the entries
+-- These are the values of the entries.
 pub record AreValuesOf (es : List IndexEntry) (values : List Value) : Type 0 where
   pub storable : All IsStorable es
   pub shown : map view values ≡ map stored_entry es
 
--- the entries' values, or why the index isn't stored
+-- The values of the entries, or why the index isn't stored.
 abbrev pub AreStored : List IndexEntry → Result (Vec Value Global) StoreError → Type 0
 AreStored es (Ok values) = AreValuesOf es values.items
 AreStored es (Err e) = IsStoreRefusal es e

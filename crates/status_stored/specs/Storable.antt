@@ -1,4 +1,4 @@
--- Which indexes can be stored, and what storing gives.
+-- Which indexes can be stored, and what storing returns.
 use Rattle.std.specs.Prelude.{◌≡◌, ℕ, ◌+◌, ◌*◌, ◌%◌, ◌<◌, ◌^◌, List, length, take, All, Result, Ok, Err, ⊤}
 use Rattle.std.specs.List.{slice_index_or}
 use Rattle.std.specs.Str.{IsUtf8}
@@ -16,7 +16,7 @@ use Rattle.status_stored.specs.declared.error.StoreError.{StoreError}
 use Rattle.status_stored.specs.declared.error.StoreError.TheVariants.{NotUtf8, Memory}
 use Rattle.status_stored.specs.StoredIndex.{stored_entry, stored_index}
 
--- a number that an index has room for
+-- A number that has 32 bits.
 abbrev pub Fits32 : ℕ → Type 0
 Fits32 n = n < 2 ^ 32
 
@@ -33,57 +33,58 @@ pub record FitsStat (stat : Stat) : Type 0 where
   pub gid : Fits32 stat.gid
   pub size : Fits32 stat.size
 
--- a digest has as many bytes as its kind wants
+-- A digest has the number of bytes of its kind.
 abbrev pub FitsId : ObjectId → Type 0
 FitsId (Sha1 digest) = (length digest ≡ 20) × IsBytes digest
 FitsId (Sha256 digest) = (length digest ≡ 32) × IsBytes digest
 
--- an entry whose path is UTF-8; the rest holds of every entry in memory
+-- An entry whose path is UTF-8. The other fields hold for every entry in memory.
 pub record IsStorable (e : IndexEntry) : Type 0 where
   pub path : IsUtf8 e.path
   pub stat : FitsStat e.stat
   pub id : FitsId e.id
 
--- an index of such entries
+-- An index of such entries.
 pub record IsStorableIndex (es : List IndexEntry) (t : Moment) : Type 0 where
   pub entries : All IsStorable es
   pub secs : Fits32 t.secs
   pub nsecs : Fits32 t.nsecs
 
--- of some bits those that are stored: the stage's two and the five lowest, which are the flags'
+-- The bits that are stored: the two of the stage, and the five lowest, which are those of the flags.
 abbrev pub known_bits : ℕ → ℕ
 known_bits bits = stage_of_bits bits * 0x1000 + bits % 32
 
--- an entry with its known flags alone
+-- The index read back is the same, except for bits that name no stage or flag.
+-- This is an entry read back, with only its known flags.
 abbrev pub known_entry : IndexEntry → IndexEntry
 known_entry e = record { path = e.path; stat = e.stat; id = e.id; flags = record { 0 = known_bits e.flags.0 }; mode = e.mode }
 
--- there are no other bits
+-- There are no other bits.
 abbrev pub IsKnown : ℕ → Type 0
 IsKnown bits = bits ≡ known_bits bits
 
--- all flags of an index are known
+-- All flags of an index are known.
 abbrev pub AreKnown : List IndexEntry → Type 0
 AreKnown es = All (λ e. IsKnown e.flags.0) es
 
--- the entry at a place is the first whose path isn't UTF-8
+-- The entry at this position is the first whose path isn't UTF-8.
 pub record IsNotUtf8At (es : List IndexEntry) (at : ℕ) : Type 0 where
   pub inside : at < length es
   pub before : All (λ e. IsUtf8 e.path) (take at es)
   pub here : (d : IndexEntry) → IsUtf8 (slice_index_or es at d).path → ⊥
 
--- the value of one entry, or that its path isn't UTF-8, with its place
+-- The value of one entry, or `NotUtf8` with its position if its path isn't UTF-8.
 abbrev pub IsOneStored : IndexEntry → ℕ → Result Value StoreError → Type 0
 IsOneStored e at (Ok value) = IsStorable e × (view value ≡ stored_entry e)
 IsOneStored e at (Err (NotUtf8 place)) = (place ≡ at) × (IsUtf8 e.path → ⊥)
 IsOneStored e at (Err Memory) = ⊤
 
--- why an index isn't stored
+-- Why an index isn't stored.
 abbrev pub IsStoreRefusal : List IndexEntry → StoreError → Type 0
 IsStoreRefusal es (NotUtf8 at) = IsNotUtf8At es at
 IsStoreRefusal es Memory = ⊤
 
--- Ok where all paths are UTF-8, with the value of the index, and else a refusal
+-- An index is stored if all its paths are UTF-8; otherwise the first that isn't is named.
 abbrev pub IsStored : List IndexEntry → Moment → Result Value StoreError → Type 0
 IsStored es t (Ok value) = IsStorableIndex es t × (view value ≡ stored_index es t)
 IsStored es t (Err e) = IsStoreRefusal es e

@@ -10,23 +10,23 @@ use Rattle.status_stored.specs.Words.{mode_digits, flag_words, id_digits}
 abbrev pub stored_number : ℕ → Data
 stored_number n = number (unsigned n)
 
--- a list of seconds and nanoseconds
+-- A list of seconds and nanoseconds.
 abbrev pub stored_stamp : ℕ → ℕ → Data
 stored_stamp secs nsecs = array (item (stored_number secs) (item (stored_number nsecs) no_items))
 
 abbrev pub stored_time : Time → Data
 stored_time time = stored_stamp time.secs time.nsecs
 
--- the words of the flags that are set
+-- The words of the flags that are set.
 abbrev pub stored_flags : ℕ → Data
 stored_flags bits = array (items_of (map string (flag_words bits)))
 
--- members with these keys and values
+-- The members with these keys and values.
 abbrev pub members_with : List (List ℕ × Data) → Members
 members_with [] = no_members
 members_with (row ∷ rows) = member row.0 row.1 (members_with rows)
 
--- an entry object: all twelve keys, also where they are defaults
+-- The object of an entry: all twelve keys, also those with default values.
 abbrev pub stored_entry : IndexEntry → Data
 stored_entry e =
     object (members_with (
@@ -44,7 +44,7 @@ stored_entry e =
     ∷ (codes "uid", stored_number e.stat.uid)
     ∷ []))
 
--- the entry objects in order, and the timestamp
+-- The timestamp, and an object of twelve keys for each entry, in order.
 abbrev pub stored_index : List IndexEntry → Moment → Data
 stored_index es t =
     object (members_with (

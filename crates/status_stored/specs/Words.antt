@@ -1,4 +1,4 @@
--- The words that name modes, flags and ids.
+-- The words that name modes, flags and ids in JSON.
 use Rattle.std.specs.Prelude.{ℕ, ◌==◌, List, [], ◌∷◌, ◌++◌, length, codes, Option, Some, None, option_map, if◌then◌else◌}
 use Rattle.std.specs.Int.RustNames.{bit_and}
 use Rattle.std.specs.Result.{result_ok}
@@ -10,7 +10,7 @@ use Rattle.status_index.specs.declared.mode.Mode.{Mode}
 use Rattle.status_index.specs.declared.mode.Mode.TheVariants as modes
 use Rattle.status_index.specs.BlobId.{id_bytes}
 
--- a mode's word: its bits as six octal digits
+-- Modes are six octal digits, five flags have words, and ids are hexadecimal.
 abbrev pub mode_digits : Mode → List ℕ
 mode_digits modes.Dir = codes "040000"
 mode_digits modes.File = codes "100644"
@@ -18,7 +18,7 @@ mode_digits modes.FileExecutable = codes "100755"
 mode_digits modes.Symlink = codes "120000"
 mode_digits modes.Commit = codes "160000"
 
--- the mode of a word
+-- The mode that a word names, if any.
 abbrev pub mode_named : List ℕ → Option Mode
 mode_named word =
     if bytes_eq word (mode_digits modes.Dir) then Some modes.Dir
@@ -28,21 +28,22 @@ mode_named word =
     else (if bytes_eq word (mode_digits modes.Commit) then Some modes.Commit
     else None))))
 
--- the words of the flags, in the order in which they are written, and the bit of each
+-- The words of the flags, in the order in which they are written, and the bit of each.
 abbrev pub flag_table : List (List ℕ × ℕ)
 flag_table =
     (codes "uptodate", 0x1) ∷ (codes "skip-worktree", 0x2) ∷ (codes "assume-valid", 0x10)
     ∷ (codes "fsmonitor-valid", 0x4) ∷ (codes "intent-to-add", 0x8) ∷ []
 
+-- The bit of a word in a table, if it is there.
 abbrev pub bit_in : List (List ℕ × ℕ) → List ℕ → Option ℕ
 bit_in [] word = None
 bit_in (row ∷ rows) word = if bytes_eq word row.0 then Some row.1 else bit_in rows word
 
--- the bit of the flag of a word
+-- The bit of the flag that a word names, if any.
 abbrev pub flag_named : List ℕ → Option ℕ
 flag_named word = bit_in flag_table word
 
--- a row's word, where its bit is set
+-- The word of a row, if its bit is set.
 abbrev pub word_in : ℕ → List ℕ × ℕ → List (List ℕ)
 word_in bits row = if bit_and bits row.1 == row.1 then row.0 ∷ [] else []
 
@@ -50,15 +51,15 @@ abbrev pub words_in : ℕ → List (List ℕ × ℕ) → List (List ℕ)
 words_in bits [] = []
 words_in bits (row ∷ rows) = word_in bits row ++ words_in bits rows
 
--- the words of the flags that are set
+-- The words of the flags that are set.
 abbrev pub flag_words : ℕ → List (List ℕ)
 flag_words bits = words_in bits flag_table
 
--- an id's word: its bytes as hexadecimal digits, in lower case
+-- The word of an id: its bytes as hexadecimal digits, in lower case.
 abbrev pub id_digits : ObjectId → List ℕ
 id_digits id = encode_lower (id_bytes id)
 
--- the id of hexadecimal digits, in either case: of 40 an id by SHA-1, of 64 one by SHA-256
+-- The id of hexadecimal digits, in either case: a SHA-1 id for 40 digits, a SHA-256 id for 64.
 abbrev pub id_named : List ℕ → Option ObjectId
 id_named word =
     if length word == 40 then option_map Sha1 (result_ok (decode_sized word 20))

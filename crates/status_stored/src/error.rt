@@ -1,4 +1,4 @@
-//! Why an index isn't stored, or isn't read.
+//! The errors of storing an index, and of reading it back.
 
 ghost use Rattle.std.specs.Prelude.{◌≡◌};
 ghost use Rattle.status_stored.specs.declared.error.FieldError.TheVariants as field_errors;
@@ -9,16 +9,16 @@ use status_index::IndexError;
 use std::alloc::{AllocError, AllocFailed};
 use thiserror::Error;
 
-/// Why an index isn't stored.
+/// Why an index can't be stored.
 #[derive(Clone, Copy, Debug, PartialEq, Eq, Error)]
 pub enum StoreError {
-    /// The path of the entry at `at` isn't UTF-8, and those before it are.
+    /// The path of the entry at `at` isn't UTF-8. The paths before it are.
     #[error("the path of entry {at} isn't UTF-8")]
     NotUtf8 {
-        /// The entry's place.
+        /// The entry's position.
         at: usize,
     },
-    /// Memory ran out.
+    /// An allocation failed.
     #[error("Out of memory")]
     Memory,
 }
@@ -39,16 +39,16 @@ impl<T: Drop> From<AllocFailed<T>> for StoreError {
     }
 }
 
-/// Why a value isn't read as an index.
+/// Why a value can't be read as an index.
 #[derive(Clone, Copy, Debug, PartialEq, Eq, Error)]
 pub enum LoadError {
     /// A key is missing, or something has a wrong form.
     #[error("a key is missing or has a wrong form")]
     Form,
-    /// The entries are no index.
+    /// The entries aren't a valid index.
     #[error("{0}")]
     Index(IndexError),
-    /// Memory ran out.
+    /// An allocation failed.
     #[error("Out of memory")]
     Memory,
 }
@@ -75,29 +75,29 @@ impl From<FieldError> for LoadError {
     }
 }
 
-/// Why an index isn't stored and read back.
+/// Why an index can't be stored and read back.
 #[derive(Clone, Copy, Debug, PartialEq, Eq, Error)]
 pub enum ReopenError {
-    /// The path of the entry at `at` isn't UTF-8, and those before it are.
+    /// The path of the entry at `at` isn't UTF-8. The paths before it are.
     #[error("the path of entry {at} isn't UTF-8")]
     NotUtf8 {
-        /// The entry's place.
+        /// The entry's position.
         at: usize,
     },
-    /// What was stored isn't read. It is never answered.
+    /// The stored index can't be read. It is never returned.
     #[error("the stored index can't be read")]
     Unreadable,
-    /// Memory ran out.
+    /// An allocation failed.
     #[error("Out of memory")]
     Memory,
 }
 
-/// Why a field isn't read, or an entry isn't stored.
+/// Why a field can't be read, or an entry can't be stored.
 #[derive(Clone, Copy)]
 pub(crate) enum FieldError {
-    /// It is missing, or has a wrong form.
+    /// The field is missing, or has a wrong form. Of an entry to store: its path isn't UTF-8.
     Form,
-    /// Memory ran out.
+    /// An allocation failed.
     Memory,
 }
 

@@ -1,8 +1,8 @@
 //! The stored index: an index as a JSON value, read back, and histories in which that happens between events.
 //!
-//! Read `words` first, the names of modes, flags and ids. Then `store` and `load`, with `read` for the fields of an
-//! entry and `error`. `text` goes through JSON text and back, and `laws` says what is read back. `replay` is a history
-//! whose index is opened again (`opening`) between events, until something stops it (`stop`).
+//! Read `words` first, the names of modes, flags and ids. Then read `store` and `load`, with `read` for the fields of
+//! an entry, and `error`. `text` stores an index as JSON text and loads it again, and `laws` states which index is read
+//! back. `replay` replays a history whose index is opened again (`opening`) between events, up to a `stop`.
 #![tactic(auto)]
 
 mod error;

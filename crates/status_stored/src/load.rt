@@ -1,4 +1,4 @@
-//! An index read back from its JSON value.
+//! Reads an index from its JSON value.
 
 ghost use Rattle.serde_json.specs.View.{view};
 ghost use Rattle.std.specs.Prelude.{codes, map};
@@ -12,10 +12,11 @@ use serde_json::Value;
 use status_index::{Flags, NewEntry, Stat, State, Time};
 use std::alloc::Global;
 
-/// The index that a value says. Keys with a default may be missing, and other keys are ignored.
+/// Returns the index that a value states. Keys with a default may be missing, and unknown keys are ignored.
 ///
 /// # Errors
-/// Where the value has a wrong form, else where its entries are no index. Or where memory runs out.
+/// Returns `Form` if a key is missing or has a wrong form, and otherwise `Index` if the entries aren't a valid index.
+/// Returns `Memory` if an allocation fails.
 #[tactic(auto, unfolding(crate::specs::Reading::index_in))]
 pub fn load_index(alloc: Global, value: &Value) -> Result<State, LoadError>
     ensures { IsLoaded (index_in (view value.now)) result }
@@ -25,7 +26,7 @@ pub fn load_index(alloc: Global, value: &Value) -> Result<State, LoadError>
     Ok(State::from_entries(alloc, entries, timestamp)?)
 }
 
-/// The entries of an index, in order.
+/// Returns the entries of an index, in order.
 fn entries_at(alloc: Global, index: &Value) -> Result<Vec<NewEntry>, FieldError>
     ensures { Reads (λ es. map new_entry es.items) result (needed (codes "index") entries_in (view index.now)) }
 {
@@ -42,7 +43,7 @@ fn entries_at(alloc: Global, index: &Value) -> Result<Vec<NewEntry>, FieldError>
     Ok(entries)
 }
 
-/// An entry, with the defaults of what is missing.
+/// Returns an entry, with defaults for missing fields.
 #[tactic(auto, unfolding(crate::specs::Reading::entry_in))]
 fn entry_of(alloc: Global, value: &Value) -> Result<NewEntry, FieldError>
     ensures { Reads new_entry result (entry_in (view value.now)) }

@@ -1,4 +1,4 @@
-//! The index of a world, stored and opened again.
+//! Stores the index of a world, and opens it again.
 
 ghost use Rattle.std.specs.Prelude.{◌≡◌, ◌<◌, IfErr, OnOk};
 ghost use Rattle.status_stored.specs.Reopening.{IsOpeningRefusal};
@@ -8,11 +8,12 @@ use crate::{ReopenError, reopened};
 use status_world::world::{Refusal, World};
 use std::alloc::Global;
 
-/// Stores the index of a world, writes it as text, parses and loads that, and opens in the world what was loaded. The
-/// world says what it said, whatever is answered.
+/// Stores the index of a world, writes it as text, parses and loads that, and opens the loaded index in the world. The
+/// world's value is unchanged, also on an error.
 ///
 /// # Errors
-/// Where a path isn't UTF-8 there is no such index. Or where memory runs out.
+/// Returns `OtherIndex` if a path isn't UTF-8 or the loaded index differs. Only the first happens in a formed world.
+/// Returns `Memory` if an allocation fails.
 fn open_again(alloc: Global, world: &mut World) -> Result<(), Refusal>
     ensures kept { world.new ≡ world.old }
     ensures storable { OnOk result (IsStorableIndex world.old.entries world.old.timestamp) }
@@ -27,7 +28,7 @@ fn open_again(alloc: Global, world: &mut World) -> Result<(), Refusal>
     world.reopen(index)
 }
 
-/// The same before a stretch of events, where it isn't the first.
+/// Does the same before a stretch of events, unless it is the first.
 pub(crate) fn open_before(alloc: Global, world: &mut World, stretch: usize) -> Result<(), Refusal>
     ensures kept { world.new ≡ world.old }
     ensures storable { OnOk result (0 < stretch → IsStorableIndex world.old.entries world.old.timestamp) }

@@ -1,5 +1,5 @@
-//! The fields of an entry, by their forms. A field with a default may be missing, but not have a
-//! wrong form.
+//! Reads the fields of an entry. A field with a default may be missing, but may not have a wrong
+//! form.
 
 ghost use Rattle.std.specs.Prelude.{codes};
 ghost use Rattle.bstr.specs.Owned.{bstring_bytes};
@@ -17,7 +17,7 @@ use serde_json::Value;
 use status_index::{Flags, Mode, Moment, ObjectId, Time};
 use std::alloc::Global;
 
-/// A whole number below 2^32: one with a point, an exponent or a sign isn't.
+/// Reads a whole number below 2^32, written without a point, an exponent and a sign.
 fn number_of(value: &Value) -> Result<u32, FieldError>
     ensures { Reads (λ n. n) result (number_in (view value.now)) }
 {
@@ -30,7 +30,7 @@ fn number_of(value: &Value) -> Result<u32, FieldError>
     }
 }
 
-/// The number at a key. 0 where it is missing.
+/// Reads the number at a key. It is 0 if the key is missing.
 pub fn number_at(value: &Value, key: &str) -> Result<u32, FieldError>
     ensures { Reads (λ n. n) result (given key.now number_in 0 (view value.now)) }
 {
@@ -40,7 +40,7 @@ pub fn number_at(value: &Value, key: &str) -> Result<u32, FieldError>
     }
 }
 
-/// A list of seconds and nanoseconds.
+/// Reads a list of seconds and nanoseconds.
 #[tactic(auto, using(crate::proofs::Stamps::two_in_short, crate::proofs::Stamps::two_in_long))]
 fn time_of(value: &Value) -> Result<Time, FieldError>
     ensures { Reads (λ t. t) result (time_in (view value.now)) }
@@ -57,7 +57,7 @@ fn time_of(value: &Value) -> Result<Time, FieldError>
     })
 }
 
-/// The stamp at a key, or `default` where it is missing.
+/// Reads the time at a key. It is `default` if the key is missing.
 pub fn time_at(value: &Value, key: &str, default: Time) -> Result<Time, FieldError>
     ensures { Reads (λ t. t) result (given key.now time_in default (view value.now)) }
 {
@@ -67,7 +67,7 @@ pub fn time_at(value: &Value, key: &str, default: Time) -> Result<Time, FieldErr
     }
 }
 
-/// The moment at a key.
+/// Reads the moment at a key, which may not be missing.
 pub fn moment_at(value: &Value, key: &str) -> Result<Moment, FieldError>
     ensures { Reads (λ t. t) result (needed key.now moment_in (view value.now)) }
 {
@@ -78,7 +78,7 @@ pub fn moment_at(value: &Value, key: &str) -> Result<Moment, FieldError>
     Ok(Moment { secs, nsecs })
 }
 
-/// The stage of an entry. 0 where it is missing.
+/// Reads the stage of an entry, 0 to 3. It is 0 if the key is missing.
 pub fn stage_at(entry: &Value) -> Result<u32, FieldError>
     ensures { Reads (λ n. n) result (given (codes "stage") stage_in 0 (view entry.now)) }
 {
@@ -91,7 +91,7 @@ pub fn stage_at(entry: &Value) -> Result<u32, FieldError>
     }
 }
 
-/// These flags and those that a list names.
+/// Returns the flags `start` together with those that a list names.
 fn flags_of(value: &Value, start: Flags) -> Result<Flags, FieldError>
     ensures { Reads (λ f. f.0) result (flags_in start.0 (view value.now)) }
 {
@@ -111,7 +111,7 @@ fn flags_of(value: &Value, start: Flags) -> Result<Flags, FieldError>
     Ok(flags)
 }
 
-/// The flags of an entry at this stage. Those of the stage alone where the others are missing.
+/// Reads the flags of an entry at this stage. They are those of the stage alone if the key is missing.
 pub fn flags_at(entry: &Value, stage: Flags) -> Result<Flags, FieldError>
     ensures { Reads (λ f. f.0) result (given (codes "flags") (flags_in stage.0) stage.0 (view entry.now)) }
 {
@@ -121,7 +121,7 @@ pub fn flags_at(entry: &Value, stage: Flags) -> Result<Flags, FieldError>
     }
 }
 
-/// The mode of an entry. A file's where it is missing.
+/// Reads the mode of an entry. It is a file's if the key is missing.
 pub fn mode_at(entry: &Value) -> Result<Mode, FieldError>
     ensures { Reads (λ m. m) result (given (codes "mode") mode_in File (view entry.now)) }
 {
@@ -137,7 +137,7 @@ pub fn mode_at(entry: &Value) -> Result<Mode, FieldError>
     }
 }
 
-/// The text at a key.
+/// Reads the text at a key, which may not be missing.
 fn text_at<'a>(value: &'a Value, key: &str) -> Result<&'a str, FieldError>
     ensures { Reads (λ text. text.now) result (needed key.now as_str (view value.now)) }
 {
@@ -150,7 +150,7 @@ fn text_at<'a>(value: &'a Value, key: &str) -> Result<&'a str, FieldError>
     }
 }
 
-/// The id of an entry.
+/// Reads the id of an entry, which may not be missing.
 pub fn id_at(entry: &Value) -> Result<ObjectId, FieldError>
     ensures { Reads (λ id. id) result (needed (codes "id") id_in (view entry.now)) }
 {
@@ -160,7 +160,7 @@ pub fn id_at(entry: &Value) -> Result<ObjectId, FieldError>
     }
 }
 
-/// The path of an entry.
+/// Reads the path of an entry, which may not be missing.
 pub fn path_at(alloc: Global, entry: &Value) -> Result<BString, FieldError>
     ensures { Reads bstring_bytes result (needed (codes "path") as_str (view entry.now)) }
 {

@@ -1,4 +1,4 @@
-//! Replaying stretches of events.
+//! Replays stretches of events, with a reopening of the index between them.
 
 ghost use Rattle.std.specs.Prelude.{All, map};
 ghost use Rattle.status_stored.specs.Reopening.{IsReopenedReplay, IsExactIfReopened};
@@ -12,12 +12,12 @@ use std::alloc::Global;
 use std::sync::Wait;
 use std::thread::Threads;
 
-/// Lets the events of some stretches happen in turn, up to the first that is refused. Between two stretches the index is
+/// Applies the events of these stretches in order, up to the first that is refused. Between two stretches the index is
 /// stored, written as text, parsed, loaded, and opened again in the world.
 ///
-/// **To store an index and open it again changes nothing**: the reports and the world are those of a
-/// [`replay`](status_world::world::replay) of all the events without a reopening. So no change is missed, where the
-/// world's index can be trusted and contents that have one id are one.
+/// **Storing an index and opening it again changes nothing**: the reports and the world are those of a
+/// [`replay`](status_world::world::replay) of all the events without a reopening. So no change is missed if the world's
+/// index can be trusted and contents with equal ids are equal.
 pub fn replay_reopening<R: Threads + Wait>(
     rt: &R,
     alloc: Global,
@@ -32,7 +32,7 @@ pub fn replay_reopening<R: Threads + Wait>(
     replay_stretches(rt, alloc, world, stretches)
 }
 
-/// The same, stretch by stretch.
+/// Does the same, stretch by stretch.
 fn replay_stretches<R: Threads + Wait>(
     rt: &R,
     alloc: Global,

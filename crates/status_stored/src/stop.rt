@@ -1,35 +1,35 @@
-//! What a replay with reopenings leaves.
+//! The result of a replay with reopenings.
 
 use status_world::world::{Refusal, Report, World};
 
 /// Why a replay ended before its last event.
 #[derive(Debug, Drop)]
 pub enum Stop {
-    /// An event was refused. No later one happened.
+    /// An event was refused. No later event was applied.
     Event {
-        /// The stretch in which it stands.
+        /// The event's stretch.
         stretch: usize,
-        /// Its place in the stretch.
+        /// The event's position in the stretch.
         at: usize,
         /// Why it was refused.
         refusal: Refusal,
     },
-    /// The index wasn't opened again before a stretch. No event of the stretch happened.
+    /// The index couldn't be opened again before a stretch. No event of the stretch was applied.
     Opening {
         /// The stretch.
         stretch: usize,
-        /// [`Refusal::Memory`]; or [`Refusal::OtherIndex`], where a path isn't UTF-8.
+        /// [`Refusal::Memory`], or [`Refusal::OtherIndex`] if a path isn't UTF-8.
         refusal: Refusal,
     },
-    /// There was no memory for the reports of a stretch. They are lost, though the stretch's events have happened, up to
-    /// the first that was refused, if one was.
+    /// An allocation failed for the reports of a stretch. They are lost, although the stretch's events were applied, up
+    /// to the first that was refused, if any.
     Reports {
         /// The stretch.
         stretch: usize,
     },
 }
 
-/// What a replay with reopenings leaves.
+/// The result of a replay with reopenings.
 #[derive(Drop)]
 pub struct ReopenedReplay {
     /// The world after the accepted events.

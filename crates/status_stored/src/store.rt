@@ -1,4 +1,4 @@
-//! An index stored as a JSON value.
+//! Stores an index as a JSON value.
 
 ghost use Rattle.std.specs.Prelude.{◌≡◌, ◌<◌, codes, length, IfOk, [], ◌∷◌};
 ghost use Rattle.std.specs.List.{HoldsAt};
@@ -17,10 +17,10 @@ use status_index::{Entry, Moment, ObjectId, PathStorage, Stat, State};
 use std::alloc::{AllocError, Global};
 use std::str;
 
-/// The value of an index. Bits that name no flag aren't stored.
+/// Returns the JSON value of an index. Bits that name no stage or flag aren't stored.
 ///
 /// # Errors
-/// Where a path isn't UTF-8: the first of these. Or where memory runs out.
+/// Returns `NotUtf8` for the first entry whose path isn't UTF-8, and `Memory` if an allocation fails.
 pub fn store_index(alloc: Global, state: &State) -> Result<Value, StoreError>
     ensures { IsStored (index_of state.now) (timestamp_of state.now) result }
 {
@@ -34,7 +34,7 @@ pub fn store_index(alloc: Global, state: &State) -> Result<Value, StoreError>
     }
 }
 
-/// The value of an index with these entry objects.
+/// Returns the value of an index with these entry objects.
 fn index_value(alloc: Global, entries: Vec<Value>, t: Moment) -> Result<Value, AllocError>
     ensures value { IfOk result (λ v. view v ≡ object (members_with ((codes "index", array (items_view entries.items)) ∷ (codes "timestamp", stored_stamp t.secs t.nsecs) ∷ []))) }
     ensures secs { Fits32 t.secs }
@@ -44,7 +44,7 @@ fn index_value(alloc: Global, entries: Vec<Value>, t: Moment) -> Result<Value, A
     json!(in alloc; {"index": entries, "timestamp": timestamp})
 }
 
-/// The entry objects, in order.
+/// Returns the objects of the entries, in order.
 fn store_entries(
     alloc: Global,
     entries: &[Entry],
@@ -63,7 +63,7 @@ fn store_entries(
     Ok(values)
 }
 
-/// The object of the entry at a place.
+/// Returns the object of the entry at the position `at`.
 fn store_at(
     alloc: Global,
     entries: &[Entry],
@@ -76,11 +76,11 @@ fn store_at(
     store_entry(alloc, &entries[at], backing)
 }
 
-/// The object of an entry, as it stands in the value of its index, where its place is `at` and which keeps its path. So
-/// an index can be written entry by entry.
+/// Returns the object of an entry, as in the value of its index. `backing` is the storage of its path, and `at` its
+/// position in the index. So an index can be written entry by entry.
 ///
 /// # Errors
-/// Where the path isn't UTF-8, with this place. Or where memory runs out.
+/// Returns `NotUtf8` with `at` if the path isn't UTF-8, and `Memory` if an allocation fails.
 pub fn store_one(
     alloc: Global,
     entry: &Entry,
@@ -96,7 +96,7 @@ pub fn store_one(
     }
 }
 
-/// The object of an entry.
+/// Returns the object of an entry. The error is `Form` if the path isn't UTF-8.
 fn store_entry(alloc: Global, entry: &Entry, backing: &PathStorage) -> Result<Value, FieldError>
     ensures { IsEntryStored (index_entry backing.now entry.now) result }
 {
@@ -111,7 +111,7 @@ fn store_entry(alloc: Global, entry: &Entry, backing: &PathStorage) -> Result<Va
     }
 }
 
-/// The object of an entry of this path.
+/// Returns the object of an entry that has this path.
 fn entry_value(alloc: Global, entry: &Entry, path: &str) -> Result<Value, AllocError>
     ensures { IfOk result (λ v. view v ≡ stored_entry (entry_at path.now entry.now)) }
 {
@@ -136,19 +136,19 @@ fn entry_value(alloc: Global, entry: &Entry, path: &str) -> Result<Value, AllocE
     })
 }
 
-/// A list of seconds and nanoseconds.
+/// Returns a list of seconds and nanoseconds.
 fn stamp_value(alloc: Global, secs: u32, nsecs: u32) -> Result<Value, AllocError>
     ensures { IfOk result (λ v. view v ≡ stored_stamp secs nsecs) }
 {
     json!(in alloc; [secs, nsecs])
 }
 
-/// The numbers of a stat have 32 bits. It does nothing: its contract is for proofs.
+/// States that the numbers of a stat have 32 bits. It does nothing: its contract is for proofs.
 fn stat_fits(stat: Stat)
     ensures { FitsStat stat }
 {}
 
-/// The digest of an id has the length of its kind. It does nothing: its contract is for proofs.
+/// States that the digest of an id has the length of its kind. It does nothing: its contract is for proofs.
 fn id_fits(id: ObjectId)
     ensures { FitsId id }
 {

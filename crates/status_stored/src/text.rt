@@ -1,4 +1,4 @@
-//! An index by way of text.
+//! Stores an index as text, and loads it again.
 
 ghost use Rattle.std.specs.Prelude.{◌≤◌};
 ghost use Rattle.serde_json.specs.Data.{depth};
@@ -14,11 +14,11 @@ use serde_json::Value;
 use status_index::State;
 use std::alloc::Global;
 
-/// The index that is loaded of the compact text of what `state` is stored as. It is the same index, with the flags that have
-/// words: bits that name no flag aren't stored.
+/// Stores `state` as compact JSON text, and returns the index that is loaded from the text. It is the same index, but
+/// bits of its flags that name no stage or flag are 0.
 ///
 /// # Errors
-/// Where a path isn't UTF-8: the first of these. Or where memory runs out.
+/// Returns `NotUtf8` for the first entry whose path isn't UTF-8, and `Memory` if an allocation fails.
 pub fn reopened(alloc: Global, state: &State) -> Result<State, ReopenError>
     ensures { IsRoundTrip (index_of state.now) (timestamp_of state.now) result }
 {
@@ -39,7 +39,7 @@ pub fn reopened(alloc: Global, state: &State) -> Result<State, ReopenError>
     }
 }
 
-/// The value that is parsed of a value's compact text.
+/// Returns the value that is parsed from a value's compact text.
 fn read_again(alloc: Global, value: &Value) -> Result<Value, ReopenError>
     ensures { depth (view value.now) ≤ max_depth → IsReadAgain (view value.now) result }
 {

@@ -12,7 +12,7 @@ use serde_json::Value;
 use status_index::{Flags, Mode, ObjectId};
 use std::alloc::{AllocError, Global};
 
-/// The mode's bits, as six octal digits.
+/// Returns the mode's bits, as six octal digits.
 pub fn mode_word(mode: Mode) -> &'static str
     ensures { result.now ≡ mode_digits mode }
 {
@@ -25,7 +25,7 @@ pub fn mode_word(mode: Mode) -> &'static str
     }
 }
 
-/// The mode of this word.
+/// Returns the mode that this word names, if any.
 pub fn mode_of_word(word: &str) -> Option<Mode>
     ensures { result ≡ mode_named word.now }
 {
@@ -39,7 +39,7 @@ pub fn mode_of_word(word: &str) -> Option<Mode>
     }
 }
 
-/// The flag of this word.
+/// Returns the flag that this word names, if any.
 pub fn flag_of_word(word: &str) -> Option<Flags>
     ensures { option_map (λ flag. flag.0) result ≡ flag_named word.now }
 {
@@ -53,7 +53,7 @@ pub fn flag_of_word(word: &str) -> Option<Flags>
     }
 }
 
-/// The words of the flags that are set, in the order in which they are written.
+/// Returns the words of the flags that are set, in the order in which they are written.
 pub fn flag_values(alloc: Global, flags: Flags) -> Result<Vec<Value>, AllocError>
     ensures { IfOk result (λ list. map view list.items ≡ map string (flag_words flags.0)) }
 {
@@ -66,7 +66,7 @@ pub fn flag_values(alloc: Global, flags: Flags) -> Result<Vec<Value>, AllocError
     Ok(list)
 }
 
-/// Puts the word of a flag behind the others, where the flag is set.
+/// Appends the word of a flag if the flag is set.
 fn push_flag(list: &mut Vec<Value>, flags: Flags, flag: Flags, word: &str) -> Result<(), AllocError>
     ensures { OnOk result (map view list.new.items ≡ map view list.old.items ++ map string (word_in flags.0 (word.now, flag.0))) }
 {
@@ -77,7 +77,7 @@ fn push_flag(list: &mut Vec<Value>, flags: Flags, flag: Flags, word: &str) -> Re
     Ok(())
 }
 
-/// The id of these hexadecimal digits: 40 are an id by SHA-1, 64 one by SHA-256.
+/// Returns the id of these hexadecimal digits: a SHA-1 id for 40 digits, a SHA-256 id for 64.
 pub fn id_of_word(digits: &str) -> Option<ObjectId>
     ensures { result ≡ id_named digits.now }
 {

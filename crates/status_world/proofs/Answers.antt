@@ -1,4 +1,4 @@
--- What a run's comparer answers of a whole node: none exactly where it has the bytes that were staged.
+-- A run's comparer, which reads a whole node, returns None exactly if the node has the staged bytes.
 use Rattle.std.proofs.Common.{◌≡◌, ◌∙◌, ◌↔◌, inl, inr, refl, sym, ap, ℕ, ◌<◌, Bool, true, false, not, List, [], length, Option, Some, None, Result, Ok, Err, option_map, if◌then◌else◌, arith}
 use Rattle.std.proofs.Math.Seq.{take-length}
 use Rattle.std.proofs.lemmas.Bool.{le-ltb, not-false}
@@ -23,7 +23,7 @@ use Rattle.status_world.specs.Sound.{IsStagedSize}
 use Rattle.status_world.specs.StampedWorld.{compared_by, with_id, without_new_id}
 use Rattle.status_world.proofs.NodeStats.{small_size}
 
--- ids that pass the test are one, and pass it
+-- Ids that pass the test are equal, and equal ids pass it.
 pub same_id_is : (a b : ObjectId) → same_id a b ≡ true → a ≡ b
 same_id_is (Sha1Id a) (Sha1Id b) e = let same = (bytes_eq-Decides a b).0 e in cc
 same_id_is (Sha256Id a) (Sha256Id b) e = let same = (bytes_eq-Decides a b).0 e in cc
@@ -38,7 +38,7 @@ pub kind_of_blob : (kind : HashKind) (bytes : List ℕ) → id_kind (blob_id kin
 kind_of_blob Sha1 bytes = refl
 kind_of_blob Sha256 bytes = refl
 
--- an id of an empty blob is that of no bytes
+-- If the id of the staged bytes is an empty blob's, no bytes were staged.
 pub staged_empty : (id : ObjectId) (kind : HashKind) (staged : List ℕ) → id ≡ blob_id kind staged → HasOwnId kind staged [] → is_empty_blob id ≡ true → staged ≡ []
 staged_empty id kind staged e own empty =
     let one : id_kind id ≡ kind = ap id_kind e ∙ kind_of_blob kind staged in
@@ -53,7 +53,7 @@ hash_whole e kind bytes (streams content size) one whole = rw (whole.1, sym whol
 hash_whole e kind bytes (target t) one whole = rw (whole, one)
 hash_whole e kind bytes (fails err) one whole = absurd whole
 
--- an answer that is no error
+-- A result that isn't an error.
 abbrev pub Answered : Result (Option (Option ObjectId)) Error → Type 0
 Answered answer = (found : Option (Option ObjectId)) × (answer ≡ Ok found)
 
@@ -62,7 +62,7 @@ fast_answered true change = (Some None, refl)
 fast_answered false (Some id) = (Some None, refl)
 fast_answered false None = (None, refl)
 
--- both comparers answer of a whole node
+-- Both comparers succeed for a whole node.
 pub answered : (c : Comparer) (e : IndexEntry) (kind : HashKind) (bytes : List ℕ) (len : ℕ) (m : Meaning) → id_kind e.id ≡ kind → IsWholly bytes m.file
     → Answered (compared_by c e len m)
 answered Hash e kind bytes len m one whole = (option_map Some (changed_id e.id (blob_id kind bytes)), ap with_id (hash_whole e kind bytes m.file one whole))
@@ -70,7 +70,7 @@ answered Fast e kind bytes len m one whole =
     let by_id = fast_answered (size_decides e len) (changed_id e.id (blob_id kind bytes)) in
     (by_id.0, ap (λ h. without_new_id (if size_decides e len then Ok (Some tt) else answer_without_id h)) (hash_whole e kind bytes m.file one whole) ∙ by_id.1)
 
--- a size that was staged is one that the comparers know
+-- An entry's size that is the staged one or 0 is one that the comparers accept.
 kept_size : (e : IndexEntry) (s : Plain) → length s.bytes < 4294967296 → IsStagedSize e s → IsKeptSize e.stat.size s.bytes
 kept_size e s small (inl h) = inl (h ∙ sym (small_size (length s.bytes) small))
 kept_size e s small (inr h) = inr h
@@ -89,7 +89,7 @@ reports_test : (same : Bool) (id : ObjectId) → reports_change {A = ObjectId} (
 reports_test true id = refl
 reports_test false id = refl
 
--- what is premised of an entry, the staged bytes and a node's bytes
+-- The premises on an entry, the staged bytes and a node's bytes.
 pub record HasStaged (kind : HashKind) (e : IndexEntry) (s : Plain) (bytes : List ℕ) : Type 0 where
   pub id : e.id ≡ blob_id kind s.bytes
   pub small : length s.bytes < 4294967296
@@ -97,7 +97,7 @@ pub record HasStaged (kind : HashKind) (e : IndexEntry) (s : Plain) (bytes : Lis
   pub own : HasOwnId kind s.bytes bytes
   pub own_empty : HasOwnId kind s.bytes []
 
--- a change is answered exactly where the ids differ
+-- A comparer returns a change exactly if the ids differ.
 reports_ids : (c : Comparer) (e : IndexEntry) (kind : HashKind) (s : Plain) (bytes : List ℕ) (m : Meaning) → HasStaged kind e s bytes → IsWholly bytes m.file
     → reports_change (compared_by c e (length bytes) m) ≡ not (same_id e.id (blob_id kind bytes))
 reports_ids Hash e kind s bytes m h whole =
@@ -114,7 +114,7 @@ none_reported : (found : Option (Option ObjectId)) → reports_change {A = Optio
 none_reported (Some id) e = cc
 none_reported None e = refl
 
--- the answer is none exactly where the bytes are those that were staged
+-- A comparer returns None exactly if the bytes are the staged ones.
 pub answer_says : (c : Comparer) (e : IndexEntry) (kind : HashKind) (s : Plain) (bytes : List ℕ) (m : Meaning) → HasStaged kind e s bytes → IsWholly bytes m.file
     → (found : Option (Option ObjectId)) → compared_by c e (length bytes) m ≡ Ok found → (found ≡ None) ↔ (bytes ≡ s.bytes)
 answer_says c e kind s bytes m h whole found is =

@@ -1,4 +1,4 @@
--- A run of a formed world is refused for no fault of its own; and what an applied event leaves.
+-- A run of a formed world isn't refused for an entry's fault. An applied event leaves a formed world, and its report is exact.
 use Rattle.std.proofs.Common.{◌≡◌, refl, sym, ap, subst, ◌∙◌, ℕ, Bool, true, false, not, ◌||◌, List, [], ◌∷◌, ◌++◌, drop, Option, Some, None, is_some, length, option_map, IfErr, IfSome, Result, Ok, Err}
 use Rattle.std.specs.Prelude.{nat_le}
 use Rattle.bstr.specs.Owned.{bstring_bytes}
@@ -22,7 +22,7 @@ use Rattle.status_world.proofs.FormedWorlds.{formed_kept}
 use Rattle.status_world.proofs.Histories.{history, report_exact, run_refusal}
 use Rattle.status_world.proofs.Replays.{replay_formed}
 
--- ---- no fault of its own
+-- ---- no fault of an entry
 
 abbrev IsPlain : Option Refusal → Type 0
 IsPlain None = Unit {0}

@@ -74,7 +74,7 @@ module _ (decide : Decide) where
   abbrev Changed : List ℕ → Option IndexEntry → Type 0
   Changed p o = IsSomeAnd o (λ e. IsChangeVerdict (decide e))
 
-  -- one of the path, or of the later entries
+  -- By the first entry, if it has the path, or otherwise by the later entries.
   at_first : (p : List ℕ) (e : IndexEntry) (later : Option IndexEntry) (b : Bool) → b ≡ bytes_eq e.path p
       → ((p ≡ e.path) × IsChangeVerdict (decide e)) ⊎ Changed p later → (p ≡ e.path → later ≡ None) → Changed p (cond b (Some e) later)
   at_first p e later true t (inl h) none = h.1
@@ -110,7 +110,7 @@ module _ (decide : Decide) where
         | inr k ↦ in_right p (paths_of (reported_by n e.path (decide e))) (paths_of (reports_from (n + 1) es)) (of_changed p es (n + 1) k)
       ])
 
--- a path is among a report's changed paths just where its entry's verdict is a change
+-- A path is among a report's changed paths exactly if its entry's verdict is a change.
 pub changed_at : (w : StampedWorld) (c : Comparer) → AreAscending w.entries → (p : List ℕ)
     → IsIn p (changed_paths (report_of w c)) ↔ IsSomeAnd (entry_at p w.entries) (λ e. IsChangeVerdict (verdict_in w c e))
 changed_at w c ascends p = (changed_of (verdict_in w c) p w.entries 0 ascends, of_changed (verdict_in w c) p w.entries 0)

@@ -1,4 +1,4 @@
--- The entry of a path: in an index with another entry there, and in one whose entries are changed in place.
+-- The entry of a path, in an index with another entry of a path, and in an index whose entries are changed in place.
 use Rattle.std.proofs.Common.{◌≡◌, refl, sym, ap, ◌∙◌, ℕ, zero, suc, ◌<◌, Bool, true, false, cond, List, [], ◌∷◌, ◌++◌, map, length, filter, find, Option, Some, None, option_map, IfSome, All, AllPairs, option_to_list, slice_index_or, arith}
 use Rattle.std.specs.Ordering.{nat_cmp, is_eq, is_lt, ordering_reverse}
 use Rattle.std.specs.Option.{option_or}
@@ -22,7 +22,7 @@ use Rattle.status_world.specs.StampedWorld.{entry_at}
 abbrev pub path_cmp : List ℕ → List ℕ → Ordering
 path_cmp = slice_cmp nat_cmp
 
--- whether a path is another
+-- Whether two paths are equal.
 abbrev pub is_path : List ℕ → List ℕ → Bool
 is_path q p = is_eq (path_cmp q p)
 
@@ -40,7 +40,7 @@ reversed_test Greater = refl
 is_path-turned : (q p : List ℕ) → is_path q p ≡ is_path p q
 is_path-turned q p = ap is_eq (nat_list_cmp_total.antisymm q p) ∙ reversed_test (path_cmp p q)
 
--- the test of a look-up, by the order
+-- The test of a lookup, by the order of paths.
 test_is : (e : IndexEntry) (q : List ℕ) → bytes_eq e.path q ≡ is_path q e.path
 test_is e q = sym (is_eq-slice_cmp e.path q) ∙ is_path-turned e.path q
 
@@ -68,7 +68,7 @@ module _ {X : Type 0} (test keep : X → Bool) (b : Bool) where
   filter_step true false x rest found e h is = ap (λ u. cond u (Some x) (find test rest)) e ∙ is
   filter_step false false x rest found e h is = is
 
-  -- a filter that treats all that is looked for alike
+  -- A lookup after a filter that keeps all elements that pass the lookup's test, or none of them.
   find-filter : ((x : X) → test x ≡ true → keep x ≡ b) → (xs : List X) → find test (filter keep xs) ≡ cond b (find test xs) None
   find-filter h [] = none_either b
   find-filter h (x ∷ xs) = filter_step (keep x) (test x) x (filter keep xs) (find test xs) refl (h x) (find-filter h xs)
@@ -77,7 +77,7 @@ or_none : {X : Type 0} (o : Option X) → option_or o None ≡ o
 or_none None = refl
 or_none (Some x) = refl
 
--- what is looked for has the path
+-- An entry that passes the test has the path.
 sought : (e : IndexEntry) (q : List ℕ) → bytes_eq e.path q ≡ true → e.path ≡ q
 sought e q h = (bytes_eq-Decides e.path q).0 h
 
@@ -107,7 +107,7 @@ by_order_of Less (Some x) (Some e) = refl
 by_order_of Equal new found = or_none new
 by_order_of Greater new found = refl
 
--- the entry of a path where one path has another entry, or none
+-- The entry of a path, in an index in which one path has another entry, or none.
 pub entry_at-with : (es : List IndexEntry) (p : List ℕ) (new : Option IndexEntry) → IfSome new (λ e. e.path ≡ p)
     → (q : List ℕ) → entry_at q (with_entry es p new) ≡ cond (is_path q p) new (entry_at q es)
 entry_at-with es p new named q =
@@ -121,7 +121,7 @@ entry_at-with es p new named q =
     ∙ ap (option_or (option_or (cond (is_lt (path_cmp q p)) (entry_at q es) None) (cond (is_path q p) new None))) (at_above es p q ∙ ap (λ o. cond (is_lt o) (entry_at q es) None) (nat_list_cmp_total.antisymm p q))
     ∙ by_order_of (path_cmp q p) new (entry_at q es)
 
--- ---- what holds of all entries
+-- ---- facts of all entries
 
 All-option : (P : IndexEntry → Type 0) (new : Option IndexEntry) → IfSome new P → All P (option_to_list new)
 All-option P None h = All-nil P
@@ -133,7 +133,7 @@ All-with P es p new all here =
     (All-append P (below es p) (option_to_list new) (All-filter (λ e. is_lt (path_cmp e.path p)) P es all) (All-option P new here))
     (All-filter (λ e. is_lt (path_cmp p e.path)) P es all)
 
--- strictly by path
+-- The paths ascend strictly.
 abbrev pub Precedes : IndexEntry → IndexEntry → Type 0
 Precedes a b = path_cmp a.path b.path ≡ Less
 
@@ -179,7 +179,7 @@ ascending-with es p new ascends named =
 
 -- ---- entries changed in place
 
--- a change that keeps each entry's path
+-- A change that keeps each entry's path.
 abbrev pub KeepsPaths : (IndexEntry → IndexEntry) → Type 0
 KeepsPaths f = (e : IndexEntry) → (f e).path ≡ e.path
 
@@ -203,7 +203,7 @@ normal-map f kept es normal =
     All-map (λ e. is_bad_path e.path ≡ false) f es
     (All-weaker (λ e. is_bad_path e.path ≡ false) (λ e. is_bad_path (f e).path ≡ false) (λ e h. ap is_bad_path (kept e) ∙ h) es normal)
 
--- ---- what a look-up finds
+-- ---- lookups
 
 either_some : (P : IndexEntry → Type 0) (b : Bool) (e : IndexEntry) (o : Option IndexEntry) → (b ≡ true → P e) → IfSome o P → IfSome (cond b (Some e) o) P
 either_some P true e o h k = h refl
@@ -223,14 +223,14 @@ ascends_tail e es ascends i j d l m = ascends (suc i) (suc j) d (omega arith) (o
 pub ascends_head : (e : IndexEntry) (es : List IndexEntry) → AreAscending (e ∷ es) → All (Precedes e) es
 ascends_head e es ascends k d l = ascends zero (suc k) d (omega arith) (omega arith)
 
--- no later entry has an earlier one's path
+-- No later entry has the path of an earlier one.
 pub none_later : (e : IndexEntry) (es : List IndexEntry) → All (Precedes e) es → entry_at e.path es ≡ None
 none_later e [] all = refl
 none_later e (x ∷ es) all =
     let apart : bytes_eq x.path e.path ≡ false = test_is x e.path ∙ ap is_eq (All-head (Precedes e) x es all) in
     ap (λ b. cond b (Some x) (entry_at e.path es)) apart ∙ none_later e es (All-tail (Precedes e) x es all)
 
--- each entry is the one of its path
+-- Each entry is the one of its path.
 pub each_found : (es : List IndexEntry) → AreAscending es → All (λ e. entry_at e.path es ≡ Some e) es
 each_found [] ascends k d l = absurd (omega arith)
 each_found (x ∷ es) ascends zero d l = ap (λ b. cond b (Some x) (entry_at x.path es)) (test_is x x.path ∙ is_path-itself x.path)

@@ -1,4 +1,4 @@
--- What the entries of a formed world give in a run.
+-- The verdicts of the entries of a formed world in a run.
 use Rattle.std.proofs.Common.{◌≡◌, ◌⊎◌, inl, inr, refl, ap, subst, ◌∙◌, ℕ, ◌==◌, Bool, true, false, not, ◌&&◌, ◌||◌, List, [], ◌∷◌, Option, Some, None, is_some, Result, Ok, Err, IsTrue, IfSome, All, slice_get, filter_map, if◌then◌else◌}
 use Rattle.std.specs.Prelude.{nat_lt}
 use Rattle.std.specs.List.{list_any, cons_option}
@@ -67,7 +67,7 @@ staged_entry w formed e here good =
 pub each_entry : (w : StampedWorld) → IsFormed w → All (IsStagedEntry w) w.entries
 each_entry w formed k d l = staged_entry w formed _ (each_found w.entries formed.ascending k d l) (formed.normal k d l)
 
--- the node at a path is a file or link
+-- The node at a path is formed: a file or link.
 pub formed_node : (w : StampedWorld) → IsFormed w → (p : List ℕ) (n : Placed) → node_at w p ≡ Some n → IsFormedNode w.clock n
 formed_node w formed p n there =
     subst (λ o. IfSome o (IsFormedNode w.clock)) there (node_of_at w (node_at w p) (entry_at p w.entries) (paths.get w.staged p) (formed.at p))
@@ -102,13 +102,13 @@ module _ (w : StampedWorld) (c : Comparer) where
       third_false (not (is_skipped q d)) (same_path d e) (nat_lt 0 (stage_of d)) (nat_lt (stage_of d) (stage_of e)) (ap (nat_lt 0) (stage_zero d h.formed.flags)))
       w.entries all)
 
-  -- the verdict is the status
+  -- The verdict is the status.
   status_verdict : (e : IndexEntry) → All (IsStagedEntry w) w.entries → e.flags.0 ≡ bits_of_stage 0 → verdict_in w c e ≡ status_of q e
   status_verdict e all plain =
       cond-false (is_skipped q e || is_over q w.entries e) _ _ (or_from (is_skipped q e) (is_over q w.entries e) (or_from (is_flagged e) false (not_flagged e plain) refl) (not_over e all))
       ∙ cond-true (stage_of e == 0) _ _ (ap (λ n. n == 0) (stage_zero e plain))
 
-  -- by the node at the path
+  -- The verdict, by the node at the path.
   abbrev pub verdict_by : IndexEntry → Option Placed → Result (Option RunStatus) Error
   verdict_by e (Some n) = answer e.path (case_of_stat q e n.metadata (stat_of n.metadata))
   verdict_by e None = changed changes.Removed
@@ -128,7 +128,7 @@ module _ (w : StampedWorld) (c : Comparer) where
       ap (λ f. answer e.path (case_of_found q e f)) here
       ∙ ap (λ b. answer e.path (if b then status.added else case_of_stat q e n.metadata (stat_of n.metadata))) (not_intended e staged.formed.flags)
 
-  -- where none is there
+  -- A fault that is an absence has the status of nothing found.
   found_fault : (f : Fault) → is_absence f ≡ true → status.found_fault f ≡ nothing
   found_fault f h = ap (λ b. if b then nothing else status.refused f) h
 
@@ -144,7 +144,7 @@ module _ (w : StampedWorld) (c : Comparer) where
   found_absent (through_link d) b f mild h = inl refl
   found_absent (faulty g) b f mild h = inl (found_fault g mild)
 
-  -- no staged node is a submodule
+  -- No staged node is a submodule.
   no_submodule : (x : Bool) (k : NodeKind) (executable : Bool) → IsTrue (is_stored_kind k) → is_submodule (new_mode x k executable) ≡ false
   no_submodule x File true h = by_bit x
     where
@@ -168,7 +168,7 @@ module _ (w : StampedWorld) (c : Comparer) where
             ∙ ap (λ b. answer e.path (if b then status.in_submodule (q.submodule e) else status.gone)) plain
       ]
 
-  -- the verdict of an entry, by the node at its path
+  -- The verdict of an entry is the one by the node at its path.
   pub verdict_is : IsFormed w → (e : IndexEntry) → IsStagedEntry w e → verdict_in w c e ≡ verdict_by e (node_at w e.path)
   verdict_is formed e staged =
       status_verdict e (each_entry w formed) staged.formed.flags
@@ -192,7 +192,7 @@ all_of_none {X} {Y} h (x ∷ xs) none =
       | Some y ↦ λ here rest. cc
     ] refl none
 
--- where no verdict is a fault there is no first one, and the other way round
+-- If no verdict is a fault, there is no first fault, and conversely.
 pub no_first_fault : (w : StampedWorld) (c : Comparer) → All (λ e. fault_by (verdict_in w c e) ≡ None) w.entries → first_fault (query_of w c) w.entries ≡ None
 no_first_fault w c all = ap (λ (es : List Error). slice_get es 0) (none_of_any (λ e. fault_by (verdict_in w c e)) w.entries all)
 

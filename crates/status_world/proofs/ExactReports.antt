@@ -1,4 +1,4 @@
--- The report of a run over a formed world: it has no fault, and where the index can be trusted it is exact.
+-- A run over a formed world has no fault, and its report is exact if the index can be trusted.
 use Rattle.std.proofs.Common.{◌≡◌, ◌↔◌, refl, sym, ap, subst, ◌∙◌, ℕ, false, List, Option, Some, None, option_map, IsSomeAnd, IfSome}
 use Rattle.std.specs.FinMap as paths
 use Rattle.std.proofs.lemmas.List.Elements.{All-weaker}
@@ -19,7 +19,7 @@ use Rattle.status_world.proofs.Pairs.{HasOwnIds, IsChangeVerdict, pair_answered,
 use Rattle.status_world.proofs.Shown.{Shows}
 use Rattle.status_world.proofs.Verdicts.{IsMet}
 
--- an entry at whose path a node is meets it
+-- A staged entry meets the node at its path.
 pub met_at : (w : StampedWorld) → IsFormed w → (e : IndexEntry) (n : Placed) (staged : IsStagedEntry w e) → node_at w e.path ≡ Some n → IsMet w e n staged.was
 met_at w f e n staged there =
     let at : IsFormedAt w (Some n) (Some e) (Some staged.was) =
@@ -40,7 +40,7 @@ module _ (w : StampedWorld) (c : Comparer) (f : IsFormed w) where
   faultless : (e : IndexEntry) → IsStagedEntry w e → fault_by (verdict_in w c e) ≡ None
   faultless e staged = ap fault_by (verdict_is w c f e staged) ∙ faultless_by e staged (node_at w e.path) refl
 
-  -- a run over a formed world has no fault
+  -- A run over a formed world has no fault.
   pub run_faultless : first_fault (query_of w c) w.entries ≡ None
   run_faultless = no_first_fault w c (All-weaker (IsStagedEntry w) (λ e. fault_by (verdict_in w c e) ≡ None) faultless w.entries (each_entry w f))
 
@@ -49,17 +49,17 @@ module _ (w : StampedWorld) (c : Comparer) (f : IsFormed w) where
 iff_at : {A B C : Type 0} → A ↔ B → B ↔ C → A ↔ C
 iff_at f g = (λ a. g.0 (f.0 a), λ c. f.1 (g.1 c))
 
--- where something was staged, the ids of what is there are its own
+-- For each staged path with a node: if the staged bytes have the id of the node's bytes, or of no bytes, they are equal to these.
 abbrev pub AllHaveOwnIds : StampedWorld → Type 0
 AllHaveOwnIds w = (q : List ℕ) (n : Placed) (s : Plain) → node_at w q ≡ Some n → paths.get w.staged q ≡ Some s → HasOwnIds w n s
 
--- where no entry is nothing was staged
+-- If a path has no entry, nothing was staged there.
 none_staged : (w : StampedWorld) (n : Option Placed) (s : Option Plain) → IsFormedAt w n None s → s ≡ None
 none_staged w n None h = refl
 none_staged w n (Some s) h = absurd h
 
 module _ (w : StampedWorld) (c : Comparer) (f : IsFormed w) (sound : IsSound w) (own : AllHaveOwnIds w) where
-  -- what an entry's verdict says of its path
+  -- An entry's verdict is a change exactly if its path differs.
   abbrev IsExactFor : IndexEntry → Type 0
   IsExactFor e = IsChangeVerdict (verdict_in w c e) ↔ DiffersFrom w.executable_bit (option_map plain_of (node_at w e.path)) (paths.get w.staged e.path)
 
@@ -92,7 +92,7 @@ module _ (w : StampedWorld) (c : Comparer) (f : IsFormed w) (sound : IsSound w) 
       let staged : IsStagedEntry w e = staged_entry w f e (ap (λ r. entry_at r w.entries) same ∙ there) good in
       subst (λ r. IsExactAt r (Some e)) same (entry_exact e staged)
 
-  -- the report has just the staged paths that differ, in the plain world that the world shows
+  -- The report has a change of exactly the staged paths that differ in the plain world of this world.
   pub report_shown : (p : PlainWorld) → Shows w p → IsExact w.executable_bit (report_of w c) p
   report_shown p shows q =
       let found = iff_at (changed_at w c f.ascending q) (by_entry q (entry_at q w.entries) refl) in

@@ -1,5 +1,5 @@
--- What an event leaves at its path is formed: a node that was written, changed or removed, and an entry that was staged
--- or stored by a run; and all that is formed stays so as the clock goes on.
+-- A path is formed after each event: after its node is written, changed or removed, and after its entry is staged or stored by
+-- a run. A formed path stays so when the clock advances.
 use Rattle.std.proofs.Common.{◌≡◌, ◌∙◌, inl, refl, sym, ap, subst, ℕ, ◌<◌, Bool, true, false, List, length, Option, Some, None, option_map, unwrap_or, Result, Ok, Err, IsTrue, if◌then◌else◌}
 use Rattle.status_index.specs.BlobId.{blob_id}
 use Rattle.status_index.specs.Entries.{IndexEntry}
@@ -27,7 +27,7 @@ use Rattle.status_world.proofs.NodeStats.{KnownStat, stat_known}
 use Rattle.status_world.proofs.Pairs.{restored, pair_stat}
 use Rattle.status_world.proofs.Verdicts.{IsMet, verdict_at}
 
--- a world of the same kind of ids and files, whose clock is no earlier
+-- A world with the same kind of ids and executability, whose clock isn't earlier.
 pub record Follows (w w' : StampedWorld) : Type 0 where
   pub kind : w'.kind ≡ w.kind
   pub executable_bit : w'.executable_bit ≡ w.executable_bit
@@ -45,7 +45,7 @@ node_later a b n h f = record {
   ctime = known_later n.metadata.ctime a b h f.ctime;
 }
 
--- an entry with another stat, whose stamps are at most the clock
+-- An entry with another stat, whose times aren't after the clock.
 pub entry_with : (w w' : StampedWorld) (e : IndexEntry) (stat : Stat) (s : Plain) → Follows w w' → IsFormedEntry w e s
     → IsAtMost (moment_of stat.mtime) w'.clock → IsAtMost (moment_of stat.ctime) w'.clock → IsFormedEntry w' (with_stat stat e) s
 entry_with w w' e stat s follows f m c = record {
@@ -64,7 +64,7 @@ entry_later w w' e s follows f =
     (at_most_trans (moment_of e.stat.mtime) w.clock w'.clock f.mtime follows.clock)
     (at_most_trans (moment_of e.stat.ctime) w.clock w'.clock f.ctime follows.clock)
 
--- what is formed stays so
+-- A formed path stays formed.
 pub formed_later : (w w' : StampedWorld) → Follows w w' → (n : Option Placed) (e : Option IndexEntry) (s : Option Plain) → IsFormedAt w n e s → IsFormedAt w' n e s
 formed_later w w' follows None None None f = f
 formed_later w w' follows (Some n) None None f = node_later w.clock w'.clock n follows.clock f
@@ -73,7 +73,7 @@ formed_later w w' follows n None (Some s) f = absurd f
 formed_later w w' follows None (Some e) (Some s) f = entry_later w w' e s follows f
 formed_later w w' follows (Some n) (Some e) (Some s) f = (node_later w.clock w'.clock n follows.clock f.0, entry_later w w' e s follows f.1, f.2)
 
--- the node and the entry of what is formed
+-- The node and the entry of a formed path are formed.
 pub node_formed : (w : StampedWorld) (n : Placed) (e : Option IndexEntry) (s : Option Plain) → IsFormedAt w (Some n) e s → IsFormedNode w.clock n
 node_formed w n None None f = f
 node_formed w n (Some e) None f = absurd f
@@ -84,7 +84,7 @@ pub entry_formed : (w : StampedWorld) (n : Option Placed) (e : IndexEntry) (s : 
 entry_formed w None e s f = f
 entry_formed w (Some n) e s f = f.1
 
--- another node at a path, no earlier than the entry there
+-- Another node at a path, whose times aren't before those of the entry.
 renewed : (w : StampedWorld) (new : Placed) (n : Option Placed) (e : Option IndexEntry) (s : Option Plain) → IsFormedNode w.clock new
     → ((e : IndexEntry) (s : Plain) → IsFormedAt w n (Some e) (Some s) → IsFormedPair new e) → IsFormedAt w n e s → IsFormedAt w (Some new) e s
 renewed w new n None None f pair old = f
@@ -92,7 +92,7 @@ renewed w new n (Some e) None f pair old = absurd old
 renewed w new n None (Some s) f pair old = absurd old
 renewed w new n (Some e) (Some s) f pair old = (f, entry_formed w n e s old, pair e s old)
 
--- a write
+-- A write.
 pub written_formed : (clock : Moment) (kind : NodeKind) (executable : Bool) (bytes : List ℕ) → IsTrue (is_stored_kind kind) → length bytes < 4294967296
     → IsFormedNode clock (written clock kind executable bytes)
 written_formed clock kind executable bytes stored small = record {
@@ -112,7 +112,7 @@ formed_written w kind executable bytes stored small n e s f =
       ctime = (stamp_of w.clock, refl, (entry_formed w n e s old).ctime);
     }) f
 
--- a change of executability
+-- A change of executability.
 pub changed_formed : (clock : Moment) (executable : Bool) (n : Placed) → IsFormedNode clock n → IsFormedNode clock (with_executability clock executable n)
 changed_formed clock executable n f = record { kind = f.kind; len = f.len; small = f.small; mtime = f.mtime; ctime = (stamp_of clock, refl, at_most_refl clock) }
 
@@ -123,7 +123,7 @@ formed_changed w executable (Some n) e s f =
     renewed w (with_executability w.clock executable n) (Some n) e s (changed_formed w.clock executable n (node_formed w n e s f))
     (λ e s old. record { mtime = old.2.mtime; ctime = (stamp_of w.clock, refl, old.1.ctime) }) f
 
--- a removal
+-- A removal.
 pub formed_removed : (w : StampedWorld) (n : Option Placed) (e : Option IndexEntry) (s : Option Plain) → IsFormedAt w n e s → IsFormedAt w None e s
 formed_removed w n None None f = tt
 formed_removed w n (Some e) None f = absurd f
@@ -138,7 +138,7 @@ same_mode x Link executable = refl
 same_mode x Directory executable = refl
 same_mode x Other executable = refl
 
--- the entry of a node and the node
+-- The entry of a staged node fits the node.
 pub record IsStagedWell (w : StampedWorld) (n : Placed) (e : IndexEntry) : Type 0 where
   pub entry : IsFormedEntry w e (plain_of n)
   pub pair : IsFormedPair n e
@@ -173,7 +173,7 @@ staged_well w path n f =
     let k = stat_known w.clock n f in
     subst (λ o. IsStagedWell w n (entry_by w path n (unwrap_or o zero_stat))) (sym k.is) (staged_by w path n f k)
 
--- a node that is formed is one that an index stores
+-- A formed node is one that an index stores.
 pub stored_formed : (clock : Moment) (n : Placed) → IsFormedNode clock n → stored_node (Some n) ≡ Some n
 stored_formed clock n f = ap (λ b. if b then Some n else None) f.kind
 
@@ -224,7 +224,7 @@ module _ (w : StampedWorld) (u : Moment) (es : List IndexEntry) (e : IndexEntry)
   stored_by (Ok (Some (statuses.Conflict summary entries))) h = stored_kept
   stored_by (Ok (Some statuses.IntentToAdd)) h = stored_kept
 
--- what a run stores of an entry is formed, with the node at its path
+-- An entry that a run stores is formed, with the node at its path.
 pub formed_stored : (w : StampedWorld) (c : Comparer) (e : IndexEntry) (n : Placed) (s : Plain) → IsMet w e n s → IsFormedPair n e
     → (u : Moment) (es : List IndexEntry) → IsFormedAt (restored w u es) (Some n) (Some (stored_verdict e (verdict_at w c e n))) (Some s)
 formed_stored w c e n s met pair u es =

@@ -1,4 +1,4 @@
--- The entries of a formed world are an index, and a node can be put where an event is accepted.
+-- The entries of a formed world are a valid index, and the node of an accepted event can be put.
 use Rattle.std.proofs.Common.{◌≡◌, refl, sym, ap, ◌∙◌, ℕ, ◌<◌, Bool, true, false, not, ◌&&◌, ◌||◌, List, length, slice_index_or, Some, None, is_some, IsTrue, if◌then◌else◌, arith}
 use Rattle.std.specs.Ordering.{nat_cmp, ordering_then}
 use Rattle.std.specs.FinMap as paths
@@ -37,7 +37,7 @@ formed_index w f = record {
 
 -- ---- the worktree
 
--- a map has what it lists
+-- A map has a value for each key that it lists.
 listed_there : (tree : Tree) (i : ℕ) (d : List ℕ) → i < length (paths.keys tree.nodes) → IsTrue (is_some (paths.get tree.nodes (slice_index_or (paths.keys tree.nodes) i d)))
 listed_there tree i d l =
     let k : List ℕ = slice_index_or (paths.keys tree.nodes) i d in
@@ -50,11 +50,11 @@ none_below tree p leaves there =
     false_from_ne_true (lies_above p k) (λ above.
     let none : is_some (paths.get tree.nodes p) ≡ false = ap is_some (leaves k p (listed_there tree i d l) above) in cc))
 
--- a file or link can be put just where nothing is in an event's way
+-- A file or link can be put exactly if the event isn't refused for something in the way.
 pub blocked_is : (w : StampedWorld) (p : List ℕ) (kind : NodeKind) → is_no_directory_kind kind ≡ true → is_in_the_way w.tree p kind ≡ is_blocked w p
 blocked_is w p kind file = ap (λ b. has_file_above w.tree p || (b && has_below w.tree p)) file
 
--- the tree's own refusals are an event's first two
+-- The tree's refusals are the first two of an event.
 pub put_is : (w : StampedWorld) (p : List ℕ) (kind : NodeKind) → is_no_directory_kind kind ≡ true
     → put_fault w.tree p kind ≡ (if is_bad_path p then Some BadPath else (if is_blocked w p then Some InTheWay else None))
 put_is w p kind file = ap (λ (b : Bool). if is_bad_path p then Some BadPath else (if b then Some InTheWay else None)) (blocked_is w p kind file)

@@ -35,7 +35,7 @@ use Rattle.status_world.proofs.Leaves.{AreLeaves, leaves_changed, leaves_put}
 use Rattle.status_world.proofs.Moments.{at_most_refl, at_most_trans, at_most_plus, at_most_plus_nanos, at_most_not_after}
 use Rattle.status_world.proofs.PathCases.{each_with, each_staged, each_run, stored_in, stored_paths}
 
--- ---- what no refusal says
+-- ---- what follows if an event isn't refused
 
 orelse_none : (a b : Option Refusal) → (a orelse b) ≡ None → (a ≡ None) × (b ≡ None)
 orelse_none None b h = (refl, h)
@@ -59,11 +59,11 @@ writable w p bytes h =
     let second = orelse_none _ _ first.1 in
     record { good = refuse_none (is_bad_path p) _ first.0; free = refuse_none (is_blocked w p) _ second.0; small = not_large (length bytes) (refuse_none (nat_le 4294967296 (length bytes)) _ second.1) }
 
--- a test in front of others
+-- The first of several conditions doesn't hold.
 pub good_first : (b : Bool) (r : Refusal) (others : Option Refusal) → (refuse_if b r orelse others) ≡ None → b ≡ false
 good_first b r others h = refuse_none b r (orelse_none (refuse_if b r) others h).0
 
--- a run's stamp isn't after the clock
+-- A run's timestamp isn't after the clock.
 pub runnable : (w : StampedWorld) (run : Run) → refusal_of (run_event run) w ≡ None → IsAtMost run.stamp w.clock
 runnable w run h =
     let stamped = (orelse_none (stamp_refusal w.clock run.stamp) (fault_refusal (first_fault (query_of w run.comparer) w.entries)) h).0 in
@@ -74,7 +74,7 @@ not_false : (b : Bool) → not b ≡ false → b ≡ true
 not_false true h = refl
 not_false false h = cc
 
--- where executability is set a file is
+-- If executability is set, a regular file is there.
 pub not_a_file : (w : StampedWorld) (path : BString) (executable : Bool) → refusal_of (events.SetExecutable path executable) w ≡ None → is_regular_file (node_at w (bstring_bytes path)) ≡ true
 not_a_file w path executable h = not_false _ (refuse_none (not (is_regular_file (node_at w (bstring_bytes path)))) _ (orelse_none _ _ h).1)
 
@@ -94,7 +94,7 @@ formed_new kind o x clock timestamp h =
       unplanted = refl;
     }
 
--- ---- the clock goes on
+-- ---- the clock advances
 
 formed_clock : (w : StampedWorld) (c : Moment) → IsAtMost w.clock c → IsFormed w → IsFormed (record w { clock = c })
 formed_clock w c later f = record {
@@ -123,7 +123,7 @@ formed_with_node w p v f here leaves =
       unplanted = f.unplanted;
     }
 
--- each node is a file or link
+-- Each node is a file or link.
 stored_kinds : (w : StampedWorld) → IsFormed w → (q : List ℕ) → IfSome (paths.get w.tree.nodes q) (λ m. IsTrue (is_stored_kind m.metadata.kind))
 stored_kinds w f q = kind_of (node_at w q) (node_of_at w (node_at w q) (entry_at q w.entries) (paths.get w.staged q) (f.at q))
   where
@@ -169,7 +169,7 @@ module _ (w : StampedWorld) (p : List ℕ) where
   all_mapped P h None = tt
   all_mapped P h (Some n) = h n
 
-  -- the new entry has the path
+  -- The new entry has the path.
   pub new_named : IfSome new_entry_at (λ e. e.path ≡ p)
   new_named = all_mapped (λ e. e.path ≡ p) (λ n. refl) (stored_node (node_at w p))
 

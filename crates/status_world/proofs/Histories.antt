@@ -50,7 +50,7 @@ bit_kept (events.Remove path) w = refl
 bit_kept (events.Stage path) w = refl
 bit_kept (events.Run comparer chunk_size thread_limit stamp) w = refl
 
--- an exact report in front, where the event is a run
+-- An exact report is put in front if the event is a run.
 exact_more : (e : Event) (w : StampedWorld) (p : PlainWorld) (x : Bool) (rs : List RunReport) (ps : List PlainWorld) → ((c : Comparer) → IsExact x (report_of w c) p)
     → AreExact x rs ps → AreExact x (reports_at e w ++ rs) (plain_at e p ++ ps)
 exact_more (events.Run comparer chunk_size thread_limit stamp) w p x rs ps now later = (now comparer, later)
@@ -62,7 +62,7 @@ exact_more (events.SetExecutable path executable) w p x rs ps now later = later
 exact_more (events.Remove path) w p x rs ps now later = later
 exact_more (events.Stage path) w p x rs ps now later = later
 
--- exact reports, and a world that is formed and can be trusted
+-- The reports are exact, and the last world is formed and can be trusted.
 pub record IsTrueHistory (es : List Event) (w : StampedWorld) (p : PlainWorld) : Type 0 where
   pub exact : AreExact w.executable_bit (reports_of es w) (plains_of es p)
   pub formed : IsFormed (after_events es w)
@@ -91,7 +91,7 @@ module _ (K : List ℕ → Type 0) where
         sound = later.sound;
       }
 
--- ---- the contents at hand
+-- ---- all contents
 
 module _ {A : Type 0} (bytes : A → List ℕ) where
   found_in : (b : Bool) (x : A) (o : Option A) (others : List (List ℕ)) → IfSome o (λ y. IsIn (bytes y) others) → IfSome (cond b (Some x) o) (λ y. IsIn (bytes y) (bytes x ∷ others))
@@ -103,7 +103,7 @@ module _ {A : Type 0} (bytes : A → List ℕ) where
   find-in [] q = tt
   find-in (e ∷ es) q = found_in (is_path q e.0) e.1 (paths.find (slice_cmp nat_cmp) q es) (map bytes (map (λ e. e.1) es)) (find-in es q)
 
-  -- what a look-up finds is among a map's values
+  -- A value that a lookup finds is among the map's values.
   get-in : (m : PathMap A) (q : List ℕ) → IfSome (paths.get m q) (λ y. IsIn (bytes y) (map bytes (paths.values m)))
   get-in m q = subst (λ o. IfSome o (λ y. IsIn (bytes y) (map bytes (paths.values m)))) (sym (paths.get-entries m q)) (find-in (paths.entries m) q)
 
@@ -137,8 +137,8 @@ module _ (w : StampedWorld) (es : List Event) where
     empty = in_right [] (of_nodes ++ of_staged ++ contents_of_events es) ([] ∷ []) (inl refl);
   }
 
--- of a world whose index can be trusted: accepted events leave it so, and the report of each run is exact for the plain
--- world that it met
+-- If a world's index can be trusted, it still can after accepted events. The report of each run is then exact for the plain
+-- world at the run.
 pub history : (es : List Event) (w : StampedWorld) → IsFormed w → IsSound w → HaveDistinctIds w.kind (contents_at_hand w es) → AreAccepted es w
     → AreExact w.executable_bit (reports_of es w) (plains_of es (plain_world_of w)) × IsSound (after_events es w)
 history es w f sound distinct accepted =
@@ -146,19 +146,19 @@ history es w f sound distinct accepted =
     history_over (AtHand w es) es w (plain_world_of w) distinct (known_at_hand w es) (event_at_hand w es) f sound (shows_plain w) accepted in
     (all.exact, all.sound)
 
--- worlds of accepted events are formed, whatever ids their contents have
+-- Accepted events keep a world formed, whether contents with equal ids are equal or not.
 pub formed_events : (es : List Event) (w : StampedWorld) → IsFormed w → AreAccepted es w → IsFormed (after_events es w)
 formed_events [] w f accepted = f
 formed_events (e ∷ es) w f accepted = formed_events es (after_event e w) (formed_kept e w accepted.0 f) accepted.1
 
--- one run's report
+-- The report of one run is exact.
 pub report_exact : (w : StampedWorld) (es : List Event) (c : Comparer) → IsFormed w → IsSound w → HaveDistinctIds w.kind (contents_at_hand w es) → IsExact w.executable_bit (report_of w c) (plain_world_of w)
 report_exact w es c f sound distinct =
     report_shown w c f sound (own_ids (AtHand w es) w distinct (known_at_hand w es)) (plain_world_of w) (shows_plain w)
 
 -- ---- a replay
 
--- the reports of a replay are exact, and its index can be trusted again
+-- The reports of a replay are exact, and its index can still be trusted.
 pub replay_exact : (w : StampedWorld) (es : List Event) (final : StampedWorld) (reports : List RunReport) (stopped : Option (ℕ × Refusal)) → IsFormed w → IsSound w
     → HaveDistinctIds w.kind (contents_at_hand w (take (accepted_count es stopped) es)) → IsReplay w es final reports stopped → IsExactReplay w es final reports stopped
 replay_exact w es final reports stopped f sound distinct replay =
@@ -170,7 +170,7 @@ replay_exact w es final reports stopped f sound distinct replay =
       sound = subst IsSound (sym replay.world) all.sound;
     }
 
--- a run of a formed world is refused for its stamp alone
+-- A run of a formed world is refused for its timestamp alone.
 orelse_nothing : (o : Option Refusal) → (o orelse None) ≡ o
 orelse_nothing (Some r) = refl
 orelse_nothing None = refl

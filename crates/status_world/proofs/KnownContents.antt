@@ -1,4 +1,4 @@
--- Which contents a world has, and that contents of one id are one.
+-- The contents of a world are known, and known contents with equal ids are equal.
 use Rattle.std.proofs.Common.{◌≡◌, inl, refl, sym, subst, ℕ, Bool, true, false, List, [], Option, Some, None, option_map, IfSome, if◌then◌else◌}
 use Rattle.std.specs.FinMap as paths
 use Rattle.bstr.specs.Owned.{bstring_bytes}
@@ -16,17 +16,17 @@ use Rattle.status_world.proofs.Pairs.{HasOwnIds}
 use Rattle.status_world.proofs.PathCases.{each_with}
 
 module _ (K : List ℕ → Type 0) where
-  -- all contents of a world are known, and the empty one
+  -- All contents of a world are known, and the empty one.
   pub record KnowsContents (w : StampedWorld) : Type 0 where
     pub nodes : (q : List ℕ) → IfSome (node_at w q) (λ n. K n.bytes)
     pub staged : (q : List ℕ) → IfSome (paths.get w.staged q) (λ s. K s.bytes)
     pub empty : K []
 
-  -- those that an event brings are known
+  -- The contents of an event are known.
   abbrev pub BringsKnown : Event → Type 0
   BringsKnown e = (x : List ℕ) → IsIn x (contents_at e) → K x
 
-  -- known contents of one id are one
+  -- Known contents with equal ids are equal.
   abbrev pub AreDistinct : HashKind → Type 0
   AreDistinct kind = (a b : List ℕ) → K a → K b → blob_id kind a ≡ blob_id kind b → a ≡ b
 

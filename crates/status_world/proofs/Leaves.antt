@@ -1,4 +1,4 @@
--- Trees in which nothing lies below a node.
+-- Trees in which nothing is below a node.
 use Rattle.std.proofs.Common.{◌≡◌, refl, sym, ap, subst, ◌∙◌, ℕ, Bool, true, false, not, cond, ◌&&◌, List, take, Option, Some, None, is_some, IsTrue, IfSome, Contains, arith}
 use Rattle.std.specs.List.{list_any}
 use Rattle.std.specs.FinMap as paths
@@ -19,7 +19,7 @@ use Rattle.status_world.proofs.TreeLaws.{get-with, contains_above, front_above, 
 abbrev pub AreLeaves : PathMap Placed → Type 0
 AreLeaves m = (p d : List ℕ) → IsTrue (is_some (paths.get m p)) → IsTrue (lies_above d p) → paths.get m d ≡ None
 
--- a check accepts the path of a node
+-- The link check accepts the path of a node.
 pub present_check : (tree : Tree) (path : List ℕ) → tree.planted ≡ paths.empty → AreLeaves tree.nodes → is_bad_path path ≡ false
     → IsTrue (is_some (paths.get tree.nodes path)) → link_check (lstat_in tree) path ≡ accepted
 present_check tree path unplanted leaves good there =
@@ -29,9 +29,9 @@ present_check tree path unplanted leaves good there =
     let none : paths.get tree.nodes (take k path) ≡ None = leaves path (take k path) there above in
     ap barrier_of (lstat_none tree (take k path) unplanted none ∙ cond-true (has_below tree (take k path)) _ _ (below_found tree (take k path) path there above)))
 
--- ---- what keeps it
+-- ---- changes that keep nodes without anything below them
 
--- where no path gets a node that had none
+-- No path gets a node that had none.
 pub leaves_fewer : (old new : PathMap Placed) → AreLeaves old
     → ((q : List ℕ) → IsTrue (is_some (paths.get new q)) → IsTrue (is_some (paths.get old q)))
     → ((q : List ℕ) → paths.get old q ≡ None → paths.get new q ≡ None) → AreLeaves new
@@ -45,7 +45,7 @@ was_some : {A : Type 0} (b : Bool) (v o : Option A) → (b ≡ true → IsTrue (
 was_some true v o h t = h refl t
 was_some false v o h t = t
 
--- another value at a path, where that had one
+-- Another value at a path that had one.
 pub leaves_changed : (m : PathMap Placed) (p : List ℕ) (v : Option Placed) → (IsTrue (is_some v) → IsTrue (is_some (paths.get m p))) → AreLeaves m → AreLeaves (with_value m p v)
 leaves_changed m p v had leaves =
     leaves_fewer m (with_value m p v) leaves
@@ -79,7 +79,7 @@ not_both : (a b : Bool) → (not a && b) ≡ false → b ≡ true → a ≡ true
 not_both true b h t = refl
 not_both false b h t = cc
 
--- what stands above a path is another path
+-- A path above another one is different from it.
 not_itself : (p : List ℕ) → lies_above p p ≡ true → ⊥
 not_itself p above = let short = above_shorter p p above in absurd (omega arith)
 
@@ -88,7 +88,7 @@ module _ (tree : Tree) (p : List ℕ) (n : Placed) (stored : (q : List ℕ) → 
   abbrev new_at : List ℕ → Option Placed
   new_at q = cond (is_path q p) (Some n) (paths.get tree.nodes q)
 
-  -- nothing is above the path
+  -- No node is above the path.
   none_above : (d : List ℕ) → lies_above d p ≡ true → new_at d ≡ None
   none_above d above =
       let none : paths.get tree.nodes d ≡ None =
@@ -96,7 +96,7 @@ module _ (tree : Tree) (p : List ℕ) (n : Placed) (stored : (q : List ℕ) → 
       let apart : is_path d p ≡ false = false_from_ne_true (is_path d p) (λ t. not_itself p (ap (λ r. lies_above r p) (sym (path_of d p t)) ∙ above)) in
       cond-false (is_path d p) (Some n) (paths.get tree.nodes d) apart ∙ none
 
-  -- nothing is below it, so that it is above no node
+  -- No node is below the path, so the path is above no node.
   none_below : (q d : List ℕ) → IsTrue (is_some (paths.get tree.nodes q)) → lies_above d q ≡ true → new_at d ≡ None
   none_below q d there above =
       let none : paths.get tree.nodes d ≡ None = leaves q d there above in
@@ -112,7 +112,7 @@ module _ (tree : Tree) (p : List ℕ) (n : Placed) (stored : (q : List ℕ) → 
   by_new q d true same there above = none_above d (ap (lies_above d) (sym (path_of q p same)) ∙ above)
   by_new q d false apart there above = none_below q d there above
 
-  -- a node at a path where nothing is in its way
+  -- A node at a path for which nothing is in the way.
   pub leaves_put : AreLeaves (with_value tree.nodes p (Some n))
   leaves_put q d there above =
       get-with tree.nodes p (Some n) d ∙ by_new q d (is_path q p) refl (ap is_some (sym (get-with tree.nodes p (Some n) q)) ∙ there) above

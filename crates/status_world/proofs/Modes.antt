@@ -1,4 +1,4 @@
--- What a node's mode says of an entry of what was staged.
+-- The mode change of a node, for an entry of what was staged.
 use Rattle.std.proofs.Common.{◌≡◌, ◌≢◌, refl, Bool, true, false, Option, Some, None, IsTrue}
 use Rattle.status_index.specs.declared.metadata.NodeKind.{NodeKind}
 use Rattle.status_index.specs.declared.metadata.NodeKind.TheVariants.{File, Link, Directory, Other}
@@ -10,13 +10,13 @@ use Rattle.status_base.specs.MemoryTree.{Placed}
 use Rattle.status_world.specs.PlainWorld.{Plain, IsExecutableChange}
 use Rattle.status_world.specs.StampedWorld.{is_stored_kind, plain_of}
 
--- a change of the mode: another kind, else an executable change where that counts, else none
+-- A mode change: to another kind; otherwise of executability, if that counts and differs; otherwise none.
 pub data ModeCase (executable_bit : Bool) (now was : Plain) (change : Option ModeChange) : Type 0 where
   other_kind : (mode : Mode) → now.kind ≢ was.kind → change ≡ Some (TypeChange mode) → ModeCase executable_bit now was change
   other_bit : now.kind ≡ was.kind → IsTrue executable_bit → IsExecutableChange now was → change ≡ Some ExecutableBit → ModeCase executable_bit now was change
   same_mode : now.kind ≡ was.kind → (IsTrue executable_bit → IsExecutableChange now was → ⊥) → change ≡ None → ModeCase executable_bit now was change
 
--- a node whose kind and executability are these
+-- A node with this kind and executability.
 abbrev node_with : Placed → NodeKind → Bool → Placed
 node_with n kind executable = record n { metadata = record n.metadata { kind = kind; executable = executable } }
 
@@ -44,7 +44,7 @@ mode_case_of x n s Other nx sk sx p q = absurd (cc)
 mode_case_of x n s nk nx Directory sx p q = absurd (cc)
 mode_case_of x n s nk nx Other sx p q = absurd (cc)
 
--- what the mode of a node says of an entry of what was staged
+-- The mode change of a node, by cases.
 pub mode_case : (executable_bit : Bool) (n : Placed) (s : Plain) → IsTrue (is_stored_kind n.metadata.kind) → IsTrue (is_stored_kind s.kind)
     → ModeCase executable_bit (plain_of n) s (mode_change true executable_bit (new_mode executable_bit s.kind s.executable) n.metadata)
 mode_case x n s p q = mode_case_of x n s n.metadata.kind n.metadata.executable s.kind s.executable p q

@@ -1,4 +1,4 @@
--- The order of moments, and clocks that go on.
+-- The order of moments, and clocks that advance.
 use Rattle.std.proofs.Common.{◌≡◌, inl, inr, refl, ℕ, false, arith}
 use Rattle.std.proofs.lemmas.Bool.Decides.{nat_tests}
 use Rattle.status_index.specs.declared.stat.Moment.{Moment}
@@ -13,7 +13,7 @@ at_most_trans a b c (inl h) (inr k) = inl (omega arith)
 at_most_trans a b c (inr h) (inl k) = inl (omega arith)
 at_most_trans a b c (inr h) (inr k) = inr (omega arith, omega arith)
 
--- a clock that goes on is not before
+-- A clock that advances isn't earlier.
 pub at_most_plus : (a : Moment) (n : ℕ) → IsAtMost a (plus_seconds a n)
 at_most_plus a n = grind arith
 

@@ -9,7 +9,7 @@ use Rattle.status_base.specs.MemoryTree.{Placed}
 use Rattle.status_world.specs.Moments.{IsAtMost, moment_of}
 use Rattle.status_world.specs.Sound.{IsFormedNode}
 
--- a node's stat
+-- A node's stat is known.
 pub record KnownStat (clock : Moment) (n : Placed) : Type 0 where
   pub now : Stat
   pub is : stat_of n.metadata ≡ Some now
@@ -25,7 +25,7 @@ stat_at n mtime ctime = record { mtime = mtime; ctime = ctime; dev = n.dev; ino 
 pub stat_stamped : (n : Metadata) (mtime ctime : Time) → n.mtime ≡ Some mtime → n.ctime ≡ Some ctime → stat_of n ≡ Some (stat_at n mtime ctime)
 stat_stamped n mtime ctime m c = ap (λ o. stat_with n o n.ctime) m ∙ ap (λ o. stat_with n (Some mtime) o) c
 
--- a size below 2^32 is its own low 32 bits
+-- A size below 2^32 is its own low 32 bits.
 pub small_size : (n : ℕ) → n < 4294967296 → n % 2 ^ 32 ≡ n
 small_size n h = grind arith
 

@@ -1,5 +1,5 @@
--- An entry and the node at its path: a run's answer is a change exactly where the node differs from what was staged, and
--- what the run stores can be trusted at any later time.
+-- An entry and the node at its path: a run's verdict is a change exactly if the node differs from what was staged. The entry
+-- that the run stores can be trusted with any later timestamp.
 use Rattle.std.proofs.Common.{◌≡◌, ◌∙◌, ◌↔◌, inl, inr, refl, sym, ap, subst, ◌&&◌, Bool, true, false, List, [], length, Option, Some, None, Result, Ok, Err, IsTrue}
 use Rattle.status_index.specs.Entries.{IndexEntry}
 use Rattle.std.proofs.lemmas.Bool.{and_parts}
@@ -28,18 +28,18 @@ use Rattle.status_world.proofs.NodeStats.{KnownStat, stat_known}
 use Rattle.status_world.proofs.StatLaws.{agreed_size}
 use Rattle.status_world.proofs.Verdicts.{IsMet, VerdictCase, retyped, unchanged, rewritten, remoded, restamped, verdict_at, comparison_at, trusted_at, racy_at, verdict_case, met_whole}
 
--- whether an answer is a change
+-- The verdict is a change.
 abbrev pub IsChangeVerdict : Result (Option RunStatus) Error → Type 0
 IsChangeVerdict (Ok (Some status)) = IsTrue (is_change status)
 IsChangeVerdict (Ok None) = ⊥
 IsChangeVerdict (Err e) = ⊥
 
--- the staged bytes share their id neither with the node's nor with no bytes
+-- If the staged bytes have the id of the node's bytes, or of no bytes, they are equal to these.
 pub record HasOwnIds (w : StampedWorld) (n : Placed) (s : Plain) : Type 0 where
   pub bytes : HasOwnId w.kind s.bytes n.bytes
   pub empty : HasOwnId w.kind s.bytes []
 
--- a world with another timestamp and index
+-- A world with this timestamp and index.
 abbrev pub restored : StampedWorld → Moment → List IndexEntry → StampedWorld
 restored w timestamp entries = record w { timestamp = timestamp; entries = entries }
 
@@ -47,7 +47,7 @@ same_as_true : (b : Bool) → same_bool b true ≡ true → b ≡ true
 same_as_true true e = refl
 same_as_true false e = cc
 
--- nothing differs
+-- Nothing differs.
 no_difference : (x : Bool) (now was : Plain) → now.kind ≡ was.kind → now.bytes ≡ was.bytes
     → (IsTrue x × IsExecutableChange now was → ⊥) → Differs x (Some now) was → ⊥
 no_difference x now was k b none (inl h) = h k
@@ -55,7 +55,7 @@ no_difference x now was k b none (inr (inl h)) = h b
 no_difference x now was k b none (inr (inr h)) = none h
 
 module _ (w : StampedWorld) (c : Comparer) (e : IndexEntry) (n : Placed) (s : Plain) (met : IsMet w e n s) where
-  -- the node's stat
+  -- The node's stat.
   abbrev known : KnownStat w.clock n
   known = stat_known w.clock n met.node
 
@@ -69,7 +69,7 @@ module _ (w : StampedWorld) (c : Comparer) (e : IndexEntry) (n : Placed) (s : Pl
   case_ok v (remoded k b a is) = (_, is)
   case_ok v (restamped k b a is) = (_, is)
 
-  -- a run has an answer for each entry
+  -- A run has a verdict without a fault for the entry.
   pub pair_answered : (o : Option RunStatus) × (verdict_at w c e n ≡ Ok o)
   pair_answered = case_ok (verdict_at w c e n) verdict
 
@@ -83,12 +83,12 @@ module _ (w : StampedWorld) (c : Comparer) (e : IndexEntry) (n : Placed) (s : Pl
   case_stat v (remoded k b a is) t h = cc
   case_stat v (restamped k b a is) t h = let one : known.now ≡ t = cc in known.is ∙ ap Some one
 
-  -- where only the stat needs an update, it is the node's
+  -- If only the stat needs an update, the new stat is the node's.
   pub pair_stat : (t : Stat) → verdict_at w c e n ≡ Ok (Some (statuses.NeedsUpdate t)) → stat_of n.metadata ≡ Some t
   pair_stat t h = case_stat (verdict_at w c e n) verdict t h
 
   module _ (own : HasOwnIds w n s) (size : IsStagedSize e s) (trust : IsTrustworthy w n e s) where
-    -- the comparer answers none exactly where the bytes are the same
+    -- The comparer returns None exactly if the bytes are the same.
     same_bytes : n.metadata.kind ≡ s.kind → (found : Option (Option ObjectId)) → comparison_at w c e n ≡ Ok found → (found ≡ None) ↔ (n.bytes ≡ s.bytes)
     same_bytes k found is =
         answer_says c e w.kind s n.bytes (meaning (query_of w c) e n.metadata)
@@ -111,7 +111,7 @@ module _ (w : StampedWorld) (c : Comparer) (e : IndexEntry) (n : Placed) (s : Pl
     case_change v (restamped k b a is) =
         subst IsExactFor (sym is) (λ h. absurd (cc), λ d. absurd (no_difference w.executable_bit (plain_of n) s k ((same_bytes k None a).0 refl) b d))
 
-    -- a run reports a change exactly where the node differs from what was staged
+    -- A run reports a change exactly if the node differs from what was staged.
     pub pair_change : IsChangeVerdict (verdict_at w c e n) ↔ Differs w.executable_bit (Some (plain_of n)) s
     pair_change = case_change (verdict_at w c e n) verdict
 
@@ -122,11 +122,11 @@ module _ (w : StampedWorld) (c : Comparer) (e : IndexEntry) (n : Placed) (s : Pl
       abbrev KeepsOf : Result (Option RunStatus) Error → Type 0
       KeepsOf v = Keeps (stored_verdict e v)
 
-      -- where the bytes are the same, any entry of their size can be trusted
+      -- If the bytes are the same, any entry of their size or size 0 can be trusted.
       same_kept : (stored : IndexEntry) → IsStagedSize stored s → n.bytes ≡ s.bytes → Keeps stored
       same_kept stored sized same = (sized, record { bytes = λ _ _ _ _ _. same })
 
-      -- an entry that isn't trusted now won't be
+      -- An entry that isn't trusted now isn't trusted later.
       untrusted_kept : trusted_at w e known.now ≡ false → Keeps e
       untrusted_kept t = (
         size,
@@ -138,7 +138,7 @@ module _ (w : StampedWorld) (c : Comparer) (e : IndexEntry) (n : Placed) (s : Pl
         },
       )
 
-      -- size 0 is trusted only with the id of no bytes, and then the node has none
+      -- Size 0 is trusted only with the empty blob's id. Then the node has no bytes either.
       smudged_bytes : (now : Stat) → stat_of n.metadata ≡ Some now → is_trusted (query_of w Hash) (smudged e) now ≡ true → n.bytes ≡ s.bytes
       smudged_bytes now is t =
           let parts = and_parts (stat_agrees w.stat_options now (smudged e).stat) (same_bool (is_empty_blob e.id) true) t in
@@ -161,6 +161,6 @@ module _ (w : StampedWorld) (c : Comparer) (e : IndexEntry) (n : Placed) (s : Pl
           let same = (same_bytes k None a).0 refl in
           subst KeepsOf (sym is) (same_kept (with_stat known.now e) (inl (known.size ∙ ap length same)) same)
 
-      -- what a run stores of an entry can be trusted, whatever the new timestamp
+      -- The entry that a run stores can be trusted with any new timestamp.
       pub pair_kept : IsStagedSize (stored_verdict e (verdict_at w c e n)) s × IsTrustworthy (restored w u es) n (stored_verdict e (verdict_at w c e n)) s
       pair_kept = case_kept (verdict_at w c e n) verdict

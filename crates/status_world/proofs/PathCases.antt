@@ -1,4 +1,4 @@
--- What holds at each path after a change at one path, and after a run.
+-- Facts of each path after a change at one path, and after a run.
 use Rattle.std.proofs.Common.{◌≡◌, refl, sym, ap, subst, ◌∙◌, ℕ, true, false, cond, List, map, Option, Some, None, option_map, Result, Ok, Err, IfSome}
 use Rattle.std.specs.FinMap as paths
 use Rattle.status_index.specs.Entries.{IndexEntry}
@@ -18,7 +18,7 @@ use Rattle.status_world.proofs.EntryLists.{is_path, path_of, entry_at-with, entr
 use Rattle.status_world.proofs.EntryVerdicts.{IsStagedEntry, staged_entry, verdict_by, verdict_is}
 use Rattle.status_world.proofs.TreeLaws.{get-with}
 
--- another value at a path of a map
+-- Another value at a path of a map.
 pub each_with : {A : Type 0} (m : PathMap A) (p : List ℕ) (v : Option A) (P : List ℕ → Option A → Type 0) → P p v → ((q : List ℕ) → P q (paths.get m q))
     → (q : List ℕ) → P q (paths.get (with_value m p v) q)
 each_with m p v P here others q =
@@ -28,7 +28,7 @@ each_with m p v P here others q =
       | false ↦ λ apart. others q
     ] refl)
 
--- another entry of a path, and another value there
+-- Another entry of a path, and another value of a map at it.
 pub each_staged : {A : Type 0} (es : List IndexEntry) (m : PathMap A) (p : List ℕ) (new : Option IndexEntry) (v : Option A) (P : List ℕ → Option IndexEntry → Option A → Type 0)
     → IfSome new (λ e. e.path ≡ p) → P p new v → ((q : List ℕ) → P q (entry_at q es) (paths.get m q))
     → (q : List ℕ) → P q (entry_at q (with_entry es p new)) (paths.get (with_value m p v) q)
@@ -47,7 +47,7 @@ updated_path (Some (NewStat at stat)) e = refl
 updated_path (Some (SetSizeToZero at)) e = refl
 updated_path None e = refl
 
--- what a verdict stores is an entry of the same path
+-- The entry that a verdict stores has the same path.
 pub stored_path : (e : IndexEntry) (v : Result (Option RunStatus) Error) → (stored_verdict e v).path ≡ e.path
 stored_path e (Ok (Some s)) = updated_path (change_of 0 s) e
 stored_path e (Ok None) = refl
@@ -59,11 +59,11 @@ stored_in w c e = stored_verdict e (verdict_in w c e)
 pub stored_paths : (w : StampedWorld) (c : Comparer) → KeepsPaths (stored_in w c)
 stored_paths w c e = stored_path e (verdict_in w c e)
 
--- what a run stores for an entry, by the node at its path
+-- The entry that a run stores, by the node at its path.
 abbrev pub stored_by : StampedWorld → Comparer → IndexEntry → IndexEntry
 stored_by w c e = stored_verdict e (verdict_by w c e (node_at w e.path))
 
--- the entries of a formed world after a run
+-- The entries of a formed world after a run.
 pub each_run : (w : StampedWorld) (c : Comparer) (P : List ℕ → Option IndexEntry → Type 0) → IsFormed w
     → ((q : List ℕ) → entry_at q w.entries ≡ None → P q None) → ((e : IndexEntry) → IsStagedEntry w e → P e.path (Some (stored_by w c e)))
     → (q : List ℕ) → P q (entry_at q (map (stored_in w c) w.entries))

@@ -1,4 +1,4 @@
--- What a run reads of a node, where no fault is planted.
+-- A run's reading of a node, if no fault is planted.
 use Rattle.std.proofs.Common.{◌≡◌, ◌∙◌, refl, ap, ℕ, Bool, true, false, List, length, Option, Some, None, Result, Err, IsTrue}
 use Rattle.std.specs.FinMap as paths
 use Rattle.std.specs.Ordering.{nat_cmp}
@@ -18,7 +18,7 @@ use Rattle.status_call.specs.Status.{reading, reads_link}
 use Rattle.status_world.specs.declared.world.event.Comparer.{Comparer}
 use Rattle.status_world.specs.StampedWorld.{StampedWorld, node_at, query_of, is_stored_kind}
 
--- opening and reading by the planted faults and the node
+-- Opening a file and reading a link, by the planted faults and the node.
 abbrev open_by : Tree → List ℕ → Option Planted → Option Placed → Result Content Fault
 open_by tree path p (Some n) = or_planted (planted_or_none p).opening (open_of_kind (planted_content n.bytes (planted_or_none p)) n.metadata.kind)
 open_by tree path p None = or_planted (planted_or_none p).opening (Err (fault_without_node tree path))
@@ -38,7 +38,7 @@ target_is tree path None e = ap (λ o. or_planted (planted_or_none (paths.get tr
 none_planted : (tree : Tree) (path : List ℕ) → tree.planted ≡ paths.empty → paths.get tree.planted path ≡ None
 none_planted tree path e = ap (λ m. paths.get m path) e ∙ paths.get-empty (slice_cmp nat_cmp) path
 
--- a node is opened as its kind allows, and read as a link as its kind allows
+-- A node is opened, or read as a link, as its kind allows.
 pub opened_node : (tree : Tree) (path : List ℕ) (n : Placed) → tree.planted ≡ paths.empty → paths.get tree.nodes path ≡ Some n
     → open_in tree path ≡ open_of_kind (record { bytes = n.bytes; fault = None }) n.metadata.kind
 opened_node tree path n unplanted there =
@@ -52,7 +52,7 @@ linked_node tree path n unplanted there = target_is tree path (Some n) there ∙
 abbrev no_conversion : Content → Conversion
 no_conversion content = same
 
--- where mode and node are of one kind, the reading is the whole node
+-- If mode and node are of the same kind, the whole node is read.
 whole_of_kind : (k : NodeKind) (x sx : Bool) (bytes : List ℕ) (len : ℕ) → IsTrue (is_stored_kind k) → len ≡ length bytes
     → IsWholly bytes (node_reading (reads_link true (new_mode x k sx) k) no_conversion len (open_of_kind (record { bytes = bytes; fault = None }) k) (target_of_kind bytes k))
 whole_of_kind File true true bytes len p e = (refl, ap Some e)
@@ -63,7 +63,7 @@ whole_of_kind Link x sx bytes len p e = refl
 whole_of_kind Directory x sx bytes len p e = absurd (cc)
 whole_of_kind Other x sx bytes len p e = absurd (cc)
 
--- a run reads the whole node, where the entry is of its kind
+-- A run reads the whole node if the entry is of its kind.
 pub whole_reading : (w : StampedWorld) (c : Comparer) (e : IndexEntry) (n : Placed) (executable : Bool) → w.tree.planted ≡ paths.empty → node_at w e.path ≡ Some n
     → IsTrue (is_stored_kind n.metadata.kind) → n.metadata.len ≡ length n.bytes → e.mode ≡ new_mode w.executable_bit n.metadata.kind executable
     → IsWholly n.bytes (reading (query_of w c) e n.metadata)

@@ -1,4 +1,4 @@
--- A replay, event by event; and what its result says of the reports and of the world that it leaves.
+-- A replay, event by event. Its reports and its last world are those of the accepted events.
 use Rattle.std.proofs.Common.{◌≡◌, inl, refl, sym, ap, subst, ◌∙◌, ℕ, ◌+◌, ◌<◌, List, [], ◌∷◌, ◌++◌, length, take, drop, Bool, Option, Some, None, option_map, IfSome, Ok, Err, slice_index_or, append_assoc}
 use Rattle.std.specs.Ordering.{nat_cmp}
 use Rattle.std.specs.Cmp.Lexicographic.{slice_cmp}
@@ -43,13 +43,13 @@ reports_more (x ∷ es) e w =
     ap (λ l. reports_at x w ++ l) (reports_more es e (after_event x w))
     ∙ sym (append_assoc (reports_at x w) (reports_of es (after_event x w)) (reports_at e (after_events es (after_event x w))))
 
--- the world and the reports after accepted events
+-- The world and the reports after accepted events.
 pub record AreReplayed (es : List Event) (w now : StampedWorld) (earlier : List RunReport) : Type 0 where
   pub accepted : AreAccepted es w
   pub world : now ≡ after_events es w
   pub reported : earlier ≡ reports_of es w
 
--- before the first event
+-- Before the first event.
 pub begun : (w : StampedWorld) (earlier : List RunReport) → earlier ≡ [] → AreReplayed [] w w earlier
 begun w earlier none = record { accepted = tt; world = refl; reported = none }
 
@@ -61,7 +61,7 @@ replayed_more es e w now after earlier all so_far step = record {
   reported = step.1 ∙ (ap (λ l. l ++ reports_at e now) so_far.reported ∙ (ap (λ u. reports_of es w ++ reports_at e u) so_far.world ∙ sym (reports_more es e w)));
 }
 
--- by the place in a list
+-- One more event, by its position in the list.
 pub one_more : (es : List Event) (n : ℕ) (e : Event) (w now after : StampedWorld) (earlier all : List RunReport) → n < length es → e ≡ slice_index_or es n e
     → AreReplayed (take n es) w now earlier → IsStep e now earlier (Ok tt) after all → AreReplayed (take (n + 1) es) w after all
 one_more es n e w now after earlier all before here so_far step =
@@ -84,7 +84,7 @@ ended es n w now earlier end so_far =
     let all : AreReplayed (take (length es) es) w now earlier = subst (λ k. AreReplayed (take k es) w now earlier) end so_far in
     record { accepted = all.accepted; world = all.world; reported = all.reported; stop = drop-length es }
 
--- a replay leaves a formed world formed
+-- A replay leaves a formed world formed.
 pub replay_formed : (w : StampedWorld) (es : List Event) (final : StampedWorld) (reports : List RunReport) (stopped : Option (ℕ × Refusal)) → IsFormed w
     → IsReplay w es final reports stopped → IsFormed final
 replay_formed w es final reports stopped f replay = subst IsFormed (sym replay.world) (formed_events (take (accepted_count es stopped) es) w f replay.accepted)

@@ -1,4 +1,4 @@
--- What a run's report or refusal is, by what the status call answers.
+-- The report or refusal of a run, by the result of the status call.
 use Rattle.std.proofs.Common.{◌≡◌, ◌≢◌, ◌⊎◌, inl, inr, refl, sym, ap, subst, ◌∙◌, ℕ, true, false, List, [], ◌∷◌, ◌++◌, map, Option, Some, None, Result, Ok, Err}
 use Rattle.bstr.specs.BStr.{bstr_bytes}
 use Rattle.status_index.specs.Entries.{IndexEntry}
@@ -34,12 +34,12 @@ RunRecord = Record (Option ObjectId) (Unit {0})
 abbrev RunVisits : Type 0
 RunVisits = List (Visit (Option ObjectId) (Unit {0}))
 
--- a recorder's records are its visits
+-- A recorder's records are its visits.
 recorded : (rs : List RunRecord) → map visited (map visit_of rs) ≡ map record_value rs
 recorded [] = refl
 recorded (r ∷ rs) = ap (λ (l : List Reported). record_value r ∷ l) (recorded rs)
 
--- ---- no comparer answers that a thread was refused
+-- ---- no comparer returns that a thread was refused
 
 abbrev hash_query : StampedWorld → Query ObjectId (Unit {0})
 hash_query w = record {
@@ -101,7 +101,7 @@ pub never_spawns : (w : StampedWorld) (c : Comparer) → NeverSpawns (query_of w
 never_spawns w Hash e n h = with_id_kept _ (ids_law (hash_query w) refl e n) h
 never_spawns w Fast e n h = without_id_kept _ (sizes_law (size_query w) refl e n) h
 
--- ---- the two answers
+-- ---- the two results
 
 module _ (w : StampedWorld) (c : Comparer) (index : State) (same : index_of index ≡ w.entries) where
   abbrev q : Query (Option ObjectId) (Unit {0})
@@ -110,7 +110,7 @@ module _ (w : StampedWorld) (c : Comparer) (index : State) (same : index_of inde
   all_considered : considered [] (index_of index) ≡ w.entries
   all_considered = considered_all (index_of index) ∙ same
 
-  -- an uninterrupted status has no fault, and its records and outcome are the report's
+  -- An uninterrupted status has no fault, and its records and outcome are the report's.
   pub answered_report : (rs : List RunRecord) (o : Outcome) → o.interrupted ≡ false → IsMet q index [] (Ok o) (map visit_of rs)
       → (first_fault q w.entries ≡ None) × (record { records = map record_value rs; outcome = o } ≡ report_of w c)
   answered_report rs o whole met =
@@ -122,12 +122,12 @@ module _ (w : StampedWorld) (c : Comparer) (index : State) (same : index_of inde
         λ i. record { records = records i; outcome = (complete_outcome w c index same _ o complete whole) i },
       )
 
-  -- an error that isn't of memory or of a thread is the first fault
+  -- An error that isn't for memory or a thread is the first fault.
   first_error : (e : Error) (visits : RunVisits) → e ≢ errors.Memory → e ≢ errors.SpawnThread → IsMet q index [] (Err e) visits → fault_refusal (first_fault q w.entries) ≡ Some (refusals.Run e)
   first_error e visits memory thread met = ap fault_refusal (subst (λ es. first_fault q es ≡ Some e) all_considered (met.fault refl memory thread).first)
 
 module _ (w : StampedWorld) (run : Run) (index : State) (same : index_of index ≡ w.entries) where
-  -- an error is want of memory, a refused thread where there may be one, or the first fault
+  -- An error is out of memory, a refused thread unless the limit is 1, or the first fault.
   pub answered_error : (e : Error) (visits : RunVisits) → (run.thread_limit ≡ Some 1 → ◌≡◌ {A = Result Outcome Error} (Err e) (Err errors.SpawnThread) → ⊥) → IsMet (query_of w run.comparer) index [] (Err e) visits
       → IsRunReport run w (Err (refusals.Run e))
   answered_error errors.Memory visits alone met = tt

@@ -1,4 +1,4 @@
--- What a status call reports of a world's index, where it is complete, is the report that is meant.
+-- A complete status of a world's index has exactly the defined report.
 use Rattle.std.proofs.Common.{◌≡◌, refl, sym, ap, subst, ◌∙◌, ℕ, zero, suc, ◌+◌, ◌-◌, Bool, true, false, List, [], ◌∷◌, ◌++◌, map, filter, length, Option, Some, None, option_map, Result, Ok, Err, All, slice_get, arith, append_assoc, length-append, if◌then◌else◌}
 use Rattle.std.specs.List.{list_any}
 use Rattle.std.proofs.lemmas.List.{map-append}
@@ -50,7 +50,7 @@ RunVisit = Visit (Option ObjectId) (Unit {0})
 abbrev RunFinding : Type 0
 RunFinding = Finding (Option ObjectId) (Unit {0})
 
--- a visit as a report has it
+-- The record of a report for a visit.
 abbrev pub visited : RunVisit → Reported
 visited v = record { entry_index = v.entry_index; path = v.path; status = v.status }
 
@@ -102,7 +102,7 @@ module _ (q : Query (Option ObjectId) (Unit {0})) where
 
 -- ---- the outcome
 
--- a run's comparer says what it reads
+-- The reads of a run's comparer are modelled.
 pub models_reads : (w : StampedWorld) (c : Comparer) → ModelsReads (query_of w c)
 models_reads w Hash e n = refl
 models_reads w Fast e n = refl

@@ -7,7 +7,7 @@ use Rattle.status_index.specs.declared.state.State.{State}
 use Rattle.status_index.specs.Entries.{IndexEntry, index_entry}
 use Rattle.status_index.specs.States.{entries_of, backing_of, index_of}
 
--- an index's own entries and storage, as they were lent, and a place
+-- An index's entries and storage, as borrowed from it, and a position.
 pub record IsLent (s : State) (paths : PathStorage) (es : List Entry) (at : ℕ) : Type 0 where
   pub backing : paths ≡ backing_of s
   pub entries : es ≡ entries_of s
@@ -25,7 +25,7 @@ entry_there s paths es at d x lent =
     ∙ ap (λ p. index_entry p (slice_index_or es at d)) (sym lent.backing))
 
 module _ (a b : State) (paths others : PathStorage) (es fs : List Entry) (at : ℕ) (d e : Entry) (left : IsLent a paths es at) (right : IsLent b others fs at) where
-  -- one more entry is the same
+  -- One more entry is equal.
   pub same_more : take at (index_of a) ≡ take at (index_of b) → index_entry paths (slice_index_or es at d) ≡ index_entry others (slice_index_or fs at e)
       → take (at + 1) (index_of a) ≡ take (at + 1) (index_of b)
   same_more so_far here =
@@ -33,7 +33,7 @@ module _ (a b : State) (paths others : PathStorage) (es fs : List Entry) (at : �
       take_more_same (index_of a) (index_of b) at x (long_enough a paths es at left) (long_enough b others fs at right) so_far
       (entry_there a paths es at d x left ∙ (here ∙ sym (entry_there b others fs at e x right)))
 
-  -- an entry is another
+  -- If two entries differ, the indexes differ.
   pub not_same : (index_entry paths (slice_index_or es at d) ≡ index_entry others (slice_index_or fs at e) → ⊥) → (index_of a) ≡ index_of b → ⊥
   not_same other same =
       let x : IndexEntry = index_entry paths d in

@@ -1,4 +1,4 @@
--- A stamped world and the plain world of what is there and was staged: they stay of one mind.
+-- A stamped world and its plain world still agree after each event.
 use Rattle.std.proofs.Common.{◌≡◌, refl, sym, ap, ◌∙◌, ℕ, Bool, true, false, cond, List, [], ◌∷◌, map, Option, Some, None, option_map, IfSome}
 use Rattle.std.specs.Ordering.{nat_cmp}
 use Rattle.std.specs.Cmp.Lexicographic.{slice_cmp}
@@ -21,7 +21,7 @@ use Rattle.status_world.proofs.Formed.{stored_formed}
 use Rattle.status_world.proofs.FormedWorlds.{not_a_file}
 use Rattle.status_world.proofs.TreeLaws.{get-with}
 
--- the plain world has what lies at each path, and what was staged
+-- The plain world has the file or link at each path, and what was staged.
 pub record Shows (w : StampedWorld) (p : PlainWorld) : Type 0 where
   pub files : (q : List ℕ) → paths.get p.files q ≡ option_map plain_of (node_at w q)
   pub staged : p.staged ≡ w.staged
@@ -51,7 +51,7 @@ shown_either : (b : Bool) (v here : Option Plain) (n there : Option Placed) → 
 shown_either true v here n there new old = new
 shown_either false v here n there new old = old
 
--- another file and its node
+-- Another file, and its node.
 shown_with : (files : PathMap Plain) (nodes : PathMap Placed) (p : List ℕ) (v : Option Plain) (n : Option Placed) → v ≡ option_map plain_of n
     → ((q : List ℕ) → paths.get files q ≡ option_map plain_of (paths.get nodes q))
     → (q : List ℕ) → paths.get (with_value files p v) q ≡ option_map plain_of (paths.get (with_value nodes p n) q)

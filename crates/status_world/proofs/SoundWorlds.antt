@@ -1,4 +1,4 @@
--- Accepted events keep an index that can be trusted so.
+-- An index that can be trusted still can after accepted events.
 use Rattle.std.proofs.Common.{◌≡◌, refl, sym, subst, ℕ, Bool, false, List, Option, Some, None, option_map}
 use Rattle.std.specs.FinMap as paths
 use Rattle.bstr.specs.Owned.{bstring_bytes}
@@ -22,7 +22,7 @@ use Rattle.status_world.proofs.FormedWorlds.{new_entry_at, new_named}
 use Rattle.status_world.proofs.PathCases.{each_with, each_staged, each_run}
 use Rattle.status_world.proofs.Steps.{at_over, at_later, at_written, at_changed, at_removed, at_staged, at_stored}
 
--- nothing is asked where no entry is
+-- A path without an entry is sound.
 no_entry : (w : StampedWorld) (n : Option Placed) (s : Option Plain) → IsSoundAt w n None s
 no_entry w None s = tt
 no_entry w (Some n) s = tt
@@ -57,7 +57,7 @@ module _ (w : StampedWorld) (run : Run) (f : IsFormed w) (sound : IsSound w) (ow
       (subst (λ o. IsSoundAt w (node_at w e.path) o (Some staged.was)) staged.here
       (subst (λ s. IsSoundAt w (node_at w e.path) (entry_at e.path w.entries) s) staged.staged (sound e.path)))))
 
--- each event keeps the index as it is to be trusted
+-- The index can still be trusted after each event.
 pub sound_kept : (e : Event) (w : StampedWorld) → IsFormed w → AllHaveOwnIds w → IsSound w → IsSound (after_event e w)
 sound_kept (events.Tick n) w f own sound = λ p. at_later w (plus_seconds w.clock n) (node_at w p) (entry_at p w.entries) (paths.get w.staged p) (sound p)
 sound_kept (events.TickNanos n) w f own sound = λ p. at_later w (plus_nanoseconds w.clock n) (node_at w p) (entry_at p w.entries) (paths.get w.staged p) (sound p)

@@ -1,4 +1,4 @@
--- A map from paths to what was staged, as a map from lists of bytes; and a value that was put there and taken back.
+-- The map of staged files by path, as a map by lists of bytes; and a value that is put there and undone.
 use Rattle.std.proofs.Common.{◌≡◌, ℕ, Bool, true, false, cond, List, [], ◌∷◌, Option, Some, is_some, IsSome, refl, sym, ap, subst, ◌∙◌}
 use Rattle.std.specs.Option.{option_map}
 use Rattle.std.specs.Ordering.{nat_cmp, is_eq, eq_by_cmp}
@@ -20,7 +20,7 @@ use Rattle.status_world.proofs.TreeLaws.{get-with}
 abbrev pub Files : Type 0
 Files = List (Vec ℕ × Staged)
 
--- how a path compares to the keys
+-- The order of a path and a key.
 abbrev pub to_key : List ℕ → Vec ℕ → Ordering
 to_key q k = slice_cmp nat_cmp q k.items
 
@@ -35,7 +35,7 @@ find-staged (e ∷ es) q =
       | false ↦ find-staged es q
     ]
 
--- what is staged at a path is what a look-up finds
+-- The staged value at a path is the one that a lookup finds.
 get-staged : (es : Files) (q : List ℕ) → paths.get (staged_of es) q ≡ option_map plain_staged (lookup (is_at (to_key q)) es)
 get-staged es q = paths.get-from_entries nat_list_cmp_total (staged_entries es) q ∙ find-staged es q
 
@@ -45,7 +45,7 @@ is_key_test q x y h = ap is_eq (nat_list_cmp_total.congr q x.items y.items ((Equ
 apart : (k q : List ℕ) → is_path q k ≡ false → AreApart (is_at (to_key k)) (is_at (to_key q))
 apart k q t x h = ap is_eq (sym (alike_right nat_list_cmp_total k x.items q ((Equal-is _).0 h))) ∙ t
 
--- what a look-up finds after a change at one path
+-- The result of a lookup after a change at one path.
 lookup-updated : (old new : Files) (k : List ℕ) (w : Option Staged)
     → lookup (is_at (to_key k)) new ≡ w → KeepsOthers (eq_by_cmp key_cmp) (is_at (to_key k)) old new
     → (q : List ℕ) → lookup (is_at (to_key q)) new ≡ cond (is_path q k) w (lookup (is_at (to_key q)) old)
@@ -70,7 +70,7 @@ get-updated old new k w here others q =
 one_map : (m n : PathMap Plain) → ((q : List ℕ) → paths.get m q ≡ paths.get n q) → m ≡ n
 one_map = paths.same_map nat_list_cmp_total (paths.slice_cmp-IsAntisymmetric paths.nat_cmp-IsAntisymmetric)
 
--- what is staged after a change at one path
+-- The staged values after a change at one path.
 pub staged-updated : (old new : Files) (m : PathMap Plain) (k path : List ℕ) (w : Option Staged) → staged_of old ≡ m → k ≡ path
     → lookup (is_at (to_key k)) new ≡ w → KeepsOthers (eq_by_cmp key_cmp) (is_at (to_key k)) old new
     → staged_of new ≡ with_value m path (option_map plain_staged w)
@@ -80,7 +80,7 @@ staged-updated old new m k path w was at here others =
     ∙ ap (λ (n : PathMap Plain). with_value n k (option_map plain_staged w)) was
     ∙ ap (λ (q : List ℕ). with_value m q (option_map plain_staged w)) at
 
--- what a look-up of a path finds
+-- The result of a lookup of a path.
 pub staged-get : (es : Files) (m : PathMap Plain) (k path : List ℕ) → staged_of es ≡ m → k ≡ path
     → option_map plain_staged (lookup (is_at (to_key k)) es) ≡ paths.get m path
 staged-get es m k path is at = sym (get-staged es k) ∙ ap (λ (n : PathMap Plain). paths.get n k) is ∙ ap (paths.get m) at
@@ -93,18 +93,18 @@ back_at m k p o was q =
       | false ↦ λ t. refl
     ] refl
 
--- what a value replaced, put back in its place, gives the map as it was
+-- If a replaced value is put back, the map is unchanged.
 put_back : (m : PathMap Plain) (k : List ℕ) (p : Plain) (o : Option Plain) → o ≡ paths.get m k → with_value (paths.insert m k p) k o ≡ m
 put_back m k p o was =
     one_map (with_value (paths.insert m k p) k o) m
     (λ q. get-with (paths.insert m k p) k o q ∙ ap (cond (is_path q k) o) (paths.get-insert nat_list_cmp_total m k p q) ∙ back_at m k p o was q)
 
--- a value that was put is there
+-- A value that was put is there.
 put_here : (m : PathMap Plain) (k : List ℕ) (p : Plain) → paths.get (paths.insert m k p) k ≡ Some p
 put_here m k p =
     paths.get-insert nat_list_cmp_total m k p k ∙ ap (λ b. cond b (Some p) (paths.get m k)) (is_path-itself k)
 
--- what was staged is as it was, once what was put is replaced by what it replaced
+-- The staged values are unchanged after a put is undone.
 pub undone : (old put back : PathMap Plain) (k : List ℕ) (p : Plain) (o : Option Plain) → o ≡ paths.get old k → put ≡ paths.insert old k p
     → (IsSome (paths.get put k) → back ≡ with_value put k o) → back ≡ old
 undone old put back k p o was is returned =

@@ -1,4 +1,5 @@
--- What the order of stamps says of stats: a write now is racy, and an agreement now held before a ctime went on.
+-- Stats and the order of times: a write at the timestamp or later is racy, and stats that agree also agreed with an earlier
+-- ctime.
 use Rattle.std.proofs.Common.{◌≡◌, refl, ◌==◌, Bool, true, false, not, ◌&&◌, ◌||◌, arith}
 use Rattle.std.proofs.lemmas.Bool.Decides.{nat_tests, Decides-eqb}
 use Rattle.status_index.specs.declared.stat.Moment.{Moment}
@@ -8,16 +9,16 @@ use Rattle.status_index.specs.declared.stat.Time.{Time}
 use Rattle.status_index.specs.Stat.{time_agrees, owner_agrees, stat_agrees, is_racy}
 use Rattle.status_world.specs.Moments.{IsAtMost, moment_of}
 
--- what was written at the timestamp or after it is racy
+-- A stat that was written at the timestamp or after it is racy.
 pub racy_from_at_most : (o : Options) (t : Moment) (s : Stat) → IsAtMost t (moment_of s.mtime) → is_racy o t s ≡ true
 racy_from_at_most o t s h = grind (arith, nat_tests)
 
--- of three stamps in order, where the last agrees with the first, the second does
+-- Of three times in order, if the last agrees with the first, the second does too.
 pub same_between : (o : Options) (a b c : Time) → IsAtMost (moment_of a) (moment_of b) → IsAtMost (moment_of b) (moment_of c)
     → time_agrees o c a ≡ true → time_agrees o b a ≡ true
 same_between o a b c h k e = grind (arith, nat_tests)
 
--- a test of four parts, the third of which counts only where it is asked for
+-- A test of four parts, of which the third counts only if it is asked for.
 third_for : (p q asked r r' t : Bool) → (r ≡ true → r' ≡ true) → (p && q && (not asked || r) && t) ≡ true → (p && q && (not asked || r') && t) ≡ true
 third_for true true true true true t h e = e
 third_for true true true true false t h e = cc (h refl)
@@ -26,14 +27,14 @@ third_for true true false r r' t h e = e
 third_for true false asked r r' t h e = e
 third_for false q asked r r' t h e = e
 
--- an agreement with a stat whose ctime went on held before
+-- An entry that agrees with a stat after its ctime advanced agreed before.
 pub agrees_before : (o : Options) (e s : Stat) (c : Time) → IsAtMost (moment_of e.ctime) (moment_of s.ctime) → IsAtMost (moment_of s.ctime) (moment_of c)
     → stat_agrees o (record s { ctime = c }) e ≡ true → stat_agrees o s e ≡ true
 agrees_before o e s c h k =
     third_for (time_agrees o s.mtime e.mtime) (s.size == e.size) o.trust_ctime (time_agrees o c e.ctime) (time_agrees o s.ctime e.ctime) (not o.check_stat || owner_agrees o s e)
     (same_between o e.ctime s.ctime c h k)
 
--- stats that agree have one size
+-- Stats that agree have equal sizes.
 agreed_part : (p q r t : Bool) → (p && q && r && t) ≡ true → q ≡ true
 agreed_part true true r t e = refl
 agreed_part true false r t e = e

@@ -1,5 +1,5 @@
--- Soundness at a path after each event there. Here is what the racy test is for: a node that is written now is racy, so
--- that no entry is trusted to have its bytes.
+-- A path stays sound after each event there. This shows why stats are tested for being racy: a node that is written now is
+-- racy, so no entry is trusted to have its bytes.
 use Rattle.std.proofs.Common.{◌≡◌, ◌∙◌, refl, sym, ap, subst, ℕ, ◌==◌, ◌&&◌, Bool, true, false, List, Option, Some, None, option_map}
 use Rattle.status_index.specs.BlobId.{is_empty_blob}
 use Rattle.status_index.specs.Entries.{IndexEntry}
@@ -43,7 +43,7 @@ at_over w w' options timestamp (Some n) None s h = tt
 at_over w w' options timestamp None (Some e) None h = tt
 at_over w w' options timestamp None None s h = tt
 
--- the clock goes on
+-- The clock advances.
 pub at_later : (w : StampedWorld) (clock : Moment) (n : Option Placed) (e : Option IndexEntry) (s : Option Plain) → IsSoundAt w n e s → IsSoundAt (record w { clock = clock }) n e s
 at_later w clock n e s h = at_over w (record w { clock = clock }) refl refl n e s h
 
@@ -53,7 +53,7 @@ size_sound : (w : StampedWorld) (n : Option Placed) (e : IndexEntry) (s : Plain)
 size_sound w (Some n) e s h = h.0
 size_sound w None e s h = h
 
--- another node at a path, that an entry is trusted of as far as it is
+-- Another node at a path, for which the entry is trustworthy if it was so before.
 renewed : (w : StampedWorld) (new : Placed) (n : Option Placed) (e : Option IndexEntry) (s : Option Plain)
     → ((e : IndexEntry) (s : Plain) → IsSoundAt w n (Some e) (Some s) → IsTrustworthy w new e s) → IsSoundAt w n e s → IsSoundAt w (Some new) e s
 renewed w new n None s trust h = tt
@@ -70,7 +70,7 @@ written_trust w kind executable bytes h e s = record {
       absurd (cc (racy, calm));
 }
 
--- a write or a link: the node is racy
+-- A write or a link: the node is racy.
 pub at_written : (w : StampedWorld) (kind : NodeKind) (executable : Bool) (bytes : List ℕ) → IsAtMost w.timestamp w.clock
     → (n : Option Placed) (e : Option IndexEntry) (s : Option Plain) → IsSoundAt w n e s → IsSoundAt w (Some (written w.clock kind executable bytes)) e s
 at_written w kind executable bytes h n e s sound =
@@ -80,7 +80,7 @@ first_for : (a b c : Bool) → (a ≡ true → c ≡ true) → (a && b) ≡ true
 first_for true b c h e = rw (h refl) e
 first_for false b c h e = absurd (cc)
 
--- what is trusted with a later ctime was trusted before
+-- An entry that is trusted with a later ctime was trusted before.
 changed_trust : (w : StampedWorld) (executable : Bool) (n : Placed) (e : IndexEntry) (s : Plain) → IsFormedNode w.clock n → IsFormedPair n e
     → IsTrustworthy w n e s → IsTrustworthy w (with_executability w.clock executable n) e s
 changed_trust w executable n e s f pair h = record {
@@ -98,7 +98,7 @@ changed_trust w executable n e s f pair h = record {
       (subst (λ (x : Stat). is_racy w.stat_options w.timestamp x ≡ false) one r);
 }
 
--- a change of executability
+-- A change of executability.
 pub at_changed : (w : StampedWorld) (executable : Bool) (n : Option Placed) (e : Option IndexEntry) (s : Option Plain)
     → IsFormedAt w n e s → IsSoundAt w n e s → IsSoundAt w (option_map (with_executability w.clock executable) n) e s
 at_changed w executable None e s f h = h
@@ -106,13 +106,13 @@ at_changed w executable (Some n) None s f h = tt
 at_changed w executable (Some n) (Some e) None f h = tt
 at_changed w executable (Some n) (Some e) (Some s) f h = (h.0, changed_trust w executable n e s f.0 f.2 h.1)
 
--- a removal
+-- A removal.
 pub at_removed : (w : StampedWorld) (n : Option Placed) (e : Option IndexEntry) (s : Option Plain) → IsSoundAt w n e s → IsSoundAt w None e s
 at_removed w n (Some e) (Some s) h = size_sound w n e s h
 at_removed w n (Some e) None h = tt
 at_removed w n None s h = tt
 
--- staging: the bytes are those that are staged
+-- Staging: the node's bytes are the staged ones.
 abbrev SoundStaged : StampedWorld → List ℕ → Option Placed → Option Placed → Type 0
 SoundStaged w path n stored = IsSoundAt w n (option_map (entry_of w path) stored) (option_map plain_of stored)
 
@@ -124,7 +124,7 @@ at_staged w path (Some n) e s f =
     subst (SoundStaged w path (Some n)) (sym (stored_formed w.clock n formed))
     ((staged_well w path n formed).size, record { bytes = λ _ _ _ _ _. refl })
 
--- a run, at a path with a node
+-- A run, at a path with a node.
 pub at_stored : (w : StampedWorld) (c : Comparer) (e : IndexEntry) (n : Placed) (s : Plain) → IsMet w e n s → HasOwnIds w n s → IsSoundAt w (Some n) (Some e) (Some s)
     → (u : Moment) (es : List IndexEntry) → IsSoundAt (restored w u es) (Some n) (Some (stored_verdict e (verdict_at w c e n))) (Some s)
 at_stored w c e n s met own h u es = pair_kept w c e n s met own h.0 h.1 u es

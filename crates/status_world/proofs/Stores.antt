@@ -1,4 +1,4 @@
--- Storing what a run's report asks stores each entry's verdict.
+-- Storing the changes that a run's report asks for stores each entry's verdict.
 use Rattle.std.proofs.Common.{◌≡◌, refl, sym, ap, ◌∙◌, ℕ, ◌+◌, ◌<◌, ◌≤◌, arith, true, All, List, [], ◌∷◌, ◌++◌, map, length, Option, Some, None, Result, Ok, Err, append_assoc, length-append}
 use Rattle.std.specs.List.{cons_option}
 use Rattle.std.proofs.lemmas.List.Elements.{All-nil, All-cons, All-append, All-head, All-tail, filter_map-append}
@@ -15,11 +15,11 @@ use Rattle.status_world.specs.Reports.{RunStatus, Reported, changes_in}
 use Rattle.status_world.specs.StampedWorld.{StampedWorld, reported_by, report_of, stored_verdict, verdict_in}
 use Rattle.status_world.proofs.ChangedPaths.{Decide, reports_from}
 
--- what one record asks
+-- The change that one record asks for.
 abbrev pub asked_by : Reported → Option ApplyChange
 asked_by r = change_of r.entry_index r.status
 
--- what a status asks at its entry's place changes that entry
+-- The change that a status asks for at its entry's position changes that entry.
 asked_behind : (s : RunStatus) (done : List IndexEntry) (e : IndexEntry) (es : List IndexEntry)
     → applied (cons_option (change_of (length done) s) []) (done ++ e ∷ es) ≡ done ++ updated_entry (change_of 0 s) e ∷ es
 asked_behind (statuses.NeedsUpdate stat) done e es = change_behind (changed_entry (NewStat (length done) stat)) done e es
@@ -30,7 +30,7 @@ module _ (decide : Decide) where
   abbrev stored : IndexEntry → IndexEntry
   stored e = stored_verdict e (decide e)
 
-  -- what one entry's records store
+  -- The changes of one entry's records.
   store_one : (path : List ℕ) (done : List IndexEntry) (e : IndexEntry) (es : List IndexEntry) (v : Result (Option RunStatus) Error)
       → applied (changes_in (reported_by (length done) path v)) (done ++ e ∷ es) ≡ done ++ stored_verdict e v ∷ es
   store_one path done e es (Ok (Some status)) = asked_behind status done e es
@@ -51,11 +51,11 @@ module _ (decide : Decide) where
       ∙ store_from next es
       ∙ append_assoc done (stored e ∷ []) (map stored es)
 
--- what a run's report asks, stored in turn, leaves the entries that a run leaves
+-- The changes that a run's report asks for, stored in order, leave the entries that a run leaves.
 pub store_report : (w : StampedWorld) (c : Comparer) → applied (changes_in (report_of w c).records) w.entries ≡ map (λ e. stored_verdict e (verdict_in w c e)) w.entries
 store_report w c = store_from (verdict_in w c) [] w.entries
 
--- each record is of an entry of the index
+-- Each record is of an entry of the index.
 reports_inside : (decide : Decide) (n : ℕ) (es : List IndexEntry) (long : ℕ) → n + length es ≤ long → All (λ r. r.entry_index < long) (reports_from decide n es)
 reports_inside decide n [] long within = All-nil (λ (r : Reported). r.entry_index < long)
 reports_inside decide n (e ∷ es) long within =
@@ -73,6 +73,6 @@ asked_inside (r ∷ rs) es all =
     one_inside r.entry_index r.status (asked_by r) refl (changes_in rs) es (All-head (λ (x : Reported). x.entry_index < length es) r rs all)
     (asked_inside rs es (All-tail (λ (x : Reported). x.entry_index < length es) r rs all))
 
--- so what is asked is of entries of the index
+-- So each change is of an entry of the index.
 pub report_inside : (w : StampedWorld) (c : Comparer) → AreInside (changes_in (report_of w c).records) w.entries
 report_inside w c = asked_inside (report_of w c).records w.entries (reports_inside (verdict_in w c) 0 w.entries (length w.entries) (omega arith))

@@ -1,4 +1,4 @@
--- Look-ups in a map with another value at a path, and what a check of a path finds in a tree without planted faults.
+-- Lookups in a map with another value at a path, and the link check of a path in a tree without planted faults.
 use Rattle.std.proofs.Common.{◌≡◌, refl, sym, ap, subst, ◌∙◌, ℕ, ◌+◌, ◌<◌, Bool, true, false, cond, ◌||◌, List, [], ◌∷◌, ◌++◌, length, take, drop, Option, Some, None, is_some, Result, Ok, Err, IsTrue, Contains, slice_index, nat_eq, arith, append_assoc, if◌then◌else◌}
 use Rattle.std.specs.Prelude.{⊤, ◌==◌}
 use Rattle.std.specs.List.{list_any}
@@ -27,14 +27,14 @@ use Rattle.status_base.proofs.Placed.{looked_below}
 use Rattle.status_world.specs.PlainWorld.{with_value}
 use Rattle.status_world.proofs.EntryLists.{is_path, path_of}
 
--- what a look-up finds in a map with another value at a path
+-- The result of a lookup in a map with another value at a path.
 pub get-with : {A : Type 0} (m : PathMap A) (p : List ℕ) (v : Option A) (q : List ℕ) → paths.get (with_value m p v) q ≡ cond (is_path q p) v (paths.get m q)
 get-with m p (Some v) q = paths.get-insert nat_list_cmp_total m p v q
 get-with m p None q = paths.get-remove nat_list_cmp_total m p q
 
 -- ---- paths
 
--- what stands above a path is one of its directories
+-- A path above another one is one of its directories.
 pub contains_above : (q d : List ℕ) → lies_above d q ≡ true → Contains (directories q) d
 contains_above q d above =
     let rest : List ℕ = drop (length (d ++ 47 ∷ [])) q in
@@ -51,7 +51,7 @@ above_shorter d q above =
     let begins : q ≡ d ++ 47 ∷ rest = (starts_is {E = nat_eq} Decides-eqb q (d ++ 47 ∷ []) true (sym above)).0 refl ∙ append_assoc d (47 ∷ []) rest in
     omega (arith, ap length begins, length-append d (47 ∷ rest))
 
--- the front before a slash stands above the path
+-- The part of a path before a slash is above the path.
 pub front_above : (path : List ℕ) (k : ℕ) → k < length path → IsTrue (is_slash (slice_index path k)) → lies_above (take k path) path ≡ true
 front_above path k within slash =
     All-contains (λ (d : List ℕ). lies_above d path ≡ true) (directories path) (take k path) (all_above path (length path) (omega arith)) (directories_contain path k within slash)
@@ -60,14 +60,14 @@ is_none_of : {A : Type 0} (o : Option A) → is_some o ≡ false → o ≡ None
 is_none_of None h = refl
 is_none_of (Some x) h = cc
 
--- a path that isn't bad isn't empty and has no component that is empty, `.` or `..`
+-- A path that isn't bad isn't empty, and has no component that is empty, `.` or `..`.
 pub good_path : (path : List ℕ) → is_bad_path path ≡ false → (0 < length path) × (abnormal_component path ≡ None)
 good_path path h =
     let parts = or_parts (length path == 0) (is_some (abnormal_component path)) h in
     let full = eqb-false (length path) 0 parts.0 in
     (omega (arith, full), is_none_of (abnormal_component path) parts.1)
 
--- where a node can be put, nothing above is in the way
+-- If a node can be put, nothing above is in the way.
 pub free_above : (tree : Tree) (path : List ℕ) (kind : NodeKind) → put_fault tree path kind ≡ None → has_file_above tree path ≡ false
 free_above tree path kind free = (looked_below tree path kind free).1
 
@@ -85,12 +85,12 @@ any_of_key p q (k ∷ ks) here h =
     or_later true b e = refl
     or_later false b e = e
 
--- a node lies below what stands above its path
+-- A node is below each path above its own.
 pub below_found : (tree : Tree) (d p : List ℕ) → IsTrue (is_some (paths.get tree.nodes p)) → lies_above d p ≡ true → has_below tree d ≡ true
 below_found tree d p there above =
     any_of_key (lies_above d) p (paths.keys tree.nodes) above (sym (paths.contains_key-keys tree.nodes p) ∙ there)
 
--- ---- lstat, where no fault is planted
+-- ---- lstat, if no fault is planted
 
 pub lstat_plain : (tree : Tree) (path : List ℕ) → tree.planted ≡ paths.empty → lstat_in tree path ≡ lstat_of_node tree path (paths.get tree.nodes path)
 lstat_plain tree path unplanted =
@@ -104,12 +104,12 @@ pub lstat_none : (tree : Tree) (path : List ℕ) → tree.planted ≡ paths.empt
     → lstat_in tree path ≡ (if has_below tree path then Ok bare_directory else Err (absence tree path))
 lstat_none tree path unplanted there = lstat_plain tree path unplanted ∙ ap (lstat_of_node tree path) there
 
--- why nothing is there, in both cases
+-- Both faults mean that nothing is there.
 pub absence_by : (b : Bool) → is_absence (if b then faults.NotADirectory else faults.NotFound) ≡ true
 absence_by true = refl
 absence_by false = refl
 
--- an answer that is a node, or says that nothing is there
+-- A result that is a node, or a fault that means that nothing is there.
 abbrev pub IsMildAnswer : Result Metadata Fault → Type 0
 IsMildAnswer (Ok n) = ⊤
 IsMildAnswer (Err f) = is_absence f ≡ true
@@ -128,7 +128,7 @@ lstat_mild tree path unplanted =
 
 -- ---- the check of a path
 
--- a check that accepts, meets a link, or says that nothing is there
+-- A check that accepts, finds a link, or returns a fault that means that nothing is there.
 abbrev pub IsMild : LinkCheck → Type 0
 IsMild accepted = ⊤
 IsMild empty_path = ⊥
@@ -150,7 +150,7 @@ mild_barrier : (lstat : List ℕ → Result Metadata Fault) → ((d : List ℕ) 
 mild_barrier lstat mild [] = tt
 mild_barrier lstat mild (d ∷ ds) = mild_step d (lstat d) (leftmost_barrier lstat ds) (mild d) (mild_barrier lstat mild ds)
 
--- a check of a path that isn't bad gives no other fault than absence
+-- A check of a path that isn't bad has no other fault.
 pub mild_check : (tree : Tree) (path : List ℕ) → tree.planted ≡ paths.empty → is_bad_path path ≡ false → IsMild (link_check (lstat_in tree) path)
 mild_check tree path unplanted good =
     let parts = good_path path good in

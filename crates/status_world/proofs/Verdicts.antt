@@ -1,4 +1,4 @@
--- What a run's answer for an entry says of the node at its path.
+-- A run's verdict for an entry, and the node at its path.
 use Rattle.std.proofs.Common.{◌≡◌, ◌≢◌, ◌∙◌, refl, sym, ap, subst, ◌&&◌, Bool, true, false, Option, Some, None, Result, Ok, IsTrue}
 use Rattle.std.specs.FinMap as paths
 use Rattle.status_index.specs.BlobId.{id_kind}
@@ -27,15 +27,15 @@ use Rattle.status_world.proofs.Answers.{Answered, answered, kind_of_blob}
 use Rattle.status_world.proofs.Modes.{ModeCase, other_kind, other_bit, same_mode, mode_case}
 use Rattle.status_world.proofs.Readings.{whole_reading}
 
--- what a run answers for an entry at whose path this node is
+-- A run's verdict for an entry, if this node is at its path.
 abbrev pub verdict_at : StampedWorld → Comparer → IndexEntry → Placed → Result (Option RunStatus) Error
 verdict_at w c e n = answer e.path (case_of_stat (query_of w c) e n.metadata (stat_of n.metadata))
 
--- what its comparer answers
+-- The result of the run's comparer.
 abbrev pub comparison_at : StampedWorld → Comparer → IndexEntry → Placed → Result (Option (Option ObjectId)) Error
 comparison_at w c e n = compared_by c e n.metadata.len (meaning (query_of w c) e n.metadata)
 
--- the entry's stat agrees with the node's; a write may hide behind the node's
+-- Whether the entry is trusted with the node's stat, and whether the node's stat is racy.
 abbrev pub trusted_at : StampedWorld → IndexEntry → Stat → Bool
 trusted_at w e now = is_trusted (query_of w Hash) e now
 
@@ -45,14 +45,14 @@ racy_at w now = is_racy w.stat_options w.timestamp now
 abbrev pub IsExecutableAsked : StampedWorld → Placed → Plain → Type 0
 IsExecutableAsked w n s = IsTrue w.executable_bit × IsExecutableChange (plain_of n) s
 
--- a node where an entry is, without a planted fault, and what was staged there
+-- A formed node at the path of a formed entry, with what was staged there. No fault is planted.
 pub record IsMet (w : StampedWorld) (e : IndexEntry) (n : Placed) (s : Plain) : Type 0 where
   pub node : IsFormedNode w.clock n
   pub entry : IsFormedEntry w e s
   pub there : node_at w e.path ≡ Some n
   pub unplanted : w.tree.planted ≡ paths.empty
 
--- the answers, each with what it says
+-- The verdicts, each with its condition.
 pub data VerdictCase (w : StampedWorld) (c : Comparer) (e : IndexEntry) (n : Placed) (s : Plain) (now : Stat) (v : Result (Option RunStatus) Error) : Type 0 where
   retyped : (mode : Mode) → n.metadata.kind ≢ s.kind → v ≡ Ok (Some (statuses.Change (changes.TypeChange mode))) → VerdictCase w c e n s now v
   unchanged : n.metadata.kind ≡ s.kind → (IsExecutableAsked w n s → ⊥) → trusted_at w e now ≡ true → racy_at w now ≡ false → v ≡ Ok None → VerdictCase w c e n s now v
@@ -63,13 +63,13 @@ pub data VerdictCase (w : StampedWorld) (c : Comparer) (e : IndexEntry) (n : Pla
   restamped : n.metadata.kind ≡ s.kind → (IsExecutableAsked w n s → ⊥) → comparison_at w c e n ≡ Ok None
       → v ≡ Ok (Some (statuses.NeedsUpdate now)) → VerdictCase w c e n s now v
 
--- whether the executable bit changed, where that is asked for
+-- Whether executability changed, if it counts.
 abbrev IsBit : StampedWorld → Placed → Plain → Bool → Type 0
 IsBit w n s true = IsExecutableAsked w n s
 IsBit w n s false = IsExecutableAsked w n s → ⊥
 
 module _ (w : StampedWorld) (c : Comparer) (e : IndexEntry) (n : Placed) (s : Plain) (now : Stat) where
-  -- the answer of a comparison, by what the comparer answers
+  -- The verdict of a comparison, by the comparer's result.
   abbrev shown : Bool → Bool → Bool → Result (Option (Option ObjectId)) Error → Result (Option RunStatus) Error
   shown x t r a = answer e.path (status.compared x t r now a)
 
@@ -102,7 +102,7 @@ module _ (w : StampedWorld) (c : Comparer) (e : IndexEntry) (n : Placed) (s : Pl
       (content_case false (trusted_at w e now) (racy_at w now) (a k).0 k (λ h. b h.0 h.1) refl refl (a k).1)
 
 module _ (w : StampedWorld) (c : Comparer) (e : IndexEntry) (n : Placed) (s : Plain) where
-  -- a run reads the whole of a node of the entry's kind
+  -- A run reads the whole of a node of the entry's kind.
   pub met_whole : IsMet w e n s → n.metadata.kind ≡ s.kind → IsWholly n.bytes (reading (query_of w c) e n.metadata)
   met_whole h k =
       whole_reading w c e n s.executable h.unplanted h.there h.node.kind h.node.len
@@ -113,7 +113,7 @@ module _ (w : StampedWorld) (c : Comparer) (e : IndexEntry) (n : Placed) (s : Pl
       answered c e w.kind n.bytes n.metadata.len (meaning (query_of w c) e n.metadata)
       (ap id_kind h.entry.id ∙ kind_of_blob w.kind s.bytes) (met_whole h k)
 
-  -- what a run answers, by cases
+  -- A run's verdict, by cases.
   pub verdict_case : IsMet w e n s → (now : Stat) → stat_of n.metadata ≡ Some now → VerdictCase w c e n s now (verdict_at w c e n)
   verdict_case h now is =
       subst (λ o. VerdictCase w c e n s now (answer e.path (case_of_stat (query_of w c) e n.metadata o))) (sym is)

@@ -1,4 +1,4 @@
--- What applying an event answers, and what it leaves.
+-- What applying an event returns, and the world after it.
 use Rattle.std.specs.Prelude.{◌≡◌, ◌≢◌, ◌⊎◌, ℕ, List, ◌++◌, Option, Some, None, option_map, Result, Ok, Err, ⊤}
 use Rattle.std.specs.Option.{option_to_list}
 use Rattle.status_base.specs.MemoryTree.{Placed}
@@ -19,25 +19,25 @@ use Rattle.status_world.specs.Reports.{RunReport, report_value}
 use Rattle.status_world.specs.Sound.{IsSound}
 use Rattle.status_world.specs.StampedWorld.{StampedWorld, after_event, with_node, query_of, report_of}
 
--- no refusal is due, and the world is the one after the event; or it is refused, and the world stays
+-- An accepted event leads to the world after it; a refused one leaves the world unchanged.
 abbrev pub IsChanged : {A : Type 0} → Event → StampedWorld → Result A Refusal → StampedWorld → Type 0
 IsChanged event old (Ok _) new = (refusal_of event old ≡ None) × (new ≡ after_event event old)
 IsChanged event old (Err r) new = IsRefused r event old × (new ≡ old)
 
--- the same of a write: a node is put at a path; or the refusal of a write is due; or, once what lies below is looked up,
--- memory is wanting
+-- The same for a write, which puts a node at a path. It is refused if a refusal is due. It may also be refused for memory,
+-- once the paths below its own are looked up.
 abbrev pub IsWritten : {A : Type 0} → List ℕ → List ℕ → Placed → StampedWorld → Result A Refusal → StampedWorld → Type 0
 IsWritten path bytes node old (Ok _) new = (write_refusal old path bytes ≡ None) × (new ≡ with_node old path (Some node))
 IsWritten path bytes node old (Err r) new =
     (((r ≡ refusals.Memory) × IsLookedBelow old.tree path) ⊎ (write_refusal old path bytes ≡ Some r)) × (new ≡ old)
 
--- the refusal of an event whose node isn't put
+-- The refusal of an event whose node can't be put.
 abbrev pub tree_refusal : TreeError → Refusal
 tree_refusal BadPath = refusals.BadPath
 tree_refusal InTheWay = refusals.InTheWay
 tree_refusal Memory = refusals.Memory
 
--- the same, with the report that the event gives
+-- An accepted event leads to the defined world and report; a refused one leaves the world unchanged.
 abbrev pub IsApplied : Event → StampedWorld → Result (Option Report) Refusal → StampedWorld → Type 0
 IsApplied event old (Ok report) new =
     (refusal_of event old ≡ None)
@@ -45,14 +45,14 @@ IsApplied event old (Ok report) new =
     × (new ≡ after_event event old)
 IsApplied event old (Err r) new = IsRefused r event old × (new ≡ old)
 
--- the index can be trusted again, and a run's report has changes of just the staged paths that differ
+-- The index can still be trusted, and a run's report has a change of exactly the staged paths that differ.
 abbrev pub IsExactEvent : StampedWorld → Result (Option Report) Refusal → StampedWorld → Type 0
 IsExactEvent old (Ok (Some report)) new = IsExact old.executable_bit (report_value report) (plain_world_of old) × IsSound new
 IsExactEvent old (Ok None) new = IsSound new
 IsExactEvent old (Err r) new = IsSound new
 
--- what a run's status answers: the report of a world without a fault; or memory is wanting, or a thread where there may be
--- one, or it is the first fault
+-- The result of a run's status: the report, if no entry has a fault; or the first fault; or out of memory; or a refused
+-- thread, unless the thread limit is 1.
 abbrev pub IsRunReport : Run → StampedWorld → Result Report Refusal → Type 0
 IsRunReport run w (Ok report) =
     (first_fault (query_of w run.comparer) w.entries ≡ None) × (report_value report ≡ report_of w run.comparer)
@@ -61,13 +61,14 @@ IsRunReport run w (Err (refusals.Run errors.Memory)) = ⊤
 IsRunReport run w (Err (refusals.Run errors.SpawnThread)) = run.thread_limit ≢ Some 1
 IsRunReport run w (Err r) = fault_refusal (first_fault (query_of w run.comparer) w.entries) ≡ Some r
 
--- a run that is applied gives the report of the world before it
+-- An accepted run returns the report of the world before it, and leads to the world after it. A refused one leaves the world
+-- unchanged.
 abbrev pub IsRunApplied : Run → StampedWorld → Result Report Refusal → StampedWorld → Type 0
 IsRunApplied run old (Ok report) new =
     (refusal_of (run_event run) old ≡ None) × (report_value report ≡ report_of old run.comparer) × (new ≡ after_event (run_event run) old)
 IsRunApplied run old (Err r) new = IsRefused r (run_event run) old × (new ≡ old)
 
--- the same in a list of events: the reports grow by that of a run
+-- The same for an event of a list: the report of an accepted run is appended to the earlier reports.
 abbrev pub IsStep : Event → StampedWorld → List RunReport → Result (Unit {0}) Refusal → StampedWorld → List RunReport → Type 0
 IsStep event old earlier (Ok _) new all =
     (refusal_of event old ≡ None) × (all ≡ earlier ++ reports_at event old) × (new ≡ after_event event old)

@@ -1,4 +1,4 @@
--- A law of histories that begin with nothing.
+-- The history theorem for histories that begin with an empty world.
 use Rattle.std.specs.Prelude.{ℕ, Bool, List, [], ◌∷◌, ◌++◌, Option}
 use Rattle.status_index.specs.declared.id.HashKind.{HashKind}
 use Rattle.status_index.specs.declared.stat.Moment.{Moment}
@@ -12,15 +12,16 @@ use Rattle.status_world.specs.Reports.{RunReport}
 use Rattle.status_world.specs.Sound.{IsFormed, IsSound}
 use Rattle.status_world.specs.StampedWorld.{StampedWorld, empty_world}
 
--- the changed paths of each report are just the staged paths that differed when its run came, and the index can be trusted
--- at the end
+-- The changed paths of each report are exactly the staged paths that differ at its run, and the index can be trusted at the
+-- end.
 pub record MissesNoChange (executable_bit : Bool) (accepted : List Event) (reports : List RunReport) (final : StampedWorld) : Type 0 where
   pub exact : AreExact executable_bit reports (plains_of accepted empty_plain)
   pub formed : IsFormed final
   pub sound : IsSound final
 
--- a replay from a world with nothing in it misses no change, where contents that have one id are one: those that the
--- accepted events bring, and the empty one
+-- The history theorem.
+-- A replay from an empty world misses no change, if contents with equal ids are equal: those of the accepted events, and the
+-- empty one.
 abbrev pub ReplayLaw : HashKind → Options → Bool → Moment → Moment → Type 0
 ReplayLaw kind options executable_bit clock timestamp =
     (es : List Event) (final : StampedWorld) (reports : List RunReport) (stopped : Option (ℕ × Refusal))

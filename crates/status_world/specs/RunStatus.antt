@@ -1,4 +1,4 @@
--- The status of a run: over any worktree and comparer, with no filter, listing, blob, submodule or chosen paths.
+-- The query of a run's status, over any worktree and comparer.
 use Rattle.std.specs.Prelude.{ℕ, Bool, true, [], List, None, Option, Result, Ok}
 use Rattle.std.specs.FinMap as ids
 use Rattle.status_index.specs.Content.{Content}
@@ -16,7 +16,7 @@ use Rattle.status_call.specs.declared.index_as_worktree.types.Options.{Options}
 use Rattle.status_call.specs.Modelled.{all_modelled, are_modelled}
 use Rattle.status_call.specs.Query.{Query}
 
--- what it is computed from: all paths, nothing is converted, and there are no listings, blobs or submodules
+-- The query of a status of all paths, in which nothing is converted, without listings, blobs and submodules.
 abbrev pub status_query : {T : Type 0} → Options → Moment → Bool → (List ℕ → Result Metadata Fault) → (List ℕ → Result Content Fault) → (List ℕ → Result (List ℕ) Fault)
     → (IndexEntry → ℕ → Meaning → Result (Option T) Error) → (IndexEntry → ℕ → Meaning → Reads → Option Reads) → Query T (Unit {0})
 status_query options timestamp modelled lstat opened linked compared counted = record {

@@ -1,4 +1,4 @@
--- What was staged, as a map from paths.
+-- The staged files and links, as a map by path.
 use Rattle.std.specs.Prelude.{ℕ, Bool, List, map, refl}
 use Rattle.std.specs.Coded.{Coded, code_by, coded×, coded_ℕ, coded_bool, coded_list}
 use Rattle.std.specs.FinMap as paths
@@ -17,12 +17,13 @@ plain_code =
 abbrev pub staged_code : Coded (PathMap Plain)
 staged_code = paths.code (coded_list coded_ℕ) plain_code
 
+-- A staged file or link, as a plain value.
 abbrev pub plain_staged : Staged → Plain
 plain_staged s = record { kind = s.kind; bytes = s.bytes.items; executable = s.executable }
 
 abbrev pub staged_entries : List (Vec ℕ × Staged) → List (List ℕ × Plain)
 staged_entries = map (λ e. (e.0.items, plain_staged e.1))
 
--- what was staged, by the entries of a map
+-- The staged files and links, by the entries of the map.
 abbrev pub staged_of : List (Vec ℕ × Staged) → PathMap Plain
 staged_of entries = paths.from_entries (staged_entries entries)

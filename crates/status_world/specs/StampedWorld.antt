@@ -1,4 +1,4 @@
--- The stamped world: a clock, a worktree of nodes with stamps, an index, and what was staged last.
+-- The stamped world, in which nodes have times, and what events and runs do in it.
 use Rattle.std.specs.Prelude.{ℕ, Bool, true, false, List, [], ◌∷◌, ◌++◌, length, map, filter, find, Option, Some, None, option_map, unwrap_or, Result, Ok, Err, if◌then◌else◌}
 use Rattle.std.specs.List.{flat_map, enumerate_from}
 use Rattle.std.specs.Option.{option_to_list}
@@ -42,20 +42,21 @@ use Rattle.status_world.specs.PlainWorld.{Plain, executable_of_kind, with_value}
 use Rattle.status_world.specs.Reports.{RunStatus, Reported, RunReport}
 use Rattle.status_world.specs.RunStatus.{status_query}
 
+-- A world has options, a clock, a worktree in memory, an index, and what was staged last, which no run reads.
 pub record StampedWorld : Type 0 where
-  -- what ids are made by, which parts of stats have to be equal, and whether executability counts
+  -- The kind of ids, which parts of stats have to be equal, and whether executability counts.
   pub kind : HashKind
   pub stat_options : StatOptions
   pub executable_bit : Bool
   pub clock : Moment
   pub tree : Tree
-  -- what the index says, and when it was written
+  -- The entries of the index, and when it was written.
   pub entries : List IndexEntry
   pub timestamp : Moment
-  -- what was staged last; no run looks at it
+  -- The files and links that were staged last, by path.
   pub staged : PathMap Plain
 
--- the world that nothing was done in
+-- A world without nodes, entries and staged paths.
 abbrev pub empty_world : HashKind → StatOptions → Bool → Moment → Moment → StampedWorld
 empty_world kind options executable_bit clock timestamp = record {
   kind = kind;
@@ -68,14 +69,15 @@ empty_world kind options executable_bit clock timestamp = record {
   staged = paths.empty;
 }
 
--- the node that was put at a path
+-- The node that was put at a path.
 abbrev pub node_at : StampedWorld → List ℕ → Option Placed
 node_at w path = paths.get w.tree.nodes path
 
+-- A world in which a path has this node, or none.
 abbrev pub with_node : StampedWorld → List ℕ → Option Placed → StampedWorld
 with_node w path node = record w { tree = record w.tree { nodes = with_value w.tree.nodes path node } }
 
--- a file or link that is written now; its length is the number of its bytes
+-- A file or link that is written at this moment. Its length is the number of its bytes.
 abbrev pub written : Moment → NodeKind → Bool → List ℕ → Placed
 written clock kind executable bytes = record {
   metadata = record {
@@ -92,31 +94,31 @@ written clock kind executable bytes = record {
   bytes = bytes;
 }
 
--- whether a path has an executable file
+-- Whether an executable file is at a path.
 abbrev pub is_executable_at : Option Placed → Bool
 is_executable_at (Some n) = executable_of_kind n.metadata.kind n.metadata.executable
 is_executable_at None = false
 
--- a node whose executability is set now: its content's stamp stays
+-- A node whose executability is set at this moment. Its mtime stays.
 abbrev pub with_executability : Moment → Bool → Placed → Placed
 with_executability clock executable n =
     record n { metadata = record n.metadata { executable = executable; ctime = Some (stamp_of clock) } }
 
 -- ---- staging
 
--- whether a node is one that an index stores
+-- Whether an index can have an entry for a node of this kind.
 abbrev pub is_stored_kind : NodeKind → Bool
 is_stored_kind File = true
 is_stored_kind Link = true
 is_stored_kind Directory = false
 is_stored_kind Other = false
 
--- a file or link, or none
+-- The node, if it is a file or link.
 abbrev pub stored_node : Option Placed → Option Placed
 stored_node (Some n) = if is_stored_kind n.metadata.kind then Some n else None
 stored_node None = None
 
--- what lies there, without its stamps
+-- A node as a plain value, without its times.
 abbrev pub plain_of : Placed → Plain
 plain_of n = record {
   kind = n.metadata.kind;
@@ -124,7 +126,7 @@ plain_of n = record {
   executable = executable_of_kind n.metadata.kind n.metadata.executable;
 }
 
--- a stat of zeros, in place of a node's whose stamps aren't known; in a world of events every stamp is known
+-- A stat of zeros, for a node whose times aren't known. In a formed world all times are known.
 abbrev pub zero_stat : Stat
 zero_stat = record {
   mtime = record { secs = 0; nsecs = 0 };
@@ -136,43 +138,47 @@ zero_stat = record {
   size = 0;
 }
 
--- an entry of stage 0, without flags
+-- An entry of stage 0, without flags.
 abbrev pub fresh_entry : List ℕ → Stat → ObjectId → Mode → IndexEntry
 fresh_entry path stat id mode = said_of path stat id (record { 0 = bits_of_stage 0 }) mode
 
--- the entry of a node that is staged
+-- The entry of a node that is staged.
 abbrev pub entry_of : StampedWorld → List ℕ → Placed → IndexEntry
 entry_of w path n = fresh_entry path (unwrap_or (stat_of n.metadata) zero_stat) (blob_id w.kind n.bytes)
     (new_mode w.executable_bit n.metadata.kind n.metadata.executable)
 
--- a world where an entry was put into the index, and what was staged with it
+-- A world in which an entry was put into the index, and what was staged was recorded for its path.
 abbrev pub with_staged : StampedWorld → IndexEntry → Plain → StampedWorld
 with_staged w e s = record w { entries = with_put w.entries e; staged = paths.insert w.staged e.path s }
 
--- the entry of a path
+-- The entry of a path, if there is one.
 abbrev pub entry_at : List ℕ → List IndexEntry → Option IndexEntry
 entry_at path es = find (λ e. bytes_eq e.path path) es
 
 -- ---- a run
 
+-- A comparison by ids: a change has the new id.
 abbrev pub with_id : Result (Option ObjectId) Error → Result (Option (Option ObjectId)) Error
 with_id (Ok change) = Ok (option_map Some change)
 with_id (Err e) = Err e
 
+-- A comparison by `FastEq`: a change has no id.
 abbrev pub without_new_id : Result (Option (Unit {0})) Error → Result (Option (Option ObjectId)) Error
 without_new_id (Ok change) = Ok (option_map (λ _. None) change)
 without_new_id (Err e) = Err e
 
--- what a run's comparer answers, and what it reads
+-- The result of a run's comparer.
 abbrev pub compared_by : Comparer → IndexEntry → ℕ → Meaning → Result (Option (Option ObjectId)) Error
 compared_by Hash e len m = with_id (hash_answer e m.file)
 compared_by Fast e len m = without_new_id (fast_answer e len m.file)
 
+-- The reads of a run's comparer.
 abbrev pub counted_by : Comparer → IndexEntry → ℕ → Meaning → Reads → Option Reads
 counted_by Hash e len m k = Some (counts_after_hash m.file k)
 counted_by Fast e len m k = Some (counts_after_fast e len m.file k)
 
--- how a run's status is computed: links count, and no listing is used; how many workers there are plays no part
+-- The options of a run's status: the file system has links, and no listing is used. The query doesn't depend on the thread
+-- limit and the chunk size.
 abbrev pub options_of : StampedWorld → Options
 options_of w = record {
   fs = record { symlink = true; executable_bit = w.executable_bit };
@@ -182,21 +188,23 @@ options_of w = record {
   chunk_size = 0;
 }
 
--- what it is computed from
+-- The query of a run's status.
 abbrev pub query_of : StampedWorld → Comparer → Query (Option ObjectId) (Unit {0})
 query_of w comparer = status_query (options_of w) w.timestamp true (lstat_in w.tree) (open_in w.tree) (target_in w.tree)
     (compared_by comparer) (counted_by comparer)
 
--- what an entry gives in a run
+-- The verdict of an entry in a run: its status, none, or its fault.
 abbrev pub verdict_in : StampedWorld → Comparer → IndexEntry → Result (Option RunStatus) Error
 verdict_in w comparer e = verdict (query_of w comparer) w.entries e
 
+-- The record of an entry, if it has a status.
 abbrev pub reported_by : ℕ → List ℕ → Result (Option RunStatus) Error → List Reported
 reported_by i path (Ok (Some status)) = record { entry_index = i; path = path; status = status } ∷ []
 reported_by i path (Ok None) = []
 reported_by i path (Err e) = []
 
--- the report of a run without a fault: the records of all entries, and their counts
+-- A run is a status of all paths, without filter, listings, blobs or submodules.
+-- Its report has the records of all entries and their counts, if no entry has a fault.
 abbrev pub report_of : StampedWorld → Comparer → RunReport
 report_of w comparer = record {
   records = flat_map (λ p. reported_by p.0 p.1.path (verdict_in w comparer p.1)) (enumerate_from 0 w.entries);
@@ -212,7 +220,7 @@ report_of w comparer = record {
       (record { start = 0; end = length w.entries });
 }
 
--- an entry after what its status asks is stored; its place, here 0, plays no part in that
+-- An entry after the change that its status asks for is stored. Its position, here 0, doesn't matter.
 abbrev pub stored_verdict : IndexEntry → Result (Option RunStatus) Error → IndexEntry
 stored_verdict e (Ok (Some status)) = updated_entry (change_of 0 status) e
 stored_verdict e (Ok None) = e
@@ -220,6 +228,7 @@ stored_verdict e (Err fault) = e
 
 -- ---- the events
 
+-- An event moves the clock, changes or stages a path, or runs a status and stores what it asks.
 abbrev pub after_event : Event → StampedWorld → StampedWorld
 after_event (events.Tick n) w = record w { clock = plus_seconds w.clock n }
 after_event (events.TickNanos n) w = record w { clock = plus_nanoseconds w.clock n }

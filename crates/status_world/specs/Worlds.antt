@@ -1,4 +1,4 @@
--- What a world holds, as a stamped world.
+-- The fields of a world, as a stamped world.
 use Rattle.std.specs.Prelude.{ℕ, Bool, List, refl}
 use Rattle.std.specs.Coded.{Coded, code_by, coded×, coded_ℕ, coded_bool, coded_list}
 use Rattle.status_index.specs.contracts.flags.Flags as flags

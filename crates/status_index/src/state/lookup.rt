@@ -1,4 +1,4 @@
-//! The entries of a path, found by a search.
+//! Finds the entries of a path by binary search.
 
 use super::State;
 use crate::entry::Entry;
@@ -13,7 +13,7 @@ impl State {
     ghost use Rattle.status_index.specs.States.{entries_of, backing_of, index_of};
     ghost use Rattle.status_index.specs.Stretch.{is_at, is_below, is_up_to};
 
-    /// The entries of a path, by their stages: none, one, or those of a conflict.
+    /// Returns the entries of a path, by their stages: none, one, or those of a conflict.
     pub fn entries_at(&self, path: BStr<'_>) -> &[Entry]
         ensures { index_entries (backing_of self.now) result.now ≡ filter (is_at (bstr_bytes path.entry)) (index_of self.now) }
     {
@@ -21,7 +21,8 @@ impl State {
         &self.entries[start..end]
     }
 
-    /// From which place up to which the entries of a path stand. Where it has none, both are the place for one.
+    /// Returns the start and end of the range of a path's entries. If the path has none, both are the position at which
+    /// one would be inserted.
     pub(super) fn places_of(&self, path: &[u8]) -> (usize, usize)
         ensures start { result.0 ≡ prefix_len (is_below path.now) (index_of self.now) }
         ensures end { result.1 ≡ prefix_len (is_up_to path.now) (index_of self.now) }

@@ -1,4 +1,4 @@
-//! Entries that come to an index and go, a path at a time, as `git add` does it.
+//! Puts entries into an index and removes them, path by path, as `git add` does.
 
 use super::{IndexError, State};
 use crate::entry::Entry;
@@ -17,13 +17,14 @@ impl State {
     ghost use Rattle.status_index.specs.Stretch.{is_below, is_up_to};
     ghost use Rattle.status_index.specs.Staging.{IsPutRefusal, with_entry, with_put};
 
-    /// Puts an entry at its path, in place of all entries that the path had. The entries behind it move where the index
-    /// grows or shrinks, and the path is copied only where it had no entry. Entries of other paths stay, also those that
-    /// a worktree can't have beside this one, as `a` beside `a/b`.
+    /// Puts an entry at its path. It replaces all entries of the path. If the number of entries changes, the later
+    /// entries move. The path is copied only if it had no entry. Entries of other paths stay, even those that a
+    /// worktree can't have together with this one, such as `a` and `a/b`.
     ///
     /// # Errors
-    /// `at` is the place at which the entry would stand: where the path is empty, else where an entry of another path
-    /// has an id of another kind. Or where memory runs out. The index then is as it was.
+    /// Returns an error if the path is empty; otherwise if an entry of another path has an id of another kind. The
+    /// error's `at` is the position that the entry would have. Returns `Memory` if an allocation fails, never for a
+    /// path that has an entry. An error leaves the index unchanged.
     pub fn put_entry(
         &mut self,
         stat: Stat,
@@ -56,8 +57,8 @@ impl State {
             self.entries.insert(start, entry)?;
             return Ok(());
         }
-        // The path's first entry stays, and its bytes in the storage with it: else a path that is put again and again
-        // would fill the storage.
+        // The path's first entry stays, and so do its bytes in the storage. Otherwise a path that is put again and
+        // again would fill the storage.
         let entry = &mut self.entries[start];
         entry.stat = stat;
         entry.id = id;
@@ -67,8 +68,8 @@ impl State {
         Ok(())
     }
 
-    /// Takes all entries of a path out. The entries behind them move. The path's bytes stay in the storage, and serve no
-    /// later entry.
+    /// Removes all entries of a path. The later entries move. The path's bytes stay in the storage, and no later entry
+    /// uses them.
     pub fn remove_path(&mut self, path: BStr<'_>)
         ensures index { (index_of self.new) ≡ with_entry (index_of self.old) (bstr_bytes path.entry) None }
         ensures timestamp { timestamp_of self.new ≡ timestamp_of self.old }
@@ -77,8 +78,8 @@ impl State {
         self.entries.drain(start..end);
     }
 
-    /// Whether an entry may be put at a path, whose entries stand from `start` up to `end`. Any entry of another path
-    /// decides, since these are of one kind.
+    /// Checks whether an entry may be put at a path, whose entries are at `start..end`. The id is compared with only
+    /// one entry of another path, since all of these are of one kind.
     fn check_put(
         &self,
         start: usize,

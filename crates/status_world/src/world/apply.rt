@@ -1,4 +1,4 @@
-//! Applying an event.
+//! Applies an event.
 
 ghost use Rattle.std.specs.Prelude.{All, IfErr, IfOk, IfSome, [], ◌∷◌, map};
 ghost use Rattle.status_world.specs.EventAnswers.{IsApplied, IsExactEvent, IsStep};
@@ -15,11 +15,13 @@ use std::sync::Wait;
 use std::thread::Threads;
 
 impl World {
-    /// Lets an event happen. A run gives a report: where contents that have one id are one, the paths that it reports a
-    /// change of are just those that were staged and now differ.
+    /// Applies an event. Returns a report for a run, and None for other events.
+    ///
+    /// A run reports a change of exactly the paths that were staged and now differ. This holds in a world that
+    /// [`World::new`] returned and events changed, if contents with equal ids are equal.
     ///
     /// # Errors
-    /// Why the event is refused, which [`Refusal`] says. The world is then as it was.
+    /// Returns why the event is refused. The world is then unchanged.
     pub fn apply<R: Threads + Wait>(
         &mut self,
         rt: &R,
@@ -35,7 +37,7 @@ impl World {
         self.happen(rt, event)
     }
 
-    /// Lets an event happen, by its kind.
+    /// Applies an event, by its kind.
     fn happen<R: Threads + Wait>(
         &mut self,
         rt: &R,
@@ -70,7 +72,7 @@ impl World {
         Ok(None)
     }
 
-    /// The same for one event of a list. Room for a report is made before its run.
+    /// Applies one event of a list, and appends the report of a run. Room for the report is allocated before the run.
     pub(crate) fn step<R: Threads + Wait>(
         &mut self,
         rt: &R,

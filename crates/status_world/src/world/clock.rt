@@ -1,4 +1,4 @@
-//! Events of the clock.
+//! Events that move the clock.
 
 ghost use Rattle.status_world.specs.EventAnswers.{IsChanged};
 ghost use Rattle.status_world.specs.declared.world.event.Event.TheVariants.{Tick, TickNanos};
@@ -8,7 +8,7 @@ use crate::world::state::{NANOSECONDS, World};
 use status_base::index::Moment;
 
 impl World {
-    /// Lets the clock go on by so many seconds.
+    /// Advances the clock by this number of seconds.
     pub(crate) fn tick(&mut self, seconds: u32) -> Result<(), Refusal>
         ensures { IsChanged (Tick seconds) self.old result self.new }
     {
@@ -20,7 +20,7 @@ impl World {
         Ok(())
     }
 
-    /// Lets the clock go on by so many nanoseconds.
+    /// Advances the clock by this number of nanoseconds.
     pub(crate) fn tick_nanos(&mut self, nanoseconds: u32) -> Result<(), Refusal>
         ensures { IsChanged (TickNanos nanoseconds) self.old result self.new }
     {

@@ -1,23 +1,23 @@
-//! What happens in a world.
+//! The events of a world.
 
 use bstr::BString;
 use status_base::index::Moment;
 
-/// How a run compares a file with what was staged.
+/// How a run compares a file with its entry.
 #[derive(Clone, Copy, Debug, PartialEq, Eq)]
 pub enum Comparer {
-    /// By ids alone, as `HashEq`.
+    /// By ids alone, as `HashEq` does.
     Hash,
-    /// By sizes where these decide, as `FastEq`.
+    /// By sizes if these decide, and otherwise by ids, as `FastEq` does.
     Fast,
 }
 
-/// One event.
+/// An event.
 #[derive(Debug, Drop)]
 pub enum Event {
-    /// The clock goes on by so many seconds.
+    /// The clock advances by this number of seconds.
     Tick(u32),
-    /// The clock goes on by so many nanoseconds.
+    /// The clock advances by this number of nanoseconds.
     TickNanos(u32),
     /// A regular file is written: its path and its content.
     Write(BString, Vec<u8>),
@@ -27,22 +27,23 @@ pub enum Event {
     SetExecutable(BString, bool),
     /// A file or link is removed.
     Remove(BString),
-    /// What is at a path is put into the index, as `git add` does; where no file or link is, the path's entry goes.
+    /// The file or link at a path is put into the index, as by `git add`. If there is none, the path's entry is
+    /// removed.
     Stage(BString),
-    /// A status runs, and what it asks is stored in the index.
+    /// A status runs, and the changes that it asks for are stored in the index.
     Run {
         /// How files are compared.
         comparer: Comparer,
-        /// How many entries a piece of work has, or 0 for the usual number.
+        /// How many entries a piece of work has; 0 for the default.
         chunk_size: usize,
-        /// How many workers there are at most; the usual number for None and 0.
+        /// The greatest number of workers; None or 0 for the default.
         thread_limit: Option<usize>,
         /// The index's timestamp after the run.
         stamp: Moment,
     },
 }
 
-/// The event of a run, by its parts.
+/// The fields of a run.
 #[derive(Clone, Copy)]
 pub(crate) struct Run {
     pub(crate) comparer: Comparer,

@@ -1,4 +1,4 @@
-//! Replaying a list of events.
+//! Replays a list of events.
 
 ghost use Rattle.std.specs.Prelude.{All, IfSome, map};
 ghost use Rattle.status_world.specs.History.{IsReplay, IsExactIfSound};
@@ -13,11 +13,11 @@ use std::alloc::Global;
 use std::sync::Wait;
 use std::thread::Threads;
 
-/// Lets the events happen in turn, up to the first that is refused.
+/// Applies the events in order, up to the first that is refused.
 ///
-/// **No change is missed**: where the world's index can be trusted, as in a world that [`World::new`] gave and events
-/// made, and contents that have one id are one, the paths that a run reports a change of are just those that were staged
-/// and now differ from it, in kind, in bytes or, where that counts, in executability.
+/// **No change is missed**: each run reports a change of exactly the staged paths that differ. A staged path differs if
+/// nothing is there, or in kind, in bytes or, if it counts, in executability. This holds if contents with equal ids are
+/// equal and the world's index can be trusted, as in a world that [`World::new`] returned and events changed.
 pub fn replay<R: Threads + Wait>(rt: &R, alloc: Global, world: World, events: &[Event]) -> Replay
     ensures replay { IsReplay world events.now result.world (map report_value result.reports.items) result.stopped }
     ensures formed { IsFormed world → IsFormed result.world }

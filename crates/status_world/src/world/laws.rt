@@ -1,4 +1,4 @@
-//! What the definitions of a history say: the function's contract is a law, and the function does nothing.
+//! Laws of histories. The functions do nothing: their contracts state the laws.
 
 ghost use Rattle.std.specs.Prelude.{◌≡◌, Bool, None};
 ghost use Rattle.status_index.specs.declared.id.HashKind.{HashKind};
@@ -11,17 +11,20 @@ ghost use Rattle.status_world.specs.declared.world.event.Comparer.{Comparer};
 ghost use Rattle.status_world.specs.Laws.{ReplayLaw};
 ghost use Rattle.status_world.specs.Refusals.{start_refusal};
 
-/// **No change is missed.** A world that [`World::new`](crate::world::World::new) gives has nothing in it, and
-/// [`replay`](crate::world::replay) lets events happen in it, up to the first that is refused. Where contents that have
-/// one id are one, the paths that each run reports a change of are just those that were staged and differ from it when
-/// the run comes, in kind, in bytes or, where that counts, in executability. So it is for each kind of ids, all options,
-/// and whatever clock and timestamp the world begins with.
+/// States that **no change is missed** by the runs of a [`replay`](crate::world::replay) from a new world.
+///
+/// A world that [`World::new`](crate::world::World::new) returns has no files and an empty index. `replay` applies
+/// events to it, up to the first that is refused. If contents with equal ids are equal, each run reports a change of
+/// exactly the staged paths that differ at that time. A staged path differs if nothing is there, or in kind, in bytes
+/// or, if it counts, in executability. This holds for each kind of ids, all options, and every clock and timestamp that
+/// `World::new` accepts.
 pub fn no_change_is_missed()
     ensures { (kind : HashKind) (options : Options) (executable_bit : Bool) (clock timestamp : Moment)
         → start_refusal clock timestamp ≡ None → ReplayLaw kind options executable_bit clock timestamp }
 {}
 
-/// A run of a world that events made has no fault of its own: only memory or a thread can be wanting.
+/// States that the status of a run has no fault in a formed world, such as a new world that events changed. So a
+/// status fails there only for memory or a thread.
 pub fn a_run_has_no_fault()
     ensures { (w : StampedWorld) (comparer : Comparer) → IsFormed w → first_fault (query_of w comparer) w.entries ≡ None }
 {}

@@ -1,4 +1,4 @@
-//! Events of files and links.
+//! Events that change files and links.
 
 ghost use Rattle.std.specs.Prelude.{◌≡◌, IfOk, true, is_some};
 ghost use Rattle.bstr.specs.BStr.{bstr_bytes};
@@ -17,11 +17,11 @@ use status_base::worktree::memory::is_bad_path;
 use status_base::worktree::{Node, NodeKind, TreeError};
 use std::alloc::{AllocError, Global};
 
-/// The least number of bytes that is too many for a file or a link's target.
+/// The least number of bytes that is too large for a file or a link's target.
 const TOO_MANY_BYTES: u64 = 1 << 32;
 
 impl World {
-    /// Writes a regular file, which stays executable where it was.
+    /// Writes a regular file, which stays executable if it was.
     pub(crate) fn write(&mut self, path: &BString, bytes: &Vec<u8>) -> Result<(), Refusal>
         ensures { IsChanged (events.Write path.now bytes.now) self.old result self.new }
     {
@@ -54,7 +54,7 @@ impl World {
             )?,
             _ => return Err(Refusal::NotAFile),
         };
-        // A node can be put where one is already, so only memory can be wanting.
+        // A node may always replace the node at its path, so only an allocation can fail.
         parts.worktree.put(path, node).map_err(|_| Refusal::Memory)
     }
 
@@ -73,7 +73,7 @@ impl World {
         Ok(())
     }
 
-    /// Whether there is a file or link at a path.
+    /// Returns whether there is a file or link at a path.
     fn is_stored(&self, path: BStr<'_>) -> bool
         ensures { result ≡ is_some (stored_node (node_at self.now (bstr_bytes path.entry))) }
     {
@@ -83,7 +83,7 @@ impl World {
         }
     }
 
-    /// Whether there is an executable file at a path.
+    /// Returns whether there is an executable file at a path.
     fn is_executable(&self, path: BStr<'_>) -> bool
         ensures { result ≡ is_executable_at (node_at self.now (bstr_bytes path.entry)) }
     {
@@ -93,7 +93,7 @@ impl World {
         }
     }
 
-    /// Puts a file or link that is written now.
+    /// Puts a file or link that is written at the clock's moment.
     #[tactic(auto, using(crate::proofs::TreeLaws::free_above))]
     fn put(
         &mut self,
@@ -109,7 +109,7 @@ impl World {
             return Err(Refusal::BadPath);
         }
         let parts = &mut self.parts;
-        // Before the bytes are copied, so that a write that is refused takes no memory for them.
+        // Checked before the bytes are copied, so that a refused write allocates no memory for them.
         parts.worktree.check_put(path, kind).map_err(refusal_of)?;
         if bytes.len() as u64 >= TOO_MANY_BYTES {
             return Err(Refusal::TooLarge);
@@ -119,7 +119,7 @@ impl World {
     }
 }
 
-/// A file or link that is written at a moment.
+/// Returns a file or link that is written at the moment `clock`.
 fn written_node(
     alloc: Global,
     clock: Moment,
@@ -144,7 +144,7 @@ fn written_node(
     })
 }
 
-/// A copy of a node whose executability is set at a moment.
+/// Returns a copy of a node whose executability is set at the moment `clock`.
 fn changed_node(
     alloc: Global,
     clock: Moment,
@@ -167,7 +167,7 @@ fn changed_node(
     })
 }
 
-/// A moment as a file's stamp.
+/// Returns a moment as the time of a file.
 fn stamp_of(moment: Moment) -> Time
     ensures { result ≡ stamp_of moment }
 {
@@ -177,7 +177,7 @@ fn stamp_of(moment: Moment) -> Time
     }
 }
 
-/// The refusal of an event whose node isn't put.
+/// Returns the refusal of an event whose node can't be put.
 fn refusal_of(error: TreeError) -> Refusal
     ensures { result ≡ tree_refusal error }
 {

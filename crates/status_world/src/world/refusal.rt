@@ -6,30 +6,30 @@ ghost use Rattle.status_world.specs.declared.world.refusal.Refusal.TheVariants.{
 use status_call::index_as_worktree::Error;
 use std::alloc::AllocError;
 
-/// Why an event, or the beginning of a world, is refused.
+/// Why an event or a new world is refused.
 #[derive(Debug, Drop)]
 pub enum Refusal {
     /// The clock would go past the greatest second.
     ClockEnd,
     /// The path is empty, or a component is empty, `.` or `..`.
     BadPath,
-    /// A file or link stands above the path, or the path is a directory's.
+    /// A file or link is above the path, or a directory is at the path.
     InTheWay,
     /// The content has 2^32 bytes or more.
     TooLarge,
-    /// There is no regular file whose executability could be set, or no file or link to be removed.
+    /// There is no regular file whose executability can be set, or no file or link that can be removed.
     NotAFile,
-    /// A stamp is after the clock.
+    /// A timestamp is after the clock.
     StampLater,
-    /// Kept for a status that is interrupted. It is never answered.
+    /// Reserved for an interrupted status. It is never returned.
     Interrupted,
     /// The status failed.
     Run(Error),
-    /// Memory ran out.
+    /// An allocation failed.
     Memory,
-    /// A stamp has 1,000,000,000 nanoseconds or more.
+    /// The clock or a timestamp has 1,000,000,000 nanoseconds or more.
     BadMoment,
-    /// The index that is opened isn't the world's own. No event is refused for it.
+    /// The index passed to `World::reopen` differs from the world's own. No event is refused for this.
     OtherIndex,
 }
 

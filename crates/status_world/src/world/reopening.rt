@@ -1,4 +1,4 @@
-//! An index that is opened again, as after it was stored.
+//! Replaces the index of a world by an equal one, such as one that was stored and loaded.
 
 ghost use Rattle.std.specs.Prelude.{◌≡◌, Decides};
 ghost use Rattle.status_index.specs.Entries.{index_entry};
@@ -10,12 +10,11 @@ use crate::world::state::World;
 use status_base::index::{Entry, PathStorage, State};
 
 impl World {
-    /// Puts an index in the place of the world's own, which says the same: the entries, their stats and flags, and the
-    /// timestamp. So a world goes on with an index that was stored and loaded.
+    /// Replaces the world's index by `index`, which must have the same entries, with their stats and flags, and the
+    /// same timestamp. So a world can go on with an index that was stored and loaded.
     ///
     /// # Errors
-    /// [`Refusal::OtherIndex`] where the two differ. The world is then as it was, and the index that was handed in is
-    /// given up.
+    /// Returns [`Refusal::OtherIndex`] if the two indexes differ. The world is then unchanged, and `index` is dropped.
     pub fn reopen(&mut self, index: State) -> Result<(), Refusal>
         ensures { IsIndexReplaced (index_of index) (timestamp_of index) self.old result self.new }
     {
@@ -27,14 +26,14 @@ impl World {
     }
 }
 
-/// Whether two indexes say the same.
+/// Returns whether two indexes have the same entries and timestamp.
 fn is_same_index(a: &State, b: &State) -> bool
     ensures { Decides result (IsSameIndex (index_of a.now) (timestamp_of a.now) (index_of b.now) (timestamp_of b.now)) }
 {
     a.timestamp() == b.timestamp() && are_same_entries(a, b)
 }
 
-/// Whether the entries of two indexes say the same.
+/// Returns whether two indexes have the same entries.
 fn are_same_entries(a: &State, b: &State) -> bool
     ensures { Decides result ((index_of a.now) ≡ index_of b.now) }
 {
@@ -55,7 +54,7 @@ fn are_same_entries(a: &State, b: &State) -> bool
     true
 }
 
-/// Whether two entries say the same, each with its path in its own index's storage.
+/// Returns whether two entries are equal, each with its path in its own index's storage.
 fn is_same_entry(a: &Entry, paths: &PathStorage, b: &Entry, other_paths: &PathStorage) -> bool
     ensures { Decides result (index_entry paths.now a.now ≡ index_entry other_paths.now b.now) }
 {

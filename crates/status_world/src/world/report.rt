@@ -1,4 +1,4 @@
-//! What a run reports.
+//! The report of a run.
 
 ghost use Rattle.std.specs.Prelude.{◌≡◌, IfOk};
 ghost use Rattle.status_world.specs.Reports.{changes_in, report_value};
@@ -8,18 +8,18 @@ use status_base::index::ObjectId;
 use status_call::index_as_worktree::{ApplyChange, EntryStatus, Outcome};
 use std::alloc::AllocError;
 
-/// What a run reports of one entry. A change of content has the new id where entries are compared by ids.
+/// A run's record of one entry. If contents are compared by ids alone, a change of content has the new id.
 #[derive(Debug, Drop)]
 pub struct ReportRecord {
-    /// The entry's place in the index.
+    /// The entry's position in the index.
     pub entry_index: usize,
     /// The entry's path.
     pub path: BString,
-    /// What is reported.
+    /// The entry's status.
     pub status: EntryStatus<Option<ObjectId>, ()>,
 }
 
-/// What a run reports: its records in the order of the index, and what was counted.
+/// The report of a run: its records in the order of the index, and its counts.
 #[derive(Debug, Drop)]
 pub struct Report {
     /// The records.
@@ -29,10 +29,10 @@ pub struct Report {
 }
 
 impl Report {
-    /// What the run asks of the index.
+    /// Returns the changes of the index that the run asks for.
     ///
     /// # Errors
-    /// Want of memory.
+    /// Returns an error if an allocation fails.
     pub(crate) fn changes(&self) -> Result<Vec<ApplyChange>, AllocError>
         ensures { IfOk result (λ changes. changes.items ≡ changes_in (report_value self.now).records) }
     {

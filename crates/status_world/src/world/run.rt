@@ -1,4 +1,4 @@
-//! Status runs of a world.
+//! Runs a status in a world.
 
 ghost use Rattle.std.specs.Prelude.{◌≡◌, false, IfOk, map};
 ghost use Rattle.status_world.specs.Events.{run_event};
@@ -22,7 +22,7 @@ use std::sync::Wait;
 use std::thread::Threads;
 
 impl World {
-    /// Runs a status, and stores its answers in the index.
+    /// Runs a status, and stores the changes that it asks for in the index.
     pub(crate) fn run<R: Threads + Wait>(&mut self, rt: &R, run: &Run) -> Result<Report, Refusal>
         ensures applied { IsRunApplied run.now self.old result self.new }
         ensures sum { IfOk result HasSum }
@@ -39,7 +39,7 @@ impl World {
         Ok(report)
     }
 
-    /// Stores what a run asks of the index, and the index's new timestamp.
+    /// Stores the changes that a run asks for in the index, and the index's new timestamp.
     fn store(&mut self, run: &Run, changes: &[ApplyChange])
         requires { changes.now ≡ changes_in (report_of self.old run.now.comparer).records }
         ensures { self.new ≡ after_event (run_event run.now) self.old }
@@ -49,10 +49,10 @@ impl World {
         index.set_timestamp(run.stamp);
     }
 
-    /// What a status run reports of the world as it is.
+    /// Returns the report of a status run, which doesn't change the world.
     ///
     /// # Errors
-    /// The status's, and want of memory.
+    /// Returns the status's error as `Refusal::Run`, and `Refusal::Memory` if an allocation fails.
     fn report<R: Threads + Wait>(&self, rt: &R, run: &Run) -> Result<Report, Refusal>
         ensures report { IsRunReport run.now self.now result }
         ensures sum { IfOk result HasSum }

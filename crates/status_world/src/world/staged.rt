@@ -1,4 +1,4 @@
-//! What was staged, by path.
+//! The staged files and links, by path.
 
 ghost use Rattle.std.specs.Prelude.{◌≡◌, IfOk, OnOk, OnErr, IsSome};
 ghost use Rattle.std.specs.Option.{option_map};
@@ -13,7 +13,7 @@ use std::alloc::{AllocError, Global};
 use std::collections::BTreeMap;
 use std::marker::Model;
 
-/// What was staged at a path.
+/// The file or link that was staged at a path.
 #[derive(Debug, Drop)]
 pub(crate) struct Staged {
     pub(crate) kind: NodeKind,
@@ -21,7 +21,7 @@ pub(crate) struct Staged {
     pub(crate) executable: bool,
 }
 
-/// What was staged last at each path that the index has.
+/// The file or link that was staged last, for each path that the index has.
 #[derive(Drop)]
 pub(crate) struct StagedFiles {
     alloc: Global,
@@ -42,7 +42,7 @@ impl Model for StagedFiles {
 }
 
 impl StagedFiles {
-    /// Nothing was staged.
+    /// Returns an empty map: nothing was staged.
     pub(crate) fn new(alloc: Global) -> StagedFiles
         ensures { result ≡ paths.empty }
     {
@@ -52,10 +52,10 @@ impl StagedFiles {
         }
     }
 
-    /// Puts what is staged at a path, and gives what it replaces.
+    /// Puts `staged` at a path, and returns the value that it replaces.
     ///
     /// # Errors
-    /// Want of memory. All then is as it was.
+    /// Returns an error if an allocation fails. The map is then unchanged.
     pub(crate) fn put(
         &mut self,
         path: BStr<'_>,
@@ -72,7 +72,7 @@ impl StagedFiles {
         }
     }
 
-    /// Puts what `put` replaced in the place of what it put. This takes no memory, since the path still has its key.
+    /// Undoes a `put` at a path, which replaced `replaced`. Allocates no memory, since the path still has its key.
     pub(crate) fn put_back(&mut self, path: BStr<'_>, replaced: Option<Staged>)
         ensures { IsSome (paths.get self.old (bstr_bytes path.entry)) → self.new ≡ with_value self.old (bstr_bytes path.entry) (option_map plain_staged replaced) }
     {
@@ -86,7 +86,7 @@ impl StagedFiles {
         }
     }
 
-    /// Takes what was staged at a path out.
+    /// Removes a path.
     pub(crate) fn remove(&mut self, path: BStr<'_>)
         ensures { self.new ≡ paths.remove self.old (bstr_bytes path.entry) }
     {

@@ -1,4 +1,4 @@
-//! Staging.
+//! Stages a path.
 
 ghost use Rattle.std.specs.Prelude.{◌≡◌, IfOk, IfErr, OnOk, OnErr, unwrap_or};
 ghost use Rattle.bstr.specs.BStr.{bstr_bytes};
@@ -20,7 +20,7 @@ use status_base::worktree::{Node, NodeKind};
 use std::alloc::{AllocError, Global};
 
 impl World {
-    /// Puts what is at a path into the index, or takes the path's entry out where no file or link is.
+    /// Puts the file or link at a path into the index. If there is none, removes the path's entry.
     pub(crate) fn stage(&mut self, path: &BString) -> Result<(), Refusal>
         ensures { IsChanged (events.Stage path.now) self.old result self.new }
     {
@@ -47,7 +47,7 @@ impl World {
 }
 
 impl World {
-    /// Puts an entry into the index, and keeps what was staged: both, or neither.
+    /// Puts an entry into the index, and what was staged into the world: both, or neither on an error.
     fn put_staged(
         &mut self,
         path: BStr<'_>,
@@ -61,7 +61,7 @@ impl World {
         ensures unchanged { OnErr result (self.new ≡ self.old) }
     {
         let parts = &mut self.parts;
-        // What was staged first: it can be put back without memory where the index refuses the entry.
+        // `staged` is put first, since it can be put back without an allocation if the index refuses the entry.
         let replaced = parts.staged.put(path, staged)?;
         match parts
             .index
@@ -76,14 +76,14 @@ impl World {
     }
 }
 
-/// The stat of a node that was put, whose stamps are known.
+/// Returns the stat of a node. Its times are known, since an event put the node.
 fn stat_of(node: &Node) -> Stat
     ensures { result ≡ unwrap_or (stat_of (placed_of node.now).metadata) zero_stat }
 {
     node.metadata().to_stat().unwrap_or_default()
 }
 
-/// What is staged of a node.
+/// Returns the value that is staged for a node.
 fn staged_of(alloc: Global, node: &Node) -> Result<Staged, AllocError>
     ensures { IfOk result (λ s. plain_staged s ≡ plain_of (placed_of node.now)) }
 {

@@ -1,4 +1,4 @@
-//! A world: what it holds, and how it begins.
+//! A world: its fields, and how it begins.
 
 ghost use Rattle.std.specs.Prelude.{◌≡◌, None, IfOk, IfErr, Some};
 ghost use Rattle.status_world.specs.Refusals.{start_refusal};
@@ -13,7 +13,7 @@ use status_base::worktree::MemoryWorktree;
 use std::alloc::Global;
 use std::marker::Model;
 
-/// What a world holds.
+/// The fields of a world.
 #[derive(Drop)]
 pub(crate) struct Parts {
     pub(crate) alloc: Global,
@@ -44,11 +44,12 @@ impl Model for World {
 }
 
 impl World {
-    /// A world with nothing in it: no file, an empty index that was written at `timestamp`, and a clock. Ids are made by
-    /// `kind`; `stat` says which parts of stats have to be equal, and `executable_bit` whether executability counts.
+    /// Returns a world without files, with a clock and an empty index that was written at `timestamp`. `kind` is the
+    /// kind of ids, `stat` the parts of stats that have to be equal, and `executable_bit` whether executability counts.
     ///
     /// # Errors
-    /// A moment of 1,000,000,000 nanoseconds or more, or a timestamp after the clock.
+    /// Returns `BadMoment` if `clock` or `timestamp` has 1,000,000,000 nanoseconds or more, and otherwise `StampLater`
+    /// if `timestamp` is after `clock`.
     pub fn new(
         alloc: Global,
         kind: HashKind,
@@ -91,14 +92,14 @@ impl World {
         }
     }
 
-    /// The clock.
+    /// Returns the clock.
     pub fn clock(&self) -> Moment
         ensures { result ≡ self.now.clock }
     {
         self.parts.clock
     }
 
-    /// The index.
+    /// Returns the index.
     pub fn index(&self) -> &State
         ensures entries { (index_of result.now) ≡ self.now.entries }
         ensures timestamp { timestamp_of result.now ≡ self.now.timestamp }
@@ -106,7 +107,7 @@ impl World {
         &self.parts.index
     }
 
-    /// The worktree.
+    /// Returns the worktree.
     pub fn worktree(&self) -> &MemoryWorktree
         ensures { result.now ≡ self.now.tree }
     {
@@ -114,10 +115,10 @@ impl World {
     }
 }
 
-/// How many nanoseconds a second has.
+/// The number of nanoseconds in a second.
 pub(crate) const NANOSECONDS: u32 = 1_000_000_000;
 
-/// Why a world can't begin with this clock and timestamp.
+/// Returns why a world can't begin with this clock and timestamp, or None if it can.
 fn start_refusal(clock: Moment, timestamp: Moment) -> Option<Refusal>
     ensures { result ≡ start_refusal clock timestamp }
 {

@@ -1,4 +1,4 @@
--- The entries so far, with those that are left, are what the whole list says.
+-- The entries so far, followed by those of the remaining items, are those of the whole list.
 use Rattle.std.proofs.Common.{◌≡◌, drop, map}
 use Rattle.serde_json.specs.View.{items_view}
 use Rattle.status_index.specs.Entries.{new_entry}

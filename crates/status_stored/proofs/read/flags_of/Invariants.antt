@@ -1,4 +1,4 @@
--- What is left of the list says the same from here on as the whole list says from the start.
+-- The remaining words, with the flags so far, have the same flags as the whole list with the first ones.
 use Rattle.std.proofs.Common.{◌≡◌, drop}
 use Rattle.serde_json.specs.View.{items_view}
 use Rattle.status_stored.specs.Reading.{flags_from}

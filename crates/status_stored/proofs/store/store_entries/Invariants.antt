@@ -1,4 +1,4 @@
--- The values are those of the entries before the place.
+-- The values are those of the entries before the position.
 use Rattle.std.proofs.Common.{map, take}
 use Rattle.status_index.specs.Entries.{index_entry}
 use Rattle.status_stored.specs.Steps.{AreValuesOf}

@@ -6,7 +6,7 @@ use Rattle.status_index.specs.Entries.{IsRefusal, new_entry}
 use Rattle.status_index.proofs.Refusals.{IsRefusal-more, Memory-from_index, new_entry-cut}
 use Rattle.status_index.proofs.state.State.from_entries.Goals as goal
 
--- what an entry is refused for, the whole list is refused for
+-- A refusal of an entry is a refusal of the whole list.
 refused_list : (c : goal.After-drop-state-in_err-append) → IsRefusal (map new_entry c.args.entries.items) c.in_err-append.field-0.0
 refused_list c =
     let all = c.args.entries.items in

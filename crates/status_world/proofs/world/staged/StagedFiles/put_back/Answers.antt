@@ -7,7 +7,7 @@ use Rattle.status_world.specs.declared.world.staged.Staged.{Staged}
 use Rattle.status_world.proofs.StagedMaps.{staged-updated, staged-get}
 use Rattle.status_world.proofs.world.staged.StagedFiles.put_back.Goals as goal
 
--- the path has a key, so what was replaced is written over what was put
+-- The path has a key, so the replaced value overwrites the one that was put.
 pub returns-in-Some-get_mut : goal.returns-in-Some-get_mut
 returns-in-Some-get_mut c =
     let staged = c.in-Some.staged in
@@ -16,7 +16,7 @@ returns-in-Some-get_mut c =
     λ _. subst (λ (r : Option Staged). staged_of new.entries ≡ with_value c.args.self.now (bstr_bytes c.args.path) (option_map plain_staged r)) (sym c.in-Some.is)
     (staged-updated c.self.inside.files.entries new.entries _ _ _ (Some staged) c.self.view_is c.as_bytes.ensures written.1 written.3)
 
--- a path without a key has nothing staged
+-- A path without a key has nothing staged.
 pub returns-in_default : goal.returns-in_default
 returns-in_default c =
     λ there.

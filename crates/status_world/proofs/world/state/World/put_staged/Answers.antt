@@ -13,7 +13,7 @@ use Rattle.status_world.proofs.StagedMaps.{undone}
 use Rattle.status_world.proofs.world.state.World.put_staged.Goals as goal
 use Rattle.status_world.proofs.world.state.World.put_staged.Goals.{in-Ok+in-Some-1, in-Ok+in-None-1, in-Err}
 
--- the index refused the entry and is as it was, and what was staged was put back
+-- The index refused the entry and is unchanged, and the put of `staged` was undone.
 pub returns-clause-unchanged : goal.returns-clause-unchanged
 returns-clause-unchanged c =
     let parts = c.self.inside.parts in
