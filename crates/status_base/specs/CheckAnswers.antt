@@ -87,8 +87,8 @@ pub record IsAfterQuery (modelled : Bool) (lstat : List ℕ → Result Metadata 
   pub barred : OnBarred refusal (HasLooked old new)
   pub unchanged : (IsNormal query → ⊥) → new ≡ old
 
--- At most how often `lstat` is called. This is the check after `verified_path`, which returns a path only if each directory
--- above it is open.
+-- The calls of `lstat` are bounded, and each directory is listed once. This is the check after `verified_path`, which returns a
+-- path only if each directory above it is open.
 pub record IsAfterVerified {A : Type 0} (modelled : Bool) (lstat : List ℕ → Result Metadata Fault) (query : List ℕ) (result : Result A StackError) (old new : CheckState) : Type 0 where
   pub path : OnOk result (new.path ≡ query)
   pub after : IsAfterQuery modelled lstat query (result_err result) old new

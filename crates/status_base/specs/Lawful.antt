@@ -9,7 +9,8 @@ abbrev pub HasLeft : Result Content Fault → Option Content → Type 0
 HasLeft (Ok content) left = left ≡ Some content
 HasLeft (Err f) left = ⊥
 
--- A modelled worktree returns the specified result or out of memory, as its clone does. This is for opening a file.
+-- A modelled worktree returns the specified result or out of memory; a clone of another interface has its original's
+-- specification. This is for opening a file.
 abbrev pub IsOpened : {F : Type 0} → (F → Option Content) → Result Content Fault → Result F Fault → Type 0
 IsOpened left meant (Ok file) = HasLeft meant (left file)
 IsOpened left meant (Err f) = (meant ≡ Err f) ⊎ (f ≡ Memory)

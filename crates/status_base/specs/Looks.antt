@@ -29,8 +29,8 @@ directories_above qs = directories_beside [] qs
 abbrev pub IsAscending : List (List ℕ) → Type 0
 IsAscending qs = AllPairs (λ a b. slice_cmp nat_cmp a b ≡ Less) qs
 
--- At most how often `lstat` is called. A check whose tested path is empty, such as a new one, calls it at most once for each
--- directory above paths that ascend, if it accepts them all.
+-- The calls of `lstat` are bounded, and each directory is listed once. A check whose tested path is empty, such as a new one,
+-- calls it at most once for each directory above paths that ascend, if it accepts them all.
 abbrev pub LooksLaw : Bool → (List ℕ → Result Metadata Fault) → CheckState → List (List ℕ) → CheckState → Type 0
 LooksLaw modelled lstat old qs new = old.path ≡ [] → IsAscending qs → AreVerified modelled lstat old qs new → new.looks ≤ old.looks + length (directories_above qs)
 

@@ -87,8 +87,8 @@ abbrev pub lstat_of_node : Tree → List ℕ → Option Placed → Result Metada
 lstat_of_node tree path (Some p) = Ok p.metadata
 lstat_of_node tree path None = if has_below tree path then Ok bare_directory else Err (absence tree path)
 
--- The result of `lstat`. It finds a node, a directory above nodes, `NotADirectory` below a file, or `NotFound`. A planted fault
--- comes first.
+-- The result of `lstat`. `lstat` finds a node, a directory above nodes, `NotADirectory` below another node, or `NotFound`. A
+-- planted fault comes first.
 abbrev pub lstat_in : Tree → List ℕ → Result Metadata Fault
 lstat_in tree path = or_planted (planted_at tree path).lstat (lstat_of_node tree path (map.get tree.nodes path))
 

@@ -3,7 +3,7 @@ use Rattle.std.specs.Prelude.{◌≡◌, ℕ, List, Option, Result, Ok, Err, ⊤
 use Rattle.status_base.specs.declared.worktree.submodule.SubmoduleFault.{SubmoduleFault}
 use Rattle.status_base.specs.declared.worktree.submodule.SubmoduleFault.TheVariants.{Failed, Memory}
 
--- The status of a submodule. Its specified change or fault, or out of memory.
+-- The status of a submodule. A submodule returns its specified change or fault, or out of memory.
 abbrev pub IsSubmoduleAnswer : {U : Type 0} → Result (Option U) (List ℕ) → Result (Option U) SubmoduleFault → Type 0
 IsSubmoduleAnswer meant (Ok change) = meant ≡ Ok change
 IsSubmoduleAnswer meant (Err (Failed text)) = meant ≡ Err text

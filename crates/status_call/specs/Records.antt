@@ -44,7 +44,8 @@ module _ {T U : Type 0} (q : Query T U) (es : List IndexEntry) where
   faults_in part = filter_map (λ e. fault_by (verdict e)) part
 
 module _ {T U : Type 0} (q : Query T U) where
-  -- Those of considered entries, in index order. The first considered entry is at position `start` of the whole index.
+  -- The records of considered entries, in index order, and the fault of the first that has one. The first considered entry is at
+  -- position `start` of the whole index.
   abbrev pub records_of : ℕ → List IndexEntry → List (Finding T U)
   records_of start es = records_in q es start es
 

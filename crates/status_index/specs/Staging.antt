@@ -18,7 +18,7 @@ is_above path e = is_lt (slice_cmp nat_cmp path e.path)
 abbrev pub with_entry : List IndexEntry → List ℕ → Option IndexEntry → List IndexEntry
 with_entry es path new = filter (is_below path) es ++ option_to_list new ++ filter (is_above path) es
 
--- A put entry replaces all of its path; refused for an empty path or a mixed kind of id.
+-- A put entry replaces all entries of its path; refused for an empty path or a mixed kind of id.
 abbrev pub with_put : List IndexEntry → IndexEntry → List IndexEntry
 with_put es e = with_entry es e.path (Some e)
 

@@ -1,4 +1,4 @@
--- The joined theorem. These are the specifications of a caller's interfaces that it depends on.
+-- A joined status depends on the specifications of all interfaces passed.
 use Rattle.std.specs.Prelude.{Bool, List, Result}
 use Rattle.status_index.specs.Entries.{IndexEntry}
 use Rattle.status_index.specs.declared.id.HashKind.{HashKind}

@@ -58,7 +58,8 @@ pub record IsRewritten {I : Type 0} (is_made_of : I → I → Type 0) (xs : List
   -- Any sum over the items is unchanged: no item is lost or doubled.
   pub bag : (f : I → ℕ) → sum_by f (flat_map parts entries) ≡ sum_by f xs
 
--- Lawful pairs come to their destinations, no item is lost or doubled; otherwise the first bad pair. Or memory ran out.
+-- Lawful pairs come to their destinations, no item is lost or doubled; otherwise the first bad pair, or out of memory. Or memory
+-- ran out.
 abbrev pub IsAnswer : {I : Type 0} → (I → Bool) → (I → Bool) → (I → I → Type 0) → List I → List Pair → Result (Vec (Rewritten I)) Refused → Type 0
 IsAnswer removed walked is_made_of xs ps (Ok entries) = AreLawful removed walked xs ps × IsRewritten is_made_of xs ps entries.items
 IsAnswer removed walked is_made_of xs ps (Err (BadPair at)) = IsBadPair removed walked xs ps at
