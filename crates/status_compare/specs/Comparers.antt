@@ -57,7 +57,7 @@ abbrev pub answer_without_id : Result (Option ObjectId) Error → Result (Option
 answer_without_id (Ok change) = Ok (without_id change)
 answer_without_id (Err e) = Err e
 
--- Content differs if the entry's size isn't 0 and isn't the file's; otherwise ids decide.
+-- Content differs if sizes do, unless the entry's is 0 as a mark (its id isn't the empty blob's); otherwise ids decide.
 abbrev pub fast_answer : IndexEntry → ℕ → Reading → Result (Option (Unit {0})) Error
 fast_answer entry len reading =
     if size_decides entry len then Ok (Some tt) else answer_without_id (hash_answer entry reading)
