@@ -1,4 +1,4 @@
--- An entry by the fields of an object: a path and an id must be there, and all else has a default.
+-- The index of a profile.
 use Rattle.std.specs.Prelude.{ℕ, nat_lt, List, codes, Option, Some, None, if◌then◌else◌}
 use Rattle.std.specs.Int.RustNames.{bit_or}
 use Rattle.json.specs.Json.{Json, Items, no_items, item}

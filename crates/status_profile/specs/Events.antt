@@ -1,4 +1,4 @@
--- An event is a list of a word and exactly the values that FORMATS.md lists for it; `reopen` splits the events into stretches.
+-- A word and exactly its values; `reopen` splits events into stretches.
 use Rattle.std.specs.Prelude.{ℕ, Bool, false, List, [], ◌∷◌, ◌++◌, map, codes, Vec, Option, Some, None, option_map, if◌then◌else◌}
 use Rattle.std.specs.Str.{bytes_eq}
 use Rattle.std.specs.declared.alloc.Global.{Global}

@@ -1,5 +1,4 @@
--- A number is a whole number below 2^32, written with no sign, point or exponent; a stamp is a list of seconds and nanoseconds;
--- a key with a default may be missing, but may not have a wrong form.
+-- Numbers, stamps, moments; a key with a default may be missing, but may not have a wrong form.
 use Rattle.std.specs.Prelude.{◌≡◌, ℕ, ◌^◌, ◌&&◌, nat_lt, List, [], ◌∷◌, length, Bool, true, false, Option, Some, None, is_some, option_and_then, option_map, Result, Ok, Err, ⊤, if◌then◌else◌}
 use Rattle.std.specs.Borrow.{Bor}
 use Rattle.std.specs.Str.{all_ascii_digits}

@@ -1,4 +1,4 @@
--- A path and the node at it by the fields of an object; a worktree's place is a folder, or else the nodes.
+-- The worktree of a profile.
 use Rattle.std.specs.Prelude.{ℕ, false, List, [], length, map, codes, string_bytes, Option, Some, None}
 use Rattle.std.specs.Result.{result_ok}
 use Rattle.bstr.specs.Owned.{bstring_bytes}
@@ -54,7 +54,7 @@ node_in j = do
 abbrev pub nodes_in : Json → Option (List (List ℕ × Placed))
 nodes_in j = as_array j >>= each node_in
 
--- where a worktree is: in memory, as nodes with their paths, or in a folder at a path
+-- the place of a worktree: memory, with nodes by their paths, or the folder at a path
 pub data PlaceValue : Type 0 where
   in_memory : List (List ℕ × Placed) → PlaceValue
   in_folder : List ℕ → PlaceValue

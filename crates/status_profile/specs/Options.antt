@@ -1,5 +1,5 @@
--- The options by the fields of an object, each with its default; over a folder executability doesn't count, and untracked files
--- and renames are refused; of a plain profile (`Kind.Plain`) sorting, too.
+-- Options; over a folder executability doesn't count, and untracked files and renames are refused; a plain profile
+-- (`Kind.Plain`) refuses these and sorting.
 use Rattle.std.specs.Prelude.{ℕ, ◌||◌, Bool, true, false, List, [], codes, Option, Some, None, is_some, if◌then◌else◌}
 use Rattle.bstr.specs.Owned.{bstring_bytes}
 use Rattle.json.specs.Json.{Json}

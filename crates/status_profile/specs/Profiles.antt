@@ -1,4 +1,5 @@
--- A JSON value says a profile, unless a first key is missing or has a wrong form; reading returns that profile or that error.
+-- A JSON value says a profile or a history, unless a first key is missing or has a wrong form; reading returns that or that
+-- error.
 use Rattle.std.specs.Prelude.{◌≡◌, ℕ, List, codes, Option, Some, None, option_and_then, Result, Ok, Err, ⊤, if◌then◌else◌}
 use Rattle.std.specs.Str.{IsUtf8}
 use Rattle.json.specs.Json.{Json, document}

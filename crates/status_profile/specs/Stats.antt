@@ -1,4 +1,4 @@
--- The stat of an entry or a node: times and numbers are 0 by default, and the ctime is the mtime.
+-- Stats, entries, nodes with their paths; a worktree's place is a folder, or otherwise the nodes.
 use Rattle.std.specs.Prelude.{ℕ, codes, Option, Some}
 use Rattle.json.specs.Json.{Json}
 use Rattle.json.specs.Find.{get}

@@ -1,4 +1,4 @@
--- The words that name kinds of ids, comparers and kinds of nodes.
+-- The words for kinds of ids, comparers and kinds of nodes.
 use Rattle.std.specs.Prelude.{ℕ, List, codes, Option, Some, None, if◌then◌else◌}
 use Rattle.std.specs.Str.{bytes_eq}
 use Rattle.json.specs.Json.{Json}
