@@ -5,5 +5,5 @@ use Rattle.status_base.specs.declared.worktree.objects.FindError.TheVariants.{Me
 
 -- The buffer has the specified content, or the error is the specified one or out of memory.
 abbrev pub IsFindAnswer : {A : Type 0} → Result (List ℕ) FindError → Result A FindError → List ℕ → Type 0
-IsFindAnswer meant (Ok _) buffer = meant ≡ Ok buffer
-IsFindAnswer meant (Err e) buffer = (meant ≡ Err e) ⊎ (e ≡ Memory)
+IsFindAnswer specified (Ok _) buffer = specified ≡ Ok buffer
+IsFindAnswer specified (Err e) buffer = (specified ≡ Err e) ⊎ (e ≡ Memory)

@@ -12,13 +12,13 @@ HasLeft (Err f) left = ⊥
 -- A modelled worktree returns the specified result or out of memory; a clone of another interface has its original's
 -- specification. This is for opening a file.
 abbrev pub IsOpened : {F : Type 0} → (F → Option Content) → Result Content Fault → Result F Fault → Type 0
-IsOpened left meant (Ok file) = HasLeft meant (left file)
-IsOpened left meant (Err f) = (meant ≡ Err f) ⊎ (f ≡ Memory)
+IsOpened left specified (Ok file) = HasLeft specified (left file)
+IsOpened left specified (Err f) = (specified ≡ Err f) ⊎ (f ≡ Memory)
 
 -- The target is the specified one, or the buffer is empty and the fault is the specified one or out of memory.
 abbrev pub IsTarget : {A : Type 0} → Result (List ℕ) Fault → Result A Fault → List ℕ → Type 0
-IsTarget meant (Ok _) target = meant ≡ Ok target
-IsTarget meant (Err f) target = ((meant ≡ Err f) ⊎ (f ≡ Memory)) × (target ≡ [])
+IsTarget specified (Ok _) target = specified ≡ Ok target
+IsTarget specified (Err f) target = ((specified ≡ Err f) ⊎ (f ≡ Memory)) × (target ≡ [])
 
 -- A clone has the specification of its original.
 abbrev pub CloneKeeps : {A M : Type 0} → (A → A → Type 0) → (A → M) → Type 0

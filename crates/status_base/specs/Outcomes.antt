@@ -13,5 +13,5 @@ abbrev pub IsConverted : {F : Type 0} → (F → Option Content) → Conversion 
 IsConverted left same was (Ok (Unchanged file)) = left file ≡ was
 IsConverted left (other bytes) was (Ok (Buffer buffer)) = buffer.now ≡ bytes
 IsConverted left (refused f) was (Err e) = (e ≡ f) ⊎ (e ≡ Memory)
-IsConverted left meant was (Err e) = e ≡ Memory
-IsConverted left meant was (Ok _) = ⊥
+IsConverted left specified was (Err e) = e ≡ Memory
+IsConverted left specified was (Ok _) = ⊥

@@ -5,6 +5,6 @@ use Rattle.status_base.specs.declared.worktree.submodule.SubmoduleFault.TheVaria
 
 -- The status of a submodule. A submodule returns its specified change or fault, or out of memory.
 abbrev pub IsSubmoduleAnswer : {U : Type 0} → Result (Option U) (List ℕ) → Result (Option U) SubmoduleFault → Type 0
-IsSubmoduleAnswer meant (Ok change) = meant ≡ Ok change
-IsSubmoduleAnswer meant (Err (Failed text)) = meant ≡ Err text
-IsSubmoduleAnswer meant (Err Memory) = ⊤
+IsSubmoduleAnswer specified (Ok change) = specified ≡ Ok change
+IsSubmoduleAnswer specified (Err (Failed text)) = specified ≡ Err text
+IsSubmoduleAnswer specified (Err Memory) = ⊤

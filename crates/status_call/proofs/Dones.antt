@@ -14,7 +14,7 @@ use Rattle.status_call.specs.declared.index_as_worktree.counts.Totals.{Totals}
 use Rattle.status_call.specs.Considered.{same_path, takes_over}
 use Rattle.status_call.specs.Counts.{counts_in, reads_in}
 use Rattle.status_call.specs.declared.index_as_worktree.counts.Counts.{Counts}
-use Rattle.status_call.specs.Pieces.{IsCut, IsAsMeant, IsDone}
+use Rattle.status_call.specs.Pieces.{IsCut, IsAsSpecified, IsDone}
 use Rattle.status_call.specs.Counts.{IsWithin}
 use Rattle.status_call.specs.Query.{Query}
 use Rattle.status_call.specs.Records.{record_by, records_in, faults_in}
@@ -95,7 +95,7 @@ module _ {T U : Type 0} (q : Query T U) (start : ℕ) (es : List IndexEntry) whe
         few = IsWithin-none (from - from);
         placed = λ k d m. absurd (omega arith);
         ascending = λ i j d m n. absurd (omega arith);
-        meant = λ _. record {
+        specified = λ _. record {
           records = sym (ap (records_in q es (start + from)) none);
           counts = sym (ap (counts_in q es) none);
           reads = λ _. sym (ap (reads_in q) none);
@@ -111,8 +111,8 @@ module _ {T U : Type 0} (q : Query T U) (start : ℕ) (es : List IndexEntry) whe
     few = IsWithin-more s.len (at + s.len - at) s.totals.counts (omega arith) h.few;
     placed = one_placed (start + at) (start + at) (start + (at + s.len)) s.status (omega arith) (omega (arith, h.more));
     ascending = λ i j d m n. absurd (omega (arith, one_record (start + at) s.status));
-    meant = λ t.
-        let m = h.meant t in
+    specified = λ t.
+        let m = h.specified t in
         record {
           records = sym (m.records (start + at));
           counts = m.counts;
@@ -132,11 +132,11 @@ module _ {T U : Type 0} (q : Query T U) (start : ℕ) (es : List IndexEntry) whe
           (All-weaker (IsPlaced (start + from) (start + at)) (IsPlaced (start + from) (start + to)) (λ f p. (p.0, omega (arith, p.1, k.low))) rs h.placed)
           (All-weaker (IsPlaced (start + at) (start + to)) (IsPlaced (start + from) (start + to)) (λ f p. (omega (arith, p.0, h.low), p.1)) more k.placed);
       ascending = AllPairs-append (λ x y. x.entry_index < y.entry_index) rs more h.ascending k.ascending (λ i j d l m. omega (arith, (h.placed i d l).1, (k.placed j d m).0));
-      meant = λ t. meant_more (h.meant t) (k.meant t);
+      specified = λ t. specified_more (h.specified t) (k.specified t);
     }
       where
-        meant_more : IsAsMeant q start es from at rs a → IsAsMeant q start es at to more b → IsAsMeant q start es from to (rs ++ more) (plus_totals a b)
-        meant_more m n =
+        specified_more : IsAsSpecified q start es from at rs a → IsAsSpecified q start es at to more b → IsAsSpecified q start es from to (rs ++ more) (plus_totals a b)
+        specified_more m n =
             let xs = part_of es from at in
             let ys = part_of es at to in
             let split : part_of es from to ≡ xs ++ ys = part_split es from at to h.low k.low in

@@ -34,10 +34,10 @@ pub all_worktree : (a b c d : Bool) → IsTrue (all_modelled a b c d) → IsTrue
 all_worktree true b c d t = refl
 all_worktree false b c d t = absurd (cc)
 
-pub all_meant : (a b c d : Bool) (m : Meaning) → IsTrue (all_modelled a b c d) → if_modelled a b m ≡ Some m
-all_meant true true c d m t = refl
-all_meant true false c d m t = absurd (cc)
-all_meant false b c d m t = absurd (cc)
+pub all_specified : (a b c d : Bool) (m : Meaning) → IsTrue (all_modelled a b c d) → if_modelled a b m ≡ Some m
+all_specified true true c d m t = refl
+all_specified true false c d m t = absurd (cc)
+all_specified false b c d m t = absurd (cc)
 
 pub all_submodule : (a b c d : Bool) → IsTrue (all_modelled a b c d) → IsTrue c
 all_submodule true true true d t = refl
@@ -52,9 +52,9 @@ all_listings true false c d t = absurd (cc)
 all_listings false b c d t = absurd (cc)
 
 -- A look-up by an equal check.
-pub site_at : (meant check : LinkCheck) (node : Result Metadata Fault) (unknown : Bool) (r : Result Look Error) → check ≡ meant
-    → IsLook (found_by meant node) (is_accepted meant && unknown) r → IsLook (found_by check node) (is_accepted check && unknown) r
-site_at meant check node unknown r same h =
+pub site_at : (specified check : LinkCheck) (node : Result Metadata Fault) (unknown : Bool) (r : Result Look Error) → check ≡ specified
+    → IsLook (found_by specified node) (is_accepted specified && unknown) r → IsLook (found_by check node) (is_accepted check && unknown) r
+site_at specified check node unknown r same h =
     let P : LinkCheck → Type 0 = λ k. IsLook (found_by k node) (is_accepted k && unknown) r in subst P (sym same) h
 
 -- A node that was found.
@@ -62,9 +62,9 @@ pub presence_node : (found : Found) (called : Bool) (look : Look) (n : Metadata)
 presence_node found called look n same h = (h.0 ∙ ap found_presence same, h.1)
 
 -- A result that isn't out of memory is the specified one.
-pub live_answer : (meant : Result Metadata Fault) (n : Metadata) → IsAnswer meant (Ok n) → meant ≡ Ok n
-live_answer meant n (inl h) = sym h
-live_answer meant n (inr h) = absurd (cc)
+pub live_answer : (specified : Result Metadata Fault) (n : Metadata) → IsAnswer specified (Ok n) → specified ≡ Ok n
+live_answer specified n (inl h) = sym h
+live_answer specified n (inr h) = absurd (cc)
 
 -- A node that listings know, and one that `lstat` finds.
 pub site_known : (check : LinkCheck) (known : Option Metadata) (answered : Result Metadata Fault) (n : Metadata) (look : Look) → check ≡ accepted → known ≡ Some n

@@ -89,7 +89,7 @@ module _ (es : List IndexEntry) (index : IsIndex es) (i : ℕ) (x : IndexEntry) 
           fresh = fresh_more es index i x l here q fresh (i + s.len) (omega arith) (λ j k d e m n o p u. rw (only_here j d m (omega arith)) (apart (slice_index_or es k e)));
           one_path = λ d. All-part_from es i (i + s.len) (λ r. same_path (slice_index_or es i d) r ≡ true) (λ j e m n o.
               same_from_path (slice_index_or es i d) (slice_index_or es j e) (ap (λ (y : IndexEntry). y.path) (here d ∙ sym (only_here j e m (omega arith)))));
-          meant = λ t. rw part (reported t);
+          specified = λ t. rw part (reported t);
         }
 
     skipped_apart : is_skipped q x ≡ true → (r : IndexEntry) → takes_over q x r ≡ false
@@ -173,7 +173,7 @@ module _ (es : List IndexEntry) (index : IsIndex es) (i : ℕ) (x : IndexEntry) 
               fresh = fresh_more es index i x l here q fresh (i + s.len) (omega arith) (λ j k d e m o p u v. run_apart es index i x l here 3 three staged q j k d e m (omega arith) (omega arith) v);
               one_path = λ d. All-part_from es i (i + s.len) (λ r. same_path (slice_index_or es i d) r ≡ true) (λ j e m o p.
                   rw (here d) (same_back (slice_index_or es j e) x (run_same es index i x l here 3 three staged j e m (omega arith))));
-              meant = λ _. step_of q es x (part_of es (i + 1) (i + n)) later (part_of es i (i + s.len)) s same
+              specified = λ _. step_of q es x (part_of es (i + 1) (i + n)) later (part_of es i (i + s.len)) s same
                   (conflict_verdict q es x first kept zero ∙ ap (λ (ys : List IndexEntry). Ok (conflict_status ys)) stages ∙ ap Ok (sym reported))
                   (self.counted ∙ sym (conflict_counts q es x first kept zero))
                   (λ _. read ∙ ap (plus_reads no_reads) (sym (conflict_reads q es x first kept zero)));

@@ -17,7 +17,7 @@ use Rattle.status_call.specs.declared.index_as_worktree.counts.Counts.{Counts}
 use Rattle.status_call.specs.declared.index_as_worktree.counts.Progress.{Progress}
 use Rattle.status_compare.specs.declared.reads.Reads.{Reads}
 use Rattle.status_call.specs.Counts.{IsOutcome, counts_in, reads_in, ModelsReads}
-use Rattle.status_call.specs.Pieces.{IsAsMeant, IsFaultAt}
+use Rattle.status_call.specs.Pieces.{IsAsSpecified, IsFaultAt}
 use Rattle.status_call.specs.Outcomes.{outcome_of, skipped_of}
 use Rattle.status_call.specs.Query.{Query}
 use Rattle.status_call.specs.Records.{records_in, records_of, faults_in, first_fault, verdict}
@@ -121,7 +121,7 @@ module _ {T U : Type 0} (q : Query T U) (index : State) (has_flag : Bool) (old n
         omega (arith, few.skipped, work.ended.done.high, room)
 
     -- The counts of the outcome for the first considered entries.
-    front_outcome : (n : ℕ) (reported : List (Finding T U)) → IsAsMeant q start es 0 n reported p.totals → IsOutcome q (index_of index) es (take n es) outcome
+    front_outcome : (n : ℕ) (reported : List (Finding T U)) → IsAsSpecified q start es 0 n reported p.totals → IsOutcome q (index_of index) es (take n es) outcome
     front_outcome n reported m =
         let counts : p.totals.counts ≡ counts_in q es (take n es) = m.counts ∙ ap (counts_in q es) (part_front es n) in
         let reads : ModelsReads q → p.totals.reads ≡ reads_in q (take n es) = λ r. m.reads r ∙ ap (reads_in q) (part_front es n) in
@@ -143,7 +143,7 @@ module _ {T U : Type 0} (q : Query T U) (index : State) (has_flag : Bool) (old n
     -- The first of the considered entries were processed.
     first_status : IsTrue q.modelled → IsStatusOf q index work.ended.place (map finding_of work.fed.more) outcome
     first_status t =
-        let m = work.ended.done.meant t in
+        let m = work.ended.done.specified t in
         record {
           clear = sym (ap (faults_in q es) (part_front es work.ended.place)) ∙ m.clear;
           records = work.fed.reported ∙ m.records ∙ front_records q start es work.ended.place;
@@ -183,7 +183,7 @@ module _ {T U : Type 0} (q : Query T U) (index : State) (has_flag : Bool) (old n
     -- The findings up to the stop are a beginning of the records.
     found_begins : IsTrue q.modelled → IsBeginning stop.found (records_of q start es)
     found_begins t =
-        let m = stop.done.meant t in
+        let m = stop.done.specified t in
         subst (λ l. IsBeginning l (records_of q start es)) (sym (m.records ∙ front_records q start es stop.place)) (records_begin q start es stop.place)
 
     no_shortage : e ≢ Memory → e ≢ SpawnThread → IsShortage workers e → ⊥
@@ -197,7 +197,7 @@ module _ {T U : Type 0} (q : Query T U) (index : State) (has_flag : Bool) (old n
     first_fault_at : IsTrue q.modelled → e ≢ Memory → e ≢ SpawnThread → By → IsFirstFault q index (map finding_of work.fed.more) e
     first_fault_at t other others (inr h) = absurd (no_shortage other others h.0)
     first_fault_at t other others (inl h) =
-        let m = stop.done.meant t in
+        let m = stop.done.specified t in
         let clear : faults_in q es (take stop.place es) ≡ [] = sym (ap (faults_in q es) (part_front es stop.place)) ∙ m.clear in
         let here = fault_here q es stop.place e other (h.2 t) in
         record {

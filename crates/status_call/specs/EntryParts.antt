@@ -54,8 +54,8 @@ IsCaseDecided path case called counted (Err x) = (answer path case ≡ Err x) �
 
 -- The comparer's result, and its reads if they are modelled; its error; or out of memory.
 abbrev pub IsComparison : {T : Type 0} → Result (Option T) Error → Option Reads → Result (Comparison T) Error → Type 0
-IsComparison meant counted (Ok c) = (meant ≡ Ok c.change) × HasRead counted c.reads
-IsComparison meant counted (Err x) = (meant ≡ Err x) ⊎ (x ≡ Memory)
+IsComparison specified counted (Ok c) = (specified ≡ Ok c.change) × HasRead counted c.reads
+IsComparison specified counted (Err x) = (specified ≡ Err x) ⊎ (x ≡ Memory)
 
 -- The decision by a comparison, for an entry whose node has this stat.
 abbrev pub IsDecisionOf : {T U : Type 0} → Comparison T → Stat → Bool → Bool → Bool → Decided T U

@@ -12,9 +12,9 @@ use Rattle.status_call.specs.declared.index_as_worktree.inputs.Settings.{Setting
 use Rattle.status_call.specs.declared.index_as_worktree.types.Context.{Context}
 use Rattle.status_call.specs.declared.index_as_worktree.types.Options.{Options}
 
-abbrev pub given : {W C S O P T L : Type 0} → Bor W → C → S → O → Context P T L
+abbrev pub inputs_of : {W C S O P T L : Type 0} → Bor W → C → S → O → Context P T L
     → Inputs W C S O P T L
-given worktree compare submodule objects context = record {
+inputs_of worktree compare submodule objects context = record {
   worktree = worktree;
   compare = compare;
   submodule = submodule;

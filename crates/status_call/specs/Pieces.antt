@@ -28,7 +28,7 @@ IsUncut Cut = ⊥
 module _ {T U : Type 0} (q : Query T U) where
   -- The records and counts of the considered entries from position `from` up to position `at`, none of which has a fault. The
   -- first considered entry is at position `start` of the whole index.
-  pub record IsAsMeant (start : ℕ) (es : List IndexEntry) (from at : ℕ)
+  pub record IsAsSpecified (start : ℕ) (es : List IndexEntry) (from at : ℕ)
       (findings : List (Finding T U)) (t : Totals) : Type 0 where
     pub records : findings ≡ records_in q es (start + from) (part_of es from at)
     pub counts : t.counts ≡ counts_in q es (part_of es from at)
@@ -43,7 +43,7 @@ module _ {T U : Type 0} (q : Query T U) where
     pub few : IsWithin (at - from) t.counts
     pub placed : All (λ f. (start + from ≤ f.entry_index) × (f.entry_index < start + at)) findings
     pub ascending : AllPairs (λ a b. a.entry_index < b.entry_index) findings
-    pub meant : IsTrue q.modelled → IsAsMeant start es from at findings t
+    pub specified : IsTrue q.modelled → IsAsSpecified start es from at findings t
 
   -- The error of the entry at a position, or out of memory.
   abbrev pub IsFaultAt : List IndexEntry → ℕ → Error → Type 0

@@ -16,10 +16,10 @@ use Rattle.status_call.specs.Visits.{Visit}
 abbrev pub IsUnspawned : {T U : Type 0} → Query T U → Option ℕ → Result Outcome Error → Type 0
 IsUnspawned q limit result = IsTrue q.modelled → limit ≡ Some 1 → NeverSpawns q → result ≢ Err SpawnThread
 
-module _ {I T U : Type 0} (query : I → Settings → Query T U) (given : I) (options : Options)
+module _ {I T U : Type 0} (query : I → Settings → Query T U) (inputs : I) (options : Options)
     (index : State) where
   abbrev query_of : Query T U
-  query_of = query given (settings options index)
+  query_of = query inputs (settings options index)
 
   -- The collector's records before and after the call, and the call's result.
   abbrev pub IsStatus : {V : Type 0} → (V → List (Visit T U)) → V → Result Outcome Error → V

@@ -55,7 +55,7 @@ module _ {T U : Type 0} (q : Query T U) where
     pub fresh : IsFresh (take (i + s.len) es) (drop (i + s.len) es)
     pub one_path : (d : IndexEntry)
         → All (λ r. same_path (slice_index_or es i d) r ≡ true) (part_of es i (i + s.len))
-    pub meant : IsTrue q.modelled → IsStepOf es (part_of es i (i + s.len)) s
+    pub specified : IsTrue q.modelled → IsStepOf es (part_of es i (i + s.len)) s
 
   abbrev pub IsStep : List IndexEntry → ℕ → Result (Step T U) Error → Type 0
   IsStep es i (Ok s) = IsNext es i s

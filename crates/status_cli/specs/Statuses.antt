@@ -79,8 +79,8 @@ pub record IsStatusPrinted {T U A : Type 0} (query : Query T U) (index : State) 
 
 -- the same of a profile's index and options, by what was handed in and by the meaning of its output
 abbrev pub IsPlainShown : {I T U A V : Type 0} → (I → Settings → Query T U) → I → ProfileOptions → State → (V → Option (List ℕ)) → V → Result A Failure → V → Type 0
-IsPlainShown query given options index contents old result new =
-    IsStatusPrinted (query given (settings options.status index)) index options.counts (contents old) result (contents new)
+IsPlainShown query inputs options index contents old result new =
+    IsStatusPrinted (query inputs (settings options.status index)) index options.counts (contents old) result (contents new)
 
 -- the options of a joined status: its lines are sorted by path if the profile has `sort`, it has the untracked files with
 -- `untracked`, and with `renames` those of files that aren't empty; ids are of the profile's kind

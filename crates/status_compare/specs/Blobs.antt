@@ -6,5 +6,5 @@ use Rattle.status_compare.specs.declared.error.Error.TheVariants.{Memory}
 
 -- The specified bytes, the specified error, or out of memory.
 abbrev pub IsBlob : Result (List ℕ) Error → Result (Bor (List ℕ)) Error → Type 0
-IsBlob meant (Ok bytes) = meant ≡ Ok bytes.now
-IsBlob meant (Err e) = (meant ≡ Err e) ⊎ (e ≡ Memory)
+IsBlob specified (Ok bytes) = specified ≡ Ok bytes.now
+IsBlob specified (Err e) = (specified ≡ Err e) ⊎ (e ≡ Memory)

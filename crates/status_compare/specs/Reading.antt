@@ -40,8 +40,8 @@ IsReading left (streams _ _) (Err x) = x ≡ Memory
 IsReading left (target _) (Err x) = x ≡ Memory
 
 -- The specified result, or out of memory.
-abbrev pub IsMeant : {A : Type 0} → Result A Error → Result A Error → Type 0
-IsMeant meant answer = (answer ≡ meant) ⊎ (answer ≡ Err Memory)
+abbrev pub IsSpecified : {A : Type 0} → Result A Error → Result A Error → Type 0
+IsSpecified specified answer = (answer ≡ specified) ⊎ (answer ≡ Err Memory)
 
 abbrev pub target_reading : Result (List ℕ) Fault → Reading
 target_reading (Ok bytes) = target bytes

@@ -3,7 +3,7 @@
 ghost use Rattle.std.specs.Prelude.{◌≡◌, ℕ, List, Option, None, Result, IfSome, OnOk};
 ghost use Rattle.status_index.specs.Entries.{IndexEntry, entry_at};
 ghost use Rattle.status_compare.specs.declared.error.Error.{Error as StatusError};
-ghost use Rattle.status_compare.specs.Reading.{Meaning, IsMeant};
+ghost use Rattle.status_compare.specs.Reading.{Meaning, IsSpecified};
 ghost use Rattle.status_compare.specs.Reads.{HasRead};
 ghost use Rattle.status_compare.specs.declared.reads.Reads.{Reads};
 ghost use Rattle.status_base.specs.Lawful.{CloneKeeps};
@@ -37,7 +37,7 @@ pub trait CompareBlobs: Clone {
         data: &mut R,
         buffer: &mut Vec<u8>,
     ) -> Result<Option<Self::Output>, Error>
-        ensures answer { (path : List ℕ) → IfSome (R.means «data».old) (λ m. IsMeant (answer self.old (entry_at path entry.now) size m) result) }
+        ensures answer { (path : List ℕ) → IfSome (R.means «data».old) (λ m. IsSpecified (answer self.old (entry_at path entry.now) size m) result) }
         ensures same_answer { answer self.new ≡ answer self.old }
         ensures same_counts { counts_after self.new ≡ counts_after self.old }
         ensures counts { (path : List ℕ) → OnOk result (IfSome (R.means «data».old) (λ m.

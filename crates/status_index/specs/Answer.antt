@@ -5,4 +5,4 @@ use Rattle.status_index.specs.declared.fault.Fault.TheVariants.{Memory}
 
 -- A result is the specified one, or out of memory.
 abbrev pub IsAnswer : {A : Type 0} → Result A Fault → Result A Fault → Type 0
-IsAnswer meant answer = (answer ≡ meant) ⊎ (answer ≡ Err Memory)
+IsAnswer specified answer = (answer ≡ specified) ⊎ (answer ≡ Err Memory)

@@ -15,7 +15,7 @@ use Rattle.status_rewrites.specs.declared.rewritten.Rewritten.{Rewritten}
 use Rattle.status_rewrites.proofs.Led.{destinations_walked}
 use Rattle.status_rewrites.proofs.Mapped.{bad_pair_mapped, rewritten_mapped}
 use Rattle.status_rewrites.specs.TrackedChanges.{Changed}
-use Rattle.status_rewrites.specs.Trackers.{TrackerFault, IsMeantAnswer}
+use Rattle.status_rewrites.specs.Trackers.{TrackerFault, IsSpecifiedAnswer}
 use Rattle.status_rewrites.specs.declared.tracker.Pair.{Pair}
 use Rattle.status_rewrites.specs.declared.tracker.TrackerError.{TrackerError}
 use Rattle.status_rewrites.specs.declared.tracker.TrackerError.TheVariants as trackers
@@ -49,22 +49,22 @@ module _ {T U : Type 0} (ids : Identifying) (kind : HashKind) (means : List Chan
     seen = ap (map (λ (x : ModificationOrDirwalkEntry T U). changed_of (item_of x))) same ∙ sym (map-map changed_of item_of xs)
 
     -- The tracker has no pairs.
-    tracker_fault_of : (e : TrackerError) → IsMeantAnswer (means (map changed_of (map item_of xs)) track_empty) (Err e) → IsRewritingFault ids kind means track_empty list (error_of_tracker e)
+    tracker_fault_of : (e : TrackerError) → IsSpecifiedAnswer (means (map changed_of (map item_of xs)) track_empty) (Err e) → IsRewritingFault ids kind means track_empty list (error_of_tracker e)
     tracker_fault_of (trackers.BadPair at) reported = (map item_of xs, (identified, inl reported))
     tracker_fault_of (trackers.Refused code) reported = (map item_of xs, (identified, reported))
     tracker_fault_of trackers.Memory reported = tt
 
-    pub tracker_fault : (e : TrackerError) → IsMeantAnswer (means (map (λ (x : ModificationOrDirwalkEntry T U). changed_of (item_of x)) slice) track_empty) (Err e) → IsRewritingFault ids kind means track_empty list (error_of_tracker e)
-    tracker_fault e reported = tracker_fault_of e (subst (λ cs. IsMeantAnswer (means cs track_empty) (Err e)) seen reported)
+    pub tracker_fault : (e : TrackerError) → IsSpecifiedAnswer (means (map (λ (x : ModificationOrDirwalkEntry T U). changed_of (item_of x)) slice) track_empty) (Err e) → IsRewritingFault ids kind means track_empty list (error_of_tracker e)
+    tracker_fault e reported = tracker_fault_of e (subst (λ cs. IsSpecifiedAnswer (means cs track_empty) (Err e)) seen reported)
 
     module _ (ps : List Pair) (reported : means (map (λ (x : ModificationOrDirwalkEntry T U). changed_of (item_of x)) slice) track_empty (Ok ps)) (is_made_of : ModificationOrDirwalkEntry T U → ModificationOrDirwalkEntry T U → Type 0) where
-      meant : means (map changed_of (map item_of xs)) track_empty (Ok ps)
-      meant = subst (λ cs. means cs track_empty (Ok ps)) seen reported
+      specified : means (map changed_of (map item_of xs)) track_empty (Ok ps)
+      specified = subst (λ cs. means cs track_empty (Ok ps)) seen reported
 
       -- The tracker's pairs break a rule.
       refused_fault_of : (e : Refused) → IsAnswer (λ x. is_removed (item_of x)) (λ x. is_walked (item_of x)) is_made_of xs ps (Err e) → IsRewritingFault ids kind means track_empty list (error_of_refused e)
       refused_fault_of (refusals.BadPair at) bad =
-          (map item_of xs, (identified, inr (ps, (meant, bad_pair_mapped item_of (λ x. is_removed (item_of x)) (λ x. is_walked (item_of x)) is_removed is_walked (λ x. refl) (λ x. refl) xs ps at bad))))
+          (map item_of xs, (identified, inr (ps, (specified, bad_pair_mapped item_of (λ x. is_removed (item_of x)) (λ x. is_walked (item_of x)) is_removed is_walked (λ x. refl) (λ x. refl) xs ps at bad))))
       refused_fault_of refusals.Memory bad = tt
 
       pub refused_fault : (given : List Pair) → given ≡ ps → (e : Refused) → IsAnswer (λ x. is_removed (item_of x)) (λ x. is_walked (item_of x)) is_made_of xs given (Err e) → IsRewritingFault ids kind means track_empty list (error_of_refused e)
@@ -88,7 +88,7 @@ module _ {T U : Type 0} (ids : Identifying) (kind : HashKind) (means : List Chan
           items = map item_of xs;
           identified = identified;
           pairs = ps;
-          meant = meant;
+          specified = specified;
           lawful = answered.0;
           rewritten = answered.1;
           renames = renames ∙ ap (count_by (λ (p : Pair). not p.copy)) same_pairs;

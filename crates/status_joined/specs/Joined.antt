@@ -46,7 +46,7 @@ module _ {T U : Type 0} (ids : Identifying) (kind : HashKind) (means : List Chan
     pub items : List (Item T U)
     pub identified : HaveTheirIds list items
     pub pairs : List Pair
-    pub meant : means (map changed_of items) track_empty (Ok pairs)
+    pub specified : means (map changed_of items) track_empty (Ok pairs)
     pub lawful : AreLawful is_removed is_walked items pairs
     pub rewritten : IsRewritten (λ x y. y ≡ x) items pairs entries
     pub renames : o.renames ≡ count_by (λ p. not p.copy) pairs

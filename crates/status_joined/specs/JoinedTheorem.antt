@@ -10,7 +10,7 @@ use Rattle.status_call.specs.StatusTheorem.{IsBeginning}
 use Rattle.status_call.specs.declared.index_as_worktree.types.Outcome.{Outcome as StatusOutcome}
 use Rattle.status_joined.specs.declared.index_as_worktree_with_renames.inputs.Inputs.{Inputs}
 use Rattle.status_joined.specs.declared.index_as_worktree_with_renames.types.Context.{Context}
-use Rattle.status_joined.specs.Given.{given}
+use Rattle.status_joined.specs.Inputs.{inputs_of}
 use Rattle.status_joined.specs.JoinedQuery.{JoinedQuery}
 use Rattle.status_joined.specs.Walkings.{Walking, wanted_walk}
 use Rattle.status_rewrites.specs.TrackedChanges.{Changed}
@@ -80,4 +80,4 @@ IsMetBy q options index may_fail old result new =
 -- The joined theorem. This is the clause of the call, by its arguments and by the specification of its collector.
 abbrev pub IsJoined : {W C S O P L K X A T U V : Type 0} → (Inputs W C S O P A L K X → JoinedQuery T U) → Bor W → C → S → O → Context P A L K X → Options → State → Bool → (V → List (Reported T U)) → V → Result Outcome Error → V → Type 0
 IsJoined query worktree compare submodule objects context options index may_fail visits old result new =
-    IsMetBy (query (given worktree compare submodule objects context)) options index may_fail (visits old) result (visits new)
+    IsMetBy (query (inputs_of worktree compare submodule objects context)) options index may_fail (visits old) result (visits new)

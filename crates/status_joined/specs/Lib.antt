@@ -6,7 +6,7 @@ pub mod DefaultOptions
 pub mod Entries
 pub mod Errors
 pub mod Feeding
-pub mod Given
+pub mod Inputs
 pub mod Items
 pub mod Joined
 pub mod JoinedQuery

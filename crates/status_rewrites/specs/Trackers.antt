@@ -11,8 +11,8 @@ pub data TrackerFault : Type 0 where
   refused : ℕ → TrackerFault
 
 -- A result that the specification allows, or out of memory.
-abbrev pub IsMeantAnswer : (Result (List Pair) TrackerFault → Type 0) → Result (Vec Pair) TrackerError → Type 0
-IsMeantAnswer meant (Ok pairs) = meant (Ok pairs.items)
-IsMeantAnswer meant (Err (BadPair at)) = meant (Err (bad_pair at))
-IsMeantAnswer meant (Err (Refused code)) = meant (Err (refused code))
-IsMeantAnswer meant (Err Memory) = ⊤
+abbrev pub IsSpecifiedAnswer : (Result (List Pair) TrackerFault → Type 0) → Result (Vec Pair) TrackerError → Type 0
+IsSpecifiedAnswer specified (Ok pairs) = specified (Ok pairs.items)
+IsSpecifiedAnswer specified (Err (BadPair at)) = specified (Err (bad_pair at))
+IsSpecifiedAnswer specified (Err (Refused code)) = specified (Err (refused code))
+IsSpecifiedAnswer specified (Err Memory) = ⊤

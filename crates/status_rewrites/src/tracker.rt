@@ -3,7 +3,7 @@
 ghost use Rattle.std.specs.Prelude.{◌≡◌, Bool, List, Result, map};
 ghost use Rattle.status_rewrites.specs.declared.tracker.TrackerError.TheVariants.{Memory};
 ghost use Rattle.status_rewrites.specs.TrackedChanges.{Changed};
-ghost use Rattle.status_rewrites.specs.Trackers.{TrackerFault, IsMeantAnswer};
+ghost use Rattle.status_rewrites.specs.Trackers.{TrackerFault, IsSpecifiedAnswer};
 ghost use Rattle.status_rewrites.specs.declared.tracker.Pair.{Pair as PairValue};
 
 use crate::change::Change;
@@ -75,5 +75,5 @@ pub trait Tracker {
         items: &[C],
         rewrites: Rewrites,
     ) -> Result<Vec<Pair>, TrackerError>
-        ensures { IsMeantAnswer (means self.old (map C.changed items.now) rewrites.track_empty) result };
+        ensures { IsSpecifiedAnswer (means self.old (map C.changed items.now) rewrites.track_empty) result };
 }

@@ -26,13 +26,13 @@ error_of_field fields.Memory = Memory
 -- An index is stated, and its entries are invalid for this reason. Out of memory isn't such a reason.
 abbrev pub IsRefusedIndex : Option (List IndexEntry × Moment) → IndexError → Type 0
 IsRefusedIndex None e = ⊥
-IsRefusedIndex (Some meant) refusals.Memory = ⊥
-IsRefusedIndex (Some meant) e = IsRefusal meant.0 e × (IsIndex meant.0 → ⊥)
+IsRefusedIndex (Some specified) refusals.Memory = ⊥
+IsRefusedIndex (Some specified) e = IsRefusal specified.0 e × (IsIndex specified.0 → ⊥)
 
 -- Loading returns the stated index, why its entries are invalid, or that none is stated.
 -- It may also return that it is out of memory, of which no more is claimed.
 abbrev pub IsLoaded : Option (List IndexEntry × Moment) → Result State LoadError → Type 0
-IsLoaded meant (Ok s) = meant ≡ Some (index_of s, timestamp_of s)
-IsLoaded meant (Err Form) = meant ≡ None
-IsLoaded meant (Err (Index e)) = IsRefusedIndex meant e
-IsLoaded meant (Err Memory) = ⊤
+IsLoaded specified (Ok s) = specified ≡ Some (index_of s, timestamp_of s)
+IsLoaded specified (Err Form) = specified ≡ None
+IsLoaded specified (Err (Index e)) = IsRefusedIndex specified e
+IsLoaded specified (Err Memory) = ⊤

@@ -22,9 +22,9 @@ None >>= f = None
 
 -- A result of reading: a value that shows the stated one, or Form if none is stated, or out of memory.
 abbrev pub Reads : {A B : Type 0} → (A → B) → Result A FieldError → Option B → Type 0
-Reads shown (Ok x) meant = meant ≡ Some (shown x)
-Reads shown (Err Form) meant = meant ≡ None
-Reads shown (Err Memory) meant = ⊤
+Reads shown (Ok x) specified = specified ≡ Some (shown x)
+Reads shown (Err Form) specified = specified ≡ None
+Reads shown (Err Memory) specified = ⊤
 
 -- A whole number below 2^32, without a point, an exponent and a sign.
 abbrev pub number_in : Data → Option ℕ
@@ -93,24 +93,24 @@ or_default read default None = Some default
 or_default read default (Some d) = read d
 
 -- The value of a key, or the default if the key is missing.
-abbrev pub given : {A : Type 0} → List ℕ → (Data → Option A) → A → Data → Option A
-given key read default d = or_default read default (get key d)
+abbrev pub optional : {A : Type 0} → List ℕ → (Data → Option A) → A → Data → Option A
+optional key read default d = or_default read default (get key d)
 
 -- The entry of an object. Other keys are ignored.
 unfoldable pub entry_in : Data → Option IndexEntry
 entry_in d = do
   path ← needed (codes "path") as_str d
   id ← needed (codes "id") id_in d
-  stage ← given (codes "stage") stage_in 0 d
-  bits ← given (codes "flags") (flags_in (bits_of_stage stage)) (bits_of_stage stage) d
-  mode ← given (codes "mode") mode_in modes.File d
-  size ← given (codes "size") number_in 0 d
-  mtime ← given (codes "mtime") time_in first_time d
-  ctime ← given (codes "ctime") time_in mtime d
-  dev ← given (codes "dev") number_in 0 d
-  ino ← given (codes "ino") number_in 0 d
-  uid ← given (codes "uid") number_in 0 d
-  gid ← given (codes "gid") number_in 0 d
+  stage ← optional (codes "stage") stage_in 0 d
+  bits ← optional (codes "flags") (flags_in (bits_of_stage stage)) (bits_of_stage stage) d
+  mode ← optional (codes "mode") mode_in modes.File d
+  size ← optional (codes "size") number_in 0 d
+  mtime ← optional (codes "mtime") time_in first_time d
+  ctime ← optional (codes "ctime") time_in mtime d
+  dev ← optional (codes "dev") number_in 0 d
+  ino ← optional (codes "ino") number_in 0 d
+  uid ← optional (codes "uid") number_in 0 d
+  gid ← optional (codes "gid") number_in 0 d
   Some (record {
     path = path;
     stat = record { mtime = mtime; ctime = ctime; dev = dev; ino = ino; uid = uid; gid = gid; size = size };

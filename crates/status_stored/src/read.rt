@@ -7,7 +7,7 @@ ghost use Rattle.serde_json.specs.Find.{as_str};
 ghost use Rattle.serde_json.specs.View.{view};
 ghost use Rattle.status_index.specs.declared.mode.Mode.TheVariants.{File};
 ghost use Rattle.status_stored.specs.Reading.{Reads, number_in, time_in, moment_in, stage_in};
-ghost use Rattle.status_stored.specs.Reading.{flags_in, mode_in, id_in, needed, given};
+ghost use Rattle.status_stored.specs.Reading.{flags_in, mode_in, id_in, needed, optional};
 
 use crate::error::FieldError;
 use crate::words::{flag_of_word, id_of_word, mode_of_word};
@@ -32,7 +32,7 @@ fn number_of(value: &Value) -> Result<u32, FieldError>
 
 /// Reads the number at a key. It is 0 if the key is missing.
 pub fn number_at(value: &Value, key: &str) -> Result<u32, FieldError>
-    ensures { Reads (λ n. n) result (given key.now number_in 0 (view value.now)) }
+    ensures { Reads (λ n. n) result (optional key.now number_in 0 (view value.now)) }
 {
     match value.get(key) {
         Some(number) => number_of(number),
@@ -59,7 +59,7 @@ fn time_of(value: &Value) -> Result<Time, FieldError>
 
 /// Reads the time at a key. It is `default` if the key is missing.
 pub fn time_at(value: &Value, key: &str, default: Time) -> Result<Time, FieldError>
-    ensures { Reads (λ t. t) result (given key.now time_in default (view value.now)) }
+    ensures { Reads (λ t. t) result (optional key.now time_in default (view value.now)) }
 {
     match value.get(key) {
         Some(time) => time_of(time),
@@ -80,7 +80,7 @@ pub fn moment_at(value: &Value, key: &str) -> Result<Moment, FieldError>
 
 /// Reads the stage of an entry, 0 to 3. It is 0 if the key is missing.
 pub fn stage_at(entry: &Value) -> Result<u32, FieldError>
-    ensures { Reads (λ n. n) result (given (codes "stage") stage_in 0 (view entry.now)) }
+    ensures { Reads (λ n. n) result (optional (codes "stage") stage_in 0 (view entry.now)) }
 {
     match entry.get("stage") {
         Some(stage) => match number_of(stage)? {
@@ -113,7 +113,7 @@ fn flags_of(value: &Value, start: Flags) -> Result<Flags, FieldError>
 
 /// Reads the flags of an entry at this stage. They are those of the stage alone if the key is missing.
 pub fn flags_at(entry: &Value, stage: Flags) -> Result<Flags, FieldError>
-    ensures { Reads (λ f. f.0) result (given (codes "flags") (flags_in stage.0) stage.0 (view entry.now)) }
+    ensures { Reads (λ f. f.0) result (optional (codes "flags") (flags_in stage.0) stage.0 (view entry.now)) }
 {
     match entry.get("flags") {
         Some(words) => flags_of(words, stage),
@@ -123,7 +123,7 @@ pub fn flags_at(entry: &Value, stage: Flags) -> Result<Flags, FieldError>
 
 /// Reads the mode of an entry. It is a file's if the key is missing.
 pub fn mode_at(entry: &Value) -> Result<Mode, FieldError>
-    ensures { Reads (λ m. m) result (given (codes "mode") mode_in File (view entry.now)) }
+    ensures { Reads (λ m. m) result (optional (codes "mode") mode_in File (view entry.now)) }
 {
     let Some(value) = entry.get("mode") else {
         return Ok(Mode::File);

@@ -27,7 +27,7 @@ pub record DelegateState : Type 0 where
 
 -- The nodes that a delegate has kept after at most one more node is passed to it.
 abbrev pub kept_more : DelegateState → Option Walked → List Walked
-kept_more d handed = d.kept ++ filter d.keeps (option_to_list handed)
+kept_more d passed = d.kept ++ filter d.keeps (option_to_list passed)
 
 abbrev pub is_cancel : Action → Bool
 is_cancel Continue = false

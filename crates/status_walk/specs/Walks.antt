@@ -28,8 +28,8 @@ pub record IsWalked (m : WalkMeaning) (keeps : Walked → Bool) (old new : List 
 
 -- A walk fails with the specified fault, at its path; or memory ran out.
 abbrev pub IsWalkFault : Option WalkFault → WalkError → Type 0
-IsWalkFault meant (Fault path fault) = meant ≡ Some (record { path = bstring_bytes path; fault = fault })
-IsWalkFault meant Memory = ⊤
+IsWalkFault specified (Fault path fault) = specified ≡ Some (record { path = bstring_bytes path; fault = fault })
+IsWalkFault specified Memory = ⊤
 
 -- A walk passes its nodes, up to its fault, to a delegate, which may keep them and end it. So it ends or fails by its
 -- specification and its delegate's.

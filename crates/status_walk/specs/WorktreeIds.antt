@@ -64,9 +64,9 @@ fault_of (Convert f) = f
 
 -- The specified id or error, or out of memory.
 abbrev pub IsId : Result ObjectId IdError → Result ObjectId IdError → Type 0
-IsId meant (Ok id) = meant ≡ Ok id
-IsId meant (Err e) = (meant ≡ Err e) ⊎ (fault_of e ≡ Memory)
+IsId specified (Ok id) = specified ≡ Ok id
+IsId specified (Err e) = (specified ≡ Err e) ⊎ (fault_of e ≡ Memory)
 
 -- The specified id of an open file, by the content that it has left, if the worktree is modelled.
 abbrev pub IsIdOfFile : Bool → Option Content → (Content → Result ObjectId IdError) → Result ObjectId IdError → Type 0
-IsIdOfFile modelled left meant result = (content : Content) → left ≡ Some content → IsTrue modelled → IsId (meant content) result
+IsIdOfFile modelled left specified result = (content : Content) → left ≡ Some content → IsTrue modelled → IsId (specified content) result

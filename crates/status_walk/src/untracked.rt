@@ -78,7 +78,7 @@ fn hand_out<P: Pathspec, D: Delegate>(
 ) -> Result<Option<Action>, AllocError>
     requires { (D.state delegate.old).cancelled ≡ false }
     ensures keeps { (D.state delegate.new).keeps ≡ (D.state delegate.old).keeps }
-    ensures handed { IfOk result (λ action. is_some action
+    ensures passed { IfOk result (λ action. is_some action
         ≡ is_some (untracked_at (index_of index.now) (P.included pathspec.now) (bstr_bytes path.entry) kind)) }
     ensures kept { OnOk result ((D.state delegate.new).kept ≡ kept_more (D.state delegate.old)
         (untracked_at (index_of index.now) (P.included pathspec.now) (bstr_bytes path.entry) kind)) }

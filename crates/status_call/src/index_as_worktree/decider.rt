@@ -5,7 +5,7 @@ ghost use Rattle.std.proofs.Props.{props};
 ghost use Rattle.bstr.specs.BStr.{bstr_bytes};
 ghost use Rattle.status_base.specs.CheckState.{IsClear};
 ghost use Rattle.status_index.specs.Entries.{entry_at};
-ghost use Rattle.status_compare.specs.Reading.{IsMeant};
+ghost use Rattle.status_compare.specs.Reading.{IsSpecified};
 ghost use Rattle.status_call.specs.LookUps.{Keeps};
 ghost use Rattle.status_call.specs.Status.{answer, in_submodule};
 
@@ -255,7 +255,7 @@ fn submodule_status<T, S: SubmoduleStatus>(
 ) -> Result<Option<EntryStatus<T, S::Output>>, Error>
     ensures answer { let e = entry_at (bstr_bytes path.entry) entry.now in
         IsTrue (S.modelled submodule.old)
-        → IsMeant (answer {T = T} e.path (in_submodule (S.meaning submodule.old e))) result }
+        → IsSpecified (answer {T = T} e.path (in_submodule (S.meaning submodule.old e))) result }
     ensures same { S.meaning submodule.new ≡ S.meaning submodule.old }
     ensures modelled { S.modelled submodule.new ≡ S.modelled submodule.old }
 {

@@ -1,7 +1,7 @@
 //! The status of an index against a worktree.
 
 ghost use Rattle.std.specs.Prelude.{◌≡◌, None, IfOk, false};
-ghost use Rattle.status_call.specs.Inputs.{given};
+ghost use Rattle.status_call.specs.Inputs.{inputs_of};
 ghost use Rattle.status_call.specs.StatusOf.{IsAlone, IsStatus};
 
 use crate::index_as_worktree::decider::Decider;
@@ -62,12 +62,12 @@ where
     C::Output: Send,
     S::Output: Send,
     ensures all { IsStatus ⟦<Inputs<'w, W, C, S, O, P, T, L> as Ask>⟧.query
-        (given worktree.entry compare submodule objects context.entry)
+        (inputs_of worktree.entry compare submodule objects context.entry)
         options index.now V.visits collector.old result collector.new }
     ensures uninterrupted { context.entry.should_interrupt ≡ None
         → IfOk result (λ o. o.interrupted ≡ false) }
     ensures alone { IsAlone ⟦<Inputs<'w, W, C, S, O, P, T, L> as Ask>⟧.query
-        (given worktree.entry compare submodule objects context.entry) options index.now result }
+        (inputs_of worktree.entry compare submodule objects context.entry) options index.now result }
 {
     let Context {
         pathspec,

@@ -3,17 +3,17 @@ use Rattle.bstr.specs.BStr.{bstr_bytes}
 use Rattle.status_base.specs.ListedNodes.{known_node}
 use Rattle.status_compare.specs.EntryMeaning.{entry_meaning}
 use Rattle.status_call.specs.Modelled.{all_modelled, are_modelled}
-use Rattle.status_call.proofs.EntryCases.{all_meant}
+use Rattle.status_call.proofs.EntryCases.{all_specified}
 use Rattle.status_call.proofs.index_as_worktree.content.compare_node.Goals as goal
 
 pub returns-in_err-change-clause-compared : goal.returns-in_err-change-clause-compared
 returns-in_err-change-clause-compared g c = λ modelled.
     let i = c.args.inputs.now in
     let path = bstr_bytes c.new-path.result in
-    let meant = entry_meaning c.reads_link-is_link.result (λ x. g.T.ToGit.conversion i.filter x path) c.args.node.now.len
+    let specified = entry_meaning c.reads_link-is_link.result (λ x. g.T.ToGit.conversion i.filter x path) c.args.node.now.len
     (g.W.Worktree.open_of i.worktree.now path) (g.W.Worktree.target_of i.worktree.now path) (g.O.Find.found i.objects c.args.entry.now.id) in
-    let some = all_meant (g.W.Worktree.modelled i.worktree.now) (g.O.Find.modelled i.objects) (g.S.SubmoduleStatus.modelled i.submodule)
-    (are_modelled c.args.settings.fscache (g.L.Lister.modelled i.lister)) meant modelled in
+    let some = all_specified (g.W.Worktree.modelled i.worktree.now) (g.O.Find.modelled i.objects) (g.S.SubmoduleStatus.modelled i.submodule)
+    (are_modelled c.args.settings.fscache (g.L.Lister.modelled i.lister)) specified modelled in
     let answer = rw (c.new-reader.ensures, some) at (c.in_err-change.ensures.answer c.args.path.now) in
     search rules
 
@@ -44,10 +44,10 @@ pub returns-clause-compared : goal.returns-clause-compared
 returns-clause-compared g c = λ modelled.
     let i = c.args.inputs.now in
     let path = bstr_bytes c.new-path.result in
-    let meant = entry_meaning c.reads_link-is_link.result (λ x. g.T.ToGit.conversion i.filter x path) c.args.node.now.len
+    let specified = entry_meaning c.reads_link-is_link.result (λ x. g.T.ToGit.conversion i.filter x path) c.args.node.now.len
     (g.W.Worktree.open_of i.worktree.now path) (g.W.Worktree.target_of i.worktree.now path) (g.O.Find.found i.objects c.args.entry.now.id) in
-    let some = all_meant (g.W.Worktree.modelled i.worktree.now) (g.O.Find.modelled i.objects) (g.S.SubmoduleStatus.modelled i.submodule)
-    (are_modelled c.args.settings.fscache (g.L.Lister.modelled i.lister)) meant modelled in
+    let some = all_specified (g.W.Worktree.modelled i.worktree.now) (g.O.Find.modelled i.objects) (g.S.SubmoduleStatus.modelled i.submodule)
+    (are_modelled c.args.settings.fscache (g.L.Lister.modelled i.lister)) specified modelled in
     let answer = rw (c.new-reader.ensures, some) at (c.in_ok-change.ensures.answer c.args.path.now) in
     let counts = rw (c.new-reader.ensures, some) at (c.in_ok-change.ensures.counts c.args.path.now) in
     search rules

@@ -2,7 +2,7 @@ use Rattle.std.proofs.Common.{refl, sym, ap, ◌∙◌, Some, is_some, arith}
 use Rattle.std.proofs.lemmas.Bool.{true≢false}
 use Rattle.status_index.specs.States.{index_of}
 use Rattle.status_walk.specs.WalkedNodes.{is_cancelling}
-use Rattle.status_walk.proofs.Walking.{begins, passed_over, handed, at_end}
+use Rattle.status_walk.proofs.Walking.{begins, passed_over, passed, at_end}
 use Rattle.status_walk.proofs.untracked.UntrackedWalkWalkMemoryWorktree.walk.Goals as goal
 
 pub loop-path-init : goal.loop-path-init
@@ -27,7 +27,7 @@ loop-path-preserved-in-None-2 g c =
     record {
       keeps = answer.keeps;
       going = answer.cancelled ∙ ap is_cancelling c.in-None-2.is;
-      way = passed_over _ _ _ _ _ _ _ _ _ _ way answer.kept (sym answer.handed ∙ ap is_some c.in-None-2.is);
+      way = passed_over _ _ _ _ _ _ _ _ _ _ way answer.kept (sym answer.passed ∙ ap is_some c.in-None-2.is);
     }
 
 pub overflow_add-emitted : goal.overflow_add-emitted
@@ -42,7 +42,7 @@ loop-path-preserved g c =
     record {
       keeps = answer.keeps;
       going = answer.cancelled ∙ ap is_cancelling some;
-      way = handed _ _ _ _ _ _ _ _ _ _ way answer.kept (sym answer.handed ∙ ap is_some some);
+      way = passed _ _ _ _ _ _ _ _ _ _ way answer.kept (sym answer.passed ∙ ap is_some some);
     }
 
 pub overflow_add-result : goal.overflow_add-result
@@ -54,7 +54,7 @@ returns-in-Some-Cancel g c =
     let way = rw c.in-Some.ensures.steps at u.way in
     let answer = rw (c.new-path.ensures, c.as_slice.ensures.value, u.keeps) at c.in_ok-hand_out.ensures in
     let some = c.in-Some-Cancel.is ∙ ap Some c.in-Some-Cancel.field-0-is in
-    let after = handed _ _ _ _ _ _ _ _ _ _ way answer.kept (sym answer.handed ∙ ap is_some some) in
+    let after = passed _ _ _ _ _ _ _ _ _ _ way answer.kept (sym answer.passed ∙ ap is_some some) in
     record {
       ended = sym (answer.cancelled ∙ ap is_cancelling some);
       inside = after.inside;

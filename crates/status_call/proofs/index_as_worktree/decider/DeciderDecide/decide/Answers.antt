@@ -72,9 +72,9 @@ returns-in_err-decided-in-Node-clause-answer g c =
     let decided = rw (c.look.ensures.inputs, c.look.ensures.settings) at c.in_err-decided-in-Node.ensures.decided in
     λ modelled.
     let presence = presence_node (found q e) (calls_lstat q e) look n c.in-Node.is (c.in_ok-presence.ensures.look modelled) in
-    let meant = is_decided q e (present n) (calls_lstat q e) (counted_of q e n) (Err c.in_err-decided-in-Node.field-0.0) presence.0 refl (λ counts. reported_counts (counted_of q e n) (counts e n)) (decided modelled) in
+    let specified = is_decided q e (present n) (calls_lstat q e) (counted_of q e n) (Err c.in_err-decided-in-Node.field-0.0) presence.0 refl (λ counts. reported_counts (counted_of q e n) (counts e n)) (decided modelled) in
     let p = err_from_is_err_and c.from_residual-in_err-decided-in-Node.result c.from_residual-in_err-decided-in-Node.ensures.1 in
-    rw (p.1, p.2) meant
+    rw (p.1, p.2) specified
 
 pub returns-in_err-decided-in-Node-clause-same : goal.returns-in_err-decided-in-Node-clause-same
 returns-in_err-decided-in-Node-clause-same g c = rw (c.look.ensures.inputs, c.look.ensures.settings) at c.decide_node.ensures.same

@@ -3,8 +3,8 @@ use Rattle.std.specs.Borrow.{Bor}
 use Rattle.status_joined.specs.declared.index_as_worktree_with_renames.inputs.Inputs.{Inputs}
 use Rattle.status_joined.specs.declared.index_as_worktree_with_renames.types.Context.{Context}
 
-abbrev pub given : {W C S O P T L K X : Type 0} → Bor W → C → S → O → Context P T L K X → Inputs W C S O P T L K X
-given worktree compare submodule objects context = record {
+abbrev pub inputs_of : {W C S O P T L K X : Type 0} → Bor W → C → S → O → Context P T L K X → Inputs W C S O P T L K X
+inputs_of worktree compare submodule objects context = record {
   status = record {
     worktree = worktree;
     compare = compare;
