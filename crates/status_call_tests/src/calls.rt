@@ -1,4 +1,4 @@
-//! How often `lstat` is called on a file, and it is opened and read.
+//! How often a status calls `lstat` on a file, opens it and reads it.
 
 ghost use Rattle.std.specs.Prelude.{false, Err};
 ghost use Rattle.status_index.specs.declared.fault.Fault.TheVariants.{NotFound};
@@ -16,7 +16,7 @@ use std::sync::atomic::{AtomicUsize, Ordering};
 use std::test::Fail;
 use std::thread::Threads;
 
-/// Bytes, and then the end or a fault. How often it is read is counted.
+/// A file that returns its bytes, and then its end or a fault. It counts its reads.
 #[derive(Clone, Copy)]
 struct Piece<'a> {
     bytes: &'a [u8],
@@ -38,7 +38,8 @@ impl<'a> ReadBytes for Piece<'a> {
     }
 }
 
-/// The same file at each path, written after the entries were staged, with a length by `lstat`. It isn't modelled.
+/// A worktree with the same file at each path, written after the entries were staged. `lstat` reports the length `len`.
+/// It isn't modelled.
 #[derive(Clone, Copy)]
 struct Everywhere<'a> {
     file: Piece<'a>,
@@ -83,7 +84,7 @@ impl<'a> Worktree for Everywhere<'a> {
 /// How a status of the file `a` ends.
 #[derive(Clone, Copy)]
 enum End {
-    /// It reports another content after reading so many bytes.
+    /// It reports this content after reading so many bytes.
     Changed(Content, u64),
     Fails(Fault),
 }
@@ -98,8 +99,8 @@ fn is_ended(report: &StatusReport<'_, ObjectId, ()>, end: End) -> bool {
     }
 }
 
-/// How often a status of `a` calls `lstat` on the file, opens it and reads it, if it ends so. The file has these bytes and
-/// then a fault, if any, and its length is `len`.
+/// Returns how often a status of `a` calls `lstat` on the file, opens it and reads it. None if the status doesn't end
+/// so. The file has these bytes and then a fault, if any, and `lstat` reports the length `len`.
 fn calls<R: AllocGlobal + Threads + Wait>(
     rt: &R,
     bytes: &[u8],
@@ -130,7 +131,7 @@ fn calls<R: AllocGlobal + Threads + Wait>(
     Ok(is_ended(&report, end).then_some(calls))
 }
 
-// One read gives bytes, and one fails.
+// One read returns bytes, and one fails.
 #[test]
 fn a_read_that_fails_is_not_tried_again(rt: HostRuntime) -> Result<(), Fail> {
     let fault = Fault::Interrupted;
@@ -139,7 +140,7 @@ fn a_read_that_fails_is_not_tried_again(rt: HostRuntime) -> Result<(), Fail> {
     Ok(())
 }
 
-// Four reads of 64 KiB give the bytes, and one more may meet the end.
+// Four reads of 64 KiB return the bytes, and a fifth may find the end.
 #[test]
 fn a_long_file_is_opened_once_and_read_in_large_pieces(rt: HostRuntime) -> Result<(), Fail> {
     let content = Vec::from_elem(rt.alloc(), b'x', 200_000)?;

@@ -1,4 +1,4 @@
-//! Statuses by sizes, and by comparers of a caller's own.
+//! Statuses by sizes, and by comparers that a caller writes.
 
 ghost use Rattle.std.specs.Prelude.{Ok, None, refl};
 
@@ -22,7 +22,7 @@ use std::sync::atomic::{AtomicUsize, Ordering};
 use std::test::Fail;
 use std::thread::Threads;
 
-/// The status by a comparer, with these blobs.
+/// Calls the status with a comparer and these blobs.
 fn status_by<'index, R: AllocGlobal + Threads + Wait, C: CompareBlobs + Send>(
     rt: &R,
     index: &'index State,
@@ -37,7 +37,8 @@ where
     status_of(rt, index, worktree, compare, request, None)
 }
 
-/// Whether there is one record, of the first entry, `a`, which has this other content, or where that is None no record.
+/// Returns whether the only record is of the first entry, `a`, with this other content. Without a content there must be
+/// no record.
 fn is_change<T: PartialEq, U>(records: &[Record<'_, T, U>], content: &Option<T>) -> bool {
     match (records.first(), content) {
         (Some(record), Some(content)) => {
@@ -48,8 +49,8 @@ fn is_change<T: PartialEq, U>(records: &[Record<'_, T, U>], content: &Option<T>)
     }
 }
 
-/// Whether a status of `a` reports this other content, if any, and succeeds with an outcome or fails by a fault. Opening the
-/// file fails by `opening`, if that is a fault.
+/// Returns whether a status of `a` reports this other content, if any, and ends with this outcome or fault. If
+/// `opening` is a fault, opening the file fails by it.
 fn is_compared<R: AllocGlobal + Threads + Wait, C: CompareBlobs + Send>(
     rt: &R,
     file: GivenNode<'_>,
@@ -75,7 +76,8 @@ where
     Ok(is_ended && is_change(&report.records, &content))
 }
 
-// The entry has the low half of the file's length, so that alone doesn't settle it.
+// The entry's size is the low half of the file's length. So the lengths alone don't show a change, and the file is
+// read.
 #[test]
 fn sizes_are_compared_by_their_low_32_bits(rt: HostRuntime) -> Result<(), Fail> {
     let (path, kind, bytes, _len, mtime) = later_file("a", b"foo");
@@ -95,7 +97,7 @@ fn a_file_whose_size_decides_is_not_opened(rt: HostRuntime) -> Result<(), Fail> 
     Ok(())
 }
 
-// The blob is there.
+// The object database has the blob.
 #[test]
 fn a_comparer_may_read_the_blob(rt: HostRuntime) -> Result<(), Fail> {
     let file = later_file("a", b"bars");
@@ -110,7 +112,7 @@ fn a_comparer_may_read_the_blob(rt: HostRuntime) -> Result<(), Fail> {
     Ok(())
 }
 
-/// Whether the only record is of the first entry, `a`, which is gone.
+/// Returns whether the only record is of the first entry, `a`, which is gone.
 fn is_one_removal<T, U>(records: &[Record<'_, T, U>]) -> bool {
     match records.first() {
         Some(record) => {
@@ -120,7 +122,7 @@ fn is_one_removal<T, U>(records: &[Record<'_, T, U>]) -> bool {
     }
 }
 
-// The blob isn't there.
+// The object database doesn't have the blob.
 #[test]
 fn the_records_before_a_missing_blob_are_reported(rt: HostRuntime) -> Result<(), Fail> {
     let index = index(
@@ -135,13 +137,14 @@ fn the_records_before_a_missing_blob_are_reported(rt: HostRuntime) -> Result<(),
     Ok(())
 }
 
-/// Reads files and targets in pieces of three bytes, and counts the entries whose id they have. It reports no change.
+/// Reads files and link targets in pieces of three bytes, and counts the entries whose id these bytes have. It reports
+/// no change.
 #[derive(Clone, Copy)]
 struct SmallReads<'a> {
     alike: &'a AtomicUsize,
 }
 
-/// What a stream delivers up to its end or a fault, in no more than a hundred pieces.
+/// Returns the bytes of a stream up to its end or a fault, from at most a hundred reads.
 fn read_small<F: ReadBytes>(
     alloc: Global,
     stream: &mut Stream<'_, F>,

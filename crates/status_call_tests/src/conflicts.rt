@@ -1,4 +1,4 @@
-//! Which entries make a conflict, also if they aren't an index, and where a piece with one ends.
+//! Which entries make a conflict, also in lists that aren't a valid index, and where a piece with a conflict ends.
 
 use crate::contents::Content;
 use crate::entries::{GivenEntry, index};
@@ -16,10 +16,10 @@ use std::thread::Threads;
 /// A conflict, how many entries follow its first, and the modes of stage 1, 2 and 3.
 type Found = (Conflict, usize, Option<Mode>, Option<Mode>, Option<Mode>);
 
-/// A worked row, the entries of an index, and the conflict of `f` at the first.
+/// The name of a row, the entries of an index, and the conflict of `f` at the first.
 type Row = (&'static str, &'static [GivenEntry<'static>], Found);
 
-/// The stages of `f`, each with a mode and a content of its own.
+/// The stages of `f`, each with its own mode and content.
 const SIDES: [GivenEntry<'static>; 3] = [
     ("f", 1, Mode::File, Content::Foo),
     ("f", 2, Mode::FileExecutable, Content::Bar),
@@ -94,14 +94,14 @@ fn stages_name_the_conflict(rt: HostRuntime) -> Result<(), Fail> {
     Ok(())
 }
 
-/// A copy of an entry, with another mode.
+/// Returns a copy of an entry, with another mode.
 fn with_mode(entry: &Entry, mode: Mode) -> Result<Entry, AllocError> {
     let mut copy = entry.clone()?;
     copy.mode = mode;
     Ok(copy)
 }
 
-/// Each entry of an index twice, the second time as an executable file.
+/// Returns each entry of an index twice, the second time as an executable file.
 fn doubled(alloc: Global, index: &State) -> Result<Vec<Entry>, AllocError> {
     let mut entries = Vec::new(alloc);
     for entry in index.entries() {
@@ -111,7 +111,7 @@ fn doubled(alloc: Global, index: &State) -> Result<Vec<Entry>, AllocError> {
     Ok(entries)
 }
 
-// Of two entries of a stage the last counts.
+// If a stage has two entries, the last counts.
 #[test]
 fn the_last_of_a_stage_is_kept_among_three_entries(rt: HostRuntime) -> Result<(), Fail> {
     let stages = [
@@ -126,7 +126,7 @@ fn the_last_of_a_stage_is_kept_among_three_entries(rt: HostRuntime) -> Result<()
     Ok(())
 }
 
-// Four places that are no place of an entry.
+// No entry is at these four positions.
 #[test]
 fn nothing_is_found_past_the_end(rt: HostRuntime) -> Result<(), Fail> {
     let index = index(rt.alloc(), &SIDES)?;
@@ -137,7 +137,7 @@ fn nothing_is_found_past_the_end(rt: HostRuntime) -> Result<(), Fail> {
     Ok(())
 }
 
-/// What a conflict keeps of an entry.
+/// Returns what a conflict keeps of an entry.
 fn kept(entry: GivenEntry<'_>) -> Option<ConflictIndexEntry> {
     let (_path, stage, mode, content) = entry;
     Some(ConflictIndexEntry {
@@ -147,7 +147,7 @@ fn kept(entry: GivenEntry<'_>) -> Option<ConflictIndexEntry> {
     })
 }
 
-/// Whether the only record is of the first entry, `f`, with this conflict of all its stages.
+/// Returns whether the only record is of the first entry, `f`, with this conflict of all its stages.
 fn is_kept(records: &[Record<'_, ObjectId, ()>], wanted: &EntryStatus<ObjectId, ()>) -> bool {
     match records.first() {
         Some(record) => records.len() == 1 && is_at(record, 0, "f") && record.status == *wanted,
@@ -155,7 +155,7 @@ fn is_kept(records: &[Record<'_, ObjectId, ()>], wanted: &EntryStatus<ObjectId, 
     }
 }
 
-/// Whether a status reports all that a conflict keeps of each side.
+/// Returns whether a status reports the id, the flags and the mode of each side of a conflict.
 fn is_each_side_kept<R: AllocGlobal + Threads + Wait>(rt: &R) -> Result<bool, Fail> {
     let index = index(rt.alloc(), &SIDES)?;
     let worktree = worktree(rt.alloc(), &[])?;
@@ -173,7 +173,8 @@ fn each_side_of_a_conflict_has_its_place(rt: HostRuntime) -> Result<(), Fail> {
     Ok(())
 }
 
-/// A worked row, the entries of an index, where a piece begins, how many entries it should have, and where it ends.
+/// The name of a row, the entries of an index, where a piece begins, how many entries it should have, and where it
+/// ends.
 type PieceRow = (
     &'static str,
     &'static [GivenEntry<'static>],
@@ -222,7 +223,7 @@ const PIECES: [PieceRow; 3] = [
     ),
 ];
 
-/// Where the piece of so many entries ends that begins at a place. None if no entry is there.
+/// Returns where a piece of `chunk` entries ends that begins at `from`. None if no entry is there.
 fn end_at(index: &State, from: usize, chunk: usize) -> Option<usize> {
     let entries = index.entries();
     if from < entries.len() {

@@ -1,4 +1,4 @@
-//! Contents of files, with their ids by git.
+//! Contents of files, with the ids that git computes.
 
 use gix_status::index::ObjectId;
 

@@ -1,4 +1,4 @@
-//! Copies of what a status is computed by, and of what it reports.
+//! Copies of a status's arguments, and of its records and outcome.
 
 use crate::contents::Content;
 use crate::entries::{GivenEntry, index};
@@ -19,13 +19,13 @@ const STAGES: [GivenEntry<'static>; 2] = [
     ("f", 3, Mode::File, Content::Foo),
 ];
 
-/// Whether a copy of a record is of the first entry, `f`, and has its status.
+/// Returns whether a copy of a record is of the first entry, `f`, and has its status.
 fn is_record_copied(record: &Record<'_, ObjectId, ()>) -> Result<bool, AllocError> {
     let copy = record.clone()?;
     Ok(is_at(&copy, 0, "f") && copy.status == record.status)
 }
 
-/// Whether a status succeeded with one record, and copies of that and of the outcome equal what was copied.
+/// Returns whether a status succeeded with one record, and copies of the record and the outcome equal them.
 fn is_report_copied(report: &StatusReport<'_, ObjectId, ()>) -> Result<bool, AllocError> {
     match (report.records.first(), &report.answer) {
         (Some(record), Ok(outcome)) => {
@@ -39,7 +39,7 @@ fn is_report_copied(report: &StatusReport<'_, ObjectId, ()>) -> Result<bool, All
     }
 }
 
-/// Whether copies of options and of a context equal what was copied.
+/// Returns whether copies of options and of a context equal them.
 fn are_inputs_copied() -> Result<bool, AllocError> {
     let context = Context {
         pathspec: AllPaths,
@@ -51,7 +51,7 @@ fn are_inputs_copied() -> Result<bool, AllocError> {
     Ok(options().clone()? == options() && copy.should_interrupt.is_none())
 }
 
-/// Whether copies of all that a status of a conflict reports equal what was copied.
+/// Returns whether copies of the record and the outcome for a conflict equal them.
 fn is_conflict_copied<R: AllocGlobal + Threads + Wait>(rt: &R) -> Result<bool, Fail> {
     let index = index(rt.alloc(), &STAGES)?;
     let worktree = worktree(rt.alloc(), &[])?;

@@ -28,7 +28,7 @@ const ENTRIES: [GivenEntry<'static>; 3] = [
     ("d/y", 0, Mode::File, Content::Foo),
 ];
 
-/// Two of them are unchanged.
+/// The files of two of them, unchanged.
 const NODES: [GivenNode<'static>; 2] = [
     ("d/x", NodeKind::File, b"foo", 3, Some(STAGED)),
     ("d/y", NodeKind::File, b"foo", 3, Some(STAGED)),
@@ -39,7 +39,7 @@ const NODES: [GivenNode<'static>; 2] = [
 struct Row {
     name: &'static str,
     fscache: bool,
-    /// Whether `lstat` of `d` fails by an interrupt. Then there is no record.
+    /// Whether `lstat` of `d` returns `Interrupted`. Then there is no record.
     interrupted: bool,
     /// How often `lstat` is called on `d`.
     lstats: usize,
@@ -82,7 +82,7 @@ impl Row {
     }
 }
 
-// Whether a status reports what its row says, and calls as often.
+// Returns whether a status has the report of its row, and calls `lstat` and the lister as often.
 fn is_right<R: AllocGlobal + Threads + Wait>(rt: &R, row: &Row) -> Result<bool, Fail> {
     let alloc = rt.alloc();
     let index = index(alloc, &ENTRIES)?;

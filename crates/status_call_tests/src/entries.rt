@@ -1,4 +1,4 @@
-//! Indexes in few words.
+//! Short forms for indexes.
 
 use crate::contents::Content;
 use bstr::BStr;
@@ -8,7 +8,7 @@ use std::alloc::Global;
 /// The second in which every entry was staged.
 pub const STAGED: u32 = 5;
 
-/// A second after that.
+/// A later second.
 pub const LATER: u32 = 7;
 
 /// The second in which the index was written, after all others: no entry is racy.
@@ -17,17 +17,17 @@ pub const WRITTEN: u32 = 9;
 /// The path of an entry, its stage, its mode, and the content that it was staged with.
 pub type GivenEntry<'a> = (&'a str, u32, Mode, Content);
 
-/// A plain entry of the content `foo`.
+/// Returns a plain entry of the content `foo`.
 pub fn foo_entry(path: &str) -> GivenEntry<'_> {
     (path, 0, Mode::File, Content::Foo)
 }
 
-/// A time of whole seconds.
+/// Returns a time of whole seconds.
 pub fn time(secs: u32) -> Time {
     Time { secs, nsecs: 0 }
 }
 
-/// The stat of a file of three bytes that was last changed in this second.
+/// Returns the stat of a file of three bytes that was last changed in this second.
 pub fn stat(mtime: u32) -> Stat {
     Stat {
         mtime: time(mtime),
@@ -37,7 +37,7 @@ pub fn stat(mtime: u32) -> Stat {
     }
 }
 
-/// The index of these entries, each of which has a size of three bytes.
+/// Returns the index of these entries, each of which has a size of three bytes.
 pub fn index(alloc: Global, entries: &[GivenEntry<'_>]) -> Result<State, IndexError> {
     let written = Moment {
         secs: WRITTEN,

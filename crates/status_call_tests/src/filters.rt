@@ -1,4 +1,4 @@
-//! Files that are stored in another form, or refused.
+//! Files that a filter converts or refuses.
 
 ghost use Rattle.std.specs.Prelude.{◌≡◌, refl};
 ghost use Rattle.status_base.specs.Conversions.{refused};
@@ -23,7 +23,7 @@ use std::sync::atomic::{AtomicUsize, Ordering};
 use std::test::Fail;
 use std::thread::Threads;
 
-/// Refuses each file by the same fault.
+/// A filter that refuses each file by the same fault.
 #[derive(Debug, Drop)]
 struct Refuses(Fault);
 
@@ -52,7 +52,7 @@ impl ToGit for Refuses {
     }
 }
 
-/// Takes carriage returns out, and counts the files whose buffer holds something before.
+/// A filter that removes carriage returns. It counts the files for which its buffer isn't empty at first.
 #[derive(Clone, Copy)]
 struct Watching<'a> {
     filled: &'a AtomicUsize,
@@ -76,7 +76,7 @@ impl<'a> ToGit for Watching<'a> {
     }
 }
 
-/// Whether a status by ids through a filter has these records, and succeeds with an outcome or fails by a fault.
+/// Returns whether a status by ids through a filter has these records, and ends with this outcome or fault.
 fn is_converted<R: AllocGlobal + Threads + Wait, T: ToGit + Send>(
     rt: &R,
     entries: &[GivenEntry<'_>],

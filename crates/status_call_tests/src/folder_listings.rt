@@ -23,7 +23,7 @@ const NODES: [FolderNode<'static>; 3] = [
     ("subdir/nested.txt", Some("bars")),
 ];
 
-/// Nothing is at the first two. Then come a directory, a file with other content, and an unchanged file.
+/// Nothing is at the first two paths. At the others are a directory, a file with other content, and an unchanged file.
 const ENTRIES: [GivenEntry<'static>; 5] = [
     ("Test.txt", 0, Mode::File, Content::Foo),
     ("gone", 0, Mode::File, Content::Foo),
@@ -39,7 +39,8 @@ const RECORDS: [Wanted<'static>; 4] = [
     (3, "subdir/nested.txt", Says::Changed(Content::Bars)),
 ];
 
-// Whether a folder has this status, with listings or without, and calls `lstat` as often on entries' paths.
+// Returns whether a folder has the expected status, with listings or without, and `lstat` is called on entries' paths
+// so often.
 fn is_right<R: AllocGlobal + Threads + Wait>(
     rt: &R,
     system: &HostRuntime,
@@ -66,7 +67,7 @@ fn is_right<R: AllocGlobal + Threads + Wait>(
 fn a_listed_folder_has_the_same_status(rt: HostRuntime) -> Result<(), Fail> {
     let folder = own_folder(&rt, "a_listed_folder")?;
     fill(&rt, folder.as_str(), &NODES)?;
-    // With listings `lstat` is called only on what is in none of them.
+    // With listings, `lstat` is called only on paths that are in no listing.
     for (fscache, lstats) in [(false, 5), (true, 2)] {
         assert!(rt;
             is_right(&rt, &rt, folder.as_str(), fscache, lstats)?,

@@ -29,11 +29,11 @@ const ENTRIES: [GivenEntry<'static>; 2] = [
     ("b", 0, Mode::File, Content::Bar),
 ];
 
-/// What is reported of `a`.
+/// The report of `a`.
 #[derive(Clone, Copy)]
 enum Verdict {
     Nothing,
-    /// Other content, by the length of the file.
+    /// Other content, reported by the length of the file.
     Changed(u64),
     /// The same length, and a new stat.
     Updated,
@@ -43,7 +43,7 @@ enum Verdict {
 #[derive(Clone, Copy)]
 struct Row {
     name: &'static str,
-    /// What is put into the folder before.
+    /// The nodes that are put into the folder first.
     adds: &'static [FolderNode<'static>],
     /// The folder of the blobs, if it isn't the test's own.
     elsewhere: Option<&'static str>,
@@ -87,7 +87,7 @@ static ROWS: [Row; 5] = [
         reported: Verdict::Changed(4),
         lacks_second: true,
     },
-    // It can't be read, for which the interface has no other error.
+    // The directory can't be read as a blob. The interface has no other error for that.
     Row {
         name: "a directory by the name of the second blob",
         adds: &[(BAR_DIGITS, None)],
@@ -133,7 +133,7 @@ impl Row {
         }
     }
 
-    // Without `b`, one call of `lstat` and one blob of three bytes.
+    // Without `b`, the status calls `lstat` once and reads one blob of three bytes.
     fn ends(&self, answer: &Result<Outcome, Error>) -> bool {
         match answer {
             Err(Error::Find(FindError::Missing)) => self.lacks_second,
@@ -155,7 +155,7 @@ impl Row {
     }
 }
 
-// Whether a status by the lengths of files and blobs reports what its row says.
+// Returns whether a status by the lengths of files and blobs has the report of its row.
 fn is_right<R: AllocGlobal + Files + Sync + Threads + Wait>(
     rt: &R,
     folder: &str,

@@ -19,7 +19,7 @@ struct Interrupting<'a, R> {
     reads: &'a Cell<u32>,
 }
 
-/// A file of it.
+/// A file of this runtime.
 #[derive(Drop)]
 struct InterruptedFile<'a, F> {
     file: F,
@@ -128,8 +128,8 @@ impl<'a, F: OpenFile> OpenFile for InterruptedFile<'a, F> {
     }
 }
 
-// Whether the first read of the file `a` is interrupted, and the second has its three bytes, with one call of the system
-// each.
+// Returns whether the first read of the file `a` is interrupted, and the second returns its three bytes, with one call
+// of the system each.
 fn is_read_by_one_call_each<W: Worktree>(worktree: &W, reads: &Cell<u32>) -> bool {
     let mut buffer = [0u8; 8];
     let Ok(mut file) = worktree.open(BStr::from("a")) else {

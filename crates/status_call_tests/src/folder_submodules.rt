@@ -1,4 +1,4 @@
-//! Submodules in folders of the disk, whose statuses are statuses of their own.
+//! Submodules in folders of the disk, each with a status of its own.
 
 use crate::contents::Content;
 use crate::entries::{GivenEntry, index};
@@ -18,26 +18,26 @@ use std::sync::Wait;
 use std::test::Fail;
 use std::thread::Threads;
 
-// What git's Rust library says of a file's fault.
+// The text of the Rust crate gix-status for a fault of a file.
 const FAULT_OF_A_FILE: &str =
     "IO error while writing blob or reading file metadata or changing filetype";
 
-/// What is reported of the submodules.
+/// The report of the submodules.
 #[derive(Clone, Copy)]
 enum Verdict {
     /// None changed.
     Nothing,
-    /// The one at this place changed: its own status has so many records.
+    /// The submodule at this index position changed: its own status has so many records.
     Changed(usize, usize),
-    /// The one at this path has no status, because of a file's fault.
+    /// The submodule at this path has no status, because of a file's fault.
     Fails(&'static str),
 }
 
-/// Submodules, and what is reported of them.
+/// Submodules, and the report of them.
 #[derive(Clone, Copy)]
 struct Row {
     name: &'static str,
-    /// What is put into the folder before.
+    /// The nodes that are put into the folder first.
     adds: &'static [FolderNode<'static>],
     submodules: &'static [GivenEntry<'static>],
     /// The entries of each submodule's own index.
@@ -71,7 +71,7 @@ static ROWS: [Row; 5] = [
         workers: 1,
         reported: Verdict::Fails("sub"),
     },
-    // The second has another `a`, and no `b`.
+    // In the second submodule, `a` has other content and `b` is missing.
     Row {
         name: "two submodules, with one worker",
         adds: &[
@@ -134,7 +134,7 @@ fn status_of_folder<'index, R: AllocGlobal + Sync + Threads + Wait>(
     Ok(status_of(rt, index, &worktree, HashEq, request, None))
 }
 
-// Whether the one record is of the submodule at this place, whose own status has so many records.
+// Returns whether the only record is of the submodule at this index position, whose own status has so many records.
 fn is_changed(report: &StatusReport<'_, ObjectId, usize>, at: usize, count: usize) -> bool {
     let Some(record) = report.records.first() else {
         return false;
@@ -146,7 +146,7 @@ fn is_changed(report: &StatusReport<'_, ObjectId, usize>, at: usize, count: usiz
     is_changed && record.entry_index == at && report.records.len() == 1
 }
 
-// Whether a status failed because the submodule at this path has a file's fault.
+// Returns whether a status failed because the submodule at this path has a file's fault.
 fn is_failed(report: &StatusReport<'_, ObjectId, usize>, path: &str) -> bool {
     match &report.answer {
         Err(Error::SubmoduleStatus { rela_path, text }) => {
@@ -167,7 +167,7 @@ impl Row {
     }
 }
 
-// Whether the status of a folder with submodules reports what its row says.
+// Returns whether the status of a folder with submodules has the report of its row.
 fn is_right<R: AllocGlobal + Files + Sync + Threads + Wait>(
     rt: &R,
     system: &HostRuntime,

@@ -9,7 +9,7 @@ use std::{env, fs, io, process};
 /// A node's path in a folder, with the text of a file, or None for a directory.
 pub type FolderNode<'a> = (&'a str, Option<&'a str>);
 
-/// A new folder for temporary files, of this test's own. One that an earlier run of the same number left is removed.
+/// Makes a new folder of temporary files for a test. A folder that an earlier run with the same number left is removed.
 fn new_folder<R: Env + Files + AllocGlobal>(rt: &R, test: &str, id: u32) -> io::Result<String> {
     let parent = env::temp_dir(rt)?;
     let folder = format!(in rt.alloc(); "{}/{test}_{id}", parent.as_path().as_str())?;
@@ -18,7 +18,7 @@ fn new_folder<R: Env + Files + AllocGlobal>(rt: &R, test: &str, id: u32) -> io::
     Ok(folder)
 }
 
-/// The same, by the number of this process.
+/// Makes such a folder, with the number of this process.
 pub fn own_folder(rt: &HostRuntime, test: &str) -> io::Result<String> {
     new_folder(rt, test, process::id(rt.process()))
 }

@@ -54,7 +54,7 @@ const DIRECTORIES: [Directory<'static>; 3] = [
     ("l", Some(&[("x", FILE)])),
 ];
 
-/// What is reported of each entry.
+/// The report of each entry.
 #[derive(Clone, Copy)]
 enum Verdict {
     Nothing,
@@ -63,11 +63,11 @@ enum Verdict {
     Executable,
 }
 
-/// What is reported of each entry, how often `lstat` is called on entries' paths, and how many files of three bytes are read.
+/// The report of each entry, how often `lstat` is called on entries' paths, and how many files of three bytes are read.
 type Answer = (Verdict, usize, usize);
 
-/// Entries, and what the status returns with listings and without. The entries are alike: `lstat`
-/// is called on the paths of all, or of none.
+/// Entries, and the results of the status with listings and without. The entries are alike: `lstat` is called on the
+/// paths of all, or of none.
 #[derive(Clone, Copy)]
 struct Row {
     name: &'static str,
@@ -89,7 +89,7 @@ static ROWS: [Row; 5] = [
         listed: (Verdict::Removed, 0, 0),
         unlisted: (Verdict::Nothing, 1, 0),
     },
-    // It is read, because its executability seems to have changed.
+    // The file is read, because its executability seems to have changed.
     Row {
         name: "a listed file is never executable",
         entries: &[("executable", 0, Mode::FileExecutable, Content::Foo)],
@@ -123,7 +123,7 @@ const NODES: [GivenNode<'static>; 6] = [
     ("l", NodeKind::Link, b"d", 1, Some(LATER)),
 ];
 
-// The worktree of the nodes, one of which is executable.
+// Returns the worktree of the nodes, one of which is executable.
 fn files(alloc: Global) -> Result<MemoryWorktree, Fail> {
     let mut files = worktree(alloc, &NODES)?;
     let path = BStr::from("executable");
@@ -134,7 +134,7 @@ fn files(alloc: Global) -> Result<MemoryWorktree, Fail> {
     Ok(files)
 }
 
-// Whether an entry's status is this.
+// Returns whether an entry's status is the reported one.
 fn is_status(status: &EntryStatus<ObjectId, ()>, reported: Verdict) -> bool {
     match (reported, status) {
         (Verdict::Removed, _) => is_removed(status),
@@ -153,7 +153,7 @@ fn is_status(status: &EntryStatus<ObjectId, ()>, reported: Verdict) -> bool {
 }
 
 impl Row {
-    // Executability counts if the first entry is executable.
+    // Returns options by which executability counts if the first entry is executable.
     fn options(&self, fscache: bool) -> Options {
         let executable_bit = match self.entries.first() {
             Some((_path, _stage, mode, _content)) => *mode == Mode::FileExecutable,
@@ -169,7 +169,7 @@ impl Row {
         }
     }
 
-    // Whether this is reported of each entry, in turn.
+    // Returns whether this is reported for each entry, in order.
     fn is_each(&self, report: &StatusReport<'_, ObjectId, ()>, reported: Verdict) -> bool {
         if matches!(reported, Verdict::Nothing) {
             return report.records.is_empty();
@@ -182,7 +182,7 @@ impl Row {
         report.records.len() == self.entries.len()
     }
 
-    // Whether a report is this answer.
+    // Returns whether a report is the expected result.
     fn is_answer(&self, report: &StatusReport<'_, ObjectId, ()>, answer: Answer) -> bool {
         let (reported, lstats, files) = answer;
         let wanted = Outcome {
@@ -193,8 +193,8 @@ impl Row {
     }
 }
 
-// Whether a status returns what its row says, with listings or without, and calls `lstat` and `open` as often on the first
-// path.
+// Returns whether a status has the result of its row, with listings or without, and calls `lstat` and `open` on the
+// first path as often.
 fn is_right<R: AllocGlobal + Threads + Wait>(
     rt: &R,
     row: &Row,

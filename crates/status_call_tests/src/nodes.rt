@@ -1,20 +1,20 @@
-//! Worktrees in few words.
+//! Short forms for worktrees.
 
 use crate::entries::{LATER, STAGED, time};
 use bstr::BStr;
 use gix_status::worktree::{MemoryWorktree, Node, NodeKind, TreeError};
 use std::alloc::{AllocError, Global};
 
-/// The path of a node, its kind, its bytes, the length that `lstat` reports, and the second of its last change, where that
+/// The path of a node, its kind, its bytes, the length that `lstat` reports, and the second of its last change, if that
 /// is known.
 pub type GivenNode<'a> = (&'a str, NodeKind, &'a [u8], u64, Option<u32>);
 
-/// A file that was written after the entries were staged.
+/// Returns a file that was written after the entries were staged.
 pub fn later_file<'a>(path: &'a str, bytes: &'a [u8]) -> GivenNode<'a> {
     (path, NodeKind::File, bytes, bytes.len() as u64, Some(LATER))
 }
 
-/// The worktree of these nodes.
+/// Returns the worktree of these nodes.
 pub fn worktree(alloc: Global, nodes: &[GivenNode<'_>]) -> Result<MemoryWorktree, TreeError> {
     let mut worktree = MemoryWorktree::new(alloc);
     for given in nodes {

@@ -1,4 +1,4 @@
-//! The orders of the public types of which no clause says which of two values is the lesser: by fields or variants in turn.
+//! The orders of public types whose contracts don't state which of two values is less: by fields or variants, in order.
 //! In most rows only one field isn't 0, so that each step shows which of two fields comes first.
 
 use crate::contents::Content;
@@ -10,7 +10,7 @@ fn is_below<T: Ord>(value: &T, other: &T) -> bool {
     value.cmp(other) == Ordering::Less
 }
 
-/// Whether each value is below the next.
+/// Returns whether each value is below the next.
 fn are_ascending<T: Ord>(values: &[T]) -> bool {
     for (value, next) in values.iter().zip(values.iter().skip(1)) {
         if !is_below(value, next) {
@@ -20,7 +20,7 @@ fn are_ascending<T: Ord>(values: &[T]) -> bool {
     true
 }
 
-/// What a conflict keeps of an entry.
+/// Returns what a conflict keeps of an entry.
 fn kept(content: Content, stage: u32, mode: Mode) -> ConflictIndexEntry {
     ConflictIndexEntry {
         id: content.id(),
@@ -59,7 +59,8 @@ fn words_are_ordered_as_they_are_declared_and_kept_entries_by_id_flags_and_mode(
     assert!(rt; are_ascending(&entries));
 }
 
-/// The outcome whose field at a place is 1, counted from the last field, and all others 0. At place 0 all are.
+/// Returns the outcome in which one field is 1 and all others are 0. `place` counts the fields from the last; with 0,
+/// all are 0.
 fn outcome_at(place: usize) -> Outcome {
     Outcome {
         interrupted: place == 1,
@@ -90,7 +91,7 @@ fn type_change(worktree_mode: Mode) -> Change<u32, u32> {
     Change::TypeChange { worktree_mode }
 }
 
-/// Ten changes in their order.
+/// Returns the change at this position, of ten in order.
 fn change_at(place: usize) -> Change<u32, u32> {
     match place {
         0 => Change::Removed,
@@ -106,7 +107,7 @@ fn change_at(place: usize) -> Change<u32, u32> {
     }
 }
 
-/// A conflict with one entry, of stage 1 or of stage 3.
+/// Returns a conflict with one entry, of stage 1 or of stage 3.
 fn conflict(summary: Conflict, is_base: bool) -> EntryStatus<u32, u32> {
     let entry = Some(kept(Content::Foo, 1, Mode::File));
     let entries = if is_base {
@@ -117,7 +118,7 @@ fn conflict(summary: Conflict, is_base: bool) -> EntryStatus<u32, u32> {
     EntryStatus::Conflict { summary, entries }
 }
 
-/// Eight statuses in their order.
+/// Returns the status at this position, of eight in order.
 fn status_at(place: usize) -> EntryStatus<u32, u32> {
     let later = Stat {
         size: 1,

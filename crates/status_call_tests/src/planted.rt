@@ -1,4 +1,4 @@
-//! Each fault at each call on each path, over sizes of pieces and numbers of workers.
+//! Each fault at each call on each path, for several sizes of pieces and numbers of workers.
 
 use crate::contents::Content;
 use crate::entries::{STAGED, foo_entry, index};
@@ -28,7 +28,7 @@ const FAULTS: [Fault; 9] = [
 /// Sizes of pieces and numbers of workers.
 const WAYS: [(usize, usize); 4] = [(1, 1), (1, 3), (2, 1), (2, 3)];
 
-/// What is read of an entry.
+/// The node that is read for an entry, if any.
 #[derive(Clone, Copy, PartialEq, Eq)]
 enum Reads {
     Nothing,
@@ -36,11 +36,11 @@ enum Reads {
     Link,
 }
 
-/// The path of an entry, how many bytes are there, what is reported if nothing fails, and what is read.
+/// The path of an entry, the length of its node, its status if nothing fails, and the node that is read.
 type Site = (&'static str, u64, Option<Says>, Reads);
 
-/// Three files of which the second has another length, one that is the same, one in a folder, two links of which the first
-/// has another length, a submodule, and a file that was staged as it is.
+/// Three files, of which the second has another length and the third only another stat. A file in a folder. Two links,
+/// of which the first has another length. A submodule, and an unchanged file.
 const SITES: [Site; 8] = [
     ("a", 3, Some(Says::Changed(Content::Bar)), Reads::File),
     ("b", 4, Some(Says::Changed(Content::Bars)), Reads::File),
@@ -52,7 +52,7 @@ const SITES: [Site; 8] = [
     ("z", 3, None, Reads::Nothing),
 ];
 
-/// The paths at which faults are planted, and how many bytes are there: the entries', and the folder above one.
+/// The paths at which faults are planted, with the lengths of the nodes: the entries' paths, and the folder above one.
 const PATHS: [(&str, u64); 9] = [
     ("a", 3),
     ("b", 4),
@@ -110,7 +110,7 @@ struct Planted {
 }
 
 impl Planted {
-    /// Whether the status of an entry meets it.
+    /// Returns whether the status of an entry meets it.
     fn is_met(self, site: &Site) -> bool {
         let (path, len, _says, reads) = *site;
         let is_here = self.path.as_bytes() == path.as_bytes();
@@ -123,12 +123,12 @@ impl Planted {
         }
     }
 
-    // Whether it is planted at the folder above an entry.
+    // Returns whether it is planted at the folder above an entry.
     fn is_above(self, path: &str) -> bool {
         self.path.as_bytes() == FOLDER.as_bytes() && path.as_bytes() == "d/e".as_bytes()
     }
 
-    /// Whether an entry that meets it has no file.
+    /// Returns whether an entry that meets it counts as removed.
     fn is_absence(self) -> bool {
         self.point == Point::Lstat
             && (self.fault == Fault::NotFound || self.fault == Fault::NotADirectory)
@@ -142,7 +142,7 @@ struct Expected {
     fault: Option<Fault>,
 }
 
-/// The records up to the first entry that fails, and its fault.
+/// Returns the records up to the first entry that fails, and its fault.
 fn expected_for(alloc: Global, planted: Planted) -> Result<Expected, AllocError> {
     let mut records = Vec::new(alloc);
     for (place, site) in SITES.iter().enumerate() {
@@ -160,7 +160,7 @@ fn expected_for(alloc: Global, planted: Planted) -> Result<Expected, AllocError>
     Ok(Expected { records, fault })
 }
 
-/// Whether a status is as expected, with pieces of so many entries and at most so many workers.
+/// Returns whether a status is as expected, with pieces of so many entries and at most so many workers.
 fn is_expected<R: AllocGlobal + Threads + Wait>(
     rt: &R,
     index: &State,
@@ -177,7 +177,7 @@ fn is_expected<R: AllocGlobal + Threads + Wait>(
     is_ended && are_records(&report.records, &expected.records)
 }
 
-/// Whether each way reports what is expected if a fault is planted.
+/// Returns whether a status with a planted fault is as expected, for each size of pieces and number of workers.
 fn is_right_each_way<R: AllocGlobal + Threads + Wait>(
     rt: &R,
     index: &State,
@@ -195,7 +195,7 @@ fn is_right_each_way<R: AllocGlobal + Threads + Wait>(
     Ok(true)
 }
 
-/// Whether each fault at a point of a path is answered as expected.
+/// Returns whether a status is as expected, for each fault at a point of a path.
 fn is_right_at<R: AllocGlobal + Threads + Wait>(
     rt: &R,
     index: &State,
@@ -212,7 +212,8 @@ fn is_right_at<R: AllocGlobal + Threads + Wait>(
     Ok(true)
 }
 
-/// The same at each point of a path with so many bytes: at its calls, and at its reads up to a byte past the end.
+/// Returns the same for each point of a path whose node has the length `len`: at its calls, and at its reads up to one
+/// byte past the end.
 fn is_right_at_each<R: AllocGlobal + Threads + Wait>(
     rt: &R,
     index: &State,

@@ -1,4 +1,4 @@
-//! Indexes that are refreshed.
+//! Refreshed indexes.
 
 use crate::entries::{LATER, STAGED, WRITTEN, foo_entry, index};
 use crate::nodes::{GivenNode, worktree};
@@ -10,11 +10,11 @@ use std::sync::Wait;
 use std::test::Fail;
 use std::thread::Threads;
 
-/// How many files a status reads, how many records it has, and the size that the first entry has.
+/// How many files a status reads, how many records it has, and the size of the first entry.
 type Counts = (usize, usize, u32);
 
-/// What is shown, the second in which the index was written, the file that is there, and the counts before a refresh and
-/// after it.
+/// The name of a row, the second in which the index was written, the file, and the counts before a refresh and after
+/// it.
 type Row = (&'static str, u32, GivenNode<'static>, Counts, Counts);
 
 const ROWS: [Row; 2] = [
@@ -38,7 +38,7 @@ fn at(secs: u32) -> Moment {
     Moment { secs, nsecs: 0 }
 }
 
-/// None if the status fails, or there is no entry.
+/// Returns the counts of a status. None if it fails, or there is no entry.
 fn counts_of<R: AllocGlobal + Threads + Wait>(
     rt: &R,
     index: &State,
@@ -54,7 +54,7 @@ fn counts_of<R: AllocGlobal + Threads + Wait>(
     }
 }
 
-/// Whether a row has the counts before a refresh of the index and after it.
+/// Returns whether a row has the counts before a refresh of the index and after it.
 fn is_refreshed<R: AllocGlobal + Threads + Wait>(rt: &R, row: &Row) -> Result<bool, Fail> {
     let (_name, written, node, before, after) = *row;
     let mut index = index(rt.alloc(), &[foo_entry("a")])?;

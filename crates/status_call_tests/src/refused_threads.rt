@@ -71,7 +71,7 @@ static ROWS: [Row; 5] = [
         is_set: false,
         end: End::Removed,
     },
-    // One entry has one piece, so one worker, which is the caller.
+    // One entry is one piece, so the caller is the only worker.
     Row {
         name: "one piece starts no thread",
         entries: &[("a", 0, Mode::File, Content::Foo)],
@@ -141,7 +141,7 @@ fn report_rounds<'index, R: Threads + Wait>(
     run_rounds(rt, alloc, &considered, 1, workers, &decider, recorder)
 }
 
-// Whether records are of the first entries of an index, and say that their files are gone.
+// Returns whether records are of the first entries of an index, in order, and report that their files are gone.
 fn are_removed(records: &[Record<'_, ObjectId, ()>]) -> bool {
     for (at, record) in records.iter().enumerate() {
         if record.entry_index != at || !is_removed(&record.status) {
@@ -168,7 +168,7 @@ impl Row {
     }
 }
 
-// Whether rounds end as their row says.
+// Returns whether rounds end as their row says.
 fn is_right<R: AllocGlobal + Threads + Wait>(rt: &R, row: &Row) -> Result<bool, Fail> {
     let alloc = rt.alloc();
     let index = index(alloc, row.entries)?;

@@ -1,4 +1,4 @@
-//! Statuses by ids, and what tests ask of their reports.
+//! Statuses by ids, and checks of their reports.
 
 use crate::contents::Content;
 use crate::entries::{LATER, stat};
@@ -10,7 +10,7 @@ use status_tests::given::statuses::{StatusReport, options, request_with, status_
 use std::sync::Wait;
 use std::thread::Threads;
 
-/// The status by ids of all paths as they are, with pieces of so many entries and at most so many workers.
+/// Calls the status by ids for all paths without a filter, with pieces of so many entries and at most so many workers.
 pub fn status_by_pieces<'index, R: AllocGlobal + Threads + Wait, W: Worktree + Sync>(
     rt: &R,
     index: &'index State,
@@ -30,7 +30,7 @@ where
     status_of(rt, index, worktree, HashEq, request, None)
 }
 
-/// What a record says of its entry, whose executability and size don't change.
+/// The status of an entry whose executability doesn't change, and whose size isn't set to 0.
 #[derive(Clone, Copy)]
 pub enum Says {
     /// No file is there.
@@ -41,10 +41,10 @@ pub enum Says {
     Updated,
 }
 
-/// The place of a record's entry, its path, and what the record says.
+/// The index position of a record, its path, and its status.
 pub type Wanted<'a> = (usize, &'a str, Says);
 
-/// Whether these are all the records of a status.
+/// Returns whether these are all the records of a status.
 pub fn are_records(records: &[Record<'_, ObjectId, ()>], wanted: &[Wanted<'_>]) -> bool {
     if records.len() != wanted.len() {
         return false;
@@ -57,7 +57,7 @@ pub fn are_records(records: &[Record<'_, ObjectId, ()>], wanted: &[Wanted<'_>]) 
     true
 }
 
-/// Whether a record is of the entry at this place and path.
+/// Returns whether a record is of the entry at this index position and path.
 pub fn is_at<T, U>(record: &Record<'_, T, U>, place: usize, path: &str) -> bool {
     record.entry_index == place && record.relative_path.as_bytes() == path.as_bytes()
 }
@@ -72,12 +72,12 @@ fn is_said(status: &EntryStatus<ObjectId, ()>, says: Says) -> bool {
     }
 }
 
-/// Whether a status is that no file is there.
+/// Returns whether a status reports that no file is there.
 pub fn is_removed<T, U>(status: &EntryStatus<T, U>) -> bool {
     matches!(status, EntryStatus::Change(Change::Removed))
 }
 
-/// Whether a status is another content alone, by what its comparer reports.
+/// Returns whether a status reports nothing but other content, with this result of its comparer.
 pub fn is_changed<T: PartialEq, U>(status: &EntryStatus<T, U>, content: &T) -> bool {
     match status {
         EntryStatus::Change(
@@ -91,7 +91,7 @@ pub fn is_changed<T: PartialEq, U>(status: &EntryStatus<T, U>, content: &T) -> b
     }
 }
 
-/// What it takes to find so many entries, or that they aren't there.
+/// Returns the outcome of a status that calls `lstat` for so many entries, and reads no file.
 pub fn found(entries: usize) -> Outcome {
     Outcome {
         entries_to_process: entries,
@@ -101,7 +101,8 @@ pub fn found(entries: usize) -> Outcome {
     }
 }
 
-/// What it takes to find so many entries, and to read so many files of so many bytes in all.
+/// Returns the outcome of a status that calls `lstat` for so many entries, and reads so many files with so many bytes
+/// in all.
 pub fn read(entries: usize, files: usize, bytes: u64) -> Outcome {
     Outcome {
         worktree_files_read: files,
@@ -110,7 +111,7 @@ pub fn read(entries: usize, files: usize, bytes: u64) -> Outcome {
     }
 }
 
-/// Whether a status succeeded, and took this.
+/// Returns whether a status succeeded with this outcome.
 pub fn is_taken(answer: &Result<Outcome, Error>, wanted: &Outcome) -> bool {
     match answer {
         Ok(outcome) => *outcome == *wanted,
@@ -118,7 +119,7 @@ pub fn is_taken(answer: &Result<Outcome, Error>, wanted: &Outcome) -> bool {
     }
 }
 
-/// Whether a status failed by this fault of a worktree or a filter. Two faults are errors of their own.
+/// Returns whether a status failed by this fault of a worktree or a filter. Two faults have errors of their own.
 pub fn is_failed_by(answer: &Result<Outcome, Error>, fault: Fault) -> bool {
     match answer {
         Err(Error::IllformedUtf8) => fault == Fault::IllformedUtf8,

@@ -1,4 +1,4 @@
-//! How far a status gets, with any number of workers: to the end, to where it sees its flag set, or to a fault.
+//! How far a status gets, with any number of workers: to the end, until it sees its flag set, or up to a fault.
 
 use crate::contents::Content;
 use crate::entries::{foo_entry, index};
@@ -18,14 +18,14 @@ use std::sync::atomic::{AtomicBool, AtomicUsize, Ordering};
 use std::test::Fail;
 use std::thread::Threads;
 
-/// What is at the entries' paths, whose names are numbers of four digits.
+/// The files at the entries' paths, whose names are numbers of four digits.
 #[derive(Clone, Copy)]
 enum Paths {
     /// A file with the content `bar`, which was written after the entry was staged.
     Changed,
     /// Nothing.
     Gone,
-    /// Nothing. They are in a directory `d` of another file.
+    /// Nothing. The paths are in a directory `d`, which has another file.
     InDirectory,
 }
 
@@ -62,7 +62,7 @@ struct Row {
     thread_limit: Option<usize>,
     set_by: SetBy,
     on_lstat: OnLstat,
-    /// How many entries it gets through. Each of them has a record.
+    /// How many entries it processes. Each of them has a record.
     records: usize,
     end: End,
     /// A path, and how often `lstat` and `open` are called on it.
@@ -294,7 +294,7 @@ static WORKERS: [Row; 6] = [
     },
 ];
 
-// The first entries' paths.
+// Returns the paths of the first entries.
 fn numbered_paths(alloc: Global, front: &str, count: usize) -> Result<Vec<String>, AllocError> {
     let mut paths = Vec::new(alloc);
     for number in 0..count {
@@ -303,7 +303,7 @@ fn numbered_paths(alloc: Global, front: &str, count: usize) -> Result<Vec<String
     Ok(paths)
 }
 
-// The index of plain entries at these paths.
+// Returns the index of plain entries at these paths.
 fn index_at(alloc: Global, paths: &[String]) -> Result<State, Fail> {
     let mut entries = Vec::new(alloc);
     for path in paths {
@@ -312,7 +312,7 @@ fn index_at(alloc: Global, paths: &[String]) -> Result<State, Fail> {
     Ok(index(alloc, &entries)?)
 }
 
-// The worktree of changed files at these paths.
+// Returns the worktree of changed files at these paths.
 fn changed_files(alloc: Global, paths: &[String]) -> Result<MemoryWorktree, Fail> {
     let mut nodes = Vec::new(alloc);
     for path in paths {
@@ -371,7 +371,7 @@ impl Row {
         }
     }
 
-    // Whether an entry's status is that of a changed file, or of one that is gone.
+    // Returns whether an entry's status is that of a changed file, or of one that is gone.
     fn is_status(&self, status: &EntryStatus<ObjectId, ()>) -> bool {
         match self.paths {
             Paths::Changed => is_changed(status, &Content::Bar.id()),
@@ -379,7 +379,7 @@ impl Row {
         }
     }
 
-    // Whether there is a record of each entry that it gets through.
+    // Returns whether there is a record of each entry that it processes.
     fn are_records(&self, records: &[Record<'_, ObjectId, ()>]) -> bool {
         for (at, record) in records.iter().enumerate() {
             if record.entry_index != at || !self.is_status(&record.status) {
@@ -394,7 +394,7 @@ impl Row {
     }
 }
 
-// Whether a status gets as far as its row says.
+// Returns whether a status gets as far as its row says.
 fn is_right<R: AllocGlobal + Threads + Wait>(rt: &R, row: &Row) -> Result<bool, Fail> {
     let (index, files) = (row.index(rt.alloc())?, row.worktree(rt.alloc())?);
     let flag = AtomicBool::new(matches!(row.set_by, SetBy::Caller));

@@ -1,4 +1,4 @@
-//! Three changed files, where something else is at the second path, or a call on it fails.
+//! Three changed files. Something else is at the second path, or a call on it fails.
 
 use crate::contents::Content;
 use crate::entries::{LATER, STAGED, foo_entry, index};
@@ -16,16 +16,16 @@ use std::sync::atomic::{AtomicUsize, Ordering};
 use std::test::Fail;
 use std::thread::Threads;
 
-/// What is at the second path.
+/// The node at the second path.
 #[derive(Clone, Copy)]
 enum Second {
-    /// A file that was changed as the others were.
+    /// A file that was changed like the others.
     Changed,
-    /// Such a file whose length is said to be four bytes.
+    /// Such a file, whose reported length is four bytes.
     Longer,
-    /// One whose length is said to be two bytes.
+    /// Such a file, whose reported length is two bytes.
     Shorter,
-    /// One of which it isn't known when it was changed.
+    /// Such a file, whose time of change isn't known.
     Untimed,
     /// A changed link, and the entry is one.
     Link,
@@ -56,15 +56,16 @@ impl Second {
 /// How the status ends after the record of the first file.
 #[derive(Clone, Copy)]
 enum End {
-    /// It reports the third file too, and the second as this. So many files and bytes are read.
+    /// It reports the third file too, and this status of the second. So many files and bytes are read.
     Reports(Option<Says>, usize, u64),
     Fails(Fault),
-    /// It fails since a time isn't known.
+    /// It fails because a time isn't known.
     LacksTime,
 }
 
-/// What is shown, what is at the second path, a fault of a call on it, how the status ends, and how often the second file is
-/// opened. `lstat` is called on it once. On the third `lstat` and `open` are called once, but not after a failure.
+/// The name of a row, the node at the second path, a fault of a call on it, how the status ends, and how often the
+/// second file is opened. `lstat` is called on it once. On the third `lstat` and `open` are called once, but not after
+/// a failure.
 type Row = (&'static str, Second, Option<(Point, Fault)>, End, usize);
 
 const ROWS: [Row; 16] = [
@@ -96,7 +97,7 @@ const ROWS: [Row; 16] = [
         End::Fails(Fault::PermissionDenied),
         0,
     ),
-    // No call is made again, also after an opening or a read that is interrupted.
+    // No call is repeated, even if opening or reading is interrupted.
     (
         "lstat is interrupted",
         Second::Changed,
@@ -196,7 +197,7 @@ fn worktree_of(alloc: Global, row: &Row) -> Result<MemoryWorktree, Fail> {
     Ok(worktree)
 }
 
-/// Whether a report ends so.
+/// Returns whether a report ends so.
 fn is_ended(report: &StatusReport<'_, ObjectId, ()>, end: End) -> bool {
     let changed = Says::Changed(Content::Bar);
     let first = [(0, "a", changed)];
@@ -219,7 +220,8 @@ fn is_ended(report: &StatusReport<'_, ObjectId, ()>, end: End) -> bool {
     }
 }
 
-/// Whether one worker with pieces of one entry ends as a row says, and calls `lstat` and `open` as often.
+/// Returns whether a status with one worker and pieces of one entry ends as a row says, and calls `lstat` and `open` as
+/// often.
 fn is_right<R: AllocGlobal + Threads + Wait>(rt: &R, row: &Row) -> Result<bool, Fail> {
     let entries = [
         foo_entry("a"),

@@ -1,4 +1,4 @@
-//! Submodules that answer by a caller's own interface.
+//! Submodules whose status is computed by a caller's own interface.
 
 use crate::contents::Content;
 use crate::entries::{STAGED, index};
@@ -14,8 +14,8 @@ use std::sync::Wait;
 use std::test::Fail;
 use std::thread::Threads;
 
-/// Whether a status by ids of the submodule `sub` reports what the submodule answers: no change, a number, or a fault with
-/// a text.
+/// Returns whether a status by ids of the submodule `sub` reports the result of that interface: no change, a number, or
+/// a fault with a text.
 fn is_submodule_reported<R: AllocGlobal + Threads + Wait>(
     rt: &R,
     answer: Result<Option<u32>, &[u8]>,
@@ -36,7 +36,8 @@ fn is_submodule_reported<R: AllocGlobal + Threads + Wait>(
     })
 }
 
-/// Whether the only record is of the submodule `sub`, with this change. There is none if it didn't change.
+/// Returns whether the only record is of the submodule `sub`, with this change. Without a change there must be no
+/// record.
 fn is_modified<T>(records: &[Record<'_, T, u32>], change: Option<u32>) -> bool {
     match (records.first(), change) {
         (Some(record), Some(change)) => {

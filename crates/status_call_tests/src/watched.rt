@@ -11,13 +11,13 @@ use std::alloc::AllocError;
 use std::sync::atomic::{AtomicBool, AtomicUsize, Ordering};
 use std::thread;
 
-/// What a call of `lstat` does as well, if there is a node.
+/// The side effect of a call of `lstat`, if there is a node.
 #[derive(Clone, Copy)]
 pub enum OnLstat {
     Nothing,
     /// Sets the flag at this path.
     SetsFlag(&'static str),
-    /// Waits at the first path until it was called on the second. After very many turns it fails.
+    /// Waits at the first path until `lstat` was called on the second. It fails after very many turns.
     Meets(&'static str, &'static str),
     /// Returns a link for the directory at this path, from the second call on.
     FindsLink(&'static str),
@@ -34,7 +34,7 @@ pub struct WatchedWorktree<'a> {
 }
 
 impl<'a> WatchedWorktree<'a> {
-    // Whether the other call comes before the turns run out.
+    // Returns whether the other call comes before the turns run out.
     fn meets(&self) -> bool {
         for _ in 0..100_000_000u64 {
             if self.called.load(Ordering::SeqCst) {
@@ -45,7 +45,7 @@ impl<'a> WatchedWorktree<'a> {
         false
     }
 
-    // Has the side effect of a call on a path, and returns what replaces the node that was found.
+    // Does the side effect of a call on a path, and returns the result in place of the node that was found.
     fn effect(&self, path: BStr<'_>, found: Metadata) -> Result<Metadata, Fault> {
         match self.on_lstat {
             OnLstat::Nothing => {}

@@ -1,4 +1,4 @@
-//! The commands, over bytes in place of files.
+//! The commands, over bytes in memory instead of files.
 
 use status_cli::{run_refresh, run_replay, run_status};
 use std::test::Fail;
@@ -14,7 +14,7 @@ const PROFILE: &str = r#"{"hash":"sha1","timestamp":[9,0],
 
 const LINES: &str = "0 modified -c- \"a\"\n";
 
-// The refreshed profile, behind what was there.
+// The refreshed profile, after the bytes that were there before.
 const REFRESHED: &str = concat!(
     r#"before {"hash":"sha1","index":[{"ctime":[5,0],"dev":0,"flags":[],"gid":0,"#,
     r#""id":"19102815663d23f8b75a47e7a01965dcdc96468c","ino":0,"mode":"100644","mtime":[5,0],"path":"a","size":3,"#,
@@ -50,7 +50,8 @@ fn a_profile_that_cannot_be_replayed_is_refused(rt: HostRuntime) {
     assert_eq!(rt; faults.as_slice(), "not JSON\n".as_bytes());
 }
 
-// Profiles, and what their refresh returns, prints and tells, and leaves behind `before `.
+// Profiles. For each: the exit status of `refresh`, its output, its line on standard error, and the file, which had
+// `before `.
 static REFRESHES: [(&str, u8, &str, &str, &str); 2] = [
     (PROFILE, 0, LINES, "", REFRESHED),
     (SORTED, 1, "", "bad profile: options\n", "before "),

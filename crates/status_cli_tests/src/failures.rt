@@ -15,7 +15,8 @@ use std::io;
 use std::process::Abort;
 use std::test::Fail;
 
-// Errors of each kind come one after the other, and not in an array: to drop an array of them takes a long proof.
+// The errors of each kind are made one after the other, and not in an array: it takes a long proof to drop an array of
+// them.
 
 static FAULTS: [(Fault, &str); 9] = [
     (Fault::NotFound, "status failed: not found\n"),
@@ -37,7 +38,7 @@ static FAULTS: [(Fault, &str); 9] = [
 
 const MEMORY: &str = "out of memory\n";
 
-// Whether a failure ends the program with status 1 and this line.
+// Returns whether a failure ends the program with status 1 and this line.
 fn is_reported(alloc: Global, failure: Failure, line: &str) -> bool {
     let mut faults = Vec::new(alloc);
     let status = failure.report(alloc, "d/f", &mut faults);
@@ -66,12 +67,12 @@ fn assert_refused<R: AllocGlobal + Abort>(rt: &R, refusal: Refusal, line: &str) 
     assert!(rt; is_reported(rt.alloc(), failure, line), "{line}");
 }
 
-// Asserts that a failure is want of memory.
+// Asserts that a failure is out of memory.
 fn assert_memory<R: AllocGlobal + Abort>(rt: &R, name: &str, failure: Failure) {
     assert!(rt; is_reported(rt.alloc(), failure, MEMORY), "{name}");
 }
 
-// The error of a submodule, whose path has to be quoted.
+// Returns the error of a submodule, whose path has to be quoted.
 fn submodule_error(alloc: Global) -> Result<Error, AllocError> {
     Ok(Error::SubmoduleStatus {
         rela_path: ByteText::from_slice(alloc, b"d/\"s\"\n\xff")?,
@@ -79,7 +80,7 @@ fn submodule_error(alloc: Global) -> Result<Error, AllocError> {
     })
 }
 
-// The error of a walk that has this fault at `d`.
+// Returns the error of a walk that has this fault at `d`.
 fn walk_error(alloc: Global, fault: Fault) -> Result<JoinedError, AllocError> {
     let rela_path = BString::from_slice(alloc, "d")?;
     Ok(JoinedError::DirWalk(WalkError::Fault { rela_path, fault }))
@@ -102,7 +103,7 @@ fn each_error_of_a_status_has_its_words(rt: HostRuntime) -> Result<(), Fail> {
     Ok(())
 }
 
-// Asserts the words of the errors of a status with renames that name a fault.
+// Asserts the lines of the errors of a status with renames that have a fault.
 fn assert_joined_faults<R: AllocGlobal + Abort>(rt: &R) {
     let open = JoinedError::OpenWorktreeFile(Fault::Other(7));
     assert_joined(rt, open, "status failed: open: other 7\n");
@@ -114,7 +115,7 @@ fn assert_joined_faults<R: AllocGlobal + Abort>(rt: &R) {
     assert_joined(rt, convert, "status failed: convert: interrupted\n");
 }
 
-// Asserts that the errors of a status have their words in one with renames too.
+// Asserts that an error of a status has the same line in a status with renames.
 fn assert_joined_errors<R: AllocGlobal + Abort>(rt: &R) {
     let fault = JoinedError::TrackedFileModifications(Error::Io(Fault::NotNormal));
     assert_joined(rt, fault, "status failed: not normal\n");
@@ -149,7 +150,7 @@ fn each_refusal_that_no_event_meets_has_its_words(rt: HostRuntime) {
     assert_refused(&rt, Refusal::OtherIndex, "refused 3: other index\n");
 }
 
-// Want of memory before a status.
+// Asserts the failures for out of memory before a status.
 fn assert_memory_before<R: AllocGlobal + Abort>(rt: &R) {
     assert_memory(rt, "a buffer", Failure::Memory);
     let unread = io::Error::from(io::ErrorKind::OutOfMemory);
@@ -163,7 +164,7 @@ fn assert_memory_before<R: AllocGlobal + Abort>(rt: &R) {
     assert_memory(rt, "a start", Failure::of_start(Refusal::Memory));
 }
 
-// Want of memory in a status, by itself and as a run.
+// Asserts the failures for out of memory in a status, alone and as a run.
 fn assert_memory_of_a_status<R: AllocGlobal + Abort>(rt: &R) {
     assert_failed(rt, Error::Memory, MEMORY);
     assert_failed(rt, Error::Io(Fault::Memory), MEMORY);
@@ -173,7 +174,7 @@ fn assert_memory_of_a_status<R: AllocGlobal + Abort>(rt: &R) {
     assert_refused(rt, Refusal::Run(Error::Io(Fault::Memory)), MEMORY);
 }
 
-// Want of memory in a status with renames.
+// Asserts the failures for out of memory in a status with renames.
 fn assert_memory_of_renames<R: AllocGlobal + Abort>(rt: &R) {
     assert_joined(rt, JoinedError::Memory, MEMORY);
     let modifications = JoinedError::TrackedFileModifications(Error::Memory);

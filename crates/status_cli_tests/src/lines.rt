@@ -1,4 +1,4 @@
-//! Lines of records: of changes that no profile causes, and of paths of all kinds of bytes. And the line of totals.
+//! Lines of records: of changes that no profile causes, and of paths with all kinds of bytes. And the line of totals.
 
 use bstr::BStr;
 use gix_status::index::Mode;
@@ -9,7 +9,7 @@ use std::test::Fail;
 
 type Told = EntryStatus<(), ()>;
 
-// Whether this is the line of a record of entry 12.
+// Returns whether this is the line of a record of entry 12.
 fn is_line(alloc: Global, path: &[u8], told: &Told, want: &str) -> bool {
     let mut line = Vec::new(alloc);
     let pushed = push_record(&mut line, alloc, 12, BStr::new(path), told);

@@ -13,7 +13,7 @@ const NONE: Asked = Asked {
     tracker: false,
 };
 
-/// The entry `a` is gone, and `b` is untracked. It isn't walked.
+/// The entry `a` is gone, and `b` is untracked. The worktree isn't walked.
 const UNWALKED: Row<'static> = Row {
     name: "nothing is asked",
     entries: &[("a", RowEntry::Foo)],
@@ -27,7 +27,7 @@ const UNWALKED: Row<'static> = Row {
     ..PLAIN
 };
 
-/// The same, and it is walked.
+/// The same, with a walk.
 const WALKED: Row<'static> = Row {
     name: "the walk is asked",
     dirwalk: true,

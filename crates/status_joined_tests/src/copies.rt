@@ -1,4 +1,4 @@
-//! Copies of what the joined call takes and reports.
+//! Copies of the options of the joined call, and of its records.
 
 use crate::entries::{RowEntry, RowNode, index, worktree};
 use crate::lines::lines_of;
@@ -21,7 +21,7 @@ const D: Found<'static> = Found {
 /// A record of each form.
 const LINES: &str = "- renamed \"a\" \"b\"\n- added \"c\"\n- copied \"c\" \"d\"\n1 removed \"e\"\n";
 
-// Whether copies of records of each form have their lines.
+// Returns whether copies of records of each form have their lines.
 fn are_copied<R: AllocGlobal + Threads + Wait>(rt: &R) -> Result<bool, Fail> {
     let alloc = rt.alloc();
     let index = index(alloc, &[("a", RowEntry::Foo), ("e", RowEntry::Foo)])?;

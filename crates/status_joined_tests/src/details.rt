@@ -1,4 +1,4 @@
-//! What a record has that its line doesn't say.
+//! Details of a record that its line doesn't have.
 
 use crate::entries::{BAR, FOO};
 use status_base::index::ObjectId;
@@ -10,14 +10,14 @@ use status_walk::Status;
 /// A record of a row. A submodule reports an option of a number.
 pub type Record<'index> = Entry<'index, ObjectId, Option<u64>>;
 
-/// What a record has.
+/// A detail of a record.
 #[derive(Clone, Copy)]
 pub enum Detail<'a> {
     /// No summary.
     NoSummary,
     /// A summary, and the paths of its source and its destination.
     Summary(Summary, &'a str, &'a str),
-    /// A node as the walk handed it out.
+    /// A node as the walk passed it.
     Node(Found<'a>),
     /// A copy of an entry, with the content `bar`.
     CopyOfEntry,
@@ -29,7 +29,7 @@ pub enum Detail<'a> {
     Submodule(Option<u64>),
 }
 
-/// Whether a record has this.
+/// Returns whether a record has this detail.
 pub fn has(record: &Record<'_>, detail: Detail<'_>) -> bool {
     match detail {
         Detail::NoSummary => record.summary().is_none(),

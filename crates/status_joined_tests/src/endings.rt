@@ -1,4 +1,4 @@
-//! What a status takes, or how it fails.
+//! The outcome of a status, or its error.
 
 use crate::exits::{Exit, exit_of};
 use status_call::index_as_worktree;
@@ -8,17 +8,17 @@ use status_walk::Outcome as Walked;
 /// How a status ends.
 #[derive(Clone, Copy)]
 pub enum Ending {
-    /// Both halves come to their end: how many nodes the walk hands out, if there is one, and how many renames and copies
-    /// there are, if they are looked for.
+    /// Both halves get to their end. The numbers are those of the nodes that the walk passes, if there is one, and of
+    /// renames and copies, if they are looked for.
     Whole(Option<usize>, Option<(usize, usize)>),
-    /// The flag ends both halves: how many entries there are, how many of them are looked at, and how many nodes the walk
-    /// hands out, if there is one.
+    /// The flag ends both halves. The numbers are those of the entries, of those that are processed, and of the nodes
+    /// that the walk passes, if there is one.
     Early(usize, usize, Option<usize>),
     /// It fails.
     Failed(Exit),
 }
 
-/// Whether a status that returned this ended so.
+/// Returns whether a call with this result ended so.
 pub fn is_ending(answer: &Result<Outcome, Error>, ending: Ending) -> bool {
     match ending {
         Ending::Whole(nodes, rewritten) => match answer {

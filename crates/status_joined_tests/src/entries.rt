@@ -17,7 +17,7 @@ pub const BAR: ObjectId = ObjectId::Sha1([
     0x9f, 0x30, 0x21, 0x16,
 ]);
 
-/// The id of no bytes, by git.
+/// The id of the empty file, by git.
 const EMPTY: ObjectId = ObjectId::Sha1([
     0xe6, 0x9d, 0xe2, 0x9b, 0xb2, 0xd1, 0xd6, 0x43, 0x4b, 0x8b, 0x29, 0xae, 0x77, 0x5a, 0xd8, 0xc2,
     0xe4, 0x8c, 0x53, 0x91,
@@ -26,18 +26,18 @@ const EMPTY: ObjectId = ObjectId::Sha1([
 /// The second in which all entries were staged.
 pub const STAGED: u32 = 5;
 
-/// A second after that.
+/// A later second.
 const LATER: u32 = 7;
 
-/// The second in which the index was written. No entry is racy.
+/// The second in which the index was written, after all others. No entry is racy.
 const WRITTEN: u32 = 9;
 
-/// What an index has at a path.
+/// The entry at a path of an index.
 #[derive(Clone, Copy)]
 pub enum RowEntry {
     /// A plain file of the content `foo`.
     Foo,
-    /// A plain file of no bytes.
+    /// An empty plain file.
     Empty,
     /// An entry of this mode and the content `foo`.
     Mode(Mode),
@@ -45,7 +45,7 @@ pub enum RowEntry {
     Id(ObjectId),
 }
 
-/// What is in a worktree at a path.
+/// The node at a path of a worktree.
 #[derive(Clone, Copy)]
 pub enum RowNode<'a> {
     /// A file of this content, as old as the entries.
@@ -56,7 +56,7 @@ pub enum RowNode<'a> {
     Link(&'a str),
     /// A directory.
     Directory,
-    /// A node that is no file, link or directory.
+    /// A node that isn't a file, link or directory.
     Other,
 }
 
@@ -86,7 +86,7 @@ fn new_entry(alloc: Global, path: &str, entry: RowEntry) -> Result<NewEntry, All
     })
 }
 
-/// The index of these entries.
+/// Returns the index of these entries.
 pub fn index(alloc: Global, entries: &[(&str, RowEntry)]) -> Result<State, IndexError> {
     let mut list = Vec::new(alloc);
     for (path, entry) in entries {
@@ -121,7 +121,7 @@ fn new_node(alloc: Global, node: RowNode<'_>) -> Result<Node, AllocError> {
     })
 }
 
-/// The worktree of these nodes.
+/// Returns the worktree of these nodes.
 pub fn worktree(alloc: Global, nodes: &[(&str, RowNode<'_>)]) -> Result<MemoryWorktree, TreeError> {
     let mut worktree = MemoryWorktree::new(alloc);
     for (path, node) in nodes {

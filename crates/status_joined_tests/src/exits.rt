@@ -1,4 +1,4 @@
-//! How a status ends, in a word.
+//! How a call ends, as one value.
 
 use status_base::worktree::Fault;
 use status_call::index_as_worktree;
@@ -6,7 +6,7 @@ use status_joined::index_as_worktree_with_renames::{Error, Outcome};
 use status_rewrites::TrackerError;
 use status_walk::WalkError;
 
-/// How a status ended.
+/// How a call ended.
 #[derive(Clone, Copy, PartialEq, Eq)]
 pub enum Exit {
     Reported,
@@ -23,7 +23,7 @@ pub enum Exit {
     Odd,
 }
 
-/// How a status ended that returned this.
+/// Returns how a call with this result ended.
 pub fn exit_of(answer: &Result<Outcome, Error>) -> Exit {
     match answer {
         Ok(_) => Exit::Reported,

@@ -1,4 +1,5 @@
-//! Each fault of the worktree and of the walk, at each point where a status meets one, and which of several comes first.
+//! Each fault of the worktree and of the walk, at each point at which a status meets one, and which of several is
+//! returned.
 
 use crate::endings::Ending;
 use crate::entries::{RowEntry, RowNode};
@@ -29,7 +30,7 @@ const FAULTS: [Fault; 9] = [
     Fault::Other(7),
 ];
 
-/// What the walk hands out, the last path first.
+/// The nodes that the walk passes, the last path first.
 const NODES: [Found<'static>; 3] = [
     Found {
         path: "x",
@@ -64,7 +65,7 @@ const BROKEN: Row<'static> = Row {
     ..REWRITTEN
 };
 
-/// How a status fails that meets a fault at an entry. None if it doesn't.
+/// Returns how a status fails that meets a fault at an entry. None if it doesn't fail.
 fn entry_exit(point: Point, fault: Fault) -> Option<Exit> {
     match (point, fault) {
         (Point::Lstat, Fault::NotFound | Fault::NotADirectory) => None,
@@ -74,7 +75,7 @@ fn entry_exit(point: Point, fault: Fault) -> Option<Exit> {
     }
 }
 
-/// How a status fails that meets a fault at a node whose id it computes. None if it doesn't.
+/// Returns how a status fails that meets a fault at a node whose id it computes. None if it doesn't fail.
 fn node_exit(point: Point, fault: Fault) -> Option<Exit> {
     match (point, fault) {
         (_, Fault::Memory) => Some(Exit::Memory),
@@ -85,7 +86,7 @@ fn node_exit(point: Point, fault: Fault) -> Option<Exit> {
     }
 }
 
-/// A point where this status calls the worktree, the fault's path, and whether an entry has it.
+/// The name of a row, a call of the worktree, its path, and whether it is made for an entry.
 type Place<'a> = (&'a str, Point, &'a str, bool);
 
 static PLACES: [Place; 8] = [
@@ -99,8 +100,8 @@ static PLACES: [Place; 8] = [
     ("target of n", Point::ReadLink, "n", false),
 ];
 
-/// The lines of a status that a fault doesn't end, and how many renames it finds: an entry that isn't found is removed,
-/// and a file that isn't opened has no id.
+/// Returns the lines of a status that a fault doesn't end, and how many renames it finds. An entry that isn't found is
+/// removed, and a file that isn't opened has no id.
 fn lines(point: Point, sorted: bool) -> (&'static str, usize) {
     match (point, sorted) {
         (Point::Lstat, true) => (
@@ -122,7 +123,7 @@ fn lines(point: Point, sorted: bool) -> (&'static str, usize) {
     }
 }
 
-// The row of these faults.
+// Returns the row of these faults.
 fn row<'a>(
     faults: &'a [(Point, &'a str, Fault)],
     sorted: bool,
@@ -138,7 +139,7 @@ fn row<'a>(
     }
 }
 
-// Asserts how a status ends that meets a fault at a place.
+// Asserts how a status ends that meets a fault at this call of the worktree.
 fn assert_fault<R: AllocGlobal + Abort + Threads + Wait>(
     rt: &R,
     place: &Place<'static>,
@@ -176,7 +177,8 @@ fn each_fault_of_the_worktree_has_its_answer(rt: HostRuntime) -> Result<(), Fail
     Ok(())
 }
 
-// Asserts how a status ends whose walk has a fault. Faults of an entry, of a node and of the tracker come later.
+// Asserts how a status ends whose walk has a fault. The faults of an entry, of a node and of the tracker aren't
+// returned.
 fn assert_walk_fault<R: AllocGlobal + Abort + Threads + Wait>(
     rt: &R,
     fault: Fault,

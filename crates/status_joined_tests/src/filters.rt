@@ -1,4 +1,4 @@
-//! A filter that refuses files, on the way to the id of an untracked one.
+//! A filter that refuses an untracked file whose id is computed.
 
 ghost use Rattle.std.specs.Prelude.{◌≡◌};
 ghost use Rattle.status_base.specs.Conversions.{refused};
@@ -49,7 +49,7 @@ impl ToGit for Refuses {
     }
 }
 
-// Calls by the interfaces that don't depend on the worktree, with a filter that refuses each file.
+// Makes the joined call over any worktree, with a filter that refuses each file.
 fn report_by<
     'index,
     R: AllocGlobal + Threads + Wait,
@@ -86,7 +86,8 @@ where
     }
 }
 
-// Whether a status ends by the fault of its filter, with no record. `b` is a link, which is not passed to a filter.
+// Returns whether a status ends by the fault of its filter, without records. `b` is a link, which isn't passed to a
+// filter.
 fn is_refused<R: AllocGlobal + Threads + Wait>(rt: &R, fault: Fault) -> Result<bool, Fail> {
     let alloc = rt.alloc();
     let index = index(alloc, &[("a", RowEntry::Foo)])?;

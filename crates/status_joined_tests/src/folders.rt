@@ -15,12 +15,13 @@ use std::test::Fail;
 use std::thread::Threads;
 use std::{env, fs, io, process};
 
-// The path of a name in a folder.
+// Returns the path of a name in a folder.
 fn within<R: AllocGlobal>(rt: &R, folder: &str, name: &str) -> io::Result<String> {
     Ok(format!(in rt.alloc(); "{folder}/{name}")?)
 }
 
-// A new folder of temporary files, with an empty file `c`, a file `d/b` of the content `foo` and a link `d/l` to `c`.
+// Makes a new folder of temporary files, with an empty file `c`, a file `d/b` of the content `foo` and a link `d/l` to
+// `c`.
 fn new_folder<R: Env + Files + AllocGlobal>(rt: &R, id: u32) -> io::Result<String>
 where
     R::File: Drop,
@@ -36,7 +37,7 @@ where
     Ok(folder)
 }
 
-// Asserts what is reported of a folder, next to an index with a file `a` of the content `foo`.
+// Asserts the report of a folder, with an index that has a file `a` of the content `foo`.
 fn assert_reported<R: AllocGlobal + Abort + Files + Sync + Threads + Wait>(
     rt: &R,
     root: &str,

@@ -20,7 +20,7 @@ use std::sync::atomic::{AtomicBool, AtomicUsize, Ordering};
 #[derive(Clone, Copy, PartialEq, Eq)]
 pub struct Asked {
     pub walk: bool,
-    /// `lstat` or `open` of `b`, which computes its id.
+    /// `lstat` or `open` of `b`, to compute its id.
     pub id: bool,
     pub tracker: bool,
 }
@@ -60,7 +60,7 @@ impl Calls {
 /// The worktree of a row.
 pub type RowWorktree<'a> = Counted<'a, Broken<'a>>;
 
-/// A worktree with these faults.
+/// Returns a worktree with these faults.
 pub fn row_worktree<'a>(
     worktree: MemoryWorktree,
     faults: &'a [(Point, &'a str, Fault)],
@@ -77,9 +77,9 @@ pub fn row_worktree<'a>(
 /// How a worktree is walked.
 #[derive(Clone, Copy)]
 pub enum WalkKind<'a> {
-    /// By the walk that looks for what no entry has.
+    /// By the walk that finds untracked nodes.
     Untracked,
-    /// These nodes are handed out, and then `d` has the fault, if there is one.
+    /// These nodes are passed, and then `d` has the fault, if there is one.
     HandsOut(&'a [Found<'a>], Option<Fault>),
 }
 
@@ -88,7 +88,7 @@ pub enum WalkKind<'a> {
 pub struct RowWalk<'a> {
     pub alloc: Global,
     pub kind: WalkKind<'a>,
-    /// What there is to walk, without the faults.
+    /// The worktree that is walked, without the faults.
     pub nodes: &'a MemoryWorktree,
     pub calls: &'a Calls,
 }
@@ -128,14 +128,14 @@ impl<'a, W: Worktree> Walk<W> for RowWalk<'a> {
 /// A change as a tracker sees it, without its path, and with its id if that counts.
 pub type Seen = (ChangeKind, EntryKind, Option<ObjectId>);
 
-/// What finds renames and copies.
+/// How renames and copies are found.
 #[derive(Clone, Copy)]
 pub enum TrackerKind<'a> {
     /// The tracker that compares ids.
     Identity,
-    /// These are the pairs.
+    /// It returns these pairs.
     Answers(&'a [Told]),
-    /// There are none, if these are the changes. Otherwise it refuses.
+    /// It returns no pairs if these are the changes. Otherwise it refuses.
     Sees(&'a [Seen]),
     /// It refuses, with this code.
     Refuses(u32),
@@ -149,7 +149,7 @@ pub struct RowTracker<'a> {
     pub calls: &'a Calls,
 }
 
-// Whether the changes are these.
+// Returns whether the changes are these.
 fn are_seen<C: Change>(items: &[C], wanted: &[Seen]) -> bool {
     if items.len() != wanted.len() {
         return false;

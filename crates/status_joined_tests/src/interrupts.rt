@@ -19,7 +19,7 @@ const UNSET: Row<'static> = Row {
     ..PLAIN
 };
 
-/// A node that the walk itself calls tracked.
+/// A node that the walk reports as tracked.
 const TRACKED: Found<'static> = Found {
     status: Status::Tracked,
     ..B
@@ -27,7 +27,7 @@ const TRACKED: Found<'static> = Found {
 
 static ROWS: [Row; 4] = [
     UNSET,
-    // The walk sees the flag as it hands out its first node.
+    // The walk sees the flag when it passes its first node.
     Row {
         name: "a flag that is set ends both halves at once",
         nodes: &[

@@ -1,8 +1,8 @@
 //! Tests of the joined call: what no clause of it says.
 //!
-//! Begin at `rows`: a row has a small index, a worktree, what is passed to the call, and what it reports. `walked`,
-//! `rewrites`, `asked`, `ids`, `refusals`, `faults` and `interrupts` are tables of such rows. `threads` has its own, and so
-//! have `filters` and `folders`. `copies` and `words` are of the call's types.
+//! Begin at `rows`: a row has a small index, a worktree, the arguments of the call, and its report. `walked`,
+//! `rewrites`, `asked`, `ids`, `refusals`, `faults` and `interrupts` are tables of such rows. `threads`, `filters` and
+//! `folders` have their own. `copies` and `words` are about the call's types.
 #![tactic(auto)]
 
 #[cfg(test)]

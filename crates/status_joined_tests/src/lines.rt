@@ -5,8 +5,8 @@ use status_joined::index_as_worktree_with_renames::{Entry, Summary};
 use status_walk::Status;
 use std::alloc::{AllocError, Global};
 
-/// A line for each record, in order: its place in the index or `-`, a word, and its path. A rename or a copy has both
-/// paths.
+/// Returns a line for each record, in order: its index position or `-`, a word, and its path. A rename or a copy has
+/// both paths.
 pub fn lines_of<U>(
     alloc: Global,
     records: &[Entry<'_, ObjectId, U>],

@@ -1,4 +1,4 @@
-//! Rows: a small index, a worktree and what is passed to the call, and what it reports.
+//! Rows: a small index, a worktree, the arguments of the call, and its report.
 
 use crate::details::{Detail, Record, has};
 use crate::endings::{Ending, is_ending};
@@ -21,7 +21,7 @@ use std::sync::atomic::AtomicBool;
 use std::test::Fail;
 use std::thread::Threads;
 
-/// An index, a worktree, what is passed to the call, and what it reports.
+/// An index, a worktree, the arguments of the call, and its report.
 #[derive(Clone, Copy)]
 pub struct Row<'a> {
     pub name: &'a str,
@@ -32,7 +32,7 @@ pub struct Row<'a> {
     pub tracker: TrackerKind<'a>,
     /// The change that each submodule reports.
     pub submodules: Option<Option<u64>>,
-    /// What is listed, if `fscache` is set.
+    /// The listings, if `fscache` is set.
     pub directories: &'a [Directory<'a>],
     pub fscache: bool,
     pub sorted: bool,
@@ -44,14 +44,14 @@ pub struct Row<'a> {
     /// How many records the collector has memory for.
     pub room: usize,
     pub lines: &'a str,
-    /// What the records at these places have.
+    /// Details of the records at these positions.
     pub details: &'a [(usize, Detail<'a>)],
     /// Which parts are called, if that counts.
     pub asked: Option<Asked>,
     pub ending: Ending,
 }
 
-/// Nothing is in the index or the worktree. All is walked and sorted, and no renames are looked for.
+/// An empty index and an empty worktree. It is walked, the list is sorted, and no renames are looked for.
 pub const PLAIN: Row<'static> = Row {
     name: "",
     entries: &[],
@@ -74,7 +74,7 @@ pub const PLAIN: Row<'static> = Row {
     ending: Ending::Whole(Some(0), None),
 };
 
-/// Renames and copies, but not of files with no bytes.
+/// Renames and copies, except those of empty files.
 pub const RENAMES: Option<Rewrites> = Some(Rewrites { track_empty: false });
 
 /// The same with renames and copies.
@@ -97,14 +97,14 @@ impl Row<'_> {
     }
 }
 
-/// What the call reported to its collector, and what it returned.
+/// The records of the call's collector, and its result.
 #[derive(Drop)]
 struct Report<'index> {
     records: Vec<Record<'index>>,
     answer: Result<Outcome, Error>,
 }
 
-// Calls by the interfaces that don't depend on the worktree.
+// Makes the joined call over any worktree.
 fn report_by<
     'index,
     R: AllocGlobal + Threads + Wait,
@@ -147,7 +147,7 @@ where
     }
 }
 
-// Whether the records have these details.
+// Returns whether the records have these details.
 fn have(records: &[Record<'_>], details: &[(usize, Detail<'_>)]) -> bool {
     for (place, detail) in details {
         match records.get(*place) {
@@ -158,7 +158,7 @@ fn have(records: &[Record<'_>], details: &[(usize, Detail<'_>)]) -> bool {
     true
 }
 
-/// Whether the call reports what a row says.
+/// Returns whether the call has the report of a row.
 pub fn is_right<R: AllocGlobal + Threads + Wait>(rt: &R, row: &Row<'_>) -> Result<bool, Fail> {
     let alloc = rt.alloc();
     let calls = Calls::new();

@@ -1,4 +1,4 @@
-//! Threads of the joined call: both halves at once, a flag that is set meanwhile, and one worker or two.
+//! Threads of the joined call: both halves at once, a flag that is set during the call, and one worker or two.
 
 ghost use Rattle.std.specs.Prelude.{None, false, Err};
 ghost use Rattle.status_index.specs.declared.fault.Fault.TheVariants.{NotFound};
@@ -23,18 +23,18 @@ use std::test::Fail;
 use std::thread;
 use std::thread::Threads;
 
-/// What the threads of a status tell each other.
+/// Signals between the threads of a status.
 #[derive(Drop)]
 struct Signals {
-    /// Whether a look goes on.
+    /// Whether a call of `lstat` is running.
     looks: AtomicBool,
-    /// Whether any look began.
+    /// Whether any call of `lstat` began.
     looked: AtomicBool,
-    /// Whether a look began while another went on.
+    /// Whether a call of `lstat` began while another was running.
     overlaps: AtomicBool,
-    /// Whether a look ended although what it waits for didn't come.
+    /// Whether a call of `lstat` ended without the event that it waits for.
     misses: AtomicBool,
-    /// Set by the walk once a look began.
+    /// Set by the walk, after a call of `lstat` began.
     flag: AtomicBool,
 }
 
@@ -49,13 +49,13 @@ impl Signals {
         }
     }
 
-    // The flag, if it is to be passed to the call.
+    // Returns the flag, if it is to be passed to the call.
     fn passed(&self, is_passed: bool) -> Option<&AtomicBool> {
         if is_passed { Some(&self.flag) } else { None }
     }
 }
 
-// Whether a flag is set before so many turns are over.
+// Returns whether a flag is set within so many turns.
 fn comes(flag: &AtomicBool, turns: u64) -> bool {
     for _ in 0..turns {
         if flag.load(Ordering::SeqCst) {
@@ -66,16 +66,16 @@ fn comes(flag: &AtomicBool, turns: u64) -> bool {
     false
 }
 
-/// What a look at a path waits for.
+/// The event that a call of `lstat` waits for.
 #[derive(Clone, Copy)]
 enum Awaits {
     /// The walk's flag.
     Flag,
-    /// That another look begins.
+    /// Another call begins.
     Overlap,
 }
 
-/// A worktree in memory each of whose looks waits so many turns at most.
+/// A worktree in memory. Each call of its `lstat` waits for at most `turns` turns.
 #[derive(Drop)]
 struct Watched<'a> {
     worktree: MemoryWorktree,
@@ -121,10 +121,10 @@ impl<'a> Worktree for Watched<'a> {
     }
 }
 
-/// As many turns as a look or a walk waits for what has to come.
+/// How many turns a call of `lstat` or a walk waits for an event that has to come.
 const MANY: u64 = 100_000_000;
 
-/// Hands out `b`, sets the flag once a look began, and hands out `c` and `d`.
+/// Passes `b`, sets the flag after a call of `lstat` began, and then passes `c` and `d`.
 #[derive(Clone, Copy)]
 struct SetsFlag<'a> {
     alloc: Global,
@@ -165,7 +165,7 @@ impl<'a, W: Worktree> Walk<W> for SetsFlag<'a> {
     }
 }
 
-/// What a status reports some of whose threads have to meet.
+/// A status some of whose threads have to meet, and its report.
 #[derive(Clone, Copy)]
 struct Row<'a> {
     name: &'a str,
@@ -179,13 +179,13 @@ struct Row<'a> {
     workers: Option<usize>,
     lines: &'a str,
     ending: Ending,
-    /// Whether a look begins while another goes on.
+    /// Whether a call of `lstat` begins while another is running.
     overlaps: bool,
-    /// Whether a look ends although what it waits for doesn't come.
+    /// Whether a call of `lstat` ends without the event that it waits for.
     misses: bool,
 }
 
-/// Both halves meet: the look at `a` ends only once the walk sets the flag, and the walk waits for that look.
+/// Both halves meet. `lstat` of `a` ends only after the walk sets the flag, and the walk waits for that call to begin.
 const HALVES: Row<'static> = Row {
     name: "the walk and the status run at the same time",
     entries: &[("a", RowEntry::Foo), ("e", RowEntry::Foo)],
@@ -200,7 +200,7 @@ const HALVES: Row<'static> = Row {
     misses: false,
 };
 
-/// Two workers meet: the look at the first path ends only once the other worker looks at the second.
+/// Two workers meet. `lstat` of the first path ends only after the other worker calls `lstat` of the second.
 const WORKERS: Row<'static> = Row {
     name: "two workers of the status run at the same time",
     awaits: Awaits::Overlap,
@@ -251,7 +251,7 @@ impl Row<'_> {
     }
 }
 
-// Whether a status reports what a row says.
+// Returns whether a status has the report of a row.
 fn is_right<R: AllocGlobal + Threads + Wait>(rt: &R, row: &Row<'_>) -> Result<bool, Fail> {
     let alloc = rt.alloc();
     let signals = Signals::new();

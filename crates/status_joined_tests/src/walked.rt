@@ -1,4 +1,4 @@
-//! What the index and a walk report side by side.
+//! The records of an index and the nodes of a walk, in one report.
 
 use crate::details::Detail;
 use crate::endings::Ending;
@@ -51,7 +51,7 @@ const NODES: [Found<'static>; 6] = [
     },
 ];
 
-/// The untracked directory `d`, reported for nodes that are ignored.
+/// The untracked directory `d`, which a walk passes in place of ignored nodes.
 const COLLAPSED: Found<'static> = Found {
     path: "d",
     disk_kind: Some(Kind::Directory),
@@ -77,7 +77,7 @@ const LISTED: &[Directory<'static>] = &[(
 )];
 
 static ROWS: [Row; 10] = [
-    // A node that can't be tracked is handed out, and not reported.
+    // A node that can't be tracked is passed by the walk, and not reported.
     Row {
         name: "what is untracked comes beside what was removed",
         entries: &[("a", RowEntry::Foo)],

@@ -1,4 +1,4 @@
-//! What errors of the joined call show.
+//! The texts of errors of the joined call.
 
 use bstr::BString;
 use status_base::worktree::{Fault, FindError};
@@ -78,13 +78,13 @@ static WORDS: [(Failure, &str); 16] = [
     (Failure::Memory, "Out of memory"),
 ];
 
-// Whether this is what an error shows.
+// Returns whether an error has this text.
 fn is_shown(alloc: Global, error: Error, want: &str) -> Result<bool, AllocError> {
     let text = format!(in alloc; "{error}")?;
     Ok(text.as_str() == want)
 }
 
-// The error of a submodule at `sub`.
+// Returns the error of a submodule at `sub`.
 fn submodule_error(alloc: Global) -> Result<Error, AllocError> {
     let error = index_as_worktree::Error::SubmoduleStatus {
         rela_path: ByteText::from_slice(alloc, b"sub")?,
@@ -93,7 +93,7 @@ fn submodule_error(alloc: Global) -> Result<Error, AllocError> {
     Ok(Error::from(error))
 }
 
-// The error of a walk at `d`.
+// Returns the error of a walk at `d`.
 fn walk_error(alloc: Global) -> Result<Error, AllocError> {
     Ok(Error::DirWalk(WalkError::Fault {
         rela_path: BString::from_slice(alloc, b"d")?,

@@ -8,7 +8,7 @@ use std::alloc::{AllocError, Global};
 use std::process::Abort;
 use std::test::Fail;
 
-// The next number, or None for a seat that is done.
+// Returns the next number. None if the seat is done.
 fn draw(board: &Board, seat: &mut Seat) -> Option<usize>
     requires { seat.old.board ≡ board.now.id }
     ensures { seat.new.board ≡ seat.old.board }
@@ -35,7 +35,7 @@ fn barred(board: &Board, seat: &mut Seat, piece: usize) -> bool
     board.barred(seat, piece)
 }
 
-// Asserts what two seats draw and see of three pieces.
+// Asserts what two seats draw of three pieces, and which pieces are barred.
 fn assert_drawn<R: Abort>(rt: &R, board: &Board, s: &mut Seat, t: &mut Seat)
     requires of_s { s.old.board ≡ board.now.id }
     requires of_t { t.old.board ≡ board.now.id }
@@ -55,7 +55,7 @@ fn assert_drawn<R: Abort>(rt: &R, board: &Board, s: &mut Seat, t: &mut Seat)
     assert!(rt; s.is_done() && t.is_done());
 }
 
-// The tally of a board that two seats used, where one of them comes back, or both.
+// Returns the tally of a board that two seats used, after one of them comes back, or both.
 fn tally_of<R: Abort>(rt: &R, alloc: Global, both: bool) -> Result<Option<Tally>, AllocError> {
     let (board, mut seats) = opened(alloc, 3, 2)?;
     let mut t = seat_of(rt, &board, &mut seats);

@@ -11,7 +11,7 @@ use std::test::Fail;
 use std::thread;
 use std::thread::{Promise, Threads};
 
-/// What a worker brings back.
+/// The seat of a worker, and the numbers that it drew.
 #[derive(Drop)]
 struct Drawn {
     seat: Seat,
@@ -64,7 +64,7 @@ fn three<R: Threads + Wait>(
     )
 }
 
-// Marks these numbers by 1, and says whether each was there to be marked.
+// Marks these numbers by 1. Returns whether each has a mark, and wasn't marked before.
 fn is_marked(marks: &mut Vec<u8>, numbers: &[usize]) -> bool {
     for number in numbers {
         if *number < marks.len() && marks[*number] == 0 {
@@ -76,7 +76,7 @@ fn is_marked(marks: &mut Vec<u8>, numbers: &[usize]) -> bool {
     true
 }
 
-// Whether each number below a thousand is in one of these lists once.
+// Returns whether each number below a thousand is in exactly one of these lists, once.
 fn is_each_once(alloc: Global, one: &[usize], two: &[usize], three: &[usize]) -> bool {
     let Ok(mut marks) = Vec::from_elem(alloc, 0u8, 1000) else {
         return false;
@@ -89,7 +89,7 @@ fn is_each_once(alloc: Global, one: &[usize], two: &[usize], three: &[usize]) ->
     !marks.contains(&0)
 }
 
-// What a board says when three seats come back.
+// Closes a board with three seats, and returns its tally.
 fn tally_of_three(
     alloc: Global,
     board: Board,

@@ -69,7 +69,7 @@ impl Find for NoObjects {
     }
 }
 
-// An index of one entry, of the content `foo`.
+// Returns an index of one entry, of the content `foo`.
 fn index_of_foo(alloc: Global, size: u32) -> Result<State, Error> {
     let mut entries = Vec::new(alloc);
     entries.push(NewEntry {
@@ -88,7 +88,7 @@ fn index_of_foo(alloc: Global, size: u32) -> Result<State, Error> {
     }
 }
 
-// A file or link of these bytes, whose length is said to be `len`, against `foo` with this size.
+// A file or link of these bytes, for which `lstat` reports the length `len`, and an entry `foo` with this size.
 #[derive(Clone, Copy)]
 struct Case<'a> {
     bytes: &'a [u8],
@@ -129,7 +129,7 @@ where
     Ok((change, reader.reads))
 }
 
-// One file or link was read, and this many bytes.
+// Returns the reads of one file or link with so many bytes.
 fn one_read(bytes: u64) -> Reads {
     Reads {
         bytes,
@@ -147,7 +147,7 @@ fn plain(bytes: &[u8], len: u64, size: u32) -> Case<'_> {
     }
 }
 
-// Whether a comparison reports this change after these reads.
+// Returns whether a comparison reports this change after these reads.
 fn is_compared<C: CompareBlobs>(
     alloc: Global,
     comparer: C,
@@ -193,7 +193,7 @@ fn sizes_decide_without_a_read(rt: HostRuntime) {
     }
 }
 
-// Why reading to the end fails.
+// Returns why reading to the end fails. None if it doesn't.
 fn end_of<S: Read>(stream: &mut S, all: &mut Vec<u8>) -> Option<ErrorKind> {
     match stream.read_to_end(all) {
         Ok(_) => None,

@@ -13,13 +13,13 @@ use std::test::Fail;
 use std::time::Duration;
 use std::{fs, io, process};
 
-// What lstat reports of a node, its stamps aside.
+// Returns the kind and the length that `lstat` reports.
 fn kind_and_len<W: Worktree>(worktree: &W, path: &[u8]) -> Result<(NodeKind, u64), Fault> {
     let found = worktree.lstat(BStr::new(path))?;
     Ok((found.kind, found.len))
 }
 
-// Whether lstat reports all of this.
+// Returns whether `lstat` reports exactly this node.
 fn is_node<W: Worktree>(worktree: &W, path: &[u8], node: &Metadata) -> bool {
     match worktree.lstat(BStr::new(path)) {
         Ok(found) => found == *node,
@@ -27,7 +27,7 @@ fn is_node<W: Worktree>(worktree: &W, path: &[u8], node: &Metadata) -> bool {
     }
 }
 
-// Whether this is the stamp of a node's content and of the node.
+// Returns whether this is both the `mtime` and the `ctime` of a node.
 fn has_stamp<W: Worktree>(worktree: &W, path: &[u8], stamp: Option<Time>) -> bool {
     match worktree.lstat(BStr::new(path)) {
         Ok(found) => found.mtime == stamp && found.ctime == stamp,
@@ -49,7 +49,7 @@ fn open_fault<W: Worktree>(worktree: &W, path: &[u8]) -> Option<Fault> {
     }
 }
 
-// Whether a node is opened, and then a read fails by this.
+// Returns whether a node is opened, and then a read fails by this fault.
 fn fails_to_read<W: Worktree>(worktree: &W, path: &[u8], fault: Fault) -> bool {
     match worktree.open(BStr::new(path)) {
         Ok(mut file) => file.read_bytes(&mut [0; 8]) == Err(fault),
@@ -57,14 +57,14 @@ fn fails_to_read<W: Worktree>(worktree: &W, path: &[u8], fault: Fault) -> bool {
     }
 }
 
-// Whether reading a link gives this target in place of what the buffer held.
+// Returns whether reading a link replaces the bytes in the buffer by this target.
 fn leads_to<W: Worktree>(worktree: &W, path: &[u8], buffer: &mut Vec<u8>, target: &str) -> bool {
     buffer.extend_from_slice(b"before").is_ok()
         && worktree.read_link(BStr::new(path), buffer).is_ok()
         && buffer.as_slice() == target.as_bytes()
 }
 
-// Whether reading a link fails by this, and nothing is left in the buffer.
+// Returns whether reading a link fails by this fault, and leaves the buffer empty.
 fn leads_nowhere<W: Worktree>(
     worktree: &W,
     path: &[u8],
@@ -76,32 +76,32 @@ fn leads_nowhere<W: Worktree>(
         && buffer.is_empty()
 }
 
-// Whether each call fails by this.
+// Returns whether each call fails by this fault.
 fn is_nothing<W: Worktree>(worktree: &W, path: &[u8], buffer: &mut Vec<u8>, fault: Fault) -> bool {
     kind_and_len(worktree, path) == Err(fault)
         && open_fault(worktree, path) == Some(fault)
         && leads_nowhere(worktree, path, buffer, fault)
 }
 
-// What is to be found at a path.
+// The expected result of a call at a path.
 #[derive(Clone, Copy)]
 enum Look<'a> {
     // The kind and the length, or the fault.
     Lstat(Result<(NodeKind, u64), Fault>),
     Kind(NodeKind),
-    // All that lstat reports.
+    // All that `lstat` reports.
     Whole(Metadata),
-    // Both stamps.
+    // The `mtime` and the `ctime`, which are equal.
     Stamp(Option<Time>),
-    // The fault of opening, or None where the node is opened.
+    // The fault of opening, or None if the node is opened.
     Open(Option<Fault>),
-    // It is opened, and then a read fails by this.
+    // It is opened, and then a read fails by this fault.
     Read(Fault),
     // A link with this target.
     Target(&'a str),
-    // Reading a link fails by this.
+    // Reading a link fails by this fault.
     NoTarget(Fault),
-    // Each call fails by this.
+    // Each call fails by this fault.
     Nothing(Fault),
 }
 
@@ -119,7 +119,7 @@ fn is_met<W: Worktree>(worktree: &W, path: &[u8], buffer: &mut Vec<u8>, look: Lo
     }
 }
 
-// Asserts what is found at these paths of a folder.
+// Asserts the results at these paths of a folder.
 fn assert_looks<R: Files + AllocGlobal + Abort>(
     rt: &R,
     folder: &str,
@@ -137,7 +137,7 @@ fn assert_looks<R: Files + AllocGlobal + Abort>(
     Ok(())
 }
 
-// Asserts what is found in a folder of a test's own that is filled so.
+// Asserts the results in a new folder with these nodes.
 fn assert_found<R: Env + Files + AllocGlobal + Abort>(
     rt: &R,
     test: &str,
@@ -155,7 +155,7 @@ where
     Ok(())
 }
 
-// The kind of a node in a worktree that threads may share.
+// Returns the kind of a node in a worktree that threads may share.
 fn shared_kind<W: Worktree + Sync>(worktree: &W, path: &[u8]) -> Result<NodeKind, Fault> {
     Ok(worktree.lstat(BStr::new(path))?.kind)
 }
@@ -237,7 +237,7 @@ fn long_paths_lead_below_the_folder(rt: HostRuntime) -> Result<(), Fail> {
         name.push_str("long name_")?;
     }
     let name = name.as_str();
-    // Of more bytes than a path for which no memory is taken.
+    // The path is longer than one for which no memory is taken.
     let path = within(&rt, name, name)?;
     let path = path.as_str();
     let nodes = [(name, Node::Folder), (path, Node::File("foo"))];
@@ -287,8 +287,8 @@ fn nothing_is_found_where_no_folder_is(rt: HostRuntime) -> Result<(), Fail> {
     assert_looks(&rt, folder.as_str(), &[look])
 }
 
-// What lstat says of the file `d/b` of 3 bytes in a folder whose `d` no one may read. The system lets root read
-// everything, so that root meets no fault here, unless that right was taken away.
+// Returns the result of `lstat` for the file `d/b` of 3 bytes, in a folder whose `d` no one may read. The system lets
+// root read everything, so root gets no fault here, unless that right was taken away.
 fn found_when_locked<R: Files + AllocGlobal>(
     rt: &R,
     folder: &str,
@@ -300,7 +300,7 @@ fn found_when_locked<R: Files + AllocGlobal>(
     }
 }
 
-// Asserts what is found of a file and a folder that may not be read.
+// Asserts the results for a file and a folder that may not be read.
 fn assert_locked<R: Files + AllocGlobal + Abort>(rt: &R, folder: &str) -> Result<(), Fail>
 where
     R::File: Drop,
@@ -327,13 +327,13 @@ where
 fn unreadable_nodes_are_refused(rt: HostRuntime) -> Result<(), Fail> {
     let folder = new_folder(&rt, "unreadable", process::id(rt.process()))?;
     assert_locked(&rt, folder.as_str())?;
-    // What may not be read can't be taken away.
+    // A folder that may not be read can't be removed.
     fill(&rt, folder.as_str(), &[("d", Node::Mode(0o700))])?;
     fs::remove_dir_all(&rt, folder.as_str())?;
     Ok(())
 }
 
-// The id of the first `len` bytes of the file `a`, and then what one more read says.
+// Returns the id of the first `len` bytes of the file `a`, and the result of one more read.
 fn read_to<W: Worktree>(
     worktree: &W,
     len: u64,
@@ -352,7 +352,7 @@ where
     fs::write(rt, path, content.as_slice())
 }
 
-// Takes bytes away from the end of a file, so that this many are left.
+// Removes bytes at the end of a file, so that this many are left.
 fn shorten<R: Files>(rt: &R, path: &str, len: u64) -> io::Result<()>
 where
     R::File: Drop,
@@ -360,7 +360,7 @@ where
     writer(rt, path)?.set_len(len)
 }
 
-// What the id of a file says that shrinks once it is open.
+// Returns the id of a file that is shortened after it is opened, or the fault.
 fn read_shortened<R: Files, W: Worktree>(
     rt: &R,
     worktree: &W,
@@ -392,7 +392,7 @@ const LONG: [(u64, [u8; 20]); 2] = [
     ),
 ];
 
-// Asserts how the file `a` is read from a folder, where it stands at this path.
+// Asserts how the file `a` is read from a folder. The file is at `path`.
 fn assert_pieces<R: Files + AllocGlobal + Abort>(
     rt: &R,
     folder: &str,

@@ -65,8 +65,8 @@ impl Delegate for Lines {
     }
 }
 
-// A walk over the paths that begin with `below`, with room for so many nodes: a line for each that it finds, and one for
-// how it ends.
+// A walk over the paths that begin with `below`, with room for so many nodes. `found` has a line for each node that it
+// passes, and one for how it ends.
 #[derive(Clone, Copy)]
 struct Case<'a> {
     below: &'a str,
@@ -74,7 +74,7 @@ struct Case<'a> {
     found: &'a str,
 }
 
-// A walk over all paths, with room for all.
+// Returns a walk over all paths, with room for all nodes.
 fn all(found: &str) -> Case<'_> {
     Case {
         below: "",
@@ -83,7 +83,7 @@ fn all(found: &str) -> Case<'_> {
     }
 }
 
-// What a walk over a folder finds, by what a worktree's `lstat` says.
+// Returns the lines of a walk over a folder, which uses a worktree's `lstat`.
 fn found<R: Files + AllocGlobal, W: Worktree>(
     rt: &R,
     root: &str,
@@ -108,7 +108,7 @@ fn found<R: Files + AllocGlobal, W: Worktree>(
     Ok(lines.text)
 }
 
-// Asserts what walks over a folder find, by a worktree and beside an index of these entries.
+// Asserts the lines of walks over a folder, with a worktree and an index of these entries.
 fn assert_walks<R: Files + AllocGlobal + Abort, W: Worktree>(
     rt: &R,
     root: &str,
@@ -124,7 +124,7 @@ fn assert_walks<R: Files + AllocGlobal + Abort, W: Worktree>(
     Ok(())
 }
 
-// Asserts the same by the folder's own worktree.
+// Asserts the same with the folder's own worktree.
 fn assert_folder<R: Files + AllocGlobal + Abort>(
     rt: &R,
     root: &str,
@@ -216,8 +216,8 @@ fn a_folder_that_is_not_there_has_nothing(rt: HostRuntime) -> Result<(), Fail> {
     Ok(())
 }
 
-// Whether the system lets this process read what no one may, as it does root unless that right was taken away. The
-// directory `d` of the folder is left with no leave.
+// Returns whether the system lets this process read what no one may. It lets root, unless that right was taken away.
+// The directory `d` of the folder is left without permissions.
 fn reads_all<R: Files + AllocGlobal>(rt: &R, root: &str) -> io::Result<bool>
 where
     R::File: Drop,
@@ -227,7 +227,8 @@ where
     Ok(fs::symlink_metadata(rt, path.as_str()).is_ok())
 }
 
-// Asserts what is found where the directory `d` of a folder has this mode. Who may read everything meets no fault.
+// Asserts the lines of a walk if the directory `d` of a folder has this mode. A process that may read everything gets
+// no fault.
 fn assert_locked<R: Files + AllocGlobal + Abort>(
     rt: &R,
     root: &str,
@@ -251,7 +252,7 @@ fn directories_that_may_not_be_read_are_faults(rt: HostRuntime) -> Result<(), Fa
     let folder = new_folder(&rt, "disk_walk_locked", process::id(rt.process()))?;
     let root = folder.as_str();
     fill(&rt, root, &[("d", Node::Folder), ("d/b", Node::File(""))])?;
-    // Without leave to list, and then with that leave alone.
+    // Without the permission to list, and then with only that permission.
     assert_locked(&rt, root, 0o300, "d: permission denied\n")?;
     assert_locked(&rt, root, 0o400, "d/b: permission denied\n")?;
     fill(&rt, root, &[("d", Node::Mode(0o700))])?;
@@ -259,7 +260,7 @@ fn directories_that_may_not_be_read_are_faults(rt: HostRuntime) -> Result<(), Fa
     Ok(())
 }
 
-// A worktree whose `lstat` is a word of each path's last letter. It isn't modelled.
+// A worktree whose `lstat` depends on the last letter of a path. It isn't modelled.
 struct ByLetter;
 
 impl Worktree for ByLetter {
@@ -324,7 +325,7 @@ fn nodes_are_what_lstat_says(rt: HostRuntime) -> Result<(), Fail> {
     let folder = new_folder(&rt, "disk_walk_lstat", process::id(rt.process()))?;
     let root = folder.as_str();
     fill(&rt, root, &BY_LETTER)?;
-    // What is gone before its `lstat` is passed over.
+    // A node that is gone before its `lstat` is skipped.
     assert_walks(
         &rt,
         root,
@@ -340,7 +341,7 @@ fn nodes_are_what_lstat_says(rt: HostRuntime) -> Result<(), Fail> {
         &[],
         &[all("d/r: permission denied\n")],
     )?;
-    // A walk that was ended before comes to no fault.
+    // A walk that ends before the fault doesn't return it.
     fill(&rt, root, &[("c", Node::File(""))])?;
     let first = Case {
         room: 1,

@@ -1,13 +1,13 @@
-//! Numbers that look drawn.
+//! Pseudorandom numbers.
 
-/// A row of such numbers, each of which follows from the one before.
+/// A sequence of such numbers, each of which is computed from the one before.
 #[derive(Drop)]
 pub struct Draws(pub u64);
 
 impl Draws {
     ghost use Rattle.std.specs.Prelude.{◌<◌};
 
-    /// A number below `bound`.
+    /// Returns the next number, which is below `bound`.
     pub fn below(&mut self, bound: u64) -> u64
         requires { 0 < bound }
         ensures { result < bound }

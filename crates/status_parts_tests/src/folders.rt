@@ -1,4 +1,4 @@
-//! Folders of a test's own.
+//! Folders that tests make.
 
 use std::fs::{File, OpenFile, Permissions};
 use std::os::unix::fs::{PermissionsExt, symlink};
@@ -6,7 +6,7 @@ use std::rt::{Env, Files};
 use std::time::{Duration, UNIX_EPOCH};
 use std::{env, fs, io};
 
-/// A new folder for temporary files, of this test's own.
+/// Makes a new folder of temporary files for a test.
 pub(crate) fn new_folder<R: Env + Files + AllocGlobal>(
     rt: &R,
     test: &str,
@@ -19,7 +19,7 @@ pub(crate) fn new_folder<R: Env + Files + AllocGlobal>(
     Ok(folder)
 }
 
-/// The path of a name in a folder.
+/// Returns the path of a name in a folder.
 pub(crate) fn within<R: AllocGlobal>(rt: &R, folder: &str, name: &str) -> io::Result<String> {
     Ok(format!(in rt.alloc(); "{folder}/{name}")?)
 }
@@ -29,7 +29,7 @@ pub(crate) fn writer<R: Files>(rt: &R, path: &str) -> io::Result<R::File> {
     File::options().write(true).open(rt, path)
 }
 
-/// What is done at a path in a folder.
+/// What `fill` does at a path in a folder.
 #[derive(Clone, Copy)]
 pub(crate) enum Node<'a> {
     /// A file with this text.
@@ -37,13 +37,13 @@ pub(crate) enum Node<'a> {
     /// A link to this target.
     Link(&'a str),
     Folder,
-    /// The file that is there was last changed at this time.
+    /// Sets when the file was last changed.
     Changed(Duration),
-    /// The node that is there has this mode.
+    /// Sets the mode of the node.
     Mode(u32),
 }
 
-// Has a file last changed at this time.
+// Sets when a file was last changed.
 fn set_time<R: Files>(rt: &R, path: &str, time: Duration) -> io::Result<()>
 where
     R::File: Drop,
@@ -67,7 +67,7 @@ where
     }
 }
 
-/// Does these in a folder, in order.
+/// Makes these nodes in a folder, or changes them, in order.
 pub(crate) fn fill<R: Files + AllocGlobal>(
     rt: &R,
     folder: &str,

@@ -1,4 +1,4 @@
-//! Ids of content, held against those of git.
+//! Ids of contents, compared with git's.
 
 use crate::pieces::Piece;
 use status_index::{Fault, HashKind, ObjectId, compute_hash, compute_stream_hash};
@@ -35,7 +35,7 @@ fn ids_are_those_of_git(rt: HostRuntime) {
     }
 }
 
-// The id of the first `len` bytes of `foo`, with this fault behind it.
+// Returns the id of the first `len` bytes of `foo`, after which comes this fault, if any.
 fn hash_foo(fault: Option<Fault>, len: u64) -> Result<ObjectId, Fault> {
     let mut foo = Piece {
         bytes: b"foo",

@@ -1,7 +1,7 @@
 //! Tests of the parts below the status call, and of walks, renames and copies.
 //!
-//! Each module tests what no clause says: values by git or Windows, words, folders, threads, and that a call succeeds.
-//! Begin at `hash`. `pieces`, `draws`, `folders` and `seats` have what several tests use.
+//! Each module tests what no clause states: values by git or Windows, texts, folders, threads, and that a call
+//! succeeds. Begin at `hash`. `pieces`, `draws`, `folders` and `seats` have what several tests use.
 #![tactic(auto)]
 
 #[cfg(test)]

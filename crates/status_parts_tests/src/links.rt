@@ -1,4 +1,4 @@
-//! The check of paths that lead through links: each form of answer, and that the looks that are counted are made.
+//! The check of paths that lead through links: each form of result, and that the counted calls of `lstat` are made.
 
 use bstr::{BStr, BString};
 use status_base::stack::SymlinkCheck;
@@ -8,10 +8,10 @@ use std::process::Abort;
 use std::sync::atomic::{AtomicUsize, Ordering};
 use std::test::Fail;
 
-/// What `lstat` answers at a path.
+/// A path, and the result of `lstat` there.
 type Answer = (&'static str, Result<NodeKind, Fault>);
 
-/// What `lstat` answers. It is NotFound for any other path.
+/// The results of `lstat`. It returns `NotFound` for any other path.
 const ANSWERS: [Answer; 6] = [
     ("a", Ok(NodeKind::Directory)),
     ("a/b", Ok(NodeKind::Directory)),
@@ -21,10 +21,10 @@ const ANSWERS: [Answer; 6] = [
     ("l", Ok(NodeKind::Link)),
 ];
 
-/// The same where a directory has a link's name and more.
+/// The same for a directory whose name begins with that of a link.
 const ALIKE: [Answer; 2] = [("a", Ok(NodeKind::Link)), ("ab", Ok(NodeKind::Directory))];
 
-/// A worktree of such answers, whose looks are counted.
+/// A worktree with these results of `lstat`. It counts the calls.
 #[derive(Drop)]
 struct Counted<'a> {
     answers: &'static [Answer],
@@ -87,23 +87,23 @@ fn node(kind: NodeKind) -> Metadata {
     }
 }
 
-/// A path, whether a directory above it may be absent, what a check below the root `r` answers, and how often it has
-/// looked then.
+/// A path, whether a directory above it may be absent, the result of a check below the root `r`, and how often it has
+/// called `lstat` by then.
 type Row = (&'static str, bool, &'static str, u64);
 
-/// The paths that one check is asked, in turn.
+/// The paths that one check is called with, in order.
 const ROWS: [Row; 18] = [
     ("a", false, "Ok(\"r/a\")", 0),
-    // It looks at `a` and `a/b`; at nothing new; at `a/e`.
+    // It calls `lstat` for `a` and `a/b`; for nothing new; for `a/e`.
     ("a/b/c", false, "Ok(\"r/a/b/c\")", 2),
     ("a/b/d", false, "Ok(\"r/a/b/d\")", 2),
     ("a/e/f", false, "Ok(\"r/a/e/f\")", 3),
-    // A path that isn't normal is refused before any look.
+    // A path that isn't normal is refused before any call of `lstat`.
     ("", false, "Err(EmptyPath)", 3),
     ("a/b/../c", false, "Err(NotNormal { component: \"..\" })", 3),
     ("./a", false, "Err(NotNormal { component: \".\" })", 3),
     ("a//b", false, "Err(NotNormal { component: \"\" })", 3),
-    // It looks at directories, and not at the path itself.
+    // It calls `lstat` for directories, and not for the path itself.
     ("l", false, "Ok(\"r/l\")", 3),
     ("l/x", false, "Err(ThroughLink { prefix: \"l\" })", 4),
     ("l", false, "Ok(\"r/l\")", 4),
@@ -116,13 +116,13 @@ const ROWS: [Row; 18] = [
     ("l/x", true, "Err(ThroughLink { prefix: \"l\" })", 11),
 ];
 
-/// The same of the worktree with a directory `ab` and a link `a`.
+/// The same for the worktree with a directory `ab` and a link `a`.
 const ALIKE_ROWS: [Row; 2] = [
     ("ab/x", false, "Ok(\"r/ab/x\")", 1),
     ("a/x", false, "Err(ThroughLink { prefix: \"a\" })", 2),
 ];
 
-/// What a check answers for a path, which may lead to nothing where that is allowed.
+/// Returns the result of a check for a path, as a text. If `may_be_absent`, the path may lead to nothing.
 fn answer(
     alloc: Global,
     check: &mut SymlinkCheck,
@@ -139,7 +139,7 @@ fn answer(
     format!(in alloc; "{answer:?}")
 }
 
-/// Whether a check answers a row as it says, after as many looks as that many calls, and has its root as before.
+/// Returns whether a check has the result of a row, counts as many calls of `lstat` as were made, and keeps its root.
 fn is_row(
     alloc: Global,
     check: &mut SymlinkCheck,
@@ -153,7 +153,7 @@ fn is_row(
     Ok(found.as_str() == want && is_counted && check.root() == BStr::from("r"))
 }
 
-// Asserts what one check below the root `r` answers for paths in turn.
+// Asserts the results of one check below the root `r`, for paths in order.
 fn assert_rows<R: AllocGlobal + Abort>(
     rt: &R,
     answers: &'static [Answer],

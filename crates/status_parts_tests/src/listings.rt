@@ -1,4 +1,4 @@
-//! Listings of directories, and what Windows says of files.
+//! Listings of directories, and attributes and times of files by Windows.
 
 ghost use Rattle.std.specs.Prelude.{None, false, refl};
 
@@ -9,7 +9,7 @@ use status_index::Time;
 use std::alloc::{AllocError, Global};
 use std::sync::atomic::{AtomicBool, AtomicUsize, Ordering};
 
-/// A directory's path and its names, each with a file's size, or None where it can't be listed.
+/// A directory's path and its names, each with a file's size, or None if it can't be listed.
 type Directory = (&'static str, Option<&'static [(&'static str, u64)]>);
 
 const DIRECTORIES: [Directory; 3] = [
@@ -21,12 +21,12 @@ const DIRECTORIES: [Directory; 3] = [
     ("d", None),
 ];
 
-/// Lists these directories, and counts how often each is asked. It isn't modelled.
+/// Lists these directories, and counts the calls for each. It isn't modelled.
 #[derive(Clone, Copy)]
 struct Table<'a> {
     alloc: Global,
     asked: &'a [AtomicUsize; 3],
-    /// Whether memory is refused at the next listing.
+    /// Whether the next listing is refused memory.
     refuses: &'a AtomicBool,
 }
 
@@ -56,7 +56,7 @@ impl<'a> Lister for Table<'a> {
     }
 }
 
-// Files of these names and sizes.
+// Returns a listing of files with these names and sizes.
 fn listed(alloc: Global, names: &[(&str, u64)]) -> Result<Vec<(BString, Stat)>, AllocError> {
     let mut entries = Vec::new(alloc);
     for (name, size) in names {
@@ -85,7 +85,7 @@ fn counts(asked: &[AtomicUsize; 3]) -> [usize; 3] {
     ]
 }
 
-// The size that the cache knows of a path.
+// Returns the size of a path that the cache knows, if any.
 fn size_at(cache: &mut FsCache<'_, Table<'_>>, path: &str) -> Result<Option<u64>, AllocError> {
     match cache.get(BStr::from(path))? {
         Some(stat) => Ok(Some(stat.size)),
@@ -93,10 +93,10 @@ fn size_at(cache: &mut FsCache<'_, Table<'_>>, path: &str) -> Result<Option<u64>
     }
 }
 
-/// What is looked up: whether memory is refused then, a path, and the size that is known of it, or None where memory ran out.
+/// A call of the cache: whether memory is refused, a path, and the known size of that, or None if the call fails.
 type Look = (bool, &'static str, Option<Option<u64>>);
 
-/// What is shown, what is looked up in turn, how often each directory was asked then, and how many were listed.
+/// The name of a row, the calls in order, how often each directory was listed by then, and the count of listings.
 type Row = (&'static str, &'static [Look], [usize; 3], u64);
 
 const ROWS: [Row; 7] = [
@@ -161,7 +161,7 @@ const ROWS: [Row; 7] = [
     ),
 ];
 
-// Whether all is known, asked and listed as a row says.
+// Returns whether the results and the counts are those of a row.
 fn is_row(alloc: Global, row: &Row) -> bool {
     let (_name, looks, wanted, listings) = *row;
     let (asked, refuses) = (no_counts(), AtomicBool::new(false));

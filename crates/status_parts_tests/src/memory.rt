@@ -24,7 +24,7 @@ fn node(alloc: Global, kind: NodeKind, bytes: &[u8]) -> Result<Node, AllocError>
     })
 }
 
-/// A worktree with a file `f`, a link `l` and a file `d/x`.
+/// Returns a worktree with a file `f`, a link `l` and a file `d/x`.
 fn small(alloc: Global) -> Result<MemoryWorktree, AllocError> {
     let mut tree = MemoryWorktree::new(alloc);
     for (path, kind, bytes) in [
@@ -59,21 +59,21 @@ fn kind_found<W: Worktree>(tree: &W, path: &[u8]) -> Result<NodeKind, Fault> {
     Ok(found.kind)
 }
 
-/// Whether reading the link gives this in place of what the target held.
+/// Returns whether reading the link replaces the bytes of `target` by these.
 fn is_target<W: Worktree>(tree: &W, path: &[u8], target: &mut Vec<u8>, want: &[u8]) -> bool {
     target.extend_from_slice(b"before").is_ok()
         && link_read(tree, path, target) == Ok(())
         && target.as_slice() == want
 }
 
-/// Whether reading the link fails by this, and nothing is left of the target.
+/// Returns whether reading the link fails by this fault, and leaves `target` empty.
 fn is_no_target<W: Worktree>(tree: &W, path: &[u8], target: &mut Vec<u8>, fault: Fault) -> bool {
     target.extend_from_slice(b"before").is_ok()
         && link_read(tree, path, target) == Err(fault)
         && target.is_empty()
 }
 
-/// Whether a node of a kind is put, or refused by this.
+/// Returns whether a node of a kind is put, or refused by this error.
 fn is_put(
     alloc: Global,
     tree: &mut MemoryWorktree,
@@ -106,7 +106,7 @@ fn is_cleared(tree: &mut MemoryWorktree, path: &[u8]) -> bool {
     true
 }
 
-/// What the short file at a path delivers, and the fault that ends it, if one does.
+/// Returns the bytes of the short file at a path, and the fault after them, if any.
 fn read_through<W: Worktree>(
     alloc: Global,
     tree: &W,
@@ -125,7 +125,7 @@ fn read_through<W: Worktree>(
     Ok((bytes, None))
 }
 
-/// Whether the file at a path delivers this, and then ends by this fault, or with none.
+/// Returns whether the file at a path has these bytes, and then this fault, if any.
 fn ends_by<W: Worktree>(
     alloc: Global,
     tree: &W,
@@ -139,29 +139,29 @@ fn ends_by<W: Worktree>(
     }
 }
 
-/// What is done to a worktree, or what one of its calls on a path is to answer.
+/// A change of a worktree, or the expected result of a call on a path.
 #[derive(Clone, Copy)]
 enum Step {
     Plant(&'static [u8], Point, Fault),
     Clear(&'static [u8]),
-    /// A node of this kind is put, or refused by this.
+    /// A node of this kind is put, or refused by this error.
     Put(&'static [u8], NodeKind, Option<TreeError>),
-    /// The kind of the node that is kept there, if one is.
+    /// The kind of the node at the path, if there is one.
     Kept(&'static [u8], Option<NodeKind>),
-    /// The kind of the node that is taken out, if one is.
+    /// The kind of the node that is removed, if there is one.
     Remove(&'static [u8], Option<NodeKind>),
     Lstat(&'static [u8], Result<NodeKind, Fault>),
-    /// The fault, or None where the file is opened.
+    /// The fault, or None if the file is opened.
     Open(&'static [u8], Option<Fault>),
     /// The target.
     Target(&'static [u8], &'static [u8]),
-    /// The fault, and nothing is left of the target.
+    /// The fault. `target` is left empty.
     Link(&'static [u8], Fault),
-    /// What the short file delivers, and the fault that ends it, if one does.
+    /// The bytes of the short file, and the fault after them, if any.
     Read(&'static [u8], &'static [u8], Option<Fault>),
 }
 
-/// Takes a step, and says whether the worktree answered as it is to.
+/// Takes a step, and returns whether the worktree has the expected result.
 fn is_met(alloc: Global, tree: &mut MemoryWorktree, target: &mut Vec<u8>, step: Step) -> bool {
     match step {
         Step::Plant(path, point, fault) => tree.plant(BStr::new(path), point, fault).is_ok(),
@@ -177,7 +177,7 @@ fn is_met(alloc: Global, tree: &mut MemoryWorktree, target: &mut Vec<u8>, step: 
     }
 }
 
-/// What is shown, and the steps of a small worktree.
+/// The name of a row, and the steps of a small worktree.
 type Row = (&'static str, &'static [Step]);
 
 const ROWS: [Row; 7] = [
@@ -242,8 +242,7 @@ const ROWS: [Row; 7] = [
             Step::Read(b"f", b"con", Some(Fault::Other(5))),
         ],
     ),
-    // Where nothing is at a path, opening and reading a link answer as `lstat` does; of a directory they answer
-    // `Other(0)`.
+    // If nothing is at a path, opening and reading a link fail as `lstat` does. At a directory they fail by `Other(0)`.
     (
         "planted where no node is",
         &[
@@ -260,7 +259,7 @@ const ROWS: [Row; 7] = [
     ),
 ];
 
-// Whether the small worktree answers all steps as it is to.
+// Returns whether all steps of a row have the expected results in the small worktree.
 fn is_row(alloc: Global, row: &Row) -> Result<bool, AllocError> {
     let (_name, steps) = *row;
     let mut tree = small(alloc)?;
@@ -281,7 +280,7 @@ fn a_worktree_in_memory_answers(rt: HostRuntime) -> Result<(), Fail> {
     Ok(())
 }
 
-// Whether this is the blob of an id, or None where there is none.
+// Returns whether this is the blob of an id, or None if there is none.
 fn is_blob<F: Find>(objects: &F, id: &ObjectId, buffer: &mut Vec<u8>, want: Option<&[u8]>) -> bool {
     let found = buffer.extend_from_slice(b"before").is_ok();
     let answer = objects.find_blob(id, buffer);

@@ -1,10 +1,10 @@
-//! Readers of a test's own.
+//! Readers that tests use.
 
 ghost use Rattle.std.specs.Prelude.{Some};
 
 use status_index::{Fault, ReadBytes};
 
-/// Bytes, and then the end or a fault.
+/// A reader of bytes, and then of the end or a fault.
 #[derive(Clone, Copy)]
 pub struct Piece<'a> {
     pub bytes: &'a [u8],

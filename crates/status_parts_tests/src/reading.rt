@@ -3,7 +3,7 @@
 use crate::pieces::Piece;
 use status_index::{Fault, read_all};
 
-// Reads these bytes with this fault behind them.
+// Reads these bytes, after which comes this fault, if any.
 fn read_piece(bytes: &[u8], fault: Option<Fault>, into: &mut Vec<u8>) -> Result<(), Fault> {
     read_all(&mut Piece { bytes, fault }, into)
 }
@@ -18,7 +18,7 @@ fn all_bytes_are_appended(rt: HostRuntime) -> Result<(), Fault> {
     assert!(rt; into.ends_with(&long));
     let refused = read_piece(b"bc", Some(Fault::Other(5)), &mut into);
     assert_eq!(rt; refused, Err(Fault::Other(5)));
-    // What came before the fault stays.
+    // The bytes before the fault are kept.
     assert_eq!(rt; into.len(), 5003);
     assert!(rt; into.ends_with(b"bc"));
     Ok(())

@@ -1,4 +1,4 @@
-//! Lists with their renames and copies, by hand and against a plain model.
+//! Lists with their renames and copies, by hand and compared with a plain model.
 
 ghost use Rattle.std.specs.Prelude.{◌≡◌, true, false, refl};
 ghost use Rattle.std.proofs.Common.{sym};
@@ -11,7 +11,7 @@ use status_rewrites::{Item, Pair, Refused, Rewritten, rewrite};
 use std::alloc::{AllocError, Global};
 use std::test::Fail;
 
-/// An item of a test, named by its place.
+/// An item of a test, named by its list position.
 #[derive(Clone, Copy, Debug)]
 enum Node {
     Removed(usize),
@@ -75,7 +75,7 @@ fn named_of(entry: &Rewritten<Node>) -> Named {
     }
 }
 
-/// A list rewritten, by names, or the place of the bad pair.
+/// Rewrites a list. Returns its entries by names, or the position of the bad pair.
 fn rewritten(
     alloc: Global,
     nodes: &[Node],
@@ -93,7 +93,7 @@ fn rewritten(
     Ok(Ok(named))
 }
 
-/// Items, pairs (source, destination, copy), and the entries, or the place of the bad pair.
+/// Items, pairs (source, destination, copy), and the entries, or the position of the bad pair.
 type Row<'a> = (
     &'a [Node],
     &'a [(usize, usize, bool)],
@@ -101,13 +101,13 @@ type Row<'a> = (
 );
 
 const ROWS: [Row<'static>; 13] = [
-    // What is in no pair stays.
+    // An item that is in no pair is kept.
     (
         &[Removed(0), Changed(1), Walked(2)],
         &[],
         Ok(&[Alone(0), Alone(1), Alone(2)]),
     ),
-    // A rename's source leaves its place, and the rename stands in its destination's.
+    // A rename's source is removed, and the rename replaces its destination.
     (
         &[Removed(0), Removed(1), Walked(2), Walked(3)],
         &[(0, 3, false), (1, 2, false)],
@@ -118,7 +118,7 @@ const ROWS: [Row<'static>; 13] = [
         &[(2, 0, false)],
         Ok(&[Renamed(2, 0), Alone(1)]),
     ),
-    // A copy's source stays, whatever it is, and may be that of several.
+    // A copy's source is kept, whatever it is, and may have several copies.
     (
         &[Changed(0), Walked(1), Walked(2)],
         &[(0, 2, true), (0, 1, true)],
@@ -129,13 +129,13 @@ const ROWS: [Row<'static>; 13] = [
         &[(0, 1, true)],
         Ok(&[Alone(0), Copied(0, 1)]),
     ),
-    // A place out of range.
+    // A list position out of range.
     (
         &[Removed(0), Walked(1)],
         &[(0, 1, false), (usize::MAX, 1, true)],
         Err(1),
     ),
-    // A destination that didn't come.
+    // A destination that isn't an addition.
     (&[Changed(0), Changed(1)], &[(0, 1, true)], Err(0)),
     // A destination of two pairs.
     (
@@ -143,7 +143,7 @@ const ROWS: [Row<'static>; 13] = [
         &[(0, 2, false), (1, 2, true)],
         Err(1),
     ),
-    // A rename of what didn't go.
+    // A rename of an item that isn't removed.
     (&[Changed(0), Walked(1)], &[(0, 1, false)], Err(0)),
     // The source of two renames.
     (
@@ -163,7 +163,7 @@ const ROWS: [Row<'static>; 13] = [
         &[(1, 2, true), (0, 1, false)],
         Err(1),
     ),
-    // Of several bad pairs the first counts.
+    // If several pairs are bad, the first is returned.
     (
         &[Removed(0), Walked(1), Walked(2)],
         &[(0, 1, false), (9, 2, true), (0, 2, false)],
@@ -171,7 +171,7 @@ const ROWS: [Row<'static>; 13] = [
     ),
 ];
 
-/// These pairs: source, destination, copy.
+/// Returns these pairs: source, destination, copy.
 fn pairs_of(alloc: Global, rows: &[(usize, usize, bool)]) -> Result<Vec<Pair>, AllocError> {
     let mut pairs = Vec::new(alloc);
     for (source, destination, copy) in rows {
@@ -184,7 +184,7 @@ fn pairs_of(alloc: Global, rows: &[(usize, usize, bool)]) -> Result<Vec<Pair>, A
     Ok(pairs)
 }
 
-/// Whether a row's list is rewritten, or refused, as it says.
+/// Returns whether a row's list is rewritten, or refused, as it says.
 fn is_row(alloc: Global, row: &Row<'_>) -> Result<bool, AllocError> {
     let (nodes, pairs, want) = *row;
     let pairs = pairs_of(alloc, pairs)?;
@@ -203,7 +203,7 @@ fn pairs_become_entries_or_the_first_bad_one_is_named(rt: HostRuntime) -> Result
     Ok(())
 }
 
-/// Whether an item plays one part at most among the pairs, and one that it may play.
+/// Returns whether an item has at most one role among the pairs, and that role is allowed.
 fn plays_one_part(node: &Node, pairs: &[Pair]) -> bool {
     let name = node.name();
     let (mut renames, mut copies, mut arrivals) = (0usize, 0usize, 0usize);
@@ -229,7 +229,7 @@ fn is_inside(pair: &Pair, len: usize) -> bool {
     pair.source < len && pair.destination < len
 }
 
-/// Whether the pairs break no rule.
+/// Returns whether the pairs break no rule.
 fn are_lawful(nodes: &[Node], pairs: &[Pair]) -> bool {
     for pair in pairs {
         if !is_inside(pair, nodes.len()) {
@@ -244,7 +244,7 @@ fn are_lawful(nodes: &[Node], pairs: &[Pair]) -> bool {
     true
 }
 
-/// The entry in the place of an item by lawful pairs, or None for the source of a rename.
+/// Returns the entry that replaces an item by lawful pairs. None for the source of a rename.
 fn entry_of(name: usize, pairs: &[Pair]) -> Option<Named> {
     let mut entry = Alone(name);
     for pair in pairs {
@@ -260,7 +260,7 @@ fn entry_of(name: usize, pairs: &[Pair]) -> Option<Named> {
     Some(entry)
 }
 
-/// The rewritten list of plain rules: each place is looked up among the pairs.
+/// Returns the rewritten list by plain rules: each list position is looked up among the pairs.
 fn plain(
     alloc: Global,
     nodes: &[Node],
@@ -280,7 +280,7 @@ fn plain(
     Ok(Ok(entries))
 }
 
-/// A list of up to 12 items.
+/// Returns a list of up to 12 items.
 fn drawn_nodes(alloc: Global, draws: &mut Draws) -> Result<Vec<Node>, AllocError> {
     let mut nodes = Vec::new(alloc);
     for name in 0..draws.below(13) as usize {
@@ -293,7 +293,7 @@ fn drawn_nodes(alloc: Global, draws: &mut Draws) -> Result<Vec<Node>, AllocError
     Ok(nodes)
 }
 
-/// Up to 8 pairs, of which most break no rule.
+/// Returns up to 8 pairs, of which most break no rule.
 fn drawn_pairs(alloc: Global, draws: &mut Draws, nodes: &[Node]) -> Result<Vec<Pair>, AllocError> {
     let mut pairs = Vec::new(alloc);
     let bound = (nodes.len() as u64).saturating_add(1);
@@ -313,7 +313,7 @@ fn drawn_pairs(alloc: Global, draws: &mut Draws, nodes: &[Node]) -> Result<Vec<P
     Ok(pairs)
 }
 
-/// How much was met among drawn lists.
+/// How many lists were rewritten and refused, and how many renames and copies were made.
 #[derive(Clone, Copy, Default)]
 struct Met {
     lists: usize,
@@ -336,7 +336,7 @@ impl Met {
     }
 }
 
-/// Whether a list is rewritten, or None where that isn't as the plain rules say.
+/// Returns whether a list is rewritten. None if the result isn't that of the plain rules.
 fn is_list(alloc: Global, nodes: &[Node], pairs: &[Pair]) -> Result<Option<bool>, AllocError> {
     let got = rewritten(alloc, nodes, pairs)?;
     let want = plain(alloc, nodes, pairs)?;
@@ -346,7 +346,7 @@ fn is_list(alloc: Global, nodes: &[Node], pairs: &[Pair]) -> Result<Option<bool>
     Ok(None)
 }
 
-/// Draws a list, and says whether it is rewritten as the plain rules say.
+/// Draws a list, and returns whether its result is that of the plain rules.
 fn is_plain(alloc: Global, draws: &mut Draws, met: &mut Met) -> Result<bool, AllocError> {
     let nodes = drawn_nodes(alloc, draws)?;
     let pairs = drawn_pairs(alloc, draws, &nodes)?;

@@ -11,7 +11,7 @@ use std::test::Fail;
 use std::thread;
 use std::thread::Threads;
 
-// Pieces that give their own numbers. One of them may end short.
+// Pieces that return their own numbers. One of them may end early.
 #[derive(Drop)]
 struct Numbers {
     pieces: usize,
@@ -118,7 +118,7 @@ fn outs_of<R: Threads + Wait>(
     work_round(rt, alloc, stack_size, &work, pieces, crew)
 }
 
-// How many pieces there are, which one ends short, and how many are given.
+// How many pieces there are, which one ends early, and how many results there are.
 type Row = (usize, Option<usize>, usize);
 
 const ROWS: [Row; 5] = [
@@ -129,7 +129,7 @@ const ROWS: [Row; 5] = [
     (100, Some(50), 51),
 ];
 
-// Whether crews of one to eight give the numbers of a row, in order.
+// Returns whether rounds with one to eight workers return the numbers of a row, in order.
 fn is_row<R: Threads + Wait>(rt: &R, alloc: Global, row: Row) -> bool {
     let (pieces, short, end) = row;
     if pieces > 100 {

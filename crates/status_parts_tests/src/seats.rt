@@ -1,4 +1,4 @@
-//! A board's seats, which tests take and give back.
+//! A board's seats, which tests take and put back.
 
 ghost use Rattle.std.specs.Prelude.{◌≡◌, ◌≤◌, ◌^◌, All, IfOk, IfSome, OnOk};
 ghost use Rattle.status_board.specs.Seats.{fresh};
@@ -7,7 +7,7 @@ use status_board::board::{Board, Seat};
 use std::alloc::{AllocError, Global};
 use std::process::Abort;
 
-/// A board, with its seats.
+/// Returns a board, with its seats.
 pub fn opened(alloc: Global, pieces: usize, seats: usize) -> Result<(Board, Vec<Seat>), AllocError>
     requires { (pieces ≤ 2 ^ 20) × (1 ≤ seats) × (seats ≤ 64) }
     ensures { IfOk result (λ r. (r.0.id.pieces ≡ pieces) × All (λ s. s ≡ fresh r.0.id) r.1.items) }
@@ -16,7 +16,7 @@ pub fn opened(alloc: Global, pieces: usize, seats: usize) -> Result<(Board, Vec<
     Ok((board, all))
 }
 
-// A seat, if one is left.
+// Takes a seat, if one is left.
 fn take(board: &Board, seats: &mut Vec<Seat>) -> Option<Seat>
     requires { All (λ s. s ≡ fresh board.now.id) seats.old.items }
     ensures left { All (λ s. s ≡ fresh board.now.id) seats.new.items }
@@ -26,7 +26,7 @@ fn take(board: &Board, seats: &mut Vec<Seat>) -> Option<Seat>
     seats.pop()
 }
 
-/// A seat that is there.
+/// Takes a seat. Panics if none is left.
 pub fn seat_of<R: Abort>(rt: &R, board: &Board, seats: &mut Vec<Seat>) -> Seat
     requires { All (λ s. s ≡ fresh board.now.id) seats.old.items }
     ensures left { All (λ s. s ≡ fresh board.now.id) seats.new.items }
@@ -38,7 +38,7 @@ pub fn seat_of<R: Abort>(rt: &R, board: &Board, seats: &mut Vec<Seat>) -> Seat
     seat
 }
 
-/// Puts a seat with others of its board.
+/// Puts a seat back with others of its board.
 pub fn give_back(board: &Board, seats: &mut Vec<Seat>, seat: Seat) -> Result<(), AllocError>
     requires seats { All (λ s. s.board ≡ board.now.id) seats.old.items }
     requires seat { seat.board ≡ board.now.id }

@@ -1,4 +1,4 @@
-//! Indexes: entries that are taken or refused, and a search that counts.
+//! Indexes: entries that are accepted or refused, and a search that counts.
 
 use bstr::{BStr, BString};
 use status_index::{Flags, HashKind, IndexError, Mode, Moment, NewEntry, ObjectId, Stat, State};
@@ -9,7 +9,7 @@ use std::test::Fail;
 // A path, a stage and a kind of id.
 type Given<'a> = (&'a str, u32, HashKind);
 
-// Why entries are no index, if they aren't.
+// Returns why entries aren't a valid index. None if they are.
 fn refused(alloc: Global, given: &[Given<'_>]) -> Result<Option<IndexError>, AllocError> {
     let mut entries = Vec::new(alloc);
     for (path, stage, kind) in given {
@@ -24,7 +24,7 @@ fn refused(alloc: Global, given: &[Given<'_>]) -> Result<Option<IndexError>, All
     Ok(State::from_entries(alloc, entries, Moment::default()).err())
 }
 
-// What is shown, entries, and why they are refused.
+// The name of a row, entries, and why they are refused.
 type Refusal<'a> = (&'a str, &'a [Given<'a>], Option<IndexError>);
 
 const REFUSALS: [Refusal<'static>; 8] = [
@@ -90,7 +90,7 @@ fn entries_are_an_index_or_refused(rt: HostRuntime) -> Result<(), Fail> {
     Ok(())
 }
 
-// An index of these paths, pushed in order.
+// Returns an index of these paths, pushed in order.
 fn grown(alloc: Global, paths: &[&str]) -> Result<State, IndexError> {
     let mut state = State::new(alloc, Moment::default());
     for path in paths {
@@ -105,7 +105,7 @@ fn grown(alloc: Global, paths: &[&str]) -> Result<State, IndexError> {
     Ok(state)
 }
 
-// A path and its kind of id that are put into an index of `a` and `c`, and why they are refused.
+// The path and the kind of id of an entry that is put into an index of `a` and `c`, and why it is refused.
 type Put = (&'static str, HashKind, Option<IndexError>);
 
 const PUTS: [Put; 9] = [
@@ -120,7 +120,7 @@ const PUTS: [Put; 9] = [
     ("c", HashKind::Sha1, None),
 ];
 
-// Whether an entry is put, or refused, as a row says.
+// Returns whether an entry is put, or refused, as a row says.
 fn is_put(alloc: Global, row: &Put) -> Result<bool, IndexError> {
     let (path, kind, want) = *row;
     let mut state = grown(alloc, &["a", "c"])?;
@@ -142,7 +142,7 @@ fn entries_are_put_or_refused(rt: HostRuntime) -> Result<(), Fail> {
     Ok(())
 }
 
-// The first place of a stretch, and the place behind its last.
+// Returns the first position of a range, and the position after its last.
 fn ends_of(stretch: Option<Range<usize>>) -> Option<(usize, usize)> {
     match stretch {
         Some(range) => Some((range.start, range.end)),

@@ -1,4 +1,4 @@
-//! Trackers: a long list of files that went and came, and drawn changes against a plain count.
+//! Trackers: a long list of deleted and added files, and drawn changes compared with a plain count.
 
 ghost use Rattle.status_rewrites.specs.TrackedChanges.{Changed};
 
@@ -52,7 +52,7 @@ impl Change for Item {
     }
 }
 
-// A file that went.
+// Returns a deleted file.
 fn gone(path: &'static str, id: ObjectId) -> Item {
     Item {
         kind: ChangeKind::Deletion,
@@ -62,7 +62,7 @@ fn gone(path: &'static str, id: ObjectId) -> Item {
     }
 }
 
-// A file that came.
+// Returns an added file.
 fn came(path: &'static str, id: ObjectId) -> Item {
     Item {
         kind: ChangeKind::Addition,
@@ -70,7 +70,7 @@ fn came(path: &'static str, id: ObjectId) -> Item {
     }
 }
 
-// The places of the pairs that a tracker finds, and whether each is a copy.
+// Returns the list positions of the pairs that a tracker finds, and whether each is a copy.
 fn found<T: Tracker>(
     alloc: Global,
     tracker: &mut T,
@@ -84,10 +84,10 @@ fn found<T: Tracker>(
     Ok(places)
 }
 
-/// How many files go and come in a long list, four of each content.
+/// How many files are deleted and added in a long list, four of each content.
 const FILES: usize = 20_000;
 
-// An id that begins with a number.
+// Returns an id that begins with a number.
 fn numbered(number: usize) -> ObjectId {
     let mut digest = [1; 20];
     digest[0] = (number / 256 % 256) as u8;
@@ -95,7 +95,7 @@ fn numbered(number: usize) -> ObjectId {
     ObjectId::Sha1(digest)
 }
 
-// Files that went, and files that came with the same contents in the same order. Their paths are one.
+// Returns deleted files, and then added files with the same contents in the same order. All have the same path.
 fn many_items(alloc: Global) -> Result<Vec<Item>, AllocError> {
     let mut items = Vec::new(alloc);
     for number in 0..FILES {
@@ -107,7 +107,7 @@ fn many_items(alloc: Global) -> Result<Vec<Item>, AllocError> {
     Ok(items)
 }
 
-// Whether the file of each number is a pair with the one that came as it went, in order.
+// Returns whether pair n is a rename of the n-th deleted file to the n-th added one.
 fn are_in_order(pairs: &[(usize, usize, bool)]) -> bool {
     for (number, (source, destination, copy)) in pairs.iter().enumerate() {
         if *source != number || *destination != number.saturating_add(FILES) || *copy {
@@ -165,7 +165,7 @@ fn drawn_id(draws: &mut Draws) -> ObjectId {
     }
 }
 
-// A change that may pair.
+// Returns a drawn change.
 fn drawn_item(draws: &mut Draws) -> Item {
     Item {
         kind: drawn_kind(draws),
@@ -175,7 +175,7 @@ fn drawn_item(draws: &mut Draws) -> Item {
     }
 }
 
-// Whether an item may be in a pair.
+// Returns whether an item may be in a pair.
 fn may_pair(item: &Item, track_empty: bool) -> bool {
     let is_empty = item.id == ObjectId::empty_blob(HashKind::Sha1);
     item.mode != EntryKind::Tree
@@ -184,17 +184,18 @@ fn may_pair(item: &Item, track_empty: bool) -> bool {
         && (track_empty || !is_empty)
 }
 
-// Whether two items have one kind and one id.
+// Returns whether two items have one kind and one id.
 fn are_alike(a: &Item, b: &Item) -> bool {
     a.id == b.id && (a.mode == EntryKind::Link) == (b.mode == EntryKind::Link)
 }
 
-// Whether another item, at a place of its own, stands before one by path and place.
+// Returns whether another item comes before one, by path and then by list position.
 fn is_before(place: usize, other: &Item, at: usize, item: &Item) -> bool {
     other.path < item.path || (other.path == item.path && place < at)
 }
 
-// How many of a list stand before one of them by path and place, among those that are on its side and like it.
+// Returns how many items of a list come before one of them, by path and list position. Only items on its side count
+// that are like it and may be in a pair.
 fn rank(items: &[Item], at: usize, item: &Item, track_empty: bool) -> usize {
     let mut count = 0usize;
     for (place, other) in items.iter().enumerate() {
@@ -209,7 +210,7 @@ fn rank(items: &[Item], at: usize, item: &Item, track_empty: bool) -> usize {
     count
 }
 
-// Whether one item went and another like it came, both of which may be in a pair.
+// Returns whether one item was deleted and another like it was added, both of which may be in a pair.
 fn may_be_pair(source: &Item, destination: &Item, track_empty: bool) -> bool {
     source.kind == Deletion
         && destination.kind == Addition
@@ -218,7 +219,7 @@ fn may_be_pair(source: &Item, destination: &Item, track_empty: bool) -> bool {
         && may_pair(destination, track_empty)
 }
 
-// The pairs by what they are: equal ranks of equal contents.
+// Returns the pairs by their definition: items of equal contents with equal ranks.
 fn plain_pairs(
     alloc: Global,
     items: &[Item],
@@ -246,7 +247,7 @@ fn drawn_items(alloc: Global, draws: &mut Draws) -> Result<Vec<Item>, AllocError
     Ok(items)
 }
 
-// Whether these are the wanted pairs, in any order.
+// Returns whether these are the wanted pairs, in any order.
 fn are_same_pairs(pairs: &[(usize, usize, bool)], want: &[(usize, usize)]) -> bool {
     if pairs.len() != want.len() {
         return false;
@@ -259,7 +260,7 @@ fn are_same_pairs(pairs: &[(usize, usize, bool)], want: &[(usize, usize)]) -> bo
     true
 }
 
-// How many pairs a tracker finds, or None where they aren't what a plain count says.
+// Returns how many pairs a tracker finds. None if they aren't those of the plain count.
 fn count_of_pairs<T: Tracker>(
     alloc: Global,
     tracker: &mut T,

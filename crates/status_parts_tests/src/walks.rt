@@ -1,4 +1,4 @@
-//! What isn't tracked in a worktree in memory.
+//! The untracked nodes of a worktree in memory.
 
 ghost use Rattle.std.specs.Prelude.{map, true, false};
 ghost use Rattle.status_walk.specs.WalkedNodes.{walked_of};
@@ -10,14 +10,14 @@ use status_walk::{Action, Delegate, DirEntry, Kind, Outcome, Status, UntrackedWa
 use std::alloc::{AllocError, Global};
 use std::test::Fail;
 
-/// A node that was handed out, and the status of the directory that stands for it.
+/// A node that a walk passed, and the status of the directory that replaces the nodes in it, if there is one.
 #[derive(Drop)]
 struct Found {
     entry: DirEntry,
     collapsed: Option<Status>,
 }
 
-/// Keeps what it gets.
+/// A delegate that keeps all nodes.
 #[derive(Drop)]
 struct Keeper {
     found: Vec<Found>,
@@ -56,7 +56,7 @@ fn worktree(alloc: Global, nodes: &[(&str, NodeKind)]) -> Result<MemoryWorktree,
     Ok(worktree)
 }
 
-/// The index of entries of these modes.
+/// Returns the index of entries of these modes.
 pub(crate) fn index(alloc: Global, entries: &[(&str, Mode)]) -> Result<State, IndexError> {
     let mut list = Vec::new(alloc);
     for (path, mode) in entries {
@@ -71,7 +71,7 @@ pub(crate) fn index(alloc: Global, entries: &[(&str, Mode)]) -> Result<State, In
     State::from_entries(alloc, list, Moment::default())
 }
 
-/// Walks these entries and nodes, and keeps what is found.
+/// Walks these nodes with an index of these entries, and returns the nodes that the walk passes.
 fn walked(
     alloc: Global,
     entries: &[(&str, Mode)],
@@ -86,7 +86,7 @@ fn walked(
     Ok((outcome, keeper.found))
 }
 
-/// Entries, nodes, and what is found.
+/// Entries, nodes, and the nodes that the walk passes.
 type Row<'a> = (
     &'a [(&'a str, Mode)],
     &'a [(&'a str, NodeKind)],
@@ -94,7 +94,7 @@ type Row<'a> = (
 );
 
 const ROWS: [Row<'static>; 3] = [
-    // Files, links and others, in the order of their paths; directories aren't handed out.
+    // Files, links and others are passed, in the order of their paths; directories aren't.
     (
         &[("a", Mode::File)],
         &[
@@ -109,7 +109,7 @@ const ROWS: [Row<'static>; 3] = [
             ("p", Kind::Untrackable),
         ],
     ),
-    // Nothing of a submodule is, at any depth.
+    // No node of a submodule is passed, at any depth.
     (
         &[("sub", Mode::Commit)],
         &[
@@ -119,7 +119,7 @@ const ROWS: [Row<'static>; 3] = [
         ],
         &[("sub.x", Kind::File)],
     ),
-    // An entry has its own path alone.
+    // An entry excludes only its own path.
     (
         &[("ab", Mode::File), ("d/e", Mode::Symlink)],
         &[
@@ -133,7 +133,7 @@ const ROWS: [Row<'static>; 3] = [
     ),
 ];
 
-// Whether these nodes were found, in order, and no directory stands for them.
+// Returns whether these nodes were found, in order, none of them in place of others.
 fn are_found(kept: &[Found], wanted: &[(&str, Kind)]) -> bool {
     if kept.len() != wanted.len() {
         return false;
@@ -148,7 +148,7 @@ fn are_found(kept: &[Found], wanted: &[(&str, Kind)]) -> bool {
     true
 }
 
-// Whether a row's nodes are found.
+// Returns whether a walk finds the nodes of its row.
 fn is_row(alloc: Global, row: &Row<'_>) -> Result<bool, Fail> {
     let (entries, nodes, wanted) = *row;
     let (outcome, kept) = walked(alloc, entries, nodes)?;

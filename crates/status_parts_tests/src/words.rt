@@ -1,4 +1,4 @@
-//! What errors and texts show.
+//! The texts of errors and other values.
 
 use bstr::{BStr, BString};
 use status_base::stack::StackError;
@@ -11,7 +11,7 @@ use std::alloc::{AllocError, Global};
 use std::fmt::Display;
 use std::test::Fail;
 
-// Whether this is what a value shows.
+// Returns whether a value has this text.
 fn is_shown<T: Display>(alloc: Global, value: &T, want: &str) -> bool {
     match format!(in alloc; "{value}") {
         Ok(text) => text.as_str() == want,
@@ -50,7 +50,7 @@ fn errors_of_an_index_have_words(rt: HostRuntime) {
     assert!(rt; is_shown(rt.alloc(), &TimeError, want));
 }
 
-// Whether a fault at a path of a walk shows this.
+// Returns whether a fault at a path of a walk has this text.
 fn is_walk_fault(alloc: Global, fault: Fault, want: &str) -> Result<bool, AllocError> {
     let error = WalkError::Fault {
         rela_path: BString::from_slice(alloc, b"a")?,
@@ -129,12 +129,12 @@ fn errors_of_worktrees_and_blobs_have_words(rt: HostRuntime) {
     }
 }
 
-// Whether an error of the status shows this.
+// Returns whether an error of the status has this text.
 fn is_error(alloc: Global, error: Error, want: &str) -> bool {
     is_shown(alloc, &error, want)
 }
 
-// Whether the error of a submodule shows this.
+// Returns whether the error of a submodule has this text.
 fn is_submodule_error(alloc: Global, want: &str) -> Result<bool, AllocError> {
     let error = Error::SubmoduleStatus {
         rela_path: ByteText::from_slice(alloc, b"d/s")?,

@@ -1,7 +1,7 @@
 //! Interfaces and calls as a caller writes them, with README's example.
 //!
-//! Read `example` first, which README.md shows, then `given`, interfaces and calls of a caller. Other tests are in the other
-//! crates whose names end in `_tests`.
+//! Read `example` first, which README.md shows, and then `given`, the interfaces and calls of a caller. Other tests are
+//! in the other crates whose names end in `_tests`.
 #![tactic(auto)]
 
 #[cfg(test)]

@@ -1,4 +1,4 @@
-//! Worked histories, whose reports are to have ids and stats that no line of the program has.
+//! Histories with the expected reports of their runs. These have ids and stats, which the program doesn't print.
 
 use crate::reports::{BAR, Counts, RACY, READ, STAT, Said, Wanted, are_reports};
 use bstr::{BStr, BString};
@@ -14,7 +14,7 @@ use std::thread::Threads;
 /// The second in which histories begin.
 pub const FIVE: Moment = Moment { secs: 5, nsecs: 0 };
 
-/// Seconds count, and neither `ctime` nor executability does.
+/// Times count by whole seconds. `ctime` and executability don't count.
 pub const SECONDS: Setting = Setting {
     stat: stat::Options {
         trust_ctime: false,
@@ -25,13 +25,13 @@ pub const SECONDS: Setting = Setting {
     executable_bit: false,
 };
 
-// Seconds and executability count, and `ctime` doesn't.
+// The same, and executability counts.
 const EXECUTABLE: Setting = Setting {
     executable_bit: true,
     ..SECONDS
 };
 
-// Seconds and `ctime` count, and executability doesn't.
+// Times count by whole seconds, also `ctime`. Executability doesn't count.
 const CTIME: Setting = Setting {
     stat: stat::Options {
         trust_ctime: true,
@@ -42,7 +42,7 @@ const CTIME: Setting = Setting {
     executable_bit: false,
 };
 
-/// A run by ids, one entry a piece and two workers at most, whose answers are stored in second 5.
+/// A run by ids, with pieces of one entry and at most two workers. It stores its changes in second 5.
 pub const RUN: Run = Run {
     comparer: Comparer::Hash,
     chunk_size: 1,
@@ -60,16 +60,16 @@ const RUN_7: Step = Step::Run(Run {
     ..RUN
 });
 
-// The id of no bytes, by git.
+// The id of the empty file, by git.
 const EMPTY: ObjectId = ObjectId::Sha1([
     0xe6, 0x9d, 0xe2, 0x9b, 0xb2, 0xd1, 0xd6, 0x43, 0x4b, 0x8b, 0x29, 0xae, 0x77, 0x5a, 0xd8, 0xc2,
     0xe4, 0x8c, 0x53, 0x91,
 ]);
 
-// A history in which no event is refused: what it shows, what counts in its world, the steps, and the reports.
+// A history in which no event is refused: its name, the settings of its world, the steps, and the expected reports.
 type History = (&'static str, Setting, &'static [Step], &'static [Wanted]);
 
-// A file in whose folder's place a link comes.
+// A file whose folder is replaced by a link.
 const LINKED: &[Step] = &[
     Step::Write("d/x", "foo"),
     Step::Stage("d/x"),
@@ -79,7 +79,7 @@ const LINKED: &[Step] = &[
 ];
 
 static HISTORIES: [History; 7] = [
-    // The size is 0 after the first run, so that the stat agrees no more, and the change is seen whatever the timestamp.
+    // The size is 0 after the first run. So the stat no longer agrees, and the change is seen with any timestamp.
     (
         "a racy rewrite is reported and smudged",
         SECONDS,
@@ -116,7 +116,7 @@ static HISTORIES: [History; 7] = [
             (&[], STAT),
         ],
     ),
-    // When the file is emptied the second is still that of staging, and its size is the entry's too.
+    // The file is emptied in the second of staging. So its size and its time are the entry's.
     (
         "the size zero of a smudged entry hides no empty file",
         SECONDS,
@@ -162,7 +162,7 @@ static HISTORIES: [History; 7] = [
             (&[(0, "f", Said::Changed(BAR, false))], READ),
         ],
     ),
-    // The way there is looked at, and the file itself isn't.
+    // `lstat` is called on the directory above, and not on the file itself.
     (
         "a file below a link is removed",
         SECONDS,
@@ -181,7 +181,7 @@ static HISTORIES: [History; 7] = [
         ],
         &[(&[(0, "l", Said::Changed(BAR, true))], RACY)],
     ),
-    // The `ctime` is another, and the content is the same; with the new stat stored nothing is read.
+    // The `ctime` differs, and the content is the same. After the new stat is stored, nothing is read.
     (
         "a permission change is an update where it does not count",
         CTIME,
@@ -203,7 +203,7 @@ static HISTORIES: [History; 7] = [
     ),
 ];
 
-// Whether the runs of a history report what they are to report.
+// Returns whether the runs of a history have the expected reports.
 fn is_history<R: AllocGlobal + Threads + Wait>(rt: &R, history: &History) -> Result<bool, Refusal> {
     let (_name, setting, steps, wanted) = *history;
     let replayed = history_at(rt, FIVE, setting, steps)?;
@@ -218,7 +218,7 @@ fn runs_report_each_change_with_its_id_and_each_new_stat(rt: HostRuntime) -> Res
     Ok(())
 }
 
-// Whether the way to the file is refused at the link, by one look.
+// Returns whether the check of the file's path fails at the link, after one call of `lstat`.
 fn is_link_met(alloc: Global, world: &World) -> bool {
     let mut check = SymlinkCheck::new(alloc, BString::new(Vec::new(alloc)));
     let answer = check.verified_path(world.worktree(), BStr::from("d/x"));

@@ -1,8 +1,8 @@
 //! Tests of histories and of the stored index: what no clause of theirs says.
 //!
-//! `histories` has the worked histories, whose reports `reports` compares, and `refused` events that can't happen.
-//! `reopening` has a path that keeps an index from being opened again, `stored` texts of indexes, and `words` what errors
-//! show.
+//! `histories` has histories with the expected reports of their runs, which `reports` compares. `refused` has events
+//! that can't happen. `reopening` has a path with which an index can't be stored and opened again. `stored` has texts
+//! of indexes, and `words` texts of errors.
 #![tactic(auto)]
 
 #[cfg(test)]

@@ -1,4 +1,4 @@
-//! Events that can't happen, and leave the world as it was.
+//! Events that can't happen, and leave the world unchanged.
 
 use crate::histories::{FIVE, RUN, SECONDS};
 use crate::reports::{BAR, RACY, READ, Said, Wanted, are_reports};
@@ -17,17 +17,17 @@ const LAST_SECOND: Moment = Moment {
     nsecs: 0,
 };
 
-// A clock, an event that is refused then, and why.
+// A clock, an event that is refused at that time, and the reason.
 type Refused = (Moment, Step, &'static str);
 
 static REFUSED: [Refused; 8] = [
     (LAST_SECOND, Step::Tick(1), "ClockEnd"),
-    // A file is above.
+    // A file is above the path.
     (EIGHT, Step::Write("a/b", "x"), "InTheWay"),
-    // Something is below.
+    // Something is below the path.
     (EIGHT, Step::Write("d", "x"), "InTheWay"),
     (EIGHT, Step::Executable("b", true), "NotAFile"),
-    // A link is there.
+    // A link is at the path.
     (EIGHT, Step::Executable("l", true), "NotAFile"),
     (
         EIGHT,
@@ -59,7 +59,8 @@ static REFUSED: [Refused; 8] = [
     ),
 ];
 
-// `a` was staged and written again, `d` is a folder and `l` a link; then a step, and a run that isn't to be.
+// Returns the steps: `a` is staged and written again, `d` is a folder and `l` a link. Then come this step, and a run
+// that must not happen.
 fn steps_with(step: Step) -> [Step; 7] {
     [
         Step::Write("d/x", "bars"),
@@ -72,7 +73,7 @@ fn steps_with(step: Step) -> [Step; 7] {
     ]
 }
 
-// What is asked of the world afterwards. Nothing can be staged where nothing was put.
+// Returns steps that are taken in the world afterwards. The refused event put nothing there that can be staged.
 fn steps_after(clock: Moment) -> [Step; 5] {
     let run = Step::Run(Run {
         stamp: clock,
@@ -87,13 +88,13 @@ fn steps_after(clock: Moment) -> [Step; 5] {
     ]
 }
 
-// What is reported of the rewritten file, as ever.
+// The reports of the rewritten file, as if there was no refused event.
 static REWRITE: [Wanted; 2] = [
     (&[(0, "a", Said::Changed(BAR, true))], RACY),
     (&[(0, "a", Said::Changed(BAR, false))], READ),
 ];
 
-// Whether the sixth step was refused for this reason, and the clock is where it was.
+// Returns whether the sixth step was refused for this reason, no run was reported, and the clock is unchanged.
 fn is_stopped(
     alloc: Global,
     replayed: &Replay,
@@ -108,7 +109,7 @@ fn is_stopped(
     Ok(refusal.as_str() == reason && is_unchanged)
 }
 
-// Whether an event is refused as its row says, and the world goes on as it was.
+// Returns whether an event is refused as its row says, and leaves the world unchanged.
 fn is_refused<R: AllocGlobal + Threads + Wait>(rt: &R, row: &Refused) -> Result<bool, Refusal> {
     let (clock, step, reason) = *row;
     let replayed = history_at(rt, clock, SECONDS, &steps_with(step))?;

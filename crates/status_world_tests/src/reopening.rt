@@ -1,4 +1,4 @@
-//! A history in which the index would be stored and opened again, if a path didn't keep it from that.
+//! A history in which the index can't be stored and opened again, because of a path.
 
 use crate::histories::{FIVE, RUN, SECONDS};
 use bstr::BString;
@@ -10,12 +10,12 @@ use std::sync::Wait;
 use std::test::Fail;
 use std::thread::Threads;
 
-// A path that is no text.
+// Returns a path that isn't UTF-8.
 fn odd_path(alloc: Global) -> Result<BString, AllocError> {
     BString::from_slice(alloc, b"\xff")
 }
 
-// The events that stage an empty file there.
+// Returns the events that stage an empty file at that path.
 fn odd_events(alloc: Global) -> Result<Vec<Event>, AllocError> {
     let mut events = Vec::new(alloc);
     events.push(Event::Write(odd_path(alloc)?, Vec::new(alloc)))?;
@@ -23,7 +23,7 @@ fn odd_events(alloc: Global) -> Result<Vec<Event>, AllocError> {
     Ok(events)
 }
 
-// Those events, and a run after a reopening.
+// Returns those events, and a run after a reopening.
 fn odd_stretches(alloc: Global) -> Result<Vec<Vec<Event>>, AllocError> {
     let mut stretches = Vec::new(alloc);
     stretches.push(odd_events(alloc)?)?;
@@ -31,14 +31,14 @@ fn odd_stretches(alloc: Global) -> Result<Vec<Vec<Event>>, AllocError> {
     Ok(stretches)
 }
 
-// What comes of these stretches in an empty world.
+// Replays these stretches in an empty world.
 fn reopened<R: AllocGlobal + Threads + Wait>(rt: &R) -> Result<ReopenedReplay, Refusal> {
     let stretches = odd_stretches(rt.alloc())?;
     let world = new_world(rt.alloc(), FIVE, SECONDS)?;
     Ok(replay_reopening(rt, rt.alloc(), world, &stretches))
 }
 
-// Whether the second stretch was the one before which the index wasn't opened.
+// Returns whether the index couldn't be opened again before the second stretch.
 fn is_not_opened(replayed: &ReopenedReplay) -> bool {
     matches!(
         replayed.stopped,

@@ -1,4 +1,4 @@
-//! What runs report, and what they are to report.
+//! The reports of runs, and the expected ones.
 
 use gix_status::index::{ObjectId, Stat, Time};
 use gix_status::index_as_worktree::{Change, EntryStatus, Outcome};
@@ -10,25 +10,25 @@ pub const BAR: ObjectId = ObjectId::Sha1([
     0x9f, 0x30, 0x21, 0x16,
 ]);
 
-/// What is to be reported of an entry.
+/// The expected status of an entry.
 #[derive(Clone, Copy)]
 pub enum Said {
     /// No file is there.
     Removed,
-    /// Another content, of this id. If the flag is set the entry's size is to be 0.
+    /// Other content, with this id. If the flag is set, the entry's size is to be 0.
     Changed(ObjectId, bool),
-    /// The same, and another executability.
+    /// The same, and executability changed.
     Modified(ObjectId, bool),
     /// A new stat for a file of three bytes, with the seconds of its `mtime` and its `ctime`.
     Updated(u32, u32),
 }
 
-/// What a run is to count.
+/// The expected counts of a run.
 #[derive(Clone, Copy)]
 pub struct Counts {
-    /// The entries, each of which is gone through.
+    /// The entries, each of which is processed.
     pub entries: usize,
-    /// The entries whose stat is looked at.
+    /// The entries for which `lstat` is called.
     pub stats: usize,
     /// The entries that need a new stat.
     pub updates: usize,
@@ -40,7 +40,7 @@ pub struct Counts {
     pub bytes: u64,
 }
 
-/// The counts of a run over one entry whose stat is looked at.
+/// The counts of a run over one entry for which `lstat` is called.
 pub const STAT: Counts = Counts {
     entries: 1,
     stats: 1,
@@ -57,16 +57,16 @@ pub const READ: Counts = Counts {
     ..STAT
 };
 
-/// The same, where the entry's stat agrees but may hide a write.
+/// The same for an entry whose stat agrees but may hide a write.
 pub const RACY: Counts = Counts { racy: 1, ..READ };
 
-/// What is to be reported of an entry, with its place and its path.
+/// The index position, the path and the expected status of an entry.
 pub type Record = (usize, &'static str, Said);
 
-/// What a run is to report: the records in turn, and the counts.
+/// The expected records of a run, in order, and its counts.
 pub type Wanted = (&'static [Record], Counts);
 
-/// Whether there is a report for each that is wanted, and it is the one.
+/// Returns whether the reports are the expected ones.
 pub fn are_reports(reports: &[Report], wanted: &[Wanted]) -> bool {
     if reports.len() != wanted.len() {
         return false;
@@ -98,7 +98,7 @@ fn is_record(record: &ReportRecord, wanted: &Record) -> bool {
         && record.status == status_of(said)
 }
 
-// The status that says this.
+// Returns the entry's status for this.
 fn status_of(said: Said) -> EntryStatus<Option<ObjectId>, ()> {
     match said {
         Said::Removed => EntryStatus::Change(Change::Removed),
@@ -125,7 +125,7 @@ fn second(secs: u32) -> Time {
     Time { secs, nsecs: 0 }
 }
 
-// The outcome that has these counts, and no other.
+// Returns the outcome with these counts. All other counts are 0.
 fn outcome_of(counts: Counts) -> Outcome {
     Outcome {
         entries_to_process: counts.entries,

@@ -1,4 +1,4 @@
-//! The text of a stored index, and what is read of one.
+//! JSON texts of stored indexes.
 
 use gix_status::index::{IndexError, State};
 use status_stored::LoadError;
@@ -6,7 +6,8 @@ use status_tests::given::stored::{loaded, stored};
 use std::alloc::Global;
 use std::test::Fail;
 
-// The entries `foo` at "a" and `bar` at "b", with what has no default but in `size` and `mtime`.
+// The entries `foo` at "a" and `bar` at "b". Of the keys with a default they have `size` and `mtime`. `other` and
+// `kind` aren't keys of the format, and are ignored.
 const GIVEN: &str = r#"{"timestamp":[10,0],"other":null,"index":[
 {"path":"a","id":"19102815663d23f8b75a47e7a01965dcdc96468c","size":3,"mtime":[5,0],"kind":1},
 {"path":"b","id":"BA0E162E1C47469E3FE4B393A8BF8C569F302116","size":3,"mtime":[5,0]}]}"#;
@@ -21,7 +22,7 @@ const STORED: &str = concat!(
     r#""mtime":[5,0],"path":"b","size":3,"stage":0,"uid":0}],"timestamp":[10,0]}"#
 );
 
-// An entry of which each key is told, by SHA-256 the empty blob.
+// An entry with all keys, of the empty blob by SHA-256.
 const FULL: &str = concat!(
     r#"{"index":[{"ctime":[5,7],"dev":1,"flags":["assume-valid","fsmonitor-valid"],"gid":2,"#,
     r#""id":"473a0f4c3be8a93681a267e3b1e9a7dcda1185436fe141f7749120a303721813","ino":3,"#,
@@ -32,12 +33,12 @@ const FULL: &str = concat!(
 // Texts of indexes, and the texts that they are stored as.
 const TEXTS: [(&str, &str); 2] = [(GIVEN, STORED), (FULL, FULL)];
 
-// The index that a text says.
+// Returns the index that a text states.
 fn index_of(alloc: Global, text: &str) -> Result<State, Fail> {
     Ok(loaded(alloc, text)??)
 }
 
-// Whether the index that a text says is stored as this one.
+// Returns whether the index that a text states is stored as this one.
 fn is_stored(alloc: Global, text: &str, wanted: &str) -> Result<bool, Fail> {
     let index = index_of(alloc, text)?;
     let text = stored(alloc, &index)?;
@@ -52,10 +53,10 @@ fn all_keys_are_stored_in_their_order(rt: HostRuntime) -> Result<(), Fail> {
     Ok(())
 }
 
-// Texts that are no index, and why.
+// Texts that state no index, and why.
 const REFUSED: [(&str, LoadError); 5] = [
     ("[]", LoadError::Form),
-    // No id, a stage that there isn't, and a size with a point.
+    // No id, a stage that doesn't exist, and a size with a point.
     (
         r#"{"timestamp":[9,0],"index":[{"path":"a"}]}"#,
         LoadError::Form,
@@ -74,7 +75,7 @@ const REFUSED: [(&str, LoadError); 5] = [
     ),
 ];
 
-// Why a text is no index, if it isn't.
+// Returns why a text states no index. None if it states one.
 fn refused(alloc: Global, text: &str) -> Result<Option<LoadError>, Fail> {
     Ok(loaded(alloc, text)?.err())
 }

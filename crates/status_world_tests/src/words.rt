@@ -1,11 +1,11 @@
-//! What errors of storing and loading show.
+//! The texts of errors of storing and loading.
 
 use gix_status::index::IndexError;
 use status_stored::{LoadError, ReopenError, StoreError};
 use std::alloc::Global;
 use std::fmt::Display;
 
-// Whether this is what a value shows.
+// Returns whether a value has this text.
 fn is_shown<T: Display>(alloc: Global, value: &T, want: &str) -> bool {
     match format!(in alloc; "{value}") {
         Ok(text) => text.as_str() == want,

@@ -1,4 +1,4 @@
-//! A collector of a test's own.
+//! A collector that runs out of memory.
 
 ghost use Rattle.std.specs.Prelude.{◌≡◌, ◌++◌, ◌∷◌, [], Some, OnOk, OnErr, slice_get};
 ghost use Rattle.bstr.specs.BStr.{bstr_bytes};
@@ -8,7 +8,7 @@ use gix_status::index::Entry;
 use gix_status::index_as_worktree::{EntryStatus, VisitEntry};
 use std::alloc::AllocError;
 
-/// Hands so many records on, and has no memory for the next.
+/// Passes `room` records on to `collector`, and returns out of memory for the next.
 #[derive(Drop)]
 pub struct Full<V> {
     pub collector: V,

@@ -8,7 +8,7 @@ use gix_status::index_as_worktree::Error;
 use gix_status::index_as_worktree::traits::{CompareBlobs, ReadData};
 use std::alloc::Global;
 
-/// Compares the lengths of file and blob, and reports a change by the file's. The file isn't read.
+/// Compares the lengths of a file and its blob, and reports the file's length as the change. The file isn't read.
 #[derive(Clone, Copy, Debug)]
 pub struct BlobLength;
 

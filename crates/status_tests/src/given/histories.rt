@@ -1,4 +1,4 @@
-//! Worlds and events in few words.
+//! Short forms for worlds and events.
 
 use bstr::BString;
 use gix_status::index::{HashKind, Moment, stat};
@@ -8,7 +8,7 @@ use std::alloc::{AllocError, Global};
 use std::sync::Wait;
 use std::thread::Threads;
 
-/// The event of a run, by its parts.
+/// The fields of `Event::Run`.
 #[derive(Clone, Copy, Debug)]
 pub struct Run {
     pub comparer: Comparer,
@@ -17,7 +17,7 @@ pub struct Run {
     pub stamp: Moment,
 }
 
-/// An event, before its paths and contents take memory.
+/// An event whose paths and contents haven't taken memory yet.
 #[derive(Clone, Copy, Debug)]
 pub enum Step {
     Tick(u32),
@@ -31,7 +31,7 @@ pub enum Step {
 }
 
 impl Step {
-    /// The event.
+    /// Returns the event.
     pub fn event(self, alloc: Global) -> Result<Event, AllocError> {
         match self {
             Step::Tick(seconds) => Ok(Event::Tick(seconds)),
@@ -73,7 +73,7 @@ fn bytes_of(alloc: Global, text: &str) -> Result<Vec<u8>, AllocError> {
     Vec::from_slice(alloc, text.as_bytes())
 }
 
-/// The events, in order.
+/// Returns the events, in order.
 pub fn events(alloc: Global, steps: &[Step]) -> Result<Vec<Event>, AllocError> {
     let mut events = Vec::new(alloc);
     for step in steps {
@@ -82,14 +82,14 @@ pub fn events(alloc: Global, steps: &[Step]) -> Result<Vec<Event>, AllocError> {
     Ok(events)
 }
 
-/// What counts in a world.
+/// The options of a world: which parts of a stat count, and whether executability does.
 #[derive(Clone, Copy, Debug)]
 pub struct Setting {
     pub stat: stat::Options,
     pub executable_bit: bool,
 }
 
-/// An empty world whose index was written at its clock.
+/// Returns an empty world whose index was written at the time of its clock.
 pub fn new_world(alloc: Global, clock: Moment, setting: Setting) -> Result<World, Refusal> {
     let Setting {
         stat,
@@ -98,7 +98,7 @@ pub fn new_world(alloc: Global, clock: Moment, setting: Setting) -> Result<World
     World::new(alloc, HashKind::Sha1, clock, clock, stat, executable_bit)
 }
 
-/// What comes of steps in an empty world whose index was written at its clock.
+/// Replays steps in such a world.
 pub fn history_at<R: AllocGlobal + Threads + Wait>(
     rt: &R,
     clock: Moment,
@@ -109,10 +109,11 @@ pub fn history_at<R: AllocGlobal + Threads + Wait>(
     go_on(rt, world, steps)
 }
 
-/// What comes of further steps in a world.
+/// Replays further steps in a world.
 ///
 /// # Errors
-/// Want of memory, in an event too: that says nothing of what the steps are.
+/// Returns `Refusal::Memory` if an allocation fails, also within an event: this isn't a result of the steps. Any other
+/// refusal is in the replay.
 pub fn go_on<R: AllocGlobal + Threads + Wait>(
     rt: &R,
     world: World,

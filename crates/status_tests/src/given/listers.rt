@@ -11,7 +11,7 @@ use std::fs::DirEntry;
 use std::rt::Files;
 use std::{fs, io};
 
-/// A directory's path and its names with their stats, or None where it can't be listed.
+/// A directory's path and its names with their stats, or None if it can't be listed.
 pub type Directory<'a> = (&'a str, Option<&'a [(&'a str, Stat)]>);
 
 /// Lists these directories, and no other. It isn't modelled.
@@ -40,7 +40,7 @@ impl<'a> Lister for Directories<'a> {
     }
 }
 
-// A list of these names, with their stats.
+// Returns a copy of these names with their stats.
 fn copied(alloc: Global, names: &[(&str, Stat)]) -> Result<Vec<(BString, Stat)>, AllocError> {
     let mut entries = Vec::new(alloc);
     for (name, stat) in names {
@@ -49,7 +49,8 @@ fn copied(alloc: Global, names: &[(&str, Stat)]) -> Result<Vec<(BString, Stat)>,
     Ok(entries)
 }
 
-/// Lists the directories of a folder of the disk. Their names are as a worktree of the disk finds them. It isn't modelled.
+/// Lists the directories of a folder of the disk. Its names are those at which a `DiskWorktree` finds the nodes. It
+/// isn't modelled.
 #[derive(Clone, Copy)]
 pub struct FolderLister<'a> {
     pub rt: &'a HostRuntime,
@@ -74,7 +75,7 @@ impl<'a> Lister for FolderLister<'a> {
     }
 }
 
-// The names in a directory below a root, with their stats.
+// Returns the names in a directory below a root, with their stats.
 fn listed_below(
     rt: &HostRuntime,
     root: &str,
@@ -89,7 +90,7 @@ fn listed_below(
     Ok(entries)
 }
 
-// Adds a name with its stat to a list, where a listing has a word for its node.
+// Adds a name with its stat to a list, if a listing can have its node.
 fn add<R: Files>(
     alloc: Global,
     entries: &mut Vec<(BString, Stat)>,
@@ -102,7 +103,8 @@ fn add<R: Files>(
     Ok(())
 }
 
-// What a listing says of a node. None where it has no word for it: it isn't of the three kinds, or a stamp isn't known.
+// Returns a node's stat in a listing. None if a listing can't have it: it isn't a file, link or directory, or a time
+// isn't known.
 fn listed(node: &Metadata) -> Option<Stat> {
     let (mtime, ctime) = (node.mtime?, node.ctime?);
     if node.kind == NodeKind::Other {

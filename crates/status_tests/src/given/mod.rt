@@ -1,5 +1,5 @@
-//! What a caller writes, each proved to mean what it says: a comparer, a filter, walks and other interfaces, and calls
-//! of the library. docs/CALLERS.md quotes them. What else tests are given stands in `tests/given`, and isn't proved.
+//! Interfaces and calls of the library as a caller writes them: a comparer, a filter, walks and others. All are proved
+//! to meet their contracts. docs/GUIDE.md quotes some, and other crates of tests use them.
 
 pub mod collectors;
 pub mod comparers;

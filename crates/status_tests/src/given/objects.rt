@@ -47,7 +47,7 @@ impl<'a, R: Files + AllocGlobal> Find for FolderObjects<'a, R> {
     }
 }
 
-// The path of a blob's file.
+// Returns the path of a blob's file.
 fn path_of<R: AllocGlobal>(rt: &R, folder: &str, id: &ObjectId) -> io::Result<String> {
     let name = hex::encode(rt.alloc(), id.as_bytes())?;
     Ok(format!(in rt.alloc(); "{folder}/{name}")?)

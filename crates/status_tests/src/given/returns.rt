@@ -1,4 +1,4 @@
-//! Filters as a caller writes them.
+//! A filter as a caller writes it.
 
 ghost use Rattle.std.specs.Prelude.{◌≡◌, refl};
 ghost use Rattle.std.specs.List.{filter};
@@ -7,11 +7,11 @@ ghost use Rattle.status_tests.specs.Returns.{is_no_return, without_returns};
 use bstr::BStr;
 use gix_status::worktree::{Fault, ReadBytes, ToGit, ToGitOutcome, read_all};
 
-/// Takes out carriage returns, as where text is stored with line feeds alone.
+/// Removes carriage returns, for text that is stored with line feeds only.
 #[derive(Clone, Copy, Debug)]
 pub struct WithoutReturns;
 
-// Takes out carriage returns.
+// Removes carriage returns.
 fn take_returns_out(bytes: &mut Vec<u8>)
     ensures { bytes.new.items ≡ filter is_no_return bytes.old.items }
 {

@@ -1,4 +1,4 @@
-//! Statuses, called with some of the interfaces fixed.
+//! Calls of the status with some of the interfaces fixed.
 
 ghost use Rattle.std.specs.Prelude.{◌≡◌, ◌<◌, ◌^◌, [], IfOk, OnErr, OnOk};
 ghost use Rattle.status_index.specs.States.{index_of, timestamp_of};
@@ -20,7 +20,7 @@ use std::sync::Wait;
 use std::sync::atomic::AtomicBool;
 use std::thread::Threads;
 
-/// What a status is computed by, beside an index, a worktree and a comparer.
+/// The arguments besides an index, a worktree and a comparer.
 #[derive(Drop)]
 pub struct StatusRequest<S, O, P, T> {
     pub submodule: S,
@@ -30,11 +30,11 @@ pub struct StatusRequest<S, O, P, T> {
     pub options: Options,
 }
 
-/// A request with no submodule and with blobs in memory.
+/// A request without submodules, with blobs in memory.
 pub type FileRequest<P, T> = StatusRequest<NoSubmodules, MemoryObjects, P, T>;
 
 impl<S, O, P, T> StatusRequest<S, O, P, T> {
-    /// A request by these interfaces.
+    /// Returns a request with these interfaces and options.
     pub fn new(
         submodule: S,
         objects: O,
@@ -52,18 +52,18 @@ impl<S, O, P, T> StatusRequest<S, O, P, T> {
     }
 }
 
-/// A request for all paths as they are, with no blob or submodule.
+/// Returns a request for all paths without a filter, blobs or submodules.
 pub fn plain_request(alloc: Global) -> FileRequest<AllPaths, NoFilter> {
     request_with(alloc, options())
 }
 
-/// The same, with other options.
+/// Returns the same request with these options.
 pub fn request_with(alloc: Global, options: Options) -> FileRequest<AllPaths, NoFilter> {
     let objects = MemoryObjects::new(alloc);
     StatusRequest::new(NoSubmodules, objects, AllPaths, NoFilter, options)
 }
 
-/// Options with which links count and executability doesn't.
+/// Returns options by which links count and executability doesn't.
 pub fn options() -> Options {
     Options {
         fs: Capabilities {
@@ -74,14 +74,14 @@ pub fn options() -> Options {
     }
 }
 
-/// What a status reported: the records, and what it took or why it failed.
+/// The records of a status, and its outcome or error.
 #[derive(Drop)]
 pub struct StatusReport<'index, T, U> {
     pub records: Vec<Record<'index, T, U>>,
     pub answer: Result<Outcome, Error>,
 }
 
-/// The status of an index against a worktree. It ends early where the flag is seen set.
+/// Calls the status of an index against a worktree, and returns its report. It ends early if it sees the flag set.
 pub fn status_of<
     'index,
     R: AllocGlobal + Threads + Wait,
@@ -168,7 +168,7 @@ where
     )
 }
 
-/// What the status of an index asks of it.
+/// Returns the changes of the index that its status asks for.
 fn changes<R: AllocGlobal + Threads + Wait, W: Worktree + Sync>(
     rt: &R,
     index: &State,
@@ -194,10 +194,10 @@ where
     Ok(recorder.changes()?)
 }
 
-/// Refreshes an index: stores what its status asks, and says that it is written at `timestamp`.
+/// Refreshes an index: applies the changes that its status asks for, and sets its timestamp to `timestamp`.
 ///
 /// # Errors
-/// The status's. The index then is as it was.
+/// Returns the status's error. The index is unchanged then.
 pub fn refresh<R: AllocGlobal + Threads + Wait, W: Worktree + Sync>(
     rt: &R,
     index: &mut State,

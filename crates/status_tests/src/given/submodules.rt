@@ -14,7 +14,7 @@ use std::path::Path;
 use std::sync::Wait;
 use std::thread::Threads;
 
-/// Every submodule answers the same: no change, a number, or a fault with a text.
+/// Submodules that all have the same result: no change, a number, or a fault with a text.
 #[derive(Drop)]
 pub struct Alike<'a> {
     pub alloc: Global,
@@ -56,8 +56,8 @@ impl<'a> SubmoduleStatus for Alike<'a> {
     }
 }
 
-/// Submodules in the folders of their paths below a root. Each has a status of its own, by the status call over its folder
-/// and one index for all, and changed where that reports records, by their number. They aren't modelled.
+/// Submodules in the folders of their paths below a root. Each has its own status: the status call over its folder,
+/// with one index for all. If that reports records, their number is the submodule's change. They aren't modelled.
 #[derive(Drop)]
 pub struct FolderSubmodules<'a, R> {
     pub rt: &'a R,
@@ -95,7 +95,7 @@ impl<'a, R: AllocGlobal + Threads + Wait> SubmoduleStatus for FolderSubmodules<'
     }
 }
 
-// How many records the status of the folder at a path below a root has. None where it has none.
+// Returns how many records the status of the folder at a path below a root has. None if it has none.
 fn records_below<R: AllocGlobal + Threads + Wait>(
     rt: &R,
     system: &HostRuntime,
@@ -114,7 +114,7 @@ fn records_below<R: AllocGlobal + Threads + Wait>(
     }
 }
 
-// The status with one worker.
+// Calls the status with one worker.
 fn status_by_one_worker<'index, R: AllocGlobal + Threads + Wait, W: Worktree + Sync>(
     rt: &R,
     index: &'index State,
@@ -131,7 +131,7 @@ where
     status_of(rt, index, worktree, HashEq, request, None)
 }
 
-// Why a submodule has no status whose status call failed.
+// Returns the fault of a submodule whose status call failed.
 fn fault_of(alloc: Global, error: Error) -> SubmoduleFault {
     if matches!(&error, Error::Memory) {
         return SubmoduleFault::Memory;

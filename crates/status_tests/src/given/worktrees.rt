@@ -1,10 +1,10 @@
-//! A worktree of a test's own.
+//! A worktree that counts calls.
 
 use bstr::BStr;
 use gix_status::worktree::{Fault, Metadata, Worktree};
 use std::sync::atomic::{AtomicUsize, Ordering};
 
-/// A worktree whose looks at one path, and whose openings of it, are counted. It is modelled where the one within is.
+/// A worktree that counts the calls of `lstat` and `open` on one path. It is modelled if `worktree` is.
 #[derive(Clone, Copy)]
 pub struct Counted<'a, W> {
     pub worktree: W,
@@ -14,7 +14,7 @@ pub struct Counted<'a, W> {
 }
 
 impl<'a, W> Counted<'a, W> {
-    // Counts one more call, where it is at the path.
+    // Counts a call, if it is on the path.
     fn count(&self, path: BStr<'_>, calls: &AtomicUsize) {
         if path.as_bytes() == self.path.as_bytes() {
             calls.fetch_add(1, Ordering::SeqCst);

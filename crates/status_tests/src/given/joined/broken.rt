@@ -1,4 +1,4 @@
-//! A worktree with faults, as a caller writes it who wants no proof.
+//! A worktree with faults, as written by a caller who needs no proof about it.
 
 ghost use Rattle.std.specs.Prelude.{false, Err};
 ghost use Rattle.status_index.specs.declared.fault.Fault.TheVariants.{NotFound};
@@ -6,7 +6,7 @@ ghost use Rattle.status_index.specs.declared.fault.Fault.TheVariants.{NotFound};
 use bstr::BStr;
 use status_base::worktree::{Fault, MemoryFile, MemoryWorktree, Metadata, ReadBytes, Worktree};
 
-/// What a worktree has a fault at.
+/// The call of a worktree that fails.
 #[derive(Clone, Copy, PartialEq, Eq)]
 pub enum Point {
     Lstat,
@@ -15,7 +15,7 @@ pub enum Point {
     ReadLink,
 }
 
-/// A file that is read to its end, or not at all.
+/// A file. If it has a fault, each read fails by it.
 #[derive(Drop)]
 pub struct BrokenFile {
     pub file: MemoryFile,
@@ -31,7 +31,7 @@ impl ReadBytes for BrokenFile {
     }
 }
 
-/// A worktree in memory with a fault at these points of these paths.
+/// A worktree in memory with faults at some calls on some paths.
 #[derive(Drop)]
 pub struct Broken<'a> {
     pub worktree: MemoryWorktree,

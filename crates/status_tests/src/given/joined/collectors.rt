@@ -1,9 +1,9 @@
-//! A collector of a test's own.
+//! A collector that runs out of memory.
 
 use status_joined::index_as_worktree_with_renames::{Entry, VisitEntry};
 use std::alloc::AllocError;
 
-/// Hands so many entries on, and has no memory for the next.
+/// Passes `room` entries on to `collector`, and returns out of memory for the next.
 #[derive(Drop)]
 pub struct Full<V> {
     pub collector: V,

@@ -1,4 +1,4 @@
-//! What tests of the joined call are given: a worktree, a collector, walks, trackers, and statuses in few words.
+//! Interfaces for tests of the joined call (a worktree, a collector, walks, trackers), and short forms of its calls.
 
 pub mod broken;
 pub mod collectors;

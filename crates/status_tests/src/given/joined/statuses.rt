@@ -1,7 +1,7 @@
-//! Statuses in few words: what is asked for, and what is reported.
+//! Short forms of the joined call: a request and a report.
 //!
-//! Other options or an interrupt flag are set as fields: `JoinedRequest { options: .., ..request }`. `report.answer` is what
-//! the status answered, and `report.records` are the entries themselves.
+//! Other options or an interrupt flag are set as fields: `JoinedRequest { options: .., ..request }`. `report.answer` is
+//! the result of the call, and `report.records` are the reported entries.
 
 use status_base::index::{ObjectId, State};
 use status_base::worktree::{
@@ -21,7 +21,7 @@ use std::sync::Wait;
 use std::sync::atomic::AtomicBool;
 use std::thread::Threads;
 
-/// What is asked for, beside an index and a worktree: a walk, a tracker, options and an interrupt flag.
+/// The arguments besides an index and a worktree: a walk, a tracker, options and an interrupt flag.
 #[derive(Drop)]
 pub struct JoinedRequest<'a, K, X> {
     pub walk: K,
@@ -31,8 +31,8 @@ pub struct JoinedRequest<'a, K, X> {
 }
 
 impl<'a, K, X> JoinedRequest<'a, K, X> {
-    /// Asks for what the index and the walk have, sorted, with no renames or copies. Links count, and executability
-    /// doesn't.
+    /// Returns a request for a sorted list of records and untracked files, with no renames or copies. Links count, and
+    /// executability doesn't.
     pub fn sorted(walk: K, tracker: X) -> JoinedRequest<'a, K, X> {
         JoinedRequest {
             walk,
@@ -42,7 +42,7 @@ impl<'a, K, X> JoinedRequest<'a, K, X> {
         }
     }
 
-    /// Asks for renames and copies as well, but not for those of files with no bytes.
+    /// Returns the same request with renames and copies, except those of empty files.
     pub fn rewritten(walk: K, tracker: X) -> JoinedRequest<'a, K, X> {
         JoinedRequest {
             walk,
@@ -53,7 +53,7 @@ impl<'a, K, X> JoinedRequest<'a, K, X> {
     }
 }
 
-/// Options with which the list is sorted, the worktree is walked, links count and executability doesn't.
+/// Returns options for a sorted list with a walk. Links count, and executability doesn't.
 pub fn options(rewrites: Option<Rewrites>) -> Options {
     Options {
         sorting: Some(Sorting::ByPathCaseSensitive),
@@ -70,14 +70,14 @@ pub fn options(rewrites: Option<Rewrites>) -> Options {
     }
 }
 
-/// What was reported: the entries, and what the status took or why it failed.
+/// The reported entries, and the outcome of the call or its error.
 #[derive(Drop)]
 pub struct JoinedReport<'index> {
     pub records: Vec<Entry<'index, ObjectId, ()>>,
     pub answer: Result<Outcome, Error>,
 }
 
-/// The status of an index and a worktree with untracked files, by ids.
+/// Calls the status with untracked files, by ids, and returns its report.
 pub fn joined<
     'index,
     R: AllocGlobal + Threads + Wait,
@@ -112,7 +112,7 @@ where
     }
 }
 
-/// Reports an index and a worktree to a collector, by ids, with submodules, a filter and a lister.
+/// Calls the status by ids with a collector, submodules, a filter and a lister.
 pub fn report_to<
     'index,
     R: Threads + Wait,

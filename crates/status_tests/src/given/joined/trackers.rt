@@ -1,11 +1,11 @@
-//! A tracker of a test's own. It may answer anything.
+//! A tracker that returns fixed pairs. Its specification allows any result.
 
 ghost use Rattle.std.specs.Prelude.{⊤};
 
 use status_rewrites::{Change, Pair, Rewrites, Tracker, TrackerError};
 use std::alloc::Global;
 
-/// A pair, by places of the list: what it is of, and what that became.
+/// A pair: the list positions of its source and its destination.
 #[derive(Clone, Copy)]
 pub enum Told {
     Renamed(usize, usize),
@@ -29,7 +29,7 @@ impl Told {
     }
 }
 
-/// Answers these pairs, whatever the changes are.
+/// Returns these pairs for all changes.
 #[derive(Clone, Copy)]
 pub struct Answers<'a> {
     pub alloc: Global,

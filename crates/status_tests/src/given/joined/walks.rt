@@ -1,4 +1,4 @@
-//! Walks of a test's own. None is modelled.
+//! Walks that pass fixed nodes. None is modelled.
 
 ghost use Rattle.std.specs.Prelude.{◌≡◌, false, None, IfOk};
 
@@ -8,7 +8,7 @@ use status_base::worktree::{Fault, Pathspec, Worktree};
 use status_walk::{Action, Delegate, DirEntry, Kind, Outcome, Status, Walk, WalkError};
 use std::alloc::{AllocError, Global};
 
-/// A node that a walk hands out.
+/// A node that a walk passes to its delegate.
 #[derive(Clone, Copy)]
 pub struct Found<'a> {
     pub path: &'a str,
@@ -17,7 +17,7 @@ pub struct Found<'a> {
     pub collapsed: Option<Status>,
 }
 
-/// An untracked file, but for its path.
+/// An untracked file, without its path.
 pub const UNTRACKED: Found<'static> = Found {
     path: "",
     status: Status::Untracked,
@@ -45,7 +45,7 @@ fn entry(alloc: Global, found: &Found<'_>) -> Result<DirEntry, AllocError> {
     })
 }
 
-/// Hands nodes out, until the delegate ends that.
+/// Passes nodes to a delegate, until that ends the walk.
 pub fn hand_out<D: Delegate>(
     alloc: Global,
     nodes: &[Found<'_>],
@@ -71,7 +71,7 @@ pub fn hand_out<D: Delegate>(
     })
 }
 
-/// Hands these nodes out, whatever the worktree and the index have, and then meets a fault at a path, if one is given.
+/// Passes these nodes for every worktree and index, and then has a fault at a path, if `fault` is set.
 #[derive(Clone, Copy)]
 pub struct HandsOut<'a> {
     pub alloc: Global,
