@@ -85,7 +85,7 @@ IsJoinedOver modelled lstat opened linked walked w hash options index old result
     is_joined o ≡ true
     → (IsErrAnd result (λ f. f ≡ Memory) × (new ≡ old))
     ⊎ IsJoinedPrinted (joined_parts (options_query o (timestamp_of index) (modelled w) (lstat w) (opened w) (linked w)) (walked w (index_of index) o.prefix (λ path _. starts_with nat_eq path o.prefix)) hash (modelled w) (lstat w) (opened w) (linked w))
-      o hash index old result new
+    o hash index old result new
 
 -- what a walk finds in a tree of nodes: the untracked ones
 abbrev pub walked_in : Tree → List IndexEntry → List ℕ → (List ℕ → Bool → Bool) → Walking
@@ -98,8 +98,8 @@ IsPlacePrinted (places.Folder path) hash options index old result new = ⊤
 IsPlacePrinted (places.Nodes nodes) hash options index old result new =
     (IsErrAnd result (IsUnplanted (map node_value nodes.items)) × (new ≡ old))
     ⊎ ((tree : Tree) × (planted 0 empty_tree (map node_value nodes.items) ≡ Ok tree)
-      × IsPrintedOver (λ (t : Tree). true) lstat_in open_in target_in tree options index old result new
-      × IsJoinedOver (λ (t : Tree). true) lstat_in open_in target_in walked_in tree hash options index old result new)
+    × IsPrintedOver (λ (t : Tree). true) lstat_in open_in target_in tree options index old result new
+    × IsJoinedOver (λ (t : Tree). true) lstat_in open_in target_in walked_in tree hash options index old result new)
 
 abbrev pub IsProfilePrinted : {A : Type 0} → Profile → Option (List ℕ) → Result A Failure → Option (List ℕ) → Type 0
 IsProfilePrinted p old result new = IsPlacePrinted p.place p.hash p.options p.index old result new
