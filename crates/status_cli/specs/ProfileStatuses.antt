@@ -1,6 +1,6 @@
 -- A profile's status is by its options, its index and the tree of its nodes, unless one can't be put; its lines are those of the
 -- plain or of the joined status, and a failure has its line.
-use Rattle.std.specs.Prelude.{◌≡◌, ◌⊎◌, nat_eq, ℕ, ◌+◌, Bool, true, false, List, [], ◌∷◌, map, Option, Some, None, Result, Ok, Err, ⊤}
+use Rattle.std.specs.Prelude.{◌≡◌, ◌⊎◌, IfSome, nat_eq, ℕ, ◌+◌, Bool, true, false, List, [], ◌∷◌, map, Option, Some, None, Result, Ok, Err, ⊤}
 use Rattle.std.specs.FinMap as paths
 use Rattle.std.specs.List.{starts_with}
 use Rattle.std.specs.Result.{IsErrAnd}
@@ -13,12 +13,17 @@ use Rattle.status_index.specs.declared.id.ObjectId.{ObjectId}
 use Rattle.status_index.specs.declared.metadata.Metadata.{Metadata}
 use Rattle.status_index.specs.declared.stat.Moment.{Moment}
 use Rattle.status_index.specs.declared.state.State.{State}
+use Rattle.status_base.specs.Conversions.{same}
 use Rattle.status_base.specs.MemoryTree.{Placed, Tree, lstat_in, open_in, target_in}
 use Rattle.status_base.specs.Nodes.{put_fault}
 use Rattle.status_base.specs.Trees.{empty_tree}
 use Rattle.status_base.specs.declared.worktree.memory.TreeError.{TreeError}
 use Rattle.status_call.specs.Query.{Query}
+use Rattle.status_joined.specs.Items.{Reported}
+use Rattle.status_joined.specs.NodeIds.{ids_by}
 use Rattle.status_joined.specs.Walkings.{Walking}
+use Rattle.status_joined.specs.declared.index_as_worktree_with_renames.error.Error.{Error as JoinedError}
+use Rattle.status_joined.specs.declared.index_as_worktree_with_renames.types.Outcome.{Outcome as JoinedOutcome}
 use Rattle.status_walk.specs.Untracked.{untracked_walk}
 use Rattle.status_world.specs.RunStatus.{status_query}
 use Rattle.status_world.specs.StampedWorld.{compared_by, counted_by}
@@ -32,19 +37,42 @@ use Rattle.status_profile.specs.declared.options.ProfileOptions.{ProfileOptions}
 use Rattle.status_profile.specs.declared.profile.Profile.{Profile}
 use Rattle.status_profile.specs.declared.error.ProfileError.{ProfileError}
 use Rattle.status_cli.specs.declared.failure.Failure.{Failure}
+use Rattle.status_cli.specs.declared.status.profile_status.ProfileStatus.{ProfileStatus}
 use Rattle.status_cli.specs.declared.failure.Failure.TheVariants.{Unreadable, Memory}
 use Rattle.status_cli.specs.Failures.{failure_of_node, failure_of_profile}
 use Rattle.status_cli.specs.FaultLines.{failure_line, names_submodule}
 use Rattle.status_cli.specs.Printing.{IsBegun}
-use Rattle.status_cli.specs.Statuses.{IsJoinedPrinted, IsStatusPrinted, joined_parts}
+use Rattle.status_cli.specs.Statuses.{IsJoinedAnswer, IsJoinedPrinted, IsStatusPrinted, JoinedInputs}
 
--- what a status by a profile's options depends on, over a worktree that returns this: all paths that begin with the prefix
-abbrev pub options_query : OptionValues → Moment → Bool → (List ℕ → Result Metadata Fault) → (List ℕ → Result Content Fault) → (List ℕ → Result (List ℕ) Fault) → Query (Option ObjectId) (Unit {0})
-options_query o timestamp modelled lstat opened linked =
-    record (status_query o.status timestamp modelled lstat opened linked (compared_by o.comparer) (counted_by o.comparer)) {
-      prefix = o.prefix;
-      included = λ path _. starts_with nat_eq path o.prefix;
+-- the results of a worktree, and whether they are specified
+pub record WorktreeResults : Type 0 where
+  pub modelled : Bool
+  pub lstat : List ℕ → Result Metadata Fault
+  pub opened : List ℕ → Result Content Fault
+  pub linked : List ℕ → Result (List ℕ) Fault
+
+abbrev pub results_of : {W : Type 0} → (W → Bool) → (W → List ℕ → Result Metadata Fault) → (W → List ℕ → Result Content Fault) → (W → List ℕ → Result (List ℕ) Fault) → W → WorktreeResults
+results_of modelled lstat opened linked w = record { modelled = modelled w; lstat = lstat w; opened = opened w; linked = linked w }
+
+-- the query of a status by a profile's options, of these paths of a worktree
+abbrev pub options_query : OptionValues → Moment → WorktreeResults → List ℕ → (List ℕ → Bool → Bool) → Query (Option ObjectId) (Unit {0})
+options_query o timestamp w prefix included =
+    record (status_query o.status timestamp w.modelled w.lstat w.opened w.linked (compared_by o.comparer) (counted_by o.comparer)) {
+      prefix = prefix;
+      included = included;
     }
+
+-- the inputs of a joined status by a profile's options, which converts nothing
+abbrev pub options_inputs : OptionValues → Moment → WorktreeResults → List ℕ → (List ℕ → Bool → Bool) → Walking → HashKind → JoinedInputs (Option ObjectId) (Unit {0})
+options_inputs o timestamp w prefix included walking hash = record {
+  query = options_query o timestamp w prefix included;
+  walking = walking;
+  ids = record { modelled = w.modelled; ids = ids_by hash w.lstat w.opened w.linked (λ _ _. same) };
+}
+
+-- the paths that begin with a prefix
+abbrev pub begins_with : List ℕ → List ℕ → Bool → Bool
+begins_with prefix path is_directory = starts_with nat_eq path prefix
 
 -- the command fails as if the text of a profile couldn't be read, or since memory ran out; and nothing was printed
 abbrev pub IsUnreadPrinted : {A : Type 0} → Option (List ℕ) → Result A Failure → Option (List ℕ) → Type 0
@@ -70,36 +98,67 @@ planted position tree (node ∷ nodes) =
 abbrev pub IsUnplanted : List (List ℕ × Placed) → Failure → Type 0
 IsUnplanted nodes failure = (failure ≡ Memory) ⊎ (planted 0 empty_tree nodes ≡ Err failure)
 
--- of a plain status over any worktree, its lines were printed, or as many as its failure allows; or nothing, since memory ran out
-abbrev pub IsPrintedOver : {W A : Type 0} → (W → Bool) → (W → List ℕ → Result Metadata Fault) → (W → List ℕ → Result Content Fault) → (W → List ℕ → Result (List ℕ) Fault) → W → ProfileOptions → State
-    → Option (List ℕ) → Result A Failure → Option (List ℕ) → Type 0
-IsPrintedOver modelled lstat opened linked w options index old result new =
-    is_joined (option_values options) ≡ false
-    → (IsErrAnd result (λ f. f ≡ Memory) × (new ≡ old)) ⊎ IsStatusPrinted (options_query (option_values options) (timestamp_of index) (modelled w) (lstat w) (opened w) (linked w)) index options.counts old result new
+module _ {A : Type 0} (w : WorktreeResults) (options : ProfileOptions) (index : State) (prefix : List ℕ) (included : List ℕ → Bool → Bool) (old : Option (List ℕ)) (result : Result A Failure) (new : Option (List ℕ)) where
+  -- over a worktree and of these paths, the lines of a plain status by a profile's options were printed
+  abbrev pub IsPlainOver : Type 0
+  IsPlainOver = IsStatusPrinted (options_query (option_values options) (timestamp_of index) w prefix included) index options.counts old result new
 
--- of a joined status likewise, by what the walk finds in the worktree
-abbrev pub IsJoinedOver : {W A : Type 0} → (W → Bool) → (W → List ℕ → Result Metadata Fault) → (W → List ℕ → Result Content Fault) → (W → List ℕ → Result (List ℕ) Fault) → (W → List IndexEntry → List ℕ → (List ℕ → Bool → Bool) → Walking) → W
-    → HashKind → ProfileOptions → State → Option (List ℕ) → Result A Failure → Option (List ℕ) → Type 0
-IsJoinedOver modelled lstat opened linked walked w hash options index old result new =
-    let o = option_values options in
-    is_joined o ≡ true
-    → (IsErrAnd result (λ f. f ≡ Memory) × (new ≡ old))
-    ⊎ IsJoinedPrinted (joined_parts (options_query o (timestamp_of index) (modelled w) (lstat w) (opened w) (linked w)) (walked w (index_of index) o.prefix (λ path _. starts_with nat_eq path o.prefix)) hash (modelled w) (lstat w) (opened w) (linked w))
-    o hash index old result new
+  -- those of a joined status, by what there is to walk
+  abbrev pub IsJoinedOver : Walking → HashKind → Type 0
+  IsJoinedOver walking hash = IsJoinedPrinted (options_inputs (option_values options) (timestamp_of index) w prefix included walking hash) (option_values options) hash index old result new
 
--- what a walk finds in a tree of nodes: the untracked ones
-abbrev pub walked_in : Tree → List IndexEntry → List ℕ → (List ℕ → Bool → Bool) → Walking
-walked_in tree entries prefix included = Some (untracked_walk tree entries included)
+  -- those of the plain status; or of the joined one, if the options have untracked files, renames or sorting
+  pub record IsStatusOver (walking : Walking) (hash : HashKind) : Type 0 where
+    pub plain : is_joined (option_values options) ≡ false → IsPlainOver
+    pub joined : is_joined (option_values options) ≡ true → IsJoinedOver walking hash
 
--- over the tree of a profile's nodes, a plain or a joined status was printed so; or nothing, since one of the nodes can't be put or
--- memory ran out. Of a folder nothing is claimed
+-- the lines of a status were printed, of the paths that begin with the options' prefix; or nothing, since memory ran out
+abbrev pub IsPrintedOver : {A : Type 0} → WorktreeResults → (List ℕ → (List ℕ → Bool → Bool) → Walking) → HashKind → ProfileOptions → State → Option (List ℕ) → Result A Failure → Option (List ℕ) → Type 0
+IsPrintedOver w walked hash options index old result new =
+    let prefix = (option_values options).prefix in
+    (IsErrAnd result (λ f. f ≡ Memory) × (new ≡ old))
+    ⊎ IsStatusOver w options index prefix (begins_with prefix) old result new (walked prefix (begins_with prefix)) hash
+
+-- the same of a profile's status, by the meanings of its worktree and of its walk
+abbrev pub walked_by : {W K : Type 0} → (K → W → List IndexEntry → List ℕ → (List ℕ → Bool → Bool) → Walking) → ProfileStatus W K → List ℕ → (List ℕ → Bool → Bool) → Walking
+walked_by meaning s prefix included = meaning s.walk s.worktree.now (index_of s.index.now) prefix included
+
+abbrev pub IsPlainShown : {W K A : Type 0} → (W → WorktreeResults) → ProfileStatus W K → List ℕ → (List ℕ → Bool → Bool) → Option (List ℕ) → Result A Failure → Option (List ℕ) → Type 0
+IsPlainShown results s prefix included old result new = IsPlainOver (results s.worktree.now) s.options s.index.now prefix included old result new
+
+abbrev pub IsJoinedShown : {W K A : Type 0} → (W → WorktreeResults) → (K → W → List IndexEntry → List ℕ → (List ℕ → Bool → Bool) → Walking) → ProfileStatus W K → List ℕ → (List ℕ → Bool → Bool) → Option (List ℕ) → Result A Failure → Option (List ℕ) → Type 0
+IsJoinedShown results meaning s prefix included old result new =
+    IsJoinedOver (results s.worktree.now) s.options s.index.now prefix included old result new (walked_by meaning s prefix included) s.hash
+
+abbrev pub IsStatusShown : {W K A : Type 0} → (W → WorktreeResults) → (K → W → List IndexEntry → List ℕ → (List ℕ → Bool → Bool) → Walking) → ProfileStatus W K → List ℕ → (List ℕ → Bool → Bool) → Option (List ℕ) → Result A Failure → Option (List ℕ) → Type 0
+IsStatusShown results meaning s prefix included old result new =
+    IsStatusOver (results s.worktree.now) s.options s.index.now prefix included old result new (walked_by meaning s prefix included) s.hash
+
+abbrev pub IsProfileShown : {W K A : Type 0} → (W → WorktreeResults) → (K → W → List IndexEntry → List ℕ → (List ℕ → Bool → Bool) → Walking) → ProfileStatus W K → Option (List ℕ) → Result A Failure → Option (List ℕ) → Type 0
+IsProfileShown results meaning s old result new = IsPrintedOver (results s.worktree.now) (walked_by meaning s) s.hash s.options s.index.now old result new
+
+-- what a joined status reports to a recorder, by the same meanings
+abbrev pub IsJoinedReported : {W K : Type 0} → (W → WorktreeResults) → (K → W → List IndexEntry → List ℕ → (List ℕ → Bool → Bool) → Walking) → ProfileStatus W K → List ℕ → (List ℕ → Bool → Bool)
+    → List (Reported (Option ObjectId) (Unit {0})) → Result JoinedOutcome JoinedError → List (Reported (Option ObjectId) (Unit {0})) → Type 0
+IsJoinedReported results meaning s prefix included old answer new =
+    let o = option_values s.options in
+    IsJoinedAnswer (options_inputs o (timestamp_of s.index.now) (results s.worktree.now) prefix included (walked_by meaning s prefix included) s.hash) o s.hash s.index.now old answer new
+
+-- the results of a tree of nodes, which are specified
+abbrev pub tree_results : Tree → WorktreeResults
+tree_results tree = record { modelled = true; lstat = lstat_in tree; opened = open_in tree; linked = target_in tree }
+
+-- the walk of a tree of nodes finds the untracked ones
+abbrev pub tree_walk : Tree → State → List ℕ → (List ℕ → Bool → Bool) → Walking
+tree_walk tree index prefix included = Some (untracked_walk tree (index_of index) included)
+
+-- over the tree of a profile's nodes, its lines were printed; or nothing, since one of the nodes can't be put or memory ran out. Of a
+-- folder nothing is claimed
 abbrev pub IsPlacePrinted : {A : Type 0} → Place → HashKind → ProfileOptions → State → Option (List ℕ) → Result A Failure → Option (List ℕ) → Type 0
 IsPlacePrinted (places.Folder path) hash options index old result new = ⊤
 IsPlacePrinted (places.Nodes nodes) hash options index old result new =
     (IsErrAnd result (IsUnplanted (map node_value nodes.items)) × (new ≡ old))
-    ⊎ ((tree : Tree) × (planted 0 empty_tree (map node_value nodes.items) ≡ Ok tree)
-    × IsPrintedOver (λ (t : Tree). true) lstat_in open_in target_in tree options index old result new
-    × IsJoinedOver (λ (t : Tree). true) lstat_in open_in target_in walked_in tree hash options index old result new)
+    ⊎ ((tree : Tree) × (planted 0 empty_tree (map node_value nodes.items) ≡ Ok tree) × IsPrintedOver (tree_results tree) (tree_walk tree index) hash options index old result new)
 
 abbrev pub IsProfilePrinted : {A : Type 0} → Profile → Option (List ℕ) → Result A Failure → Option (List ℕ) → Type 0
 IsProfilePrinted p old result new = IsPlacePrinted p.place p.hash p.options p.index old result new
@@ -119,3 +178,10 @@ IsTextPrinted kind text old result new =
 -- the line of a submodule's fault nothing is claimed
 abbrev pub IsFailed : (Result (Unit {0}) Failure → Type 0) → List ℕ → Option (List ℕ) → Option (List ℕ) → Type 0
 IsFailed Printed name old new = (f : Failure) × Printed (Err f) × (names_submodule f ≡ false → IsBegun (failure_line name f) old new)
+
+-- the same of a command's text, if that is known: it succeeded, or it failed
+abbrev pub IsTextSucceeded : Kind → Option (List ℕ) → Option (List ℕ) → Option (List ℕ) → Type 0
+IsTextSucceeded kind text old new = IfSome text (λ t. IsReadPrinted {A = Unit {0}} kind t old (Ok tt) new)
+
+abbrev pub IsTextFailed : Kind → Option (List ℕ) → Option (List ℕ) → Option (List ℕ) → List ℕ → Option (List ℕ) → Option (List ℕ) → Type 0
+IsTextFailed kind text old new name old_faults new_faults = IfSome text (λ t. IsFailed (λ failure. IsTextPrinted kind t old failure new) name old_faults new_faults)

@@ -2,34 +2,24 @@
 use Rattle.std.specs.Prelude.{◌≡◌, ◌⊎◌, Bool, true, false, ℕ, List, [], ◌++◌, Option, Some, None, Result, Ok, Err, IfOk, if◌then◌else◌}
 use Rattle.std.specs.List.{flat_map}
 use Rattle.std.specs.Io.KnownBytes.{Appends}
-use Rattle.status_index.specs.Content.{Content}
-use Rattle.status_index.specs.Entries.{IndexEntry}
-use Rattle.status_index.specs.States.{index_of}
-use Rattle.status_index.specs.declared.fault.Fault.{Fault}
 use Rattle.status_index.specs.declared.id.HashKind.{HashKind}
-use Rattle.status_index.specs.declared.metadata.Metadata.{Metadata}
 use Rattle.status_index.specs.declared.state.State.{State}
-use Rattle.status_base.specs.Conversions.{same}
 use Rattle.status_compare.specs.declared.error.Error.{Error}
 use Rattle.status_call.specs.declared.index_as_worktree.types.Outcome.{Outcome}
-use Rattle.status_call.specs.Inputs.{settings}
 use Rattle.status_call.specs.Query.{Query}
 use Rattle.status_call.specs.StatusTheorem.{IsMet}
 use Rattle.status_call.specs.Visits.{Visit}
 use Rattle.status_joined.specs.Items.{Reported}
 use Rattle.status_joined.specs.JoinedTheorem.{IsJoinedStatus}
-use Rattle.status_joined.specs.NodeIds.{Identifying, ids_by}
+use Rattle.status_joined.specs.NodeIds.{Identifying}
 use Rattle.status_joined.specs.Walkings.{Walking, wanted_walk}
 use Rattle.status_joined.specs.declared.index_as_worktree_with_renames.error.Error.{Error as JoinedError}
 use Rattle.status_joined.specs.declared.index_as_worktree_with_renames.types.Options.{Options as JoinedOptions}
 use Rattle.status_joined.specs.declared.index_as_worktree_with_renames.types.Outcome.{Outcome as JoinedOutcome}
 use Rattle.status_joined.specs.declared.index_as_worktree_with_renames.types.Sorting.TheVariants.{ByPathCaseSensitive}
 use Rattle.status_rewrites.specs.Renames.{IsIdentityAnswer}
-use Rattle.status_call.specs.declared.index_as_worktree.inputs.Settings.{Settings}
-use Rattle.status_profile.specs.Options.{OptionValues, option_values}
-use Rattle.status_profile.specs.declared.options.ProfileOptions.{ProfileOptions}
+use Rattle.status_profile.specs.Options.{OptionValues}
 use Rattle.status_cli.specs.declared.failure.Failure.{Failure}
-use Rattle.status_cli.specs.declared.status.profile_status.ProfileStatus.{ProfileStatus}
 use Rattle.status_cli.specs.Failures.{failure_of_joined, failure_of_status}
 use Rattle.status_cli.specs.Lines.{entry_line, total_line, visit_line}
 use Rattle.status_cli.specs.Printing.{IsBegun, IsPrinted, IsUnprinted}
@@ -77,11 +67,6 @@ pub record IsStatusPrinted {T U A : Type 0} (query : Query T U) (index : State) 
   pub whole : IfOk answer (λ outcome. outcome.interrupted ≡ false)
   pub ended : IsEnded (visit_lines visits ++ closing counts (answered answer)) (answered answer) old result new
 
--- the same of a profile's index and options, by what was handed in and by the meaning of its output
-abbrev pub IsPlainShown : {I T U A V : Type 0} → (I → Settings → Query T U) → I → ProfileOptions → State → (V → Option (List ℕ)) → V → Result A Failure → V → Type 0
-IsPlainShown query inputs options index contents old result new =
-    IsStatusPrinted (query inputs (settings options.status index)) index options.counts (contents old) result (contents new)
-
 -- the options of a joined status: its lines are sorted by path if the profile has `sort`, it has the untracked files with
 -- `untracked`, and with `renames` those of files that aren't empty; ids are of the profile's kind
 abbrev pub joined_options : OptionValues → HashKind → JoinedOptions
@@ -94,41 +79,21 @@ joined_options o hash = record {
   rewrites = if o.renames then Some (record { track_empty = false }) else None;
 }
 
--- what a joined status depends on: the query of the index's status, what there is to walk, and the ids of nodes
-pub record JoinedParts (T U : Type 0) : Type 0 where
+-- the inputs of a joined status: the query of the index's status, what there is to walk, and the ids of nodes
+pub record JoinedInputs (T U : Type 0) : Type 0 where
   pub query : Query T U
   pub walking : Walking
   pub ids : Identifying
 
--- the parts by this query, walk and worktree, with ids of this kind and of content that isn't converted
-abbrev pub joined_parts : {T U : Type 0} → Query T U → Walking → HashKind → Bool → (List ℕ → Result Metadata Fault) → (List ℕ → Result Content Fault) → (List ℕ → Result (List ℕ) Fault) → JoinedParts T U
-joined_parts query walking hash modelled lstat opened linked = record {
-  query = query;
-  walking = walking;
-  ids = record { modelled = modelled; ids = ids_by hash lstat opened linked (λ _ _. same) };
-}
+-- a joined status of this index by a profile's options, without an interrupt flag and with renames by equal content, returned this, and
+-- its collector, which may run out of memory, grew so
+abbrev pub IsJoinedAnswer : {T U : Type 0} → JoinedInputs T U → OptionValues → HashKind → State → List (Reported T U) → Result JoinedOutcome JoinedError → List (Reported T U) → Type 0
+IsJoinedAnswer inputs o hash index old answer new =
+    IsJoinedStatus inputs.query (joined_options o hash) index false (wanted_walk o.untracked inputs.walking) inputs.ids IsIdentityAnswer true old answer new
 
--- a joined status of this index by a profile's options, without an interrupt flag and with renames by equal content, answered so, and
--- its collector grew so
-abbrev pub IsJoinedBy : {T U : Type 0} → JoinedParts T U → OptionValues → HashKind → State → Bool → List (Reported T U) → Result JoinedOutcome JoinedError → List (Reported T U) → Type 0
-IsJoinedBy parts o hash index may_fail old answer new =
-    IsJoinedStatus parts.query (joined_options o hash) index false (wanted_walk o.untracked parts.walking) parts.ids IsIdentityAnswer may_fail old answer new
-
--- a joined status of this index was computed from these parts; and its lines, with `counts` also its totals, were printed as it
--- ended. Its collector may run out of memory
-pub record IsJoinedPrinted {T U A : Type 0} (parts : JoinedParts T U) (o : OptionValues) (hash : HashKind) (index : State) (old : Option (List ℕ)) (result : Result A Failure) (new : Option (List ℕ)) : Type 0 where
+-- a joined status of this index was computed from these inputs; and its lines, with `counts` also its totals, were printed as it ended
+pub record IsJoinedPrinted {T U A : Type 0} (inputs : JoinedInputs T U) (o : OptionValues) (hash : HashKind) (index : State) (old : Option (List ℕ)) (result : Result A Failure) (new : Option (List ℕ)) : Type 0 where
   pub entries : List (Reported T U)
   pub answer : Result JoinedOutcome JoinedError
-  pub met : IsJoinedBy parts o hash index true [] answer entries
+  pub met : IsJoinedAnswer inputs o hash index [] answer entries
   pub ended : IsEnded (entry_lines entries ++ closing o.counts (joined_answered answer)) (joined_answered answer) old result new
-
--- the parts of a profile's status, by the meanings of its worktree and of its walk, and by these paths
-abbrev pub status_parts : {W K T U : Type 0} → (Settings → Query T U) → (W → Bool) → (W → List ℕ → Result Metadata Fault) → (W → List ℕ → Result Content Fault) → (W → List ℕ → Result (List ℕ) Fault)
-    → (K → W → List IndexEntry → List ℕ → (List ℕ → Bool → Bool) → Walking) → ProfileStatus W K → List ℕ → (List ℕ → Bool → Bool) → JoinedParts T U
-status_parts query modelled lstat opened linked walked s prefix included =
-    let w = s.worktree.now in let index = s.index.now in
-    joined_parts (query (settings s.options.status index)) (walked s.walk w (index_of index) prefix included) s.hash (modelled w) (lstat w) (opened w) (linked w)
-
--- what is printed of a profile's joined status, by its parts and by the meaning of its output
-abbrev pub IsJoinedShown : {W K T U A V : Type 0} → JoinedParts T U → ProfileStatus W K → (V → Option (List ℕ)) → V → Result A Failure → V → Type 0
-IsJoinedShown parts s contents old result new = IsJoinedPrinted parts (option_values s.options) s.hash s.index.now (contents old) result (contents new)
