@@ -1,6 +1,6 @@
 //! Tests of the program's commands over bytes in memory, and of lines that no profile causes: what no clause of theirs says.
 //!
-//! Lines that a profile causes are in rows of `tools/rows`, over the built program.
+//! The lines that a profile causes are tested by the rows of `tools/rows`, with the built program.
 #![tactic(auto)]
 
 #[cfg(test)]
