@@ -1,4 +1,4 @@
-"""Proves, builds and runs a program of bench/ beside a copy of the crates, so that none of it is in crates/."""
+"""Proves, builds and runs a program of bench/ next to a copy of the crates, so that none of it is in crates/."""
 
 import pathlib
 import shutil
@@ -9,8 +9,10 @@ ROOT = pathlib.Path(__file__).resolve().parent.parent
 
 
 def run(name, libraries, patterns, words=(), kept=None):
-    """Makes a crate of the files of bench/ that the patterns name, over these libraries, and runs it with these words.
-    Where `kept` names a file, the built program is copied there."""
+    """Makes a crate of the files of bench/ that match the patterns, over these libraries, and runs it with these words.
+
+    If `kept` names a file, the built program is copied there.
+    """
     with tempfile.TemporaryDirectory() as folder:
         copy = pathlib.Path(folder)
         shutil.copytree(ROOT / "crates", copy / "crates")

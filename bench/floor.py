@@ -1,10 +1,10 @@
 #!/usr/bin/env python3
-"""Builds a loop of nothing but `DiskWorktree::lstat`, for `bench/peers.py --floor PROGRAM`.
+"""Builds a loop that only calls `DiskWorktree::lstat`, for `bench/peers.py --floor PROGRAM`.
 
     python3 bench/floor.py PROGRAM
 
-It copies the crates to a folder of its own, puts the program of bench/floor beside them, and proves and builds that. The
-built program is copied to PROGRAM; it is called as bench/peers/lstat_loop.c is.
+It copies the crates to a temporary folder, puts the program of bench/floor next to them, and proves and builds that. The
+built program is copied to PROGRAM. It takes the same arguments as bench/peers/lstat_loop.c.
 """
 
 import os

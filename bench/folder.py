@@ -3,7 +3,7 @@
 
     python3 bench/folder.py FOLDER COUNT
 
-FOLDER may not be there yet. The files are older than the index, so that no stat is racy. It needs git.
+FOLDER must not exist yet. The files are older than the index, so that no stat is racy. It needs git.
 """
 
 import argparse
@@ -30,7 +30,7 @@ def make(top, count):
 
 def main():
     parser = argparse.ArgumentParser(description="Makes a git repository of COUNT files in a new FOLDER.")
-    parser.add_argument("folder", help="where the repository is made; it may not be there yet")
+    parser.add_argument("folder", help="the folder of the repository; it must not exist yet")
     parser.add_argument("count", type=int, help="how many files it has")
     arguments = parser.parse_args()
     if arguments.count < 0:

@@ -1,11 +1,12 @@
 #!/usr/bin/env python3
-"""Times histories: what an event takes, and what a run takes for each entry.
+"""Times histories: the time of an event, and the time of a run for each entry.
 
     python3 bench/histories.py PROGRAM [--paths 1000 10000] [--events 100000] [--runs 100] [--times 5]
 
-A history writes and stages each path, and then has writes, stagings, changes of executability and ticks of drawn paths,
-with runs among them at equal distances. Three profiles tell the parts apart: the first event of one is refused, so that
-it is only read; one has all events but the runs; one has all. Each time is the least processor time of user and system.
+A history writes and stages each path. Then it has writes, stagings, changes of executability and ticks of drawn paths,
+with runs among them at equal distances. Three profiles measure the parts. The first event of one is refused, so that it
+is only read. One has all events except the runs, and one has all. Each time is the least processor time, of user and
+system together.
 """
 
 import argparse
@@ -33,7 +34,7 @@ def event_of(draws: random.Random, paths: int) -> list:
 
 
 def history(paths: int, events: int, runs: int) -> tuple[list, list]:
-    """The events with runs, and without. The clock goes on by a second before each run, which is stored with it."""
+    """Returns the events with runs, and without. Before each run the clock advances by a second, the run's timestamp."""
     draws = random.Random(paths)
     plain = [event for number in range(paths) for event in (["write", path_of(number), "first\n"], ["stage", path_of(number)])]
     plain += [event_of(draws, paths) for _ in range(events - 2 * runs - len(plain))]
@@ -47,7 +48,7 @@ def history(paths: int, events: int, runs: int) -> tuple[list, list]:
 
 
 def time_of(program: str, events: list, times: int) -> float:
-    """The least processor time of replays in seconds."""
+    """Returns the least processor time of replays in seconds."""
     options = {"trust_ctime": True, "counts": True}
     with tempfile.NamedTemporaryFile("w", suffix=".json") as file:
         json.dump({"clock": 5, "timestamp": 5, "options": options, "events": events}, file, separators=(",", ":"))

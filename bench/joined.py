@@ -4,12 +4,12 @@
     python3 bench/joined.py [PROGRAM]
     python3 bench/joined.py --instructions PROGRAM
 
-It copies the crates to a folder of its own, puts the program of bench/joined beside them, and proves, builds and runs
-that. Each time is the least of several. The built program is copied to PROGRAM, where that is named.
+It copies the crates to a temporary folder, puts the program of bench/joined next to them, and proves, builds and runs
+that. Each time is the least of several. If PROGRAM is named, the built program is copied there.
 
-With --instructions a program that was built so is run by valgrind's callgrind, and the instructions a record or node are
-printed, for each part and number of them: those of two calls less those of one, so that what makes the index and the
-worktree isn't in them.
+With --instructions a program that was built so is run by valgrind's callgrind. It prints the instructions for each record
+or node, for each part and each number of them. These are the instructions of two calls less those of one, so that making
+the index and the worktree isn't counted.
 """
 
 import os
@@ -28,7 +28,7 @@ SIZES = (10_000, 100_000, 1_000_000)
 
 
 def instructions(program, part, size, times):
-    """How many instructions the program takes for a part, so many times."""
+    """Returns how many instructions the program takes for a part that runs so many times."""
     words = ["valgrind", "--tool=callgrind", f"--callgrind-out-file={os.devnull}", program, part, str(size), str(times)]
     ran = subprocess.run(words, capture_output=True, text=True, check=True)
     return int(re.search(r"Collected : (\d+)", ran.stderr)[1])

@@ -3,7 +3,7 @@
 
     python3 bench/listings.py
 
-It copies the crates to a folder of its own, puts the program of bench/listings beside them, and proves, builds and runs
+It copies the crates to a temporary folder, puts the program of bench/listings next to them, and proves, builds and runs
 that. Each time is the least of nine.
 """
 

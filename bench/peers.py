@@ -1,20 +1,20 @@
 #!/usr/bin/env python3
-"""Times the program over a git repository's folder beside git, libgit2 and a bare loop of lstat, in turns.
+"""Times the program over a git repository's folder, next to git, libgit2 and a bare loop of lstat, in turns.
 
     python3 bench/peers.py crates/status_program/out/status_program FOLDER... [--runs 11] [--cells]
         [--floor PROGRAM]
 
-FOLDER is a repository that bench/folder.py made. Each is measured twice: clean, and touched, with another time of
-modification at each file, so that each is hashed. The loop and the driver of libgit2 are in bench/peers and are built
-with cc; without libgit2 (Debian's libgit2-dev) that row is left out. git runs on one thread and writes nothing, and
+FOLDER is a repository that bench/folder.py made. Each is measured twice: clean, and touched. In a touched folder each
+file has another time of modification, so that each is hashed. The loop and the driver of libgit2 are in bench/peers and
+are built with cc. Without libgit2 (Debian's libgit2-dev) its row is left out. git runs on one thread, writes nothing, and
 compares what the program compares.
 
-Each row has the least and the middle processor time of the runs, in milliseconds, and the least beside the loop's and
-beside that of `git status -uno`. The status alone is the program's time without that of a run with a prefix that no
-path has, and the loop's is without that of a loop over no path: so no start of a process is in either. With --floor
-there is a row for a loop of nothing but the library's own lstat, by the program of bench/floor.py.
+Each row has the least and the median processor time of the runs, in milliseconds. It also has the least time divided by
+the loop's, and divided by that of `git status -uno`. The time of the status alone is the program's time less that of a
+run with a prefix that no path has. The loop's time is less that of a loop over no path. So neither has the start of a
+process. With --floor there is a row for a loop that only calls the library's own lstat, by the program of bench/floor.py.
 
-With --cells the last lines are the rows of docs/BENCHMARKS.md's table by the number of entries, where the folders have
+With --cells the last lines are the rows of the table by the number of entries in docs/BENCHMARKS.md, if the folders have
 the sizes of its columns: the least time in each clean folder, and then in each touched one.
 """
 
@@ -33,7 +33,7 @@ HERE = os.path.dirname(os.path.abspath(__file__))
 TOOL = os.path.join(HERE, os.pardir, "tools", "profile_from_git.py")
 GIT = ["git", "-c", "core.preloadIndex=false", "-c", "core.trustctime=false", "-c", "core.checkStat=minimal"]
 GIT += ["-c", "core.fileMode=false"]
-# What the page's table calls the rows that --cells prints, by what a report calls them, in the table's order.
+# The names in the page's table of the rows that --cells prints, by their names in a report, in the table's order.
 ROWS = {
     "the loop": "the loop",
     "the status alone": "the status alone",
@@ -44,7 +44,7 @@ ROWS = {
 
 
 def build(folder, name, *words):
-    """The program that cc makes of a peer, or None where it can't."""
+    """Returns the path of the program that cc makes of a peer, or None if cc fails."""
     program = os.path.join(folder, name)
     built = subprocess.run(
         ["cc", "-O2", "-o", program, os.path.join(HERE, "peers", name + ".c"), *words], stderr=subprocess.DEVNULL
@@ -53,7 +53,7 @@ def build(folder, name, *words):
 
 
 def profile_of(folder, top, name, **options):
-    """The path of the profile of the repository, with these options beside those of the tool."""
+    """Writes the profile of the repository, with these options besides those of the tool. Returns its path."""
     printed = subprocess.run([sys.executable, TOOL, top], stdout=subprocess.PIPE, stderr=subprocess.DEVNULL, check=True)
     profile = json.loads(printed.stdout)
     profile["options"] = dict(profile["options"], thread_limit=1, **options)
@@ -64,20 +64,20 @@ def profile_of(folder, top, name, **options):
 
 
 def spent():
-    """The processor time of all runs so far, in seconds."""
+    """Returns the processor time of all runs so far, in seconds."""
     used = resource.getrusage(resource.RUSAGE_CHILDREN)
     return used.ru_utime + used.ru_stime
 
 
 def timed(command):
-    """The processor time of one run, in milliseconds."""
+    """Returns the processor time of one run, in milliseconds."""
     before = spent()
     subprocess.run(command, stdout=subprocess.DEVNULL, check=True, env=dict(os.environ, GIT_OPTIONAL_LOCKS="0"))
     return (spent() - before) * 1000
 
 
 def commands(program, floor, top, folder):
-    """What is run, by name."""
+    """Returns the commands to run, by name."""
     paths = os.path.join(folder, "paths")
     with open(paths, "wb") as out:
         subprocess.run(["git", "-C", top, "ls-files", "-z"], stdout=out, check=True)
@@ -103,7 +103,7 @@ def commands(program, floor, top, folder):
 
 
 def measure(rows, runs):
-    """The times of each row, the runs taken in turns."""
+    """Returns the times of each row. The runs of the rows take turns."""
     times = {name: [] for name in rows}
     for _ in range(runs):
         for name, command in rows.items():
@@ -112,7 +112,7 @@ def measure(rows, runs):
 
 
 def lines_of(times):
-    """The least and the middle time of each thing that is compared, by name."""
+    """Returns the least and the median time of each row of the report, by name."""
     spans = {name: (min(all_times), statistics.median(all_times)) for name, all_times in times.items()}
 
     def without(whole, rest):
@@ -128,7 +128,7 @@ def lines_of(times):
 
 
 def report(lines):
-    """Prints a line for each thing that is compared."""
+    """Prints a line for each row of the report."""
     print(f"{'':19} {'least':>7} {'middle':>7} {'loops':>6} {'gits':>6}")
     for name, (least, middle) in lines.items():
         loops, gits = least / lines["the loop"][0], least / lines["git status"][0]
@@ -136,12 +136,12 @@ def report(lines):
 
 
 def cell(least):
-    """A time with three digits, or with all that are before the point."""
+    """Returns a time with three digits, or with all digits before the point."""
     return f"{least:.{2 if least < 10 else 1 if least < 100 else 0}f}"
 
 
 def print_cells(measured):
-    """Prints the least times of all that was measured, a row for each thing that the page's table compares."""
+    """Prints the least times of all measurements, in the rows of the page's table."""
     print()
     for name, row in ROWS.items():
         if all(name in lines for lines in measured):
@@ -157,7 +157,7 @@ def touch(top):
 
 
 def compared(program, floor, top, state, runs):
-    """What is compared over a folder that is brought into this state; it is printed, too."""
+    """Brings a folder into this state, measures all commands over it, and prints and returns the times."""
     if state == "touched":
         touch(top)
     else:
@@ -175,7 +175,7 @@ def main():
     parser.add_argument("program", help="the built program")
     parser.add_argument("folder", nargs="+", help="a repository that bench/folder.py made; its files are touched")
     parser.add_argument("--runs", type=int, default=11, help="how many runs of each row (11)")
-    parser.add_argument("--cells", action="store_true", help="print the rows of the page's table by size, too")
+    parser.add_argument("--cells", action="store_true", help="also print the rows of the page's table by size")
     parser.add_argument("--floor", help="the program of bench/floor.py")
     arguments = parser.parse_args()
     if arguments.runs < 1:

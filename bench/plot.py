@@ -1,9 +1,9 @@
 #!/usr/bin/env python3
 """Draws docs/benchmarks.svg and docs/benchmarks-growth.svg from bench/figures.json:  python3 bench/plot.py [--check]
 
-Each figure was measured and stands in docs/BENCHMARKS.md: a bar or a line names the row that it is from, and a row that
-isn't there, or has other figures, is refused. With --check nothing is written: the exit status is 1 where a picture
-isn't the one that would be drawn.
+Each figure was measured and is in docs/BENCHMARKS.md: a bar or a line names the row that it is from, and a row that
+isn't there, or has other figures, is refused. With --check nothing is written. The exit status is 1 if a picture isn't
+the one that would be drawn.
 """
 
 import argparse
@@ -17,9 +17,9 @@ TOP = os.path.dirname(os.path.dirname(os.path.abspath(__file__)))
 
 WIDTH, MARGIN, NAMES, VALUES = 760, 20, 200, 90
 BAR, STEP, HEAD = 16, 26, 34
-# Of a panel of lines: its height, how far apart labels are, the grid's sides, and how far in the first point is.
+# A panel of lines: its height, the distance of labels, the grid's sides, and the indent of the first point.
 PLOT, LABEL, LEFT, RIGHT, INSET = 170, 16, 50, 520, 30
-# The card has its own ground, so that it can be read on a page of either kind.
+# The card has its own background, so that it can be read on a light and on a dark page.
 STYLE = """
   .card { fill: #ffffff; stroke: #d0d7de; }
   text { fill: #1f2328; font-family: system-ui, sans-serif; font-size: 13px; }
@@ -48,7 +48,7 @@ LINES = """
 
 
 def check_row(rows, row, told):
-    """Refuses a row that isn't one of the page's, or whose cells aren't these in this order, behind its name."""
+    """Refuses a row that isn't one of the page's, or doesn't have these cells in this order after its name."""
     cells = [cell.strip() for cell in row.split("|")]
     left = iter(cells[2:])
     if row not in rows or not all(words in left for words in told):
@@ -56,7 +56,7 @@ def check_row(rows, row, told):
 
 
 def checked(figures):
-    """The figures, each of which stands in the page's row that its bar or line names, and in its column."""
+    """Returns the figures. Each has to be in the page's row that its bar or line names, and in its column."""
     with open(os.path.join(TOP, *figures["page"].split("/")), encoding="utf-8") as file:
         rows = file.read().split("\n")
     keys, growth = [panel["key"] for panel in figures["panels"]], figures["growth"]
@@ -88,7 +88,7 @@ def circle(x, y, kind):
 
 
 def bars_of(figures, panel, top):
-    """A panel of bars, whose scale is its own."""
+    """Returns a panel of bars, with its own scale."""
     bars, left = figures["bars"], MARGIN + NAMES
     scale = (WIDTH - MARGIN - VALUES - left) / max(float(it) for bar in bars for it in bar[panel["key"]])
     lines = []
@@ -105,13 +105,13 @@ def bars_of(figures, panel, top):
 
 
 def spread(group):
-    """The heights of a group of labels, one right below the other, whose middle is that of what they label."""
+    """Returns the heights of a group of labels, each directly below the other, around the middle of their points."""
     first = sum(group) / len(group) - (len(group) - 1) * LABEL / 2
     return [first + number * LABEL for number in range(len(group))]
 
 
 def apart(heights, bottom):
-    """For each of these ascending heights one near it for its label, none lower than the bottom and none too near."""
+    """Returns for each of these ascending heights one near it for a label. None is below the bottom, or too near."""
     groups = []
     for height in heights:
         group = [height]
@@ -123,14 +123,14 @@ def apart(heights, bottom):
 
 
 def scale_of(most):
-    """The step of a scale from 0, which is 1, 2 or 5 with zeros, and how many of them hold the greatest value."""
+    """Returns the step of a scale from 0 (1, 2 or 5 with zeros), and how many steps the greatest value needs."""
     power = 10.0 ** math.floor(math.log10(most / 5))
     step = next(it * power for it in (1, 2, 5, 10) if 5 * it * power >= most)
     return step, math.ceil(most / step)
 
 
 def grid(step, steps, places, bottom):
-    """The lines of the scale with their values, and the sizes with their places below."""
+    """Returns the lines of the scale with their values, and the sizes below them."""
     lines = []
     for number in range(steps + 1):
         y = round(bottom - PLOT * number / steps)
@@ -140,7 +140,7 @@ def grid(step, steps, places, bottom):
 
 
 def curves_of(growth, panel, top):
-    """A panel of lines by the number of entries, whose scale is its own: microseconds an entry."""
+    """Returns a panel of lines by the number of entries, with its own scale: microseconds for each entry."""
     sizes, bottom = growth["sizes"], top + 18 + PLOT
     wide = (RIGHT - LEFT - 2 * INSET) / math.log(sizes[-1] / sizes[0])
     places = {size: LEFT + INSET + wide * math.log(size / sizes[0]) for size in sizes}
@@ -162,7 +162,7 @@ def curves_of(growth, panel, top):
 
 
 def picture_of(part, panels, panel_of, each, style):
-    """The card of a part of the figures: its title, and below it panels of this height."""
+    """Returns the card of a part of the figures: its title, and below it panels of this height."""
     height = 80 + len(panels) * each
     lines = [text(MARGIN, 32, part["title"], "title"), text(MARGIN, 52, part["unit"], "small")]
     for number, panel in enumerate(panels):
@@ -176,7 +176,7 @@ def picture_of(part, panels, panel_of, each, style):
 
 
 def pictures_of(figures):
-    """The pictures, by path."""
+    """Returns the pictures, by path."""
     panels, growth = figures["panels"], figures["growth"]
     bars = picture_of(figures, panels, bars_of, HEAD + len(figures["bars"]) * STEP, STYLE)
     curves = picture_of(growth, panels, curves_of, HEAD + PLOT + 32, STYLE.rstrip() + LINES)
@@ -185,7 +185,7 @@ def pictures_of(figures):
 
 def main():
     parser = argparse.ArgumentParser()
-    parser.add_argument("--check", action="store_true", help="only say whether the pictures are up to date")
+    parser.add_argument("--check", action="store_true", help="only check whether the pictures are up to date")
     arguments = parser.parse_args()
     with open(os.path.join(TOP, "bench", "figures.json"), encoding="utf-8") as file:
         pictures = pictures_of(checked(json.load(file)))

@@ -1,9 +1,9 @@
 #!/usr/bin/env python3
-"""Writes a status profile of COUNT entries to standard output: even ones are clean by their stat, odd ones are hashed.
+"""Writes a status profile of COUNT entries to standard output. Even ones are clean by their stat, odd ones are hashed.
 
     python3 bench/profiles.py COUNT [--depth 3] [--size 0] [--clean]
 
-A path has --depth components. With --size above 0 each file has so many bytes and all are hashed; with 0 a file has one
+A path has --depth components. With --size above 0 each file has so many bytes, and all are hashed. With 0 a file has one
 short line. With --clean all are clean by their stat.
 """
 
@@ -18,7 +18,7 @@ def blob_id(content: bytes) -> str:
 
 
 def path_of(number: int, depth: int) -> str:
-    """A path of `depth` components. From depth 3 on each innermost folder has 100 files; at 2 it has 1,000, at 1 all."""
+    """Returns a path of `depth` components. Each innermost folder has 100 files; at depth 2 it has 1,000, at 1 all."""
     folders = ["dir%03d" % (number // 1000), "sub%02d" % (number // 100 % 10)]
     folders += ["level%02d" % level for level in range(3, depth)]
     return "/".join(folders[: depth - 1] + ["file%06d" % number])
@@ -33,7 +33,7 @@ def main() -> None:
     parser = argparse.ArgumentParser(description="Writes a status profile of COUNT entries to standard output.")
     parser.add_argument("count", type=int, help="how many entries it has")
     parser.add_argument("--depth", type=int, default=3, help="how many components a path has")
-    parser.add_argument("--size", type=int, default=0, help="how many bytes a file has; then all are hashed")
+    parser.add_argument("--size", type=int, default=0, help="how many bytes a file has; if not 0, all are hashed")
     parser.add_argument("--clean", action="store_true", help="all entries are clean by their stat")
     arguments = parser.parse_args()
     if arguments.count < 0 or arguments.depth < 1 or arguments.size < 0:

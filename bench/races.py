@@ -4,9 +4,9 @@
     python3 bench/races.py crates/status_program/out/status_program [--runs 2000]
 
 Files are rewritten, removed and made again, and folders are swapped for links that lead outside, to files of the same
-names. Each run has to end with the status 0 or 1, with lines whose places ascend and counts that add up, or one line of
-a fault. Then as many runs are made where nothing changes any more, with one folder a link: no file outside may be
-opened. The exit status is 0 where all that is so. Linux alone: openings are counted by inotify.
+names. Each run has to end with status 0 or 1. Its lines have ascending index positions and counts that add up, or there
+is one line of a fault. Then as many runs are made while nothing changes, with a link in place of one folder: no file
+outside may be opened. The exit status is 0 if all this is so. It needs Linux: openings are counted by inotify.
 """
 
 import argparse
@@ -41,7 +41,7 @@ class Openings:
             sys.exit("refused: there is no inotify")
 
     def count(self):
-        """How many there were since the last time."""
+        """Returns how many openings there were since the last call."""
         found = 0
         while True:
             try:
@@ -62,7 +62,7 @@ def write(path, text):
 
 
 def change(folder, name, text):
-    """Writes a file, or takes it out where there is no text. Nothing is done where the folder isn't there or is a link."""
+    """Writes a file, or removes it if the text is None. Does nothing if the folder is missing or a link."""
     try:
         inside = os.open(folder, os.O_RDONLY | os.O_DIRECTORY | os.O_NOFOLLOW)
     except OSError:
@@ -81,7 +81,7 @@ def change(folder, name, text):
 
 
 def swap(folder, outside):
-    """Puts a link that leads outside in a folder's place, and then the folder again."""
+    """Replaces a folder by a link that leads outside, and then the link by the folder."""
     aside = f"{folder}.aside"
     os.rename(folder, aside)
     os.symlink(outside, folder)
@@ -90,7 +90,7 @@ def swap(folder, outside):
 
 
 def disturb(top, outside, ended, seed):
-    """Changes things until it is told to end."""
+    """Changes files and folders until `ended` is set."""
     draws = random.Random(seed)
     while not ended.is_set():
         number, file = draws.randrange(FOLDERS), draws.randrange(FILES)
@@ -103,7 +103,7 @@ def disturb(top, outside, ended, seed):
 
 
 def profile_of(folder, top):
-    """The path of the profile: each file is read, since no stat agrees."""
+    """Writes the profile, and returns its path. Each file is read, since no stat agrees."""
     entries = [{"path": f"d{number}/{file:02}", "id": FOO} for number in range(FOLDERS) for file in range(FILES)]
     options = {"thread_limit": 4, "chunk_size": 5, "counts": True}
     path = os.path.join(folder, "profile.json")
@@ -112,7 +112,7 @@ def profile_of(folder, top):
 
 
 def is_right(ended):
-    """Whether a run ended as it may."""
+    """Returns whether a run ended as it may."""
     lines = ended.out.decode().splitlines()
     total = TOTAL.fullmatch(lines.pop()) if ended.status == 0 and lines else None
     places = [int(line.split()[0]) for line in lines]
@@ -123,12 +123,12 @@ def is_right(ended):
     if ended.status != 0 or ended.fault or total is None:
         return False
     process, processed, looks, read = map(int, total.groups())
-    # Each entry is looked at once at most, and none is read that wasn't looked at.
+    # `lstat` is called at most once for each entry, and no file is read without it.
     return process == processed == FOLDERS * FILES and read <= looks <= processed and len(places) <= processed
 
 
 def runs(runner, profile, count):
-    """How many of so many runs succeeded, and failed, and were wrong."""
+    """Runs the program so many times. Returns how many runs succeeded, failed, and were wrong."""
     ends = [0, 0, 0]
     for _ in range(count):
         ended = runner.run(["status", profile])
@@ -140,7 +140,7 @@ def runs(runner, profile, count):
 
 
 def make(folder):
-    """The folder, and one outside it."""
+    """Makes the folder, and one outside of it. Returns both paths."""
     top, outside = os.path.join(folder, "top"), os.path.join(folder, "outside")
     for name in [outside, *(f"{top}/d{number}" for number in range(FOLDERS))]:
         os.makedirs(name)
@@ -152,7 +152,7 @@ def make(folder):
 def main():
     parser = argparse.ArgumentParser(description=__doc__.splitlines()[0])
     parser.add_argument("program", help="the built program")
-    parser.add_argument("--runs", type=int, default=2000, help="how many runs, changing and not (2000)")
+    parser.add_argument("--runs", type=int, default=2000, help="how many runs while files change, and again while none does (2000)")
     arguments = parser.parse_args()
     with tempfile.TemporaryDirectory() as folder, Runner(arguments.program) as runner:
         top, outside = make(folder)

@@ -1,11 +1,11 @@
 #!/usr/bin/env python3
-"""Runs the status in memory under stress, and checks each answer: 64 workers over 1,000,000 entries, pieces of one entry,
-and 1,000 interrupts that another thread sets at drawn moments.
+"""Runs the status in memory under stress, and checks each result: 64 workers over 1,000,000 entries, pieces of one entry,
+and 1,000 interrupts that another thread sets at drawn times.
 
     python3 bench/stress.py
 
-It copies the crates to a folder of its own, puts the program of bench/stress beside them, and proves, builds and runs
-that. The exit status is 0 where every answer was right.
+It copies the crates to a temporary folder, puts the program of bench/stress next to them, and proves, builds and runs
+that. The exit status is 0 if every result was right.
 """
 
 import subprocess

@@ -3,9 +3,9 @@
 
     python3 bench/workers.py crates/status_program/out/status_program PROFILE [--runs 7]
 
-For each limit and chunk size it prints the least wall time and the least processor time of the runs, in milliseconds,
-without those of a run over the same profile with a prefix that no path has, so that each entry is left out: that is the
-reading of the profile and the walk over the index. The runs of all settings are taken in turns.
+For each limit and chunk size it prints the least wall time and the least processor time of the runs, in milliseconds.
+From these it subtracts the times of a run over the same profile with a prefix that no path has. That run skips each
+entry, so it only reads the profile and goes through the index. The runs of all settings take turns.
 """
 
 import argparse
@@ -21,7 +21,7 @@ SETTINGS = [(limit, chunk) for chunk in (500, 1) for limit in (1, 2, 4)]
 
 
 def variant(profile, folder, name, **options):
-    """The path of the profile with these options."""
+    """Writes the profile with these options, and returns its path."""
     changed = dict(profile, options=dict(profile.get("options", {}), **options))
     path = os.path.join(folder, f"{name}.json")
     with open(path, "w", encoding="utf-8") as out:
@@ -30,13 +30,13 @@ def variant(profile, folder, name, **options):
 
 
 def spent():
-    """The processor time of all runs so far, in seconds."""
+    """Returns the processor time of all runs so far, in seconds."""
     used = resource.getrusage(resource.RUSAGE_CHILDREN)
     return used.ru_utime + used.ru_stime
 
 
 def timed(program, path):
-    """The wall time and the processor time of one run, in milliseconds."""
+    """Returns the wall time and the processor time of one run, in milliseconds."""
     before, start = spent(), time.perf_counter()
     subprocess.run([program, "status", path], stdout=subprocess.DEVNULL, check=True)
     return (time.perf_counter() - start) * 1000, (spent() - before) * 1000

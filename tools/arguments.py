@@ -2,7 +2,7 @@
 
 
 class Arguments:
-    """What a tool was asked for. Each option is an attribute too, in which `_` replaces `-`."""
+    """The arguments of a tool. Each option is an attribute too, in which `_` replaces `-`."""
 
     program, repository = None, "."
 

@@ -1,4 +1,4 @@
-"""What the tests of the tools share: a git repository for a test, tools that are run by themselves, and their ends."""
+"""Helpers that the tests of the tools share: a git repository for a test, runs of a tool by itself, and how they end."""
 
 import os
 import resource
@@ -13,44 +13,44 @@ HERE = os.path.dirname(os.path.abspath(__file__))
 FOO = "19102815663d23f8b75a47e7a01965dcdc96468c"
 PROGRAM = os.path.abspath(os.environ["STATUS_PROGRAM"]) if os.environ.get("STATUS_PROGRAM") else None
 
-# No setting of the user's and none of a hook's changes what git does here.
+# Settings of the user, or of a hook that runs the tests, must not change what git does here.
 for name in [name for name in os.environ if name.startswith("GIT_")]:
     del os.environ[name]
 os.environ.update(GIT_CONFIG_GLOBAL=os.devnull, GIT_CONFIG_NOSYSTEM="1")
 
 
 def may_read_all():
-    """Whether this process may read and write any file, as root does."""
+    """Returns whether this process may read and write any file, as root does."""
     with tempfile.NamedTemporaryFile() as file:
         os.chmod(file.name, 0)
         return os.access(file.name, os.R_OK | os.W_OK)
 
 
 def limit_files(size):
-    """Lets this process write no further than so many bytes into a file."""
-    # The signal would end the process. Where it is ignored, the write fails.
+    """Limits files that this process writes to so many bytes."""
+    # The signal would end the process. If it is ignored, the write fails.
     signal.signal(signal.SIGXFSZ, signal.SIG_IGN)
     resource.setrlimit(resource.RLIMIT_FSIZE, (size, size))
 
 
 def run_tool(tool, *words, stdout=subprocess.PIPE, folder=None, **settings):
-    """What a tool prints when it is run by itself, in a folder, with these settings in its environment."""
+    """Runs a tool by itself, in a folder, with these settings in its environment. Returns the ended process."""
     command = [sys.executable, os.path.join(HERE, tool), *words]
     environment = {**os.environ, "PYTHONUNBUFFERED": "", **settings}
     return subprocess.run(command, stdout=stdout, stderr=subprocess.PIPE, env=environment, timeout=60, cwd=folder)
 
 
 class Ends(unittest.TestCase):
-    """A tool that can't go on says so in one line."""
+    """Checks that a tool that can't go on says so in one line."""
 
     def assert_refused(self, ran, status, words):
-        """A tool ended with a status and one line, which has these words."""
+        """Asserts that a tool ended with a status and one line, which has these words."""
         said = ran.stderr.decode()
         self.assertEqual((ran.returncode, said.count("\n"), said[:9]), (status, 1, "refused: "), said)
         self.assertIn(words, said)
 
     def assert_unwritten(self, status, tool, *words, **settings):
-        """A tool says that it can't write: to a full disk, and into a pipe that nobody reads."""
+        """Asserts that a tool says that it can't write: to a full disk, and into a pipe that nobody reads."""
         if not os.path.exists("/dev/full"):
             self.skipTest("no /dev/full")
         with open("/dev/full", "wb") as full:
@@ -72,7 +72,7 @@ class Case(Ends):
         self.make("top")
 
     def make(self, name, kind="sha1"):
-        """Makes a repository, which is the one at `top` from here on."""
+        """Makes a repository, which is at `top` from now on."""
         self.top = os.path.join(self.room, name)
         os.mkdir(self.top)
         self.git("init", "-q", f"--object-format={kind}")

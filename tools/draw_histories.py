@@ -1,18 +1,18 @@
 #!/usr/bin/env python3
-"""Runs drawn histories through the program, and compares what its runs report with a plain comparison of bytes.
+"""Runs drawn histories through the program, and compares the reports of their runs with a plain comparison of bytes.
 
     python3 tools/draw_histories.py --seeds 1000 --events 2000
 
 Seed N draws the profile of a replay: options (of four of them all sixteen settings in turn), events, and for half of
-the seeds a last event that can't happen. `Plain` keeps what is there and what was staged, in two dicts: it knows no
-clock, no stat and no timestamp, and that the index is stored and opened again changes nothing there. Each run has to
-print just the changes that the dicts have. Beside them it may print what a stat needs: `s` behind the `c` of a change of
-content, and `update` where nothing changed. And standard error has to say `refused N: WORDS` where the last event can't
-happen, and else nothing. The last line counts what the runs printed: histories that show little show nothing.
+the seeds a last event that can't happen. `Plain` keeps the files and the staged contents in two dicts. It has no clock,
+no stat and no timestamp, and storing the index and opening it again changes nothing there. Each run has to print exactly
+the changes between the dicts. It may also print the updates that a stat needs: `s` after the `c` of a change of content,
+and `update` if nothing changed. If the last event can't happen, standard error has to have `refused N: WORDS`, and
+otherwise nothing. The last line counts the printed records: histories that have few show nothing.
 
-STATUS_PROGRAM names the built program; without it crates/status_program/out/status_program is run. Where a history
-differs its profile stays, in the folder --keep, and the exit status is 1. It is 2 for what can't be done, with one line
-on standard error.
+STATUS_PROGRAM names the built program; without it crates/status_program/out/status_program is run. If a history
+differs, its profile is kept in the folder --keep, and the exit status is 1. The exit status is 2, with one line on
+standard error, if the tool can't do its work.
 """
 
 import argparse
@@ -25,7 +25,7 @@ import tempfile
 
 from shared import end, program_of
 
-# Some paths are above others, or sort otherwise by bytes than by components.
+# Some paths are above others, or have another order by bytes than by components.
 PATHS = ["a", "a-", "a/b", "a/b/c", "a/bc", "a0", "b", "c", "c/a", "c/b", "d/a", "d/b/a", "d/b/b", "e", "f", "g"]
 PATHS += ["g/a/b/c", "h i", "j\"\\", "k\n\x01", "é", "\uffff", "\U00010000"]
 BAD_PATHS = ["", ".", "..", "/a", "a/", "a//b", "a/./b", "a/../b"]
@@ -36,14 +36,14 @@ SETTINGS = ["trust_ctime", "check_stat", "use_nsec", "executable_bit"]
 
 
 class Plain:
-    """What is there and what was staged, by path: the kind, the content, and whether it is executable."""
+    """The files and the staged contents, by path: the kind, the content, and whether it is executable."""
 
     def __init__(self, executable_bit):
         self.executable_bit = executable_bit
         self.files, self.staged = {}, {}
 
     def refusal(self, event):
-        """Why the event can't happen, as far as paths say."""
+        """Returns why the event can't happen, as far as that depends on paths."""
         word, path = (*event, None)[:2]
         if word not in ("write", "link", "chmod", "remove", "stage"):
             return None
@@ -71,7 +71,7 @@ class Plain:
             self.staged |= {path: self.files[path]} if path in self.files else {}
 
     def changes(self):
-        """What each staged path's line has to say, in the order of the index: None where nothing changed."""
+        """Returns the change of each staged path, in the order of the index, or None if nothing changed."""
         paths = sorted(self.staged, key=str.encode)
         return [(text_of(path), self.change(self.files.get(path), self.staged[path])) for path in paths]
 
@@ -91,12 +91,12 @@ def is_below(path, folder):
 
 
 def text_of(path):
-    """A path as a compact JSON text."""
+    """Returns a path as a compact JSON text."""
     return json.dumps(path, ensure_ascii=False)
 
 
 class Drawn:
-    """A history of a seed: the program's profile, the plain changes of each run, and the line of the refusal."""
+    """The history of a seed: the program's profile, the plain changes of each run, and the line of the refusal."""
 
     def __init__(self, seed, events):
         self.draw = random.Random(seed)
@@ -126,7 +126,7 @@ class Drawn:
             self.clock = [self.clock[0] + (event[1] if event[0] == "tick" else nanos // SECOND), nanos % SECOND]
 
     def stamp(self):
-        """A moment that isn't after the clock: mostly the clock."""
+        """Returns a time that isn't after the clock. Mostly it is the clock's."""
         seconds, nanos = self.clock
         earlier = [[seconds - 1, SECOND - 1], [seconds, 0], [seconds, nanos // 2]]
         return self.draw.choice(earlier + 5 * [[seconds, nanos]])
@@ -136,7 +136,7 @@ class Drawn:
         return ["run", self.draw.choice(["hash", "fast"]), chunk, limit, stamp]
 
     def event(self):
-        """An event that the clock allows. Most ticks are 0, so that writes, stagings and runs share a second."""
+        """Returns an event that the clock allows. Most ticks are 0, so that writes, stagings and runs share a second."""
         choose, path = self.draw.choice, self.draw.choice(PATHS)
         words = ["write"] * 4 + ["link", "chmod", "chmod", "remove"] + ["stage"] * 5 + ["tick", "nanos", "run", "reopen"]
         word = choose(words)
@@ -153,7 +153,7 @@ class Drawn:
         return [word, choose([0, 0, 0, 0, 0, 1]) if word == "tick" else choose(NANOS)]
 
     def refused(self):
-        """An event that can't happen, and why."""
+        """Returns an event that can't happen, and why."""
         draw, (seconds, nanos) = self.draw, self.clock
         later = draw.choice([[seconds + 1, 0], [LAST, 0]] + [[seconds, nanos + 1]] * (nanos + 1 < SECOND))
         no_moment = [draw.choice([seconds, LAST]), draw.choice([SECOND, LAST])]
@@ -168,7 +168,7 @@ class Drawn:
 
 
 def told_runs(output):
-    """The lines of each run: place, status and the path's text."""
+    """Returns the lines of each run: index position, status and the path's text."""
     runs, lines = [], output.split("\n")
     if lines.pop() != "":
         raise ValueError("a line has no end")
@@ -183,7 +183,7 @@ def told_runs(output):
 
 
 def difference(drawn, status, output, fault):
-    """What differs between a history and what the program said. None where nothing does."""
+    """Returns how the program's output differs from a history, or None if it doesn't."""
     if (status, fault) != (int(drawn.fault != ""), drawn.fault):
         return f"exit status {status} and {fault!r}, and not {drawn.fault!r}"
     try:
@@ -206,7 +206,7 @@ def difference(drawn, status, output, fault):
 
 
 def counted(output):
-    """How many lines of the runs have a change, one with a size that is set to zero, and an update."""
+    """Returns how many lines of the runs have a change, a change with a size that is set to zero, and an update."""
     words = [words for run in told_runs(output) for _, words, _ in run]
     updates = words.count("update")
     zeroed = sum(it.startswith("modified ") and it.endswith("s") for it in words)
@@ -214,21 +214,22 @@ def counted(output):
 
 
 def plain_words(words):
-    """The words without the letter that says what a stat needs, which stands behind a change of content alone."""
+    """Returns the words without the `s` of a stat that gets the size 0, which only comes after a change of content."""
     if words.startswith("modified ") and (words.endswith("-") or words.endswith("cs")):
         return words[:-1]
     return words
 
 
 def run_program(program, file):
-    """The exit status, the output and the error output of a replay."""
+    """Returns the exit status, the output and the error output of a replay."""
     ran = subprocess.run([program, "replay", file], stdin=subprocess.DEVNULL, capture_output=True, timeout=100)
     return ran.returncode, ran.stdout.decode(), ran.stderr.decode()
 
 
 def compare(program, seed, events, keep):
-    """What differs in a seed's history, whose profile then stays in a folder, or None; and what its runs printed, as
-    `counted` has it, where nothing differs.
+    """Returns how the output differs from a seed's history, or None; and the counts of `counted`, if nothing differs.
+
+    If it differs, the profile is kept in a folder.
     """
     drawn = Drawn(seed, events)
     name = os.path.join(keep, f"history-{seed}.json")
@@ -252,7 +253,7 @@ def main():
     parser.add_argument("--seeds", type=int, default=1000, help="how many seeds (1000)")
     parser.add_argument("--first", type=int, default=0, help="the first seed (0)")
     parser.add_argument("--events", type=int, default=2000, help="the events of a history (2000)")
-    parser.add_argument("--keep", help="where profiles of differing histories stay (a new folder)")
+    parser.add_argument("--keep", help="the folder that keeps profiles of differing histories (a new one)")
     options = parser.parse_args()
     program = program_of()
     keep = options.keep or tempfile.mkdtemp(prefix="histories-")

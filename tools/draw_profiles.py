@@ -4,12 +4,12 @@
     python3 tools/draw_profiles.py --seeds 10000
 
 Seed N draws options, and an index and a worktree of a few paths and contents, so that many files are removed, changed,
-untracked or renamed. `Plain` has the lines to be printed, by the definitions of docs/FORMATS.md: it compares paths, kinds
-and contents, and trusts no stat. The program has to print these lines and no others.
+untracked or renamed. `Plain` has the expected lines, by the definitions of docs/FORMATS.md: it compares paths, kinds and
+contents, and trusts no stat. The program has to print these lines and no others.
 
-STATUS_PROGRAM names the built program; without it crates/status_program/out/status_program is run. Where the lines
-differ the profile stays, in the folder --keep, and the exit status is 1. It is 2 for what can't be done, with one line
-on standard error. It needs Linux.
+STATUS_PROGRAM names the built program; without it crates/status_program/out/status_program is run. If the lines differ,
+the profile is kept in the folder --keep, and the exit status is 1. The exit status is 2, with one line on standard
+error, if the tool can't do its work. It needs Linux.
 """
 
 import argparse
@@ -23,27 +23,27 @@ from draw_histories import is_below, text_of
 from quick_runs import Runner
 from shared import end, program_of
 
-# Ascending by bytes. Some are above others, and some are only the beginnings of others.
+# Ascending by bytes. Some are directories above others, and some are only prefixes of others.
 PATHS = ["a", "a-", "a/b", "b", "d", "d.x", "d/x", "d/y", "e", "e/f/g", "f", "g/h", "q\"", "sub", "sub.x", "sub/x"]
 PATHS += ["sub/y/z", "é"]
 CONTENTS = ["", "foo", "foo", "foo", "bar", "bars"]
 PREFIXES = [""] * 6 + ["d", "d/", "s", "z"]
-# The modes of entries, and the kind of the node that an entry of each wants.
+# The modes of entries, and the kind of node that an entry of each mode has to have.
 KINDS = {"100644": "file", "100755": "file", "120000": "link", "160000": "directory"}
 CONFLICTS = {"1": "both-deleted", "2": "added-by-us", "3": "added-by-them", "12": "deleted-by-them"}
 CONFLICTS |= {"13": "deleted-by-us", "23": "both-added", "123": "both-modified"}
-# The seconds in which all was staged, in which a file was written since, and in which the index was written.
+# The seconds in which all was staged, in which changed files were written, and in which the index was written.
 STAGED, LATER, WRITTEN = [5, 0], [7, 0], [9, 0]
 
 
 def id_of(text, kind):
-    """git's id of a content."""
+    """Returns git's id of a content."""
     content = text.encode()
     return hashlib.new(kind, b"blob %d\0" % len(content) + content).hexdigest()
 
 
 class Plain:
-    """What a status prints of a profile whose entries and nodes have all their keys."""
+    """The expected lines of a status, for a profile whose entries and nodes have all their keys."""
 
     def __init__(self, profile):
         self.hash, self.options, self.entries = profile["hash"], profile["options"], profile["index"]
@@ -56,17 +56,17 @@ class Plain:
         return "skip-worktree" in entry["flags"]
 
     def stages(self, path):
-        """The stages of a path's entries. There are none but of a conflict."""
+        """Returns the stages of a path's entries. There are none except in a conflict."""
         return "".join(str(it["stage"]) for it in self.entries if it["path"] == path and it["stage"])
 
     def kind(self, path):
-        """The kind of what is at a path, if anything is."""
+        """Returns the kind of the node at a path, or None if there is none."""
         if any(is_below(it, path) for it in self.nodes):
             return "directory"
         return self.nodes[path]["kind"] if path in self.nodes else None
 
     def change(self, entry):
-        """The words of a single entry's change. None where nothing is printed."""
+        """Returns the words of a single entry's change, or None if nothing is printed."""
         kind, wanted = self.kind(entry["path"]), KINDS[entry["mode"]]
         if kind == wanted == "directory":
             return None
@@ -88,7 +88,7 @@ class Plain:
         return "sha1" if len(entry["id"]) == 40 else "sha256"
 
     def changes(self):
-        """The changes of what isn't skipped, by the places of the entries."""
+        """Returns the changes of entries that aren't skipped, by their index positions."""
         changes = {}
         for place, entry in enumerate(self.entries):
             stages = self.stages(entry["path"])
@@ -101,7 +101,7 @@ class Plain:
         return {place: change for place, change in changes.items() if change}
 
     def untracked(self):
-        """The untracked paths."""
+        """Returns the untracked paths."""
         if not self.options["untracked"]:
             return []
         tracked = {entry["path"] for entry in self.entries}
@@ -110,7 +110,7 @@ class Plain:
         return [it for it in paths if it not in tracked and not any(is_below(it, above) for above in submodules)]
 
     def renames(self):
-        """By the new path of each rename, the place of the entry that was renamed."""
+        """Returns the index position of each renamed entry, by its new path."""
         if not self.options["renames"]:
             return {}
         gone, came = {}, {}
@@ -125,7 +125,7 @@ class Plain:
         return dict(pair for key in gone.keys() & came.keys() for pair in zip(came[key], gone[key]))
 
     def lines(self):
-        """All lines, in their order."""
+        """Returns all lines, in their order."""
         renames = self.renames()
         entries = {}
         for place, change in self.changes().items():
@@ -140,7 +140,7 @@ class Plain:
         return [lines[path] for path in paths] + ([self.total()] if self.options["counts"] else [])
 
     def total(self):
-        """The total line. No entry is racy."""
+        """Returns the total line. No entry is racy."""
         included = [entry for entry in self.entries if self.is_included(entry["path"])]
         considered = included or self.entries
         later = [it for it in included if it["stage"] and self.stages(it["path"])[0] != str(it["stage"])]
@@ -159,12 +159,12 @@ class Plain:
         return "total: " + ", ".join(f"{name} {count}" for name, count in counts.items())
 
     def is_barred(self, path):
-        """Whether a directory above a path is a link, or isn't there."""
+        """Returns whether a directory above a path is a link, or isn't there."""
         parts = path.split("/")
         return any(self.kind("/".join(parts[:count])) in (None, "link") for count in range(1, len(parts)))
 
     def is_read(self, entry):
-        """Whether an entry's file or link is read: its stat differs, and `fast` sees no change in its length."""
+        """Returns whether an entry's file or link is read: its stat differs, and `fast` sees no change of its length."""
         kind = self.kind(entry["path"])
         if entry["flags"] or kind not in ("file", "link") or kind != KINDS[entry["mode"]]:
             return False
@@ -175,7 +175,7 @@ class Plain:
 
 
 def drawn_profile(seed):
-    """The profile of a seed."""
+    """Returns the profile of a seed."""
     draw = random.Random(seed)
     kind = draw.choice(["sha1", "sha256"])
     entries, nodes = [], []
@@ -186,7 +186,7 @@ def drawn_profile(seed):
         if node and not any(is_below(path, it["path"]) and it["kind"] != "directory" for it in nodes):
             nodes.append(node)
     draw.shuffle(nodes)
-    # Mostly the ids of untracked files are of the entries' kind.
+    # The ids of untracked files are mostly of the entries' kind.
     hashes = [kind] * 7 + ["sha1", "sha256"]
     return {
         "hash": draw.choice(hashes),
@@ -205,7 +205,7 @@ def drawn_options(draw):
 
 
 def drawn_entries(draw, path, kind):
-    """The entries of a path: mostly one or none."""
+    """Returns the entries of a path: mostly one or none."""
     if draw.random() < 0.6:
         return []
     mode = draw.choice(["100644"] * 4 + ["100755", "120000"])
@@ -218,7 +218,7 @@ def drawn_entries(draw, path, kind):
 
 
 def drawn_node(draw, path, staged):
-    """What is at a path that has these entries, if anything is."""
+    """Returns the node at a path that has these entries, or None if there is none."""
     kind, text, executable = "file", draw.choice(CONTENTS), draw.random() < 0.2
     if draw.random() < 0.45:
         return None
@@ -227,7 +227,7 @@ def drawn_node(draw, path, staged):
     if staged and draw.random() < 0.3:
         kind, executable = KINDS[staged[0]["mode"]], staged[0]["mode"] == "100755"
         text, mtime = draw.choice(CONTENTS), draw.choice([STAGED, LATER])
-    # A file whose length is the entry's, and whose content isn't, was written since.
+    # A file with the entry's length and another content was written later.
     if staged and id_of(text, "sha1" if len(staged[0]["id"]) == 40 else "sha256") != staged[0]["id"]:
         mtime = LATER
     if kind != "file":
@@ -238,7 +238,7 @@ def drawn_node(draw, path, staged):
 
 
 def difference(profile, ended):
-    """What differs between the lines of a profile and how a run of the program ended. None where nothing does."""
+    """Returns how a run of the program differs from the expected lines of a profile, or None if it doesn't."""
     wanted = Plain(profile).lines()
     if (ended.status, ended.fault) != (0, b""):
         return f"{ended.end()}, error {ended.fault!r}"
@@ -252,7 +252,7 @@ def difference(profile, ended):
 
 
 def compare(runner, seed, keep):
-    """What differs in a seed's profile, which then stays in a folder. None where nothing does."""
+    """Returns how a run differs for a seed's profile, which is then kept in a folder, or None if it doesn't."""
     profile = drawn_profile(seed)
     name = os.path.join(keep, f"profile-{seed}.json")
     with open(name, "w", encoding="utf-8") as file:
@@ -268,7 +268,7 @@ def main():
     parser = argparse.ArgumentParser()
     parser.add_argument("--seeds", type=int, default=10000, help="how many seeds (10000)")
     parser.add_argument("--first", type=int, default=0, help="the first seed (0)")
-    parser.add_argument("--keep", help="where profiles stay whose lines differ (a new folder)")
+    parser.add_argument("--keep", help="the folder that keeps profiles whose lines differ (a new one)")
     options = parser.parse_args()
     program = program_of()
     keep = options.keep or tempfile.mkdtemp(prefix="profiles-")

@@ -1,22 +1,22 @@
 #!/usr/bin/env python3
-"""Runs the program on truncated and mutated profiles, and judges each end by docs/FORMATS.md.
+"""Runs the program on truncated and mutated profiles, and checks how each run ends by docs/FORMATS.md.
 
     python3 tools/fuzz_profiles.py --seeds 0 100000 --jobs 2
     python3 tools/fuzz_profiles.py --show status 17 > profile.json
 
-Each seed is run for each command of the table COMMANDS. A command's name and a seed give the same profile and arguments
-each time. The profile is one of tools/mutations.py, tools/small_profiles.py or crates/status_program/data, mutated as a
-JSON value, as tokens or as bytes. How a run has to end:
+Each seed is run for each command of the table COMMANDS. A command's name and a seed always make the same profile and
+arguments. The profile is one of tools/mutations.py, tools/small_profiles.py or crates/status_program/data, mutated as a
+JSON value, as tokens or as bytes. A run has to end so:
 
 - with exit status 0, 1 or 2, without a signal, and within --seconds;
-- with status 0 nothing is on standard error; with 1 one of the lines that docs/FORMATS.md has, want of memory and
-  refused threads aside; with 2, which only other arguments give, the usage;
-- standard output has lines of the forms there, places ascend, runs are numbered, and a total line ends its run;
+- standard error has nothing for status 0. For 1 it has one of the lines of docs/FORMATS.md, except those for out of
+  memory and for refused threads. For 2, which only wrong arguments cause, it has the usage;
+- standard output has lines of the forms there, index positions ascend, runs are numbered, and a total line ends its run;
 - `not JSON` is printed exactly if Python's reader refuses the text too, or if the text has half of a surrogate pair, or
   more than 128 levels; by `refresh` also if it has a number outside of a float's range, or 128 levels.
 
-Prints the seeds of other ends, and how often each exit status and fault line came. The exit status is 0 where no run
-ended otherwise, 1 where one did, and 2 where nothing was run.
+Prints the seeds of runs that end otherwise, and how often each exit status and fault line came. The exit status is 0 if
+no run ended otherwise, 1 if one did, and 2 if nothing was run.
 """
 
 import argparse
@@ -38,9 +38,9 @@ TOP = os.path.dirname(os.path.dirname(os.path.abspath(__file__)))
 BUILT = os.path.join(TOP, "crates", "status_program", "out", "status_program")
 DATA = os.path.join(TOP, "crates", "status_program", "data")
 USAGE = "usage: status_program status FILE | replay FILE | refresh FILE OUT SECS NSECS\n"
-# How many seeds a process is given at once.
+# How many seeds a process gets at once.
 CHUNK = 100
-# How deep the program's reader goes, and its writer.
+# The most levels of nesting that the program's reader takes, and its writer.
 MOST_LEVELS = 128
 MOST_LEVELS_WRITTEN = 127
 
@@ -51,7 +51,7 @@ REFUSAL = rf"clock end|bad path|in the way|too large|not a file|{MOMENTS}"
 
 @dataclass(frozen=True)
 class Command:
-    """What a command may say on standard error with status 1, beside that the file can't be read or isn't JSON."""
+    """The fault lines of a command with status 1, besides those for a file that can't be read or isn't JSON."""
 
     faults: str
 
@@ -87,7 +87,7 @@ TOTAL = re.compile(
 
 
 class NotJson(ValueError):
-    """What the program's reader refuses and Python's doesn't."""
+    """A text that the program's reader refuses and Python's doesn't."""
 
 
 def plain_number(text):
@@ -120,7 +120,7 @@ def check_item(value):
 
 
 def levels(text):
-    """How deep lists and objects stand in each other, of text that is JSON."""
+    """Returns how deep lists and objects are nested in a text that is JSON."""
     depth = most = 0
     for token in re.findall(r'"(?:[^"\\]|\\.)*"|[][{}]', text):
         depth += {"[": 1, "{": 1, "]": -1, "}": -1}.get(token, 0)
@@ -152,17 +152,17 @@ def is_text(content, reader, most_levels):
 
 
 def is_json(content):
-    """Whether the program's reader has to take this for JSON."""
+    """Returns whether the program's reader has to accept this as JSON."""
     return is_text(content, READER, MOST_LEVELS)
 
 
 def is_rewritable(content):
-    """Whether `refresh` has to write this again, if it is a profile."""
+    """Returns whether `refresh` has to write this again, if it is a profile."""
     return is_text(content, WRITER, MOST_LEVELS_WRITTEN)
 
 
 def wrong_lines(command, status, out):
-    """What is wrong with the lines of standard output, if anything."""
+    """Returns what is wrong with the lines of standard output, or None."""
     if out and not out.endswith("\n"):
         return "a line without end"
     runs, last, closed = 0, -1, command == "replay"
@@ -182,14 +182,14 @@ def wrong_lines(command, status, out):
 
 
 def is_other_opinion(case, status, is_refused):
-    """Whether the program takes for JSON what isn't, or the other way round."""
+    """Returns whether the program accepts a text that isn't JSON, or refuses one that is."""
     if case.command == "refresh" and is_json(case.content) and not is_rewritable(case.content):
         return status == 0
     return is_refused == is_json(case.content)
 
 
 def wrong(case, ended):
-    """What is wrong with how a run ended, if anything."""
+    """Returns what is wrong with how a run ended, or None."""
     if ended.status not in (0, 1, 2):
         return ended.end()
     try:
@@ -212,18 +212,18 @@ def wrong(case, ended):
 
 @dataclass(frozen=True)
 class Case:
-    """What the program is run on."""
+    """The input and the arguments of a run."""
 
     command: str
     content: bytes
-    # The arguments, in which {} stands for the profile's file.
+    # The arguments, in which {} is replaced by the path of the profile's file.
     words: tuple
     is_usage: bool = False
     is_missing: bool = False
 
 
 def case_of(command, seed):
-    """The case of a seed."""
+    """Returns the case of a seed."""
     draw = random.Random(f"{command} {seed}")
     content = mutated(draw, command)
     if draw.random() > 0.01:
@@ -236,7 +236,7 @@ def case_of(command, seed):
 
 
 def run_seed(runner, file, command, seed):
-    """The case of a seed, how its run ended, and what is wrong with that, if anything."""
+    """Returns the case of a seed, how its run ended, and what is wrong with that, or None."""
     case = case_of(command, seed)
     with open(file, "wb") as out:
         out.write(case.content)
@@ -245,14 +245,14 @@ def run_seed(runner, file, command, seed):
 
 
 def form_of(ended):
-    """The exit status, and the words of the line on standard error."""
+    """Returns the exit status, and the words of the line on standard error."""
     line = ended.fault.decode(errors="replace").strip()
     words = "cannot read" if line.startswith("cannot read ") else re.sub(r"\d+", "N", line.split(": status_program")[0])
     return f"{ended.status} {words}".strip()
 
 
 def run_seeds(job):
-    """Runs some seeds, and gives how often each end came, and the wrong ones."""
+    """Runs some seeds. Returns how often each end came, and the wrong ones."""
     program, seconds, commands, seeds = job
     forms, found = collections.Counter(), []
     os.chdir(DATA)

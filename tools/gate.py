@@ -1,18 +1,18 @@
 #!/usr/bin/env python3
-"""The gate behind `rt ci`. It looks at how that ended, runs the tests of tools/, and counts the evidence:
+"""The part of the gate that runs after `rt ci`. It checks how that ended, runs the tests of tools/, and counts evidence:
 
     rt ci | tee OUTPUT
     python3 tools/gate.py OUTPUT STATUS
 
-OUTPUT is the file with what `rt ci` printed, and STATUS its exit status. The gate fails, and a line says why,
+OUTPUT is the file with the output of `rt ci`, and STATUS its exit status. The gate fails, and a line says why,
 
-- where a command ends with another exit status than 0, or without its line 'N passed, M failed', or one with failures;
-- where a part that the tests need isn't there: the built program, git, a C compiler and so on;
-- where a test wasn't run, or a must-fail edit wasn't refused by the prover, as a bad edit;
-- where there is less evidence of a kind than .ci/floors says.
+- if a command ends with another exit status than 0, or without its line 'N passed, M failed', or one with failures;
+- if a part that the tests need isn't there: the built program, git, a C compiler and so on;
+- if a test wasn't run, or a must-fail edit wasn't refused by the prover, as a bad edit;
+- if there is less evidence of a kind than .ci/floors says.
 
 More evidence than that is no failure: a line says that the floor is to be raised. The last line is 'N passed, M failed'
-for all of it, and the exit status is 0 where nothing failed.
+for all of it, and the exit status is 0 if nothing failed.
 """
 
 import os
@@ -29,18 +29,18 @@ import run_tests
 
 TOP = Path(__file__).resolve().parent.parent
 KINDS = ("must-fail-edits", "proved-tests", "rows-of-proved-tests", "python-tests", "rows")
-# What `rt ci` says of an edit that shows nothing. It fails at some of them alone.
+# The words that `rt ci` prints for an edit that shows nothing. It fails only for some of these.
 USELESS = ("BAD EDIT", "NOT TRIED", "NOT REFUSED")
 TEST = r"^ *#\[test\]\n *fn (\w+)"
 
 
 class Malformed(Exception):
-    """What is wrong with the file of floors."""
+    """A fault of the file of floors."""
 
 
 @dataclass(frozen=True)
 class Ran:
-    """How a command ended: its name, all that it printed, and its exit status."""
+    """How a command ended: its name, its whole output, and its exit status."""
 
     name: str
     text: str
@@ -56,11 +56,11 @@ class Count:
     number: int
 
 
-# What is missing
+# Missing parts
 
 
 def missing(program, found=shutil.which):
-    """The parts that the tests need and that aren't here. Each is named with what isn't tested without it."""
+    """Returns the missing parts that the tests need. Each is named with what isn't tested without it."""
     compiled = refuse_memory.compiler(found) and sys.platform == "linux"
     parts = [
         (os.path.isfile(program) and os.access(program, os.X_OK), f"the built program, {program}: no row is run"),
@@ -77,7 +77,7 @@ def missing(program, found=shutil.which):
 
 
 def judged(ran):
-    """How many passed and failed by a command's last line, and what is wrong with how it ended, if anything."""
+    """Returns how many passed and failed by a command's last line, and what is wrong with how it ended."""
     last = ran.text.rstrip("\n").split("\n")[-1]
     line = re.fullmatch(r"(?:tools: )?(\d+) passed, (\d+) failed", last)
     passed, failed = (int(line[1]), int(line[2])) if line else (0, 0)
@@ -90,53 +90,53 @@ def judged(ran):
 
 
 def useless_edits(text):
-    """What `rt ci` says of edits that show nothing."""
+    """Returns the lines of `rt ci` about edits that show nothing."""
     lines = [line for line in text.splitlines() if any(words in line for words in USELESS)]
     return [f"an edit shows nothing: {line.removeprefix('rt: ')}" for line in lines]
 
 
-# What there is
+# The evidence
 
 
 def edits_there(top):
-    """The must-fail edits of the crates, as `rt ci` names them."""
+    """Returns the must-fail edits of the crates, as `rt ci` names them."""
     return {f"{path.parts[-3]}/{path.name}" for path in top.glob("crates/*/must-fail/*.edit")}
 
 
 def edits_refused(text):
-    """The must-fail edits that the prover refused, by what `rt ci` printed."""
+    """Returns the must-fail edits that the prover refused, by the output of `rt ci`."""
     return set(re.findall(r"^rt: must-fail (\S+\.edit): refused, as it must be", text, re.M))
 
 
 def tests_there(top):
-    """The names of the tests of the crates, without those of their modules."""
+    """Returns the names of the tests of the crates, without those of their modules."""
     paths = top.glob("crates/*/src/**/*.rt")
     return {name for path in paths for name in re.findall(TEST, path.read_text(encoding="utf-8"), re.M)}
 
 
 def tests_passed(text):
-    """The names of the proved tests that passed, by what `rt ci` printed, without those of their modules."""
+    """Returns the names of the proved tests that passed, by the output of `rt ci`, without those of their modules."""
     return {name.split("::")[-1] for name in re.findall(r"^test (\S+) \.\.\. ok$", text, re.M)}
 
 
 def rows_there(top):
-    """How many rows of text the program is run on."""
+    """Returns how many rows of text the program is run on."""
     return sum(len(row_files.read_rows(path)) for path in sorted(top.glob("tools/rows/*.txt")))
 
 
 def rows_of_tests(top):
-    """How many rows the tables of the crates of tests have: each is written out with its name."""
+    """Returns how many rows the tables in the crates of tests have. A row is counted by its field `name`."""
     texts = [path.read_text(encoding="utf-8") for path in top.glob("crates/*_tests/src/**/*.rt")]
     return sum(len(re.findall(r'\bname: "', text)) for text in texts)
 
 
 def tools_passed(text, kind):
-    """How many tests of a kind passed, by what tools/run_tests.py printed."""
+    """Returns how many tests of a kind passed, by the output of tools/run_tests.py."""
     return sum(int(number) for number in re.findall(rf"^tools: (\d+) {kind} passed$", text, re.M))
 
 
 def counted(top, ci, tools):
-    """All evidence that there is, and what of it showed something."""
+    """Returns the counts of all evidence, and of the evidence that passed."""
     return [
         Count("must-fail-edits", "in crates/*/must-fail", len(edits_there(top))),
         Count("must-fail-edits", "refused by the prover", len(edits_refused(ci) & edits_there(top))),
@@ -153,7 +153,7 @@ def counted(top, ci, tools):
 
 
 def floors_of(text):
-    """The least number of each kind. `#` starts a comment."""
+    """Returns the least number of each kind. `#` starts a comment."""
     floors = {}
     for line in filter(None, (line.partition("#")[0].strip() for line in text.splitlines())):
         words = re.fullmatch(r"(\S+) +(\d+)", line)
@@ -169,20 +169,20 @@ def floors_of(text):
 
 
 def below(counts, floors):
-    """What there is too little of."""
+    """Returns a line for each count that is below its floor."""
     low = [count for count in counts if count.number < floors[count.kind]]
     return [f"{it.kind} {it.how}: {it.number}, and the floor in .ci/floors is {floors[it.kind]}" for it in low]
 
 
 def above(counts, floors):
-    """What has a floor that is to be raised: no count of it is as low."""
+    """Returns a line for each kind whose floor is to be raised, since all its counts are above it."""
     least = {kind: min(count.number for count in counts if count.kind == kind) for kind in KINDS}
     high = [kind for kind in KINDS if least[kind] > floors[kind]]
     return [f"{kind}: {least[kind]}, and the floor in .ci/floors is {floors[kind]}: raise the floor" for kind in high]
 
 
 def evidence(top, ci, tools):
-    """What is wrong with the evidence, and what is to be said of it besides."""
+    """Returns what is wrong with the evidence, and notes on it that are no failures."""
     try:
         floors = floors_of((top / ".ci" / "floors").read_text(encoding="utf-8"))
         counts = counted(top, ci, tools)
@@ -201,7 +201,7 @@ def evidence(top, ci, tools):
 
 
 def run(name, words, settings):
-    """Runs a command, and prints what it prints as it comes."""
+    """Runs a command, and prints its output as it comes."""
     environment = {**os.environ, **settings}
     lines = []
     with subprocess.Popen(words, cwd=TOP, env=environment, stdout=subprocess.PIPE, text=True, errors="replace") as it:
@@ -212,7 +212,7 @@ def run(name, words, settings):
 
 
 def verdict(top, program, ci, tools, found=shutil.which):
-    """How many passed and failed in all, what is wrong, and what is to be said besides."""
+    """Returns how many passed and failed in all, what is wrong, and notes that are no failures."""
     (passed, failed, wrong), (passed_too, failed_too, wrong_too) = judged(ci), judged(tools)
     faults, notes = evidence(top, ci.text, tools.text)
     faults = missing(program, found) + wrong + wrong_too + useless_edits(ci.text) + faults
@@ -222,7 +222,7 @@ def verdict(top, program, ci, tools, found=shutil.which):
 def main(output, status):
     program = TOP / "crates" / "status_program" / "out" / "status_program"
     ci = Ran("rt ci", Path(output).read_text(encoding="utf-8", errors="replace"), int(status))
-    # Where no program was built, each test that needs one says that it wasn't run.
+    # If no program was built, each test that needs one says that it wasn't run.
     settings = {"STATUS_PROGRAM": str(program) if program.is_file() else "", "PYTHONDONTWRITEBYTECODE": "1"}
     tools = run("tools/run_tests.py", [sys.executable, "tools/run_tests.py"], settings)
     passed, failed, faults, notes = verdict(TOP, program, ci, tools)

@@ -94,7 +94,7 @@ def read(content, width):
 
 
 def read_padded(content, width, count):
-    """Reads the entries of the versions 2 and 3, which are padded to eight bytes. Returns also where they end."""
+    """Reads the entries of the versions 2 and 3, which are padded to eight bytes. Also returns their end."""
     paths, records, at = [], [], HEADER.size
     unpack, size = RECORDS[width].unpack_from, RECORDS[width].size
     for _ in range(count):
@@ -114,7 +114,7 @@ def read_padded(content, width, count):
 
 
 def read_shortened(content, width, count):
-    """Reads the entries of version 4, in which a path begins as the one before. Returns also where they end."""
+    """Reads the entries of version 4, in which a path begins like the one before. Also returns their end."""
     paths, records, at, path = [], [], HEADER.size, b""
     unpack, size = RECORDS[width].unpack_from, RECORDS[width].size
     for _ in range(count):
@@ -137,7 +137,7 @@ def read_shortened(content, width, count):
 
 
 def with_all_bits(record, content, at):
-    """Returns a record with the bits that the place after it may have, and where the path begins."""
+    """Returns a record with the bits that may follow it, and the beginning of the path."""
     bits = record[BITS] & ~LENGTH
     if bits & EXTENDED:
         bits |= SHORT.unpack_from(content, at)[0] << 16
@@ -150,7 +150,7 @@ def with_all_bits(record, content, at):
 
 
 def varint_at(content, at):
-    """Returns the number of variable width at a place, as in packs (OFS_DELTA), and the place after it."""
+    """Returns the number of variable width at a position, as in packs (OFS_DELTA), and the position after it."""
     byte = content[at]
     value = byte & 127
     while byte & 128:

@@ -1,8 +1,8 @@
-"""A git index as a file: where the stats of its entries stand, and how it is written anew, as git does.
+"""A git index as a file: the positions of its entries' stats, and how the file is replaced, as git does it.
 
 The format is that of git's gitformat-index: a header, the entries in order, extensions, and a checksum of all of it.
-Versions 2 and 3 pad an entry with NULs, and version 4 says of a path how much of the one before it goes. Only stats are
-written here, each in its place, so that the extensions stay right, also those that say where entries begin.
+Versions 2 and 3 pad an entry with NULs. Version 4 stores how many bytes of the path before are dropped. Only stats are
+written here, each at its position. So the extensions stay right, also those that state where entries begin.
 """
 
 import hashlib
@@ -27,7 +27,7 @@ MASK = (1 << 32) - 1
 
 @dataclass
 class Index:
-    """An index's bytes, when it was written, and where stats begin, by paths: not of conflicts and submodules."""
+    """An index's bytes, its time, and the positions of stats by paths, without conflicts and submodules."""
 
     path: str
     kind: str
@@ -39,7 +39,7 @@ class Index:
         return STAT.unpack_from(self.content, self.places[path])
 
     def with_stats(self, stats):
-        """The bytes with other stats, by their paths. Where there is no checksum there is none (index.skipHash)."""
+        """Returns the bytes with other stats, by paths. An index without a checksum (index.skipHash) gets none."""
         width = hashlib.new(self.kind).digest_size
         content = bytearray(self.content[:-width])
         for path, numbers in stats.items():
@@ -49,7 +49,7 @@ class Index:
 
 
 def read(path):
-    """An index's bytes and its time."""
+    """Returns an index's bytes and its time."""
     try:
         with open(path, "rb") as file:
             return file.read(), os.fstat(file.fileno()).st_mtime_ns
@@ -58,7 +58,7 @@ def read(path):
 
 
 def index_at(path, kind):
-    """The index at a path that git told, of a repository whose ids are of a kind. It has to be whole, and not split."""
+    """Returns the index at a path, of a repository whose ids are of a kind. It has to be whole, and not split."""
     index = Index(path, kind, *read(path))
     width = hashlib.new(kind).digest_size
     if len(index.content) < HEADER.size + width:
@@ -83,7 +83,7 @@ def checksum_of(content, kind):
 
 
 def put_places(index, content, width, version, count):
-    """Notes where the stats begin, and gives where the entries end. Conflicts and submodules aren't noted."""
+    """Notes the positions of stats, except for conflicts and submodules. Returns the end of the entries."""
     at, path = HEADER.size, b""
     for _ in range(count):
         flags_at = at + STAT.size + width
@@ -105,7 +105,7 @@ def put_places(index, content, width, version, count):
 
 
 def varint_at(content, at):
-    """The number of variable width at a place, as in packs (OFS_DELTA), and what stands behind it."""
+    """Returns the number of variable width at a position, as in packs (OFS_DELTA), and the position after it."""
     byte = content[at]
     value = byte & 127
     while byte & 128:
@@ -125,7 +125,7 @@ def refuse_split(content, at):
 
 
 def replace(index, content, moment, before_it):
-    """Puts other bytes in an index's place, by its lock, with a moment as its time. `before_it` is called just before.
+    """Replaces an index by other bytes, with its lock, and sets its time. `before_it` is called immediately before.
 
     If that fails, or the index was written since it was read, the lock is removed and the index is unchanged. Signals
     that end the tool wait until the lock is gone, except while `before_it` runs, which may wait for a reader. Once the
@@ -163,7 +163,7 @@ def create_lock(lock):
 
 
 def is_at(path, file):
-    """Whether this open file is the one at a path."""
+    """Returns whether this open file is the one at a path."""
     try:
         return os.path.samestat(os.lstat(path), os.fstat(file.fileno()))
     except FileNotFoundError:

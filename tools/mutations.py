@@ -104,7 +104,7 @@ LEXED = re.compile(rb'"(?:[^"\\]|\\.)*"|-?\d+(?:\.\d+)?(?:[eE][+-]?\d+)?|true|fa
 
 @functools.cache
 def bases(command):
-    """The profiles of a command that are mutated."""
+    """Returns the profiles of a command that are mutated."""
     kind = "replay" if command == "replay" else "status"
     found = [row.profile for row in ROWS.values() if row.command == kind]
     if command == "replay":
@@ -116,7 +116,7 @@ def bases(command):
 
 
 def mutated(draw, command):
-    """A mutated profile's bytes."""
+    """Returns a mutated profile's bytes."""
     value = copy.deepcopy(draw.choice(bases(command)))
     values, tokens, more = draw.choice(MIXES)
     for _ in range(values):
@@ -130,13 +130,13 @@ def mutated(draw, command):
 
 
 def written(draw, value):
-    """A value as JSON. Half of a surrogate pair becomes an escape, or bytes that aren't UTF-8."""
+    """Returns a value as JSON. Half of a surrogate pair becomes an escape, or bytes that aren't UTF-8."""
     spaces = draw.choice([(",", ":"), (", ", ": "), (" ,\n", "\t:\r\n")])
     return json.dumps(value, ensure_ascii=draw.random() < 0.5, separators=spaces).encode(errors="surrogatepass")
 
 
 def odd_value(draw, old=None):
-    """An odd value, mostly of the kind of the old one."""
+    """Returns an odd value, mostly of the kind of the old one."""
     if draw.random() < 0.7:
         if isinstance(old, bool):
             return not old
@@ -148,7 +148,7 @@ def odd_value(draw, old=None):
 
 
 def places(value):
-    """Each place within a list or an object, as that and the place's index or key."""
+    """Yields each item within a list or an object at any depth, as the list or object and the item's index or key."""
     keys = range(len(value)) if isinstance(value, list) else list(value) if isinstance(value, dict) else ()
     for key in keys:
         yield value, key
@@ -156,7 +156,7 @@ def places(value):
 
 
 def mutate_value(draw, top):
-    """Changes one place of a value: its item, its key or its list."""
+    """Changes one item within a value, its key or its list."""
     found = list(places(top))
     if not found:
         top["index"] = odd_value(draw)
@@ -233,7 +233,7 @@ def mutate_tokens(draw, content):
 
 
 def escaped(draw, token):
-    """A string with each ASCII character as an escape, in either case of digits."""
+    """Returns a string with each ASCII character as an escape, in either case of digits."""
     form = draw.choice(["\\u%04x", "\\u%04X"])
     plain = token[1:-1].replace(b"\\", b"")
     return b'"' + b"".join((form % byte).encode() if byte < 128 else bytes([byte]) for byte in plain) + b'"'

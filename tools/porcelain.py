@@ -22,7 +22,7 @@ def statuses_of(printed):
 
 
 def is_plain(printed):
-    """Whether the lines are UTF-8 without control characters."""
+    """Returns whether the lines are UTF-8 without control characters."""
     try:
         printed.decode()
     except UnicodeDecodeError:

@@ -9,25 +9,25 @@ from dataclasses import dataclass
 
 @dataclass(frozen=True)
 class Ended:
-    """How a run ended: its exit status, a signal's number below 0, or None where it hung and was ended."""
+    """How a run ended: its exit status, a signal's number below 0, or None if it hung and was ended."""
 
     status: "int | None"
     out: bytes
     fault: bytes
 
     def end(self):
-        """The status in words."""
+        """Returns the status in words."""
         if self.status is None:
             return "it hangs"
         return f"signal {-self.status}" if self.status < 0 else f"exit status {self.status}"
 
     def text(self):
-        """All of it in a line."""
+        """Returns the status, the output and the error output in one line."""
         return f"{self.end()}, output {self.out[:2000]!r}, error {self.fault[:2000]!r}"
 
 
 class Runner:
-    """Runs one program. The files are given back at the end of a with block."""
+    """Runs one program. The files are closed at the end of a with block."""
 
     def __init__(self, program, seconds=5.0):
         self.program, self.seconds = os.path.abspath(program), seconds
@@ -53,7 +53,7 @@ class Runner:
         return Ended(status, *(content(file.fileno()) for file in self.files))
 
     def wait(self, child):
-        """The exit status. A child that goes on for too long is ended, and has none."""
+        """Returns the exit status. A child that runs for too long is ended, and has none."""
         ended = os.pidfd_open(child)
         try:
             in_time = select.select([ended], [], [], self.seconds)[0]

@@ -1,35 +1,36 @@
 #!/usr/bin/env python3
-"""Refreshes a git repository's index by the built program: stores the stats of files that are as they were staged.
+"""Refreshes a git repository's index by the built program: stores the stats of files that are as staged.
 
     python3 tools/refresh_git.py [--dry-run] [REPOSITORY]
 
 It does what `git update-index --refresh` does, but the program compares: the index is taken to a profile
-(profile_from_git.py), the program's command `refresh` says which entries are as staged, and the index gets the stats of
-their files. Then git believes these stats under its own settings, and reads the files no more.
+(profile_from_git.py), the program's command `refresh` reports which entries are as staged, and the index gets the stats
+of their files. Then git trusts these stats under its own settings, and no longer reads the files.
 
 git has no plumbing command that takes a stat: `update-index --cacheinfo` and `--index-info` set mode, id and path and
 leave the stat zero, and `update-index --refresh` makes a status of its own. So the tool writes the index, as git does
-it: by index.lock, which takes the index's place (index_file.py). Nothing but stats and the checksum changes.
+it: by index.lock, which replaces the index (index_file.py). Nothing but stats and the checksum changes.
 
-- An entry that is as staged (`update`) gets what lstat said of its file before the program looked, where that has the
-  time and the length that the program stored; else it keeps its stat. What is edited meanwhile has another ctime, or a
+- An entry that is as staged (`update`) gets the stat that lstat returned before the program ran, if that has the time and
+  the length that the program stored. Otherwise it keeps its stat. A file that is edited meanwhile has another ctime, or a
   time that isn't before that of the index, so that git reads it.
 - An entry that changed while its stat agrees (`modified -cs`) gets the size 0, by which git knows that it has to read
   the file. So does an entry that was racy and isn't settled now, since the program couldn't read it or it changed
-  meanwhile: git would believe it under the index's new time. Writing an index, git does the same.
-- The index's time is the moment before the program began. A file that isn't older, in seconds, git reads again.
-- Conflicts and submodules stay as they are. So does an entry whose attributes have git convert its bytes, which the
-  program compares as they stand (but for `text=auto` and core.autocrlf: there git keeps what the blob has).
+  meanwhile: git would trust it under the index's new time. Git does the same when it writes an index.
+- The index's time is the time before the program began. If a file isn't older, in seconds, git reads it again.
+- Conflicts and submodules are unchanged. So is an entry whose bytes git converts because of its attributes: the program
+  compares the bytes without conversion. With `text=auto` and core.autocrlf an entry isn't left out for that, since git
+  keeps line ends that the blob has.
 
-One line says how many entries git believes from now on, and of how many others that are as staged, or have the size 0,
-it has to read the file again. --dry-run prints it and writes nothing. Notes on standard error say what the program
+One line says how many entries git trusts from now on, and how many other files it has to read again, of entries that are
+as staged or have the size 0. --dry-run prints it and writes nothing. Notes on standard error say what the program
 doesn't see in the folder, as for status.py.
 
-The exit status is 0. It is 2 for what can't be done, with one line on standard error: then the index is as it was, also
-where it is split, locked, broken, or written meanwhile, and where the program fails. It is 130 if SIGINT, SIGTERM or
-SIGHUP ends the tool: then, too, the index is unchanged, and the tool's index.lock is removed. Once the index is replaced
-these signals change nothing. After SIGKILL or a crash of the system index.lock may be left; remove it by hand, as git
-says, if no git process is running.
+The exit status is 0. It is 2 if the tool can't do its work, with one line on standard error. Then the index is unchanged,
+also if it is split, locked, broken, or written meanwhile, or if the program fails. The exit status is 130 if SIGINT,
+SIGTERM or SIGHUP ends the tool. Then, too, the index is unchanged, and the tool's index.lock is removed. After the index
+is replaced, these signals change nothing. After SIGKILL or a crash of the system index.lock may be left. Remove it by
+hand, as git says, if no git process is running.
 """
 
 import argparse
@@ -48,7 +49,7 @@ from signals import end_by_signals
 from unseen import conversions_in, is_passed_over, node_at, unseen_of
 
 UPDATED, SMUDGED = "update", "size 0"
-# A line of the program: the entry's place, its record with the letters of a change, and its path.
+# A line of the program: the entry's index position, its record with the letters of a change, and its path.
 RECORD = re.compile(
     r"([0-9]+) (removed|type [0-7]{6}|modified ([x-][c-][s-])|update|intent|conflict [a-z-]+ [123]+|submodule) "
     r'(".*")'
@@ -56,7 +57,7 @@ RECORD = re.compile(
 
 
 def nodes_of(profile, left_out):
-    """What lstat says of each path of a profile at which a node is compared with the entry."""
+    """Returns the result of lstat for each path of a profile at which a node is compared with the entry."""
     top, links, nodes = os.fsencode(profile.repository.top), {}, {}
     for path, record in profile.entries.without(left_out):
         node = None if is_passed_over(record) else node_at(top, path, links)
@@ -66,12 +67,12 @@ def nodes_of(profile, left_out):
 
 
 def refresh(program, profile, left_out):
-    """What the program says of a profile's entries, the times and lengths that it stores, and when it began."""
+    """Returns the words of paths, the times and lengths that the program stores, and the time before it began."""
     with tempfile.TemporaryDirectory() as room:
         given, left = os.path.join(room, "profile.json"), os.path.join(room, "left.json")
         with open(given, "wb") as file:
             file.writelines(profile.json(left_out))
-        # Files get the time of the clock's last tick. What is written from now on has no earlier one.
+        # Files get the time of the clock's last tick. Files that are written from now on have no earlier time.
         moment = min(os.stat(given).st_mtime_ns, time.time_ns())
         lines = run(program, given, left, moment)
         try:
@@ -84,7 +85,7 @@ def refresh(program, profile, left_out):
 
 
 def run(program, given, left, moment):
-    """The lines that the program prints while it refreshes a profile."""
+    """Returns the lines that the program prints while it refreshes a profile."""
     command = [program, "refresh", given, left, *(str(part) for part in divmod(moment, 10**9))]
     try:
         with Running(command) as running:
@@ -97,7 +98,7 @@ def run(program, given, left, moment):
 
 
 def words_of(lines, entries):
-    """What is said of each path that has a line: the record's word, or that the entry loses its size."""
+    """Returns a word for each path that has a line: the record's, or that the entry loses its size."""
     words = {}
     for line in lines:
         try:
@@ -112,9 +113,9 @@ def words_of(lines, entries):
 
 
 def converted(top, paths):
-    """Those of some paths whose bytes git may convert, as attributes say, also where they are the blob's.
+    """Returns the paths whose bytes git may convert because of attributes, even if they are the blob's bytes.
 
-    Where git itself tells texts (`text=auto`, core.autocrlf), it keeps line ends that the blob has.
+    If git itself decides which files are texts (`text=auto`, core.autocrlf), it keeps line ends that the blob has.
     """
     found, of_lines, by_itself = set(), set(), set()
     asked = b"".join(path + b"\0" for path in paths)
@@ -127,25 +128,25 @@ def converted(top, paths):
 
 
 def is_as_stored(node, stored):
-    """Whether a node has the time and the length that the program stored."""
+    """Returns whether a node has the time and the length that the program stored."""
     changed = list(divmod(node.st_mtime_ns, 10**9))
     return (changed, node.st_size & index_file.MASK) == stored
 
 
 def stat_of(node, mode):
-    """The numbers of 32 bits that git stores of a node. The mode is the entry's."""
+    """Returns the numbers of 32 bits that git stores for a node. The mode is the entry's."""
     changed, written = divmod(node.st_ctime_ns, 10**9), divmod(node.st_mtime_ns, 10**9)
     numbers = [*changed, *written, node.st_dev, node.st_ino, mode, node.st_uid, node.st_gid, node.st_size]
     return [number & index_file.MASK for number in numbers]
 
 
 def is_racy(index, path):
-    """Whether git reads the file of an entry, since it is no older than the index."""
+    """Returns whether git reads the file of an entry because it isn't older than the index."""
     return path in index.places and index.stat_of(path)[index_file.MTIME] >= index.written // 10**9
 
 
 def stats_to_store(index, nodes, zeroed):
-    """The stats that change, by their paths: those of nodes, and those that lose their size."""
+    """Returns the stats that change, by their paths: those of nodes, and those that lose their size."""
     stats = {}
     for path in zeroed & index.places.keys():
         stats[path] = [*index.stat_of(path)[: index_file.SIZE], 0]
@@ -155,7 +156,7 @@ def stats_to_store(index, nodes, zeroed):
 
 
 def refreshed(program, index, profile, left_out):
-    """The stats that change in an index as the program says, when it began, and the line that tells of them."""
+    """Returns the stats that change in an index by the program's lines, when it began, and the tool's line on them."""
     nodes = nodes_of(profile, left_out)
     words, stored, moment = refresh(program, profile, left_out)
     updated = {path for path, word in words.items() if word == UPDATED}

@@ -4,22 +4,22 @@
     python3 tools/refuse_memory.py [--program PATH] [--limits 1 2] [--repeat 3] [--rows modified history]
 
 tools/refuse_malloc.c is compiled and preloaded into the built program. It counts the calls for memory and for threads,
-and refuses the Nth; and in a second sweep the Nth and all behind it. A sweep ends with the first N that no run has. The
-profiles are those of tools/small_profiles.py, each with each limit of threads. How a run may end:
+and refuses the Nth. In a second sweep it refuses the Nth and all after it. A sweep ends with the first N that no run
+reaches. The profiles are those of tools/small_profiles.py, each with each limit of threads. How a run may end:
 
 - If nothing was refused, as the profile's row says. It may end so in any case.
-- Else with exit status 1 and `out of memory` as the one line of standard error. Where a thread was refused, or memory
+- Otherwise with exit status 1 and `out of memory` as the one line of standard error. If a thread was refused, or memory
   to start one, it may also be `status failed: no thread`, or `refused N: run failed` for a run of a replay. For a start
-  the program takes memory right before it asks for the thread, and the C library takes some too. Where more than one
-  call was refused there may be no line, since it takes memory to write one.
-- Standard output has a beginning of the lines that the row has. A status with untracked files, renames or sorted lines
-  has printed nothing where it failed, and some lines where its recorder or a later line was refused memory: N is then
-  among the last calls. A replay's refused run leaves all lines of the runs before it.
-- A refresh that failed leaves the file that it writes to as that was, and no lock. Else it leaves what it leaves where
+  the program takes memory right before it asks for the thread, and the C library takes some too. If more than one call
+  was refused, there may be no line, since writing one takes memory.
+- Standard output has a beginning of the lines of the row. A status with untracked files, renames or sorted lines has
+  printed nothing if the status failed. It has printed some lines if its recorder or a later line was refused memory:
+  then N is among the last calls. A replay's refused run leaves all lines of the runs before it.
+- A refresh that failed leaves the file that it writes to unchanged, and no lock. Otherwise it leaves the same file as if
   nothing is refused.
 
-All else is wrong, and printed: another line or output, a signal, a hang. The exit status is 0 where no run ended
-wrongly, 1 where one did, and 2 where there is no sweep. It needs Linux with glibc, and a C compiler.
+All other ends are wrong, and printed: another line or output, a signal, a hang. The exit status is 0 if no run ended
+wrongly, 1 if one did, and 2 if there is no sweep. It needs Linux with glibc, and a C compiler.
 """
 
 import argparse
@@ -39,17 +39,17 @@ from small_profiles import ROWS, put_out, taken_out, wrong_files
 HERE = os.path.dirname(os.path.abspath(__file__))
 BUILT = os.path.join(os.path.dirname(HERE), "crates", "status_program", "out", "status_program")
 MEMORY, THREAD, RUN = "out of memory\n", "status failed: no thread\n", r"refused (\d+): run failed\n"
-# More calls than a line takes.
+# A line takes fewer calls than this.
 LINE_CALLS = 6
 
 
 def compiler(found=shutil.which):
-    """The C compiler that is there, if any."""
+    """Returns a C compiler of this system, or None if there is none."""
     return next(filter(None, map(found, (os.environ.get("CC") or "cc", "gcc", "clang"))), None)
 
 
 def compile_library(folder, name="refuse_malloc"):
-    """Compiles what is preloaded, and gives its path."""
+    """Compiles the library to preload, and returns its path."""
     library = os.path.join(folder, f"{name}.so")
     words = [compiler(), "-O2", "-fPIC", "-shared", "-o", library, os.path.join(HERE, f"{name}.c")]
     subprocess.run(words, check=True)
@@ -58,17 +58,18 @@ def compile_library(folder, name="refuse_malloc"):
 
 @dataclass(frozen=True)
 class Refused:
-    """What was refused in a run: a letter for each call, as tools/refuse_malloc.c has them."""
+    """The refused calls of a run: a letter for each, as in tools/refuse_malloc.c."""
 
     letters: str
-    # The first call that was refused, counted from 1, and the letters of all calls where none is.
+    # The first refused call, counted from 1, and the letters of all calls of a run in which none is refused.
     at: int
     calls: str
 
     @property
     def has_thread(self):
-        """Whether a thread was refused, or memory to start one. Where more than one is started, the calls behind the
-        first start come in any order.
+        """Returns whether a thread was refused, or memory to start one.
+
+        If more than one is started, the calls after the first start come in any order.
         """
         starts = [at for at, letter in enumerate(self.calls) if letter == "t"]
         late = len(starts) > 1 and self.at >= starts[0]
@@ -76,7 +77,7 @@ class Refused:
 
 
 def runs_before(row, place):
-    """The lines of the runs before an event of a replay. None where the event is no run."""
+    """Returns the lines of the runs before an event of a replay, or None if the event isn't a run."""
     events = row.profile["events"]
     if place >= len(events) or events[place][0] != "run":
         return None
@@ -86,7 +87,7 @@ def runs_before(row, place):
 
 
 def wrong_fault(row, refused, out, fault):
-    """What is wrong with the line on standard error, if anything."""
+    """Returns what is wrong with the line on standard error, or None."""
     if fault == MEMORY or (fault == "" and len(refused.letters) > 1):
         return None
     if refused.has_thread and row.command != "replay" and fault == THREAD:
@@ -98,7 +99,7 @@ def wrong_fault(row, refused, out, fault):
 
 
 def wrong(row, refused, ended):
-    """What is wrong with how a run ended, if anything."""
+    """Returns what is wrong with how a run ended, or None."""
     try:
         out, fault = ended.out.decode(), ended.fault.decode()
     except UnicodeDecodeError:
@@ -111,7 +112,7 @@ def wrong(row, refused, ended):
         return ended.end()
     if not row.out.startswith(out) or out[-1:] not in ("", "\n"):
         return "output that is no beginning of the lines"
-    # Once a recorder takes entries all lines are still to come.
+    # While a recorder takes entries, no line is printed yet.
     if row.is_joined and out and refused.at <= len(refused.calls) - LINE_CALLS * row.out.count("\n"):
         return "lines of a joined status that failed"
     return wrong_fault(row, refused, out, fault)
@@ -122,11 +123,11 @@ class Sweeper:
 
     def __init__(self, runner, library, row, file, report):
         self.runner, self.library, self.row, self.file, self.report = runner, library, row, file, report
-        # What a refresh leaves where nothing is refused.
+        # The file that a refresh leaves if nothing is refused.
         self.new = None
 
     def run(self, at, on):
-        """How a run ends in which this call is refused, and those behind it, and what was refused."""
+        """Runs with this call refused, and with `on` all after it. Returns how that ends, and what was refused."""
         number = self.report.fileno()
         empty(number)
         put_out(self.file, self.row.old)
@@ -135,7 +136,7 @@ class Sweeper:
         return ended, content(number).decode()
 
     def judged(self, at, on, calls):
-        """Runs once. Gives how that ends, what was refused, and what is wrong, if anything."""
+        """Runs once. Returns how that ends, what was refused, and what is wrong, or None."""
         ended, letters = self.run(at, on)
         said = wrong(self.row, Refused(letters, at, calls), ended)
         if self.row.command == "refresh":
@@ -144,14 +145,15 @@ class Sweeper:
         return ended, letters, said
 
     def calls(self):
-        """The letters of the calls of a run in which none is refused. What that leaves, each other run has to leave."""
+        """Returns the letters of the calls of a run in which none is refused, and notes the file that it leaves."""
         _, letters = self.run(0, False)
         self.new = taken_out(self.file).get(".out")
         return letters
 
     def sweep(self, on, repeat):
-        """Gives the number of runs, the last call that came, and the wrong runs: which call was refused, what is wrong,
-        and how the run ended.
+        """Returns the number of runs, the last call that came, and the wrong runs.
+
+        A wrong run has the refused call, what is wrong, and how the run ended.
         """
         calls = self.calls()
         found, runs, at = [], 0, 0
@@ -166,7 +168,7 @@ class Sweeper:
 
 @contextlib.contextmanager
 def sweeper(program, library, name, limit, seconds):
-    """What runs one row with one limit, which may take so many seconds."""
+    """Yields the sweeper of one row with one limit, whose runs may take so many seconds."""
     row = ROWS[name]
     with tempfile.TemporaryDirectory() as room, tempfile.TemporaryFile() as report:
         os.set_inheritable(report.fileno(), True)
@@ -182,7 +184,7 @@ def sweeper(program, library, name, limit, seconds):
 
 
 def sweep_row(program, library, name, limit, on, options):
-    """Sweeps one row with one limit, prints what came of it, and gives the number of wrong runs."""
+    """Sweeps one row with one limit, prints the result, and returns the number of wrong runs."""
     with sweeper(program, library, name, limit, options.seconds) as it:
         runs, last, found = it.sweep(on, options.repeat)
     which = "each from one on" if on else "one"

@@ -13,7 +13,7 @@ for byte, letter in zip(b'\a\b\t\n\v\f\r"\\', b'abtnvfr"\\'):
     ESCAPED[byte] = b"\\%c" % letter
 # The settings that the tools ask for, and their defaults.
 DEFAULTS = {"core.symlinks": True, "core.filemode": True, "core.autocrlf": False, "core.ignorecase": False}
-# What a setting that is true or false may be. git also takes numbers.
+# The words for true and false in settings. git also takes numbers.
 TRUTH = {b"true": True, b"yes": True, b"on": True, b"1": True}
 TRUTH |= {b"false": False, b"no": False, b"off": False, b"0": False, b"": False}
 
@@ -48,7 +48,7 @@ def line_of(folder, *words):
 
 
 class Repository:
-    """A repository with a worktree: where its top and its index are, the kind of its ids, and its settings."""
+    """A repository with a worktree: the paths of its top and its index, the kind of its ids, and its settings."""
 
     def __init__(self, folder):
         """Takes a folder of the worktree."""
@@ -64,7 +64,7 @@ class Repository:
             raise Refused(f"ids of the kind {self.kind}")
 
     def is_set(self, name):
-        """Whether a setting of DEFAULTS is true."""
+        """Returns whether a setting of DEFAULTS is true."""
         if name not in self.settings:
             return DEFAULTS[name]
         known = TRUTH.get(self.settings[name].lower())
@@ -94,7 +94,7 @@ def settings_of(listed):
 
 
 def setting(folder, name):
-    """Whether a setting is true, as git reads it."""
+    """Returns whether a setting is true, as git reads it."""
     return git(folder, "config", "--type=bool", name).strip() == b"true"
 
 

@@ -1,11 +1,11 @@
-"""Rows of text: profiles with what the program has to say to them. tools/rows has a file for each subject.
+"""Rows of text: profiles with the output that the program has to print for them. tools/rows has a file for each subject.
 
 `== NAME` begins a row. Below it is a profile, which the program finds as `f` in its working folder (`{folder}` in it is
-that folder's path), and then sections, each below `-- KIND`: `words` (the arguments), `nodes` (what else is in the
-folder), `lines` (what is printed), `fault` (the line on standard error), `left` (what `o` has then: the lines put
-together, and a line feed), `rooms` (sizes of outputs that are too small for the lines), `values` (each line makes a row
-of its own, in whose profile it stands in place of `{value}`). Above the first row is what the file is about, and then
-sections for the rows that have none of the kind. An empty line above a row belongs to nothing.
+that folder's path). After it are sections, each below `-- KIND`: `words` (the arguments), `nodes` (other nodes in the
+folder), `lines` (the output), `fault` (the line on standard error), `left` (the text of `o` after the run: the lines
+joined, and a line feed), `rooms` (sizes of outputs that are too small for the lines), `values` (each line makes a row of
+its own, in whose profile it replaces `{value}`). Above the first row are a text on the file's subject, and then sections
+for the rows that have none of the kind. An empty line above a row belongs to nothing.
 """
 
 import glob
@@ -16,7 +16,7 @@ from dataclasses import dataclass
 
 ROWS = os.path.join(os.path.dirname(os.path.abspath(__file__)), "rows")
 MARK = re.compile(r"(==|--) (\S|\S.*\S)")
-# How few and how many lines a section of each kind has.
+# The least and the greatest number of lines in a section of each kind.
 ANY = float("inf")
 KINDS = {"words": (0, 1), "nodes": (1, ANY), "lines": (1, ANY), "fault": (1, 1), "left": (1, ANY), "rooms": (1, 1)}
 KINDS["values"] = (1, ANY)
@@ -25,19 +25,19 @@ NODES = ("folder", "file", "link")
 
 
 class Malformed(Exception):
-    """What is wrong with a file of rows."""
+    """A fault of a file of rows."""
 
 
 @dataclass(frozen=True)
 class Row:
-    """What a run of the program is given, and how it ends."""
+    """The input of a run of the program, and how it ends."""
 
     name: str
     words: list
-    # The texts of the files `f` and `o`. None where the file isn't there.
+    # The texts of the files `f` and `o`, or None if the file isn't there.
     profile: "str | None"
     left: "str | None"
-    # Lists of a kind, a path and a text or a target, and for a file also its time of change where that matters.
+    # Lists of a kind, a path and a text or a target. A file may also have its time of change.
     nodes: list
     lines: str
     fault: str
@@ -45,17 +45,17 @@ class Row:
 
     @property
     def status(self):
-        """The exit status, which is 2 where the program says how it is called."""
+        """The exit status, which is 2 if the program prints its usage."""
         return 2 if self.fault.startswith("usage: ") else int(self.fault != "")
 
 
 def row_files():
-    """The paths of all files of rows."""
+    """Returns the paths of all files of rows."""
     return sorted(glob.glob(os.path.join(ROWS, "*.txt")))
 
 
 def read_rows(path):
-    """The rows of a file."""
+    """Returns the rows of a file."""
     with open(path, encoding="utf-8", newline="") as file:
         text = file.read()
     try:
@@ -65,7 +65,7 @@ def read_rows(path):
 
 
 def rows_of(text):
-    """The rows of a file's text."""
+    """Returns the rows of a file's text."""
     (_, shared), *parts = parts_of(text)
     rows = [row for name, sections in parts for row in rows_named(name, {**shared, **sections})]
     names = [row.name for row in rows]
@@ -78,7 +78,8 @@ def rows_of(text):
 
 
 def parts_of(text):
-    """What stands above the first row, and then the rows: of each the name, and the lines of sections by their kinds.
+    """Returns the part above the first row, and then the rows. Each has a name, and the lines of sections by their kinds.
+
     The lines above all sections are of the kind `profile`.
     """
     *lines, last = text.split("\n")
@@ -113,7 +114,7 @@ def begin_section(number, kind, sections):
 
 
 def rows_named(name, sections):
-    """The row of this name, with these sections: or a row for each of its values."""
+    """Returns the row of this name, with these sections, or a row for each of its values."""
     profile, values = sections["profile"], sections.get("values")
     if any(VALUE in line for line in profile) != (values is not None):
         raise Malformed(f"{name}: {VALUE} in the profile and the section values need each other")
@@ -124,7 +125,7 @@ def rows_named(name, sections):
 
 
 def row_of(name, sections):
-    """A row of this name, with these sections."""
+    """Returns a row of this name, with these sections."""
     if "words" not in sections:
         raise Malformed(f"{name}: no words")
     for kind, (least, most) in KINDS.items():
@@ -144,7 +145,7 @@ def row_of(name, sections):
 
 
 def node_of(name, line):
-    """A node of the working folder, which is a list as JSON text."""
+    """Returns a node of the working folder. The line has it as a list in JSON."""
     try:
         node = json.loads(line)
     except ValueError:
@@ -155,7 +156,7 @@ def node_of(name, line):
 
 
 def rooms_of(name, line, size):
-    """Sizes of outputs, each too small for as many bytes as the row has."""
+    """Returns the sizes of outputs. Each has to be too small for the row's bytes."""
     wrong = [word for word in line.split() if not re.fullmatch("[0-9]+", word) or int(word) >= size]
     if wrong:
         raise Malformed(f"{name}: no output is too small by having room for {wrong[0]} bytes of {size}")

@@ -1,10 +1,10 @@
 #!/usr/bin/env python3
-"""Runs the tests of tools/, and says in lines how many passed, failed and were not run:  python3 tools/run_tests.py
+"""Runs the tests of tools/, and prints how many passed, failed and were not run:  python3 tools/run_tests.py
 
-Where STATUS_PROGRAM names the built program, its lines are compared with git's. A test that wasn't run counts as one
-that failed, and so does one that is expected to fail. Root may read and write any file, so as root the tests run
-without that right: files that may not be read or written are then refused as they are for others, and no test is left
-out for that. The exit status is 0 where tests ran and none failed.
+If STATUS_PROGRAM names the built program, its lines are compared with git's. A test that wasn't run counts as failed, and
+so does one that is expected to fail. Root may read and write any file, so as root the tests run without that right. Then
+files that may not be read or written are refused as for other users, and no test is left out for that. The exit status
+is 0 if tests ran and none failed.
 """
 
 import collections
@@ -18,15 +18,15 @@ import unittest
 import cases
 
 HERE = os.path.dirname(os.path.abspath(__file__))
-# The words that start a command of root's without the right to read and write any file. What is taken from the bounding
-# set, no program that the command starts can have either.
+# The words that start a command of root's without the right to read and write any file. Programs that the command starts
+# can't have that right either, since it is taken from the bounding set.
 ORDINARY = ["setpriv", "--bounding-set=-dac_override,-dac_read_search", "--inh-caps=-all"]
-# What these words are followed by, so that they aren't tried twice.
+# An argument that follows these words, so that they aren't tried twice.
 TRIED = "--ordinary"
 
 
 def may_be_ordinary():
-    """Whether a process of this user's can run without the right to read and write any file."""
+    """Returns whether a process of this user can run without the right to read and write any file."""
     if not cases.may_read_all():
         return True
     probe = "import cases, sys; sys.exit(cases.may_read_all())"
@@ -37,7 +37,7 @@ def may_be_ordinary():
 
 
 class Result(unittest.TextTestResult):
-    """Knows which tests passed: all that they tried did."""
+    """Collects the tests that passed, with all their subtests."""
 
     def __init__(self, *words, **settings):
         super().__init__(*words, **settings)
@@ -49,12 +49,12 @@ class Result(unittest.TextTestResult):
 
 
 def kind_of(name):
-    """The kind of a test by its whole name: a row's has its file."""
+    """Returns the kind of a test by its whole name: a row's name has its file."""
     return "rows" if re.match(r"test_rows\.Rows\.test_\w+\.txt: ", name) else "Python tests"
 
 
 def said(result):
-    """What is said of a result, a line each, and how many tests failed or weren't run."""
+    """Returns the lines to print for a result, and how many tests failed or weren't run."""
     kinds = collections.Counter({"Python tests": 0, "rows": 0})
     kinds.update(map(kind_of, result.passed))
     not_run = collections.Counter(reason for _, reason in result.skipped)
@@ -68,7 +68,7 @@ def said(result):
 def main(words, folder=HERE):
     if TRIED not in words and cases.may_read_all() and may_be_ordinary():
         return subprocess.run([*ORDINARY, sys.executable, os.path.abspath(__file__), TRIED], check=False).returncode
-    # In a job in the background the signal is ignored, and what is started here would ignore it too. Tests send it.
+    # In a job in the background the signal is ignored, and processes started here would ignore it too. Tests send it.
     signal.signal(signal.SIGINT, signal.default_int_handler)
     runner = unittest.TextTestRunner(stream=sys.stderr, resultclass=Result)
     lines, failed = said(runner.run(unittest.defaultTestLoader.discover(folder)))

@@ -1,4 +1,4 @@
-"""What the tools share: where the built program is, what they refuse, and how they end.
+"""Code that the tools share: the path of the built program, refusals, and how a tool ends.
 
 A tool imports few modules before it knows that it needs them: most take as long as git's status of 2,000 files.
 """
@@ -13,7 +13,7 @@ BUILD = "rt run -- status data/row1.json"
 
 
 class Refused(Exception):
-    """What a tool can't do. Its text is one line."""
+    """Raised if a tool can't do its work. Its text is one line."""
 
 
 def program_of(named=None):
@@ -69,7 +69,7 @@ def status_of(main):
 
 
 def words_of(error):
-    """Returns an error of the system in words, with the file's name if it has one."""
+    """Returns an error of the system in words, with the file's name if the error has one."""
     words = error.strerror or str(error)
     return f"{error.filename}: {words}" if error.filename else f"the output can't be written: {words}"
 

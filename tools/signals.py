@@ -1,4 +1,4 @@
-"""How a tool ends by the signals of a user or the system, and how it holds them while it must not be cut off."""
+"""How a tool ends by signals of a user or the system, and how it holds them while it must not be cut off."""
 
 import contextlib
 import signal
@@ -29,7 +29,7 @@ def ignore_signals():
 
 @contextlib.contextmanager
 def held_signals():
-    """Holds the signals in a block. Its value is a function for a block within, in which they come through again."""
+    """Holds the signals in a block. Its value is a function for a block within, in which they are let through."""
     before = signal.pthread_sigmask(signal.SIG_BLOCK, ())
 
     @contextlib.contextmanager
@@ -41,7 +41,7 @@ def held_signals():
             signal.pthread_sigmask(signal.SIG_BLOCK, SIGNALS)
 
     try:
-        # A signal that came just before is raised here, when the mask is already set.
+        # A signal that came immediately before is raised here, when the mask is already set.
         signal.pthread_sigmask(signal.SIG_BLOCK, SIGNALS)
         yield let_through
     finally:

@@ -1,4 +1,4 @@
-"""Small profiles with what the program has to say to them, for the scripts that run it under stress."""
+"""Small profiles with the expected output of the program, for the scripts that run it under stress."""
 
 import hashlib
 import os
@@ -16,10 +16,10 @@ class Row:
     profile: dict
     out: str = ""
     fault: str = ""
-    # What lies below the profile's folder, where it has one: the texts of files and the targets of links.
+    # The nodes in the profile's folder, if it has one: the texts of files and the targets of links.
     files: dict = field(default_factory=dict)
     links: dict = field(default_factory=dict)
-    # The text of the file that a refresh writes to, where that is there before.
+    # The text of the file that a refresh writes to, if it is there before.
     old: "str | None" = None
 
     @property
@@ -32,11 +32,11 @@ class Row:
         return any(options.get(name) for name in ("untracked", "renames", "sort"))
 
     def words(self, file):
-        """The program's arguments where the profile is in this file."""
+        """Returns the program's arguments for a profile in this file."""
         return [self.command, file, *more_words(self.command, file)]
 
     def make_files(self, top):
-        """Makes what lies below the folder. The files are as old as the entries of the index."""
+        """Makes the nodes in the folder. The files are as old as the entries of the index."""
         places = [(path, os.path.join(top, path)) for path in {**self.files, **self.links}]
         for path, place in places:
             os.makedirs(os.path.dirname(place), exist_ok=True)
@@ -48,26 +48,26 @@ class Row:
             os.utime(place, (OLD, OLD))
 
     def with_limit(self, limit):
-        """The profile with this limit of threads in its options, or in its runs."""
+        """Returns the profile with this limit of threads in its options, or in its runs."""
         if self.command != "replay":
             return self.profile | {"options": self.profile.get("options", {}) | {"thread_limit": limit}}
         return self.profile | {"events": [limited(event, limit) for event in self.profile["events"]]}
 
 
 def more_words(command, file):
-    """The arguments behind the profile's file: a refresh writes to another one beside it."""
+    """Returns the arguments after the profile's file: a refresh writes to another file next to it."""
     return (f"{file}.out", "10", "0") if command == "refresh" else ()
 
 
 def put_out(file, text):
-    """Makes the file that a refresh of this profile's file writes to, where there is a text."""
+    """Makes the file that a refresh of this profile's file writes to, unless the text is None."""
     if text is not None:
         with open(f"{file}.out", "w", encoding="utf-8", newline="") as out:
             out.write(text)
 
 
 def taken_out(file):
-    """The texts of what a refresh left beside a profile's file, by the names' endings. These files are removed."""
+    """Returns the texts of the files that a refresh left next to a profile's file, by their endings. Removes them."""
     texts = {}
     for ending in (".out", ".out.lock"):
         if os.path.lexists(file + ending):
@@ -78,10 +78,10 @@ def taken_out(file):
 
 
 def wrong_files(file, status, old=None, new=None):
-    """What is wrong with the files that a refresh leaves beside a profile's, if anything. They are removed.
+    """Returns what is wrong with the files that a refresh leaves next to a profile's, or None. Removes them.
 
-    A refresh that failed leaves the file that it writes to as that was, `old` or not there. Else it is there, and `new`
-    where that is known. No lock is left in any case.
+    A refresh that failed leaves the file that it writes to unchanged: `old`, or not there. Otherwise the file is there,
+    with the text `new` if that is known. No lock is left in any case.
     """
     texts = taken_out(file)
     out = texts.get(".out")
@@ -97,7 +97,7 @@ def limited(event, limit):
 
 
 def id_of(text):
-    """git's id of a content."""
+    """Returns git's id of a content."""
     content = text.encode()
     return hashlib.sha1(b"blob %d\0" % len(content) + content).hexdigest()
 
@@ -149,7 +149,7 @@ RENAMES = {
     "index": [entry("a", "foo"), entry("m", "foo")],
     "worktree": [node("b", "foo"), node("c", "foo"), node("m", "bars")],
 }
-# Untracked files and a link, on three levels, beside an entry and below one's directory.
+# Untracked files and a link, on three levels, next to an entry and below the directory of one.
 LISTED = {
     "timestamp": [9, 0],
     "options": {"chunk_size": 1, "untracked": True},

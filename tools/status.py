@@ -1,5 +1,5 @@
 #!/usr/bin/env python3
-"""Prints what differs between a git repository's index and its worktree, as the built program says.
+"""Prints the differences between a git repository's index and its worktree, as the built program reports them.
 
     python3 tools/status.py [OPTIONS] [REPOSITORY]
 
@@ -24,8 +24,8 @@ With --untracked there are also lines `?? PATH`, one for each file or link, as w
 doesn't list them over a folder, so the tool does. It leaves out the paths of the index (with core.ignoreCase also those
 that differ from one in the case of ASCII letters, as git does), and asks git which of the others are ignored.
 
-Notes on standard error say what the program doesn't see in the folder. --compare prints no status: it prints each path
-at which git's second column is another, under settings that make git compare the same.
+Notes on standard error name what the program doesn't see in the folder. --compare prints no status: it prints each path
+for which git's second column is another, under settings that make git compare the same.
 
 The exit status is 0. With --exit-code it is 1 if a line was printed (other than `~`), and with --compare if git differs.
 It is 2 if something fails, with one line on standard error. Nothing is written to the repository.
@@ -82,6 +82,6 @@ def untracked_of(profile, unseen):
 
 
 if __name__ == "__main__":
-    # Nothing is collected, since all that is made here stays until the end. Then memory isn't given back in pieces.
+    # No garbage is collected, since all objects stay until the end. So memory isn't freed in pieces either.
     gc.disable()
     end(main, 2, leave=os._exit)

@@ -20,19 +20,19 @@ def text_of(*path):
 
 
 def anchors(page):
-    """The headings of a page as a link names them: in small letters, with dashes and without marks."""
+    """Returns the headings of a page as a link names them: in small letters, with dashes and without marks."""
     headings = re.findall(r"^#+ (.*)$", page, re.M)
     return {re.sub(r"[^\w\- ]", "", heading.lower()).replace(" ", "-") for heading in headings}
 
 
 def texts_of(*patterns):
-    """The files of the repository that these patterns name, by their paths."""
+    """Returns the texts of the files that these patterns name, by their paths."""
     found = [path for pattern in patterns for path in glob.glob(os.path.join(TOP, pattern), recursive=True)]
     return {path: text_of(path) for path in sorted(os.path.relpath(path, TOP) for path in found)}
 
 
 def pages():
-    """The pages of the repository, by their paths."""
+    """Returns the pages of the repository, by their paths."""
     return texts_of("README.md", "CONTRIBUTING.md", "docs/*.md")
 
 
@@ -46,7 +46,7 @@ def plain(text):
 
 
 def lines_of_comments(text, mark):
-    """The comments of a file of code, with the numbers of their lines. `mark` begins a comment."""
+    """Yields the comments of a file of code, with the numbers of their lines. `mark` begins a comment."""
     for number, line in enumerate(text.splitlines(), 1):
         comment = re.search(rf"(?:^|\s){mark}(?:\s(.*))?$", line)
         if comment:
@@ -72,7 +72,7 @@ def paragraphs(lines):
 
 
 def written():
-    """The paragraphs of all pages and of the comments of all crates, by files and lines."""
+    """Returns the paragraphs of all pages and of the comments of all crates, by files and lines."""
     lines = {path: enumerate(page.splitlines(), 1) for path, page in pages().items()}
     for ending, mark in (("rt", "//[/!]?"), ("antt", "--")):
         files = texts_of(*(f"crates/*/{folder}/**/*.{ending}" for folder in ("src", "specs", "proofs")))
@@ -82,19 +82,19 @@ def written():
 
 
 def ceilings():
-    """The rows of tools/words.txt: the most places, the words as a regular expression, and what to write instead."""
+    """Returns the rows of tools/words.txt: a ceiling, the words as a regular expression, and a replacement."""
     lines = [line for line in text_of("tools", "words.txt").splitlines() if line and not line.startswith("#")]
     rows = [re.fullmatch(r"(\d+)  +(.*?\S)  +(\S.*)", line).groups() for line in lines]
     return [(int(most), words, instead) for most, words, instead in rows]
 
 
 def places(words, texts):
-    """Where these words are written: a file and a line for each time."""
+    """Returns a file and a line for each time that these words are written."""
     return [place for place, text in texts.items() for _ in re.findall(words, text)]
 
 
 def count_words(text):
-    """How many words a page has: all between blanks and the marks of tables that have a letter or a digit."""
+    """Returns how many words a page has: parts between blanks and bars of tables, with a letter or a digit."""
     return len(re.findall(r"[^\s|]*\w[^\s|]*", text))
 
 

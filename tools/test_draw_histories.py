@@ -1,7 +1,7 @@
 #!/usr/bin/env python3
 """Tests of draw_histories.py:  python3 tools/test_draw_histories.py
 
-Where STATUS_PROGRAM names the built program, eighty drawn histories are run through it.
+If STATUS_PROGRAM names the built program, eighty drawn histories are run through it.
 """
 
 import collections
@@ -14,7 +14,7 @@ from cases import PROGRAM, Ends, run_tool
 
 
 def lines_of(drawn):
-    """What a program would print that knows the changes alone."""
+    """Returns the output of a program that knows only the changes."""
     lines = []
     for number, changes in enumerate(drawn.runs, 1):
         lines.append(f"run {number}")
@@ -116,7 +116,7 @@ class Comparison(unittest.TestCase):
                 self.assertGreaterEqual(counts["changes"], 100, seed)
                 seen += counts
             self.assertEqual(os.listdir(room), [])
-        # What a stat needs is seen often enough to show something, too.
+        # Updates that a stat needs also occur often enough to show something.
         self.assertGreaterEqual(min(seen["zeroed"], seen["updates"]), 200, seen)
 
 

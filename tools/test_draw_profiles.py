@@ -1,7 +1,7 @@
 #!/usr/bin/env python3
 """Tests of draw_profiles.py:  python3 tools/test_draw_profiles.py
 
-Where STATUS_PROGRAM names the built program, two thousand drawn profiles are run through it.
+If STATUS_PROGRAM names the built program, two thousand drawn profiles are run through it.
 """
 
 import collections
@@ -17,7 +17,7 @@ from cases import PROGRAM, Ends, run_tool
 from quick_runs import Ended, Runner
 from row_files import ROWS, read_rows
 
-# What a profile has by default.
+# The default options of a profile.
 OPTIONS = {"prefix": "", "comparer": "hash", "untracked": False, "renames": False, "sort": False}
 OPTIONS |= {"executable_bit": True, "counts": False}
 ENTRY = {"mode": "100644", "size": 0, "mtime": [0, 0], "stage": 0, "flags": []}
@@ -26,7 +26,7 @@ SEEDS = 2000
 
 
 def whole(profile):
-    """A profile with all its keys."""
+    """Returns a profile with all its keys."""
     return {
         "hash": profile.get("hash", "sha1"),
         "options": OPTIONS | profile["options"],
@@ -36,7 +36,7 @@ def whole(profile):
 
 
 def words_of(line):
-    """A line without its place, paths and numbers."""
+    """Returns a line without its index position, paths and numbers."""
     return re.sub(r"^\d+ | \".*| \d+(?=,|$)", "", line)
 
 
@@ -65,7 +65,7 @@ class Model(unittest.TestCase):
         changes |= {"modified -c-", "modified x--", "modified xc-"}
         total = "total: to process, processed, skipped, lstat, to update, racy, read, bytes"
         self.assertEqual(set(words), {"- added", "- renamed", total} | changes | conflicts)
-        # Many files of one content came, are gone, or did both.
+        # Many files are untracked, removed or renamed.
         self.assertGreater(words["- added"] + words["removed"], 5000)
         self.assertGreater(words["- renamed"], 1000)
         for name in ("untracked", "renames", "sort", "executable_bit", "counts", "prefix", "comparer", "chunk_size"):

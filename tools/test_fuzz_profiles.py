@@ -1,7 +1,7 @@
 #!/usr/bin/env python3
 """Tests of fuzz_profiles.py:  python3 tools/test_fuzz_profiles.py
 
-Where STATUS_PROGRAM names the built program, 300 seeds are run through each of its commands.
+If STATUS_PROGRAM names the built program, 300 seeds are run through each of its commands.
 """
 
 import contextlib

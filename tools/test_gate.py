@@ -46,12 +46,12 @@ TOOLS = """tools: 3 Python tests passed
 tools: 2 rows passed
 tools: 5 passed, 0 failed
 """
-# What a shell needs for .ci/run, but for the program `rt` and for python3.
+# The commands that .ci/run needs, except `rt` and python3.
 COMMANDS = ("bash", "dirname", "mktemp", "nproc", "rm", "tee")
 
 
 class Planted(unittest.TestCase):
-    """A repository of a test's own, whose parts it takes away."""
+    """Makes a repository for a test, which removes parts of it."""
 
     def setUp(self):
         room = tempfile.TemporaryDirectory()
@@ -69,15 +69,13 @@ class Planted(unittest.TestCase):
         path.write_text(text, encoding="utf-8")
 
     def verdict(self, ci=CI, ci_status=0, tools=TOOLS, tools_status=0, lacking=()):
-        """What the gate says where these commands aren't there."""
+        """Returns the gate's verdict if these commands aren't there."""
         ran = gate.Ran("rt ci", ci, ci_status), gate.Ran("tools/run_tests.py", tools, tools_status)
         found = lambda name: None if name in lacking else f"/bin/{name}"
         return gate.verdict(self.top, str(self.program), *ran, found)
 
     def assert_fails(self, *words, counted=0, **planted):
-        """The gate fails for as many reasons as there are words, each with these words, and for those that commands
-        counted themselves.
-        """
+        """Asserts that the gate fails for one reason with each of these words, besides failures counted by commands."""
         _, failed, faults, _ = self.verdict(**planted)
         self.assertEqual((len(faults), failed), (len(words), len(words) + counted), faults)
         for fault, part in zip(faults, words):
@@ -167,7 +165,7 @@ class Planted(unittest.TestCase):
         self.assertEqual((failed, faults), (0, []))
         self.assertIn("rows: 4, and the floor in .ci/floors is 2: raise the floor", notes)
         self.assertIn("python-tests: 5, and the floor in .ci/floors is 3: raise the floor", notes)
-        # An edit more counts once the prover refuses it.
+        # Another edit counts only after the prover refuses it.
         self.write("crates/low/must-fail/three.edit", "")
         self.assertFalse([note for note in self.verdict()[3] if "must-fail-edits: " in note])
 
@@ -204,7 +202,7 @@ class Commands(unittest.TestCase):
 
 class Runner(unittest.TestCase):
     def said(self, *tests):
-        """What tools/run_tests.py says of a case with these tests."""
+        """Returns the lines of tools/run_tests.py for a case with these tests."""
         case = type("Inner", (unittest.TestCase,), {f"test_{number}": test for number, test in enumerate(tests)})
         suite = unittest.defaultTestLoader.loadTestsFromTestCase(case)
         runner = unittest.TextTestRunner(stream=io.StringIO(), resultclass=run_tests.Result)
@@ -251,7 +249,7 @@ class Runner(unittest.TestCase):
 
 
 class Script(unittest.TestCase):
-    """.ci/run, where other programs stand for `rt` and tools/gate.py."""
+    """Runs .ci/run with other programs in place of `rt` and tools/gate.py."""
 
     def setUp(self):
         room = tempfile.TemporaryDirectory()
@@ -269,7 +267,7 @@ class Script(unittest.TestCase):
         path.chmod(0o755)
 
     def ran(self, rt, python=None):
-        """How the script ends where these lines of a shell stand for `rt` and for python3, if that is there."""
+        """Runs the script with these lines of a shell in place of `rt`, and of python3 if they are passed."""
         self.stand_in("rt", rt)
         if python:
             self.stand_in("python3", python)
@@ -279,7 +277,7 @@ class Script(unittest.TestCase):
 
     def test_it_ends_as_the_gate_does(self):
         good = 'echo "6 passed, 0 failed"'
-        # The gate is given what `rt ci` printed, and its exit status.
+        # The gate gets the output of `rt ci`, and its exit status.
         given = '[[ $1 == tools/gate.py && $3 == 0 && $(<"$2") == "6 passed, 0 failed" ]] && echo "9 passed, 0 failed"'
         self.assertEqual(self.ran(good, given), (0, ["6 passed, 0 failed", "9 passed, 0 failed"]))
         self.assertEqual(self.ran(good, 'echo "9 passed, 0 failed"; exit 1')[0], 1)

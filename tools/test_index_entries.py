@@ -1,7 +1,7 @@
 #!/usr/bin/env python3
 """Tests of how a git index is read, on indexes that git writes here:  python3 tools/test_index_entries.py
 
-What git lists is what is wanted. Without git no test is run.
+The expected entries are those that git lists. Without git no test is run.
 """
 
 import os
@@ -18,7 +18,7 @@ from test_status import NAMES, Drawn
 
 
 def pairs_of(entries):
-    """The paths and the records of entries. What the length of a path adds to its bits is left out."""
+    """Returns the paths and the records of entries, without the length of the path in the bits."""
     return [(path, (*record[: tool.BITS], record[tool.BITS] & ~tool.LENGTH)) for path, record in entries]
 
 
@@ -28,21 +28,21 @@ class Indexes(Drawn):
             return file.read()
 
     def read(self):
-        """The entries of the index, which is plain."""
+        """Returns the entries of the index, which is plain."""
         kind = self.git("rev-parse", "--show-object-format").decode().strip()
         return tool.read(self.index(), tool.WIDTHS[kind])
 
     def listed(self):
-        """The entries as git lists them."""
+        """Returns the entries as git lists them."""
         return entries_in(git(self.top, "ls-files", "--stage", "--debug", "-z"))
 
     def assert_as_git(self, version):
-        """A plain index of a version has what git lists."""
+        """Asserts that a plain index of a version has the entries that git lists."""
         self.assertEqual(self.index()[7], version)
         self.assertEqual(pairs_of(self.read()), pairs_of(self.listed()))
 
     def assert_not_plain(self):
-        """An index isn't plain, and has what git lists."""
+        """Asserts that an index isn't plain, and has the entries that git lists."""
         with self.assertRaises(tool.NotPlain):
             self.read()
         _, entries = tool.entries_of(Repository(self.top))
@@ -50,7 +50,7 @@ class Indexes(Drawn):
         return entries.paths
 
     def stage(self, paths, mode="100644"):
-        """Entries that have no file."""
+        """Stages entries that have no file."""
         lines = "".join(f"{mode} {FOO} 0\t{path}\0" for path in paths)
         self.git("update-index", "-z", "--index-info", given=lines.encode())
 
@@ -139,7 +139,7 @@ class Other(Indexes):
         self.assertEqual(len(tool.read(content + b"ABCD\0\0\0\1x" + bytes(20), 20).paths), 4)
 
     def test_a_damaged_index_is_left_to_git(self):
-        """One that is cut off isn't read, unless all entries are there. Another is read as by git, or not at all."""
+        """An index that is cut off isn't read, unless it has all entries. Other damaged ones are read as by git, or not."""
         self.git("update-index", "--assume-unchanged", "in/a")
         self.write("intended", "foo")
         self.git("add", "-N", "intended")
@@ -163,7 +163,7 @@ class Other(Indexes):
         try:
             listed = self.listed()
         except Refused as refusal:
-            # A mode of other digits isn't known in the listing, and none of git's in the profile.
+            # A mode with other digits isn't known in git's listing, and isn't one of git's modes for the profile.
             self.assertTrue(read is None or "git ls-files prints what isn't known" in str(refusal), refusal)
             return
         if read is not None:
@@ -189,7 +189,7 @@ class Other(Indexes):
 
 
 def read_or_none(content):
-    """The entries of an index, or None if they aren't read."""
+    """Returns the entries of an index, or None if they aren't read."""
     try:
         return tool.read(content, 20)
     except (tool.NotPlain, ValueError, IndexError, tool.struct.error):

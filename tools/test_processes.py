@@ -13,7 +13,7 @@ MEGABYTE = 1 << 20
 
 
 def running(lines, *given):
-    """A program of Python's lines, which can read these parts."""
+    """Starts a program of these lines of Python, which can read these parts."""
     return tool.Running([sys.executable, "-c", "import os, sys\n" + lines], given)
 
 
@@ -38,7 +38,7 @@ class Processes(unittest.TestCase):
         self.assertEqual(self.ended("sys.stdout.write(open('/dev/stdin').read())", b"given")[0], b"given")
 
     def test_nothing_waits_for_a_full_pipe(self):
-        # It prints much before it reads, and reads nothing of much.
+        # The program prints much before it reads, and reads only a little of much input.
         lines = f"for to in (1, 2): os.write(to, bytes({MEGABYTE}))\nos.write(1, os.read(0, 3))"
         printed, said, status = self.ended(lines, b"abc" + bytes(MEGABYTE))
         self.assertEqual((len(printed), printed[-3:], len(said), status), (MEGABYTE + 3, b"abc", MEGABYTE, 0))

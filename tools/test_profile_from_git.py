@@ -1,7 +1,7 @@
 #!/usr/bin/env python3
 """Tests of profile_from_git.py, on repositories that git makes here:  python3 tools/test_profile_from_git.py
 
-Where STATUS_PROGRAM names the built program, its lines are compared with git's. Without git no test is run.
+If STATUS_PROGRAM names the built program, its lines are compared with git's. Without git no test is run.
 """
 
 import json
@@ -22,12 +22,12 @@ import unseen
 from cases import FOO, PROGRAM, Case, run_tool
 from repository import Repository, quoted
 
-# git's letters for the program's words. None where git prints no line.
+# git's letters for the program's words, or None if git prints no line.
 LETTERS = {"removed": "D", "modified": "M", "type": "T", "intent": "A", "update": None}
 
 
 def profile_of(folder, counts=False):
-    """The profile of a repository as the program reads it, and what isn't seen."""
+    """Returns the profile of a repository as the program reads it, and the differences that aren't seen."""
     profile = tool.Profile(Repository(folder), counts)
     found = unseen.unseen_of(profile)
     return json.loads(b"".join(profile.json(found.left_out))), found
@@ -48,7 +48,7 @@ class Profiles(Case):
         self.assertEqual((entry["id"], entry["mode"], entry["size"]), (FOO, "100755", 3))
         self.assertEqual(entry["mtime"], [found.st_mtime_ns // 10**9, 0])
         self.assertEqual(entries["l", 0]["mode"], "120000")
-        # What the options leave out of the comparison isn't in the profile.
+        # Fields that the options leave out of the comparison aren't in the profile.
         self.assertEqual(list(entry), ["path", "id", "mode", "size", "mtime"])
 
     def test_the_folder_the_moment_and_the_options_are_those_of_the_repository(self):
@@ -281,18 +281,18 @@ class Refusals(Case):
 @unittest.skipUnless(PROGRAM, "no built program")
 class Comparison(Case):
     def lines(self):
-        """What the program prints."""
+        """Returns the lines that the program prints."""
         profile, _ = profile_of(self.top)
         with tempfile.NamedTemporaryFile("w", suffix=".json") as file:
             json.dump(profile, file)
             file.flush()
-            # A pipe that is opened would never answer.
+            # Opening a pipe would never return.
             ran = subprocess.run([PROGRAM, "status", file.name], capture_output=True, text=True, timeout=30)
         self.assertEqual((ran.returncode, ran.stderr), (0, ""))
         return ran.stdout.split("\n")[:-1]
 
     def program(self):
-        """What the program reports of each path: a letter as git's, or that there is a conflict."""
+        """Returns the program's report of each path: a letter as git's, or that there is a conflict."""
         reported = {}
         for line in self.lines():
             words = line.split(" ")
@@ -301,7 +301,7 @@ class Comparison(Case):
         return {path: letter for path, letter in reported.items() if letter}
 
     def git_reports(self):
-        """What git reports of each path, in the same words."""
+        """Returns git's report of each path, in the same words."""
         reported = {}
         ran = subprocess.run([*tool.comparable(self.top), "-z"], capture_output=True, check=True)
         for line in ran.stdout.decode().split("\0")[:-1]:

@@ -1,5 +1,5 @@
 #!/usr/bin/env python3
-"""Tests of what a tool shows on a terminal while it runs:  python3 tools/test_progress.py"""
+"""Tests of the line that a tool shows on a terminal while it runs:  python3 tools/test_progress.py"""
 
 import io
 import os
@@ -13,13 +13,13 @@ from progress import Progress
 
 class Shown(unittest.TestCase):
     def setUp(self):
-        """A terminal, of which `self.main` is the other side."""
+        """Opens a terminal, of which `self.main` is the other side."""
         self.main, side = pty.openpty()
         self.terminal = open(side, "w", encoding="utf-8")
         self.addCleanup(os.close, self.main)
 
     def shown(self, run):
-        """What is shown while a function runs."""
+        """Returns what the terminal gets while a function runs."""
         with mock.patch("sys.stderr", self.terminal):
             run()
         self.terminal.write("end")

@@ -9,7 +9,7 @@ TOP = os.path.dirname(os.path.dirname(os.path.abspath(__file__)))
 
 
 def found(pattern, *path):
-    """The parts of a file that a pattern's group matches."""
+    """Returns the parts of a file that a pattern's group matches."""
     with open(os.path.join(TOP, *path), encoding="utf-8") as file:
         return re.findall(pattern, file.read(), re.M | re.S)
 

@@ -1,7 +1,7 @@
 #!/usr/bin/env python3
-"""Tests of the program's command `refresh`, of what it leaves in its file:  python3 tools/test_refresh.py
+"""Tests of the program's command `refresh`, and of the file that it leaves:  python3 tools/test_refresh.py
 
-They run where STATUS_PROGRAM names the built program.
+They run if STATUS_PROGRAM names the built program.
 """
 
 import errno
@@ -19,7 +19,7 @@ from refuse_memory import compile_library, compiler
 from small_profiles import MALFORMED, MODIFIED, RENAMES, entry, node, put_out, wrong_files
 
 ROW_1 = os.path.join(os.path.dirname(HERE), "crates", "status_program", "data", "row1.json")
-# What row1.json is after a refresh with the moment 10 0.
+# row1.json after a refresh with the time 10 0.
 ROW_1_LEFT = (
     '{"hash":"sha1","index":[{"ctime":[5,0],"dev":0,"flags":[],"gid":0,'
     '"id":"19102815663d23f8b75a47e7a01965dcdc96468c","ino":0,"mode":"100644","mtime":[5,0],"path":"a","size":3,'
@@ -96,7 +96,7 @@ class Refreshed(unittest.TestCase):
             self.assertEqual((self.content(self.out), self.left()), ("old", ["out.json", "profile.json"]))
 
     def assert_unwritten(self, out, why=""):
-        """The status is printed, and the line says that OUT can't be written, and why. No file is left or gone."""
+        """Asserts that the status is printed, and that OUT can't be written, and why. No file is added or removed."""
         before = self.left()
         self.assertEqual(self.refresh(out=out), (1, '0 modified -c- "a"\n', f"cannot write {out}{why}\n"))
         self.assertEqual(self.left(), before)
@@ -140,7 +140,7 @@ class Refreshed(unittest.TestCase):
         self.write(MODIFIED)
         os.mkdir(os.path.join(self.room, "folder"))
         outer, inner = os.openpty()
-        # The output of the program is a pipe here. No folder of devices takes another file.
+        # The output of the program is a pipe here. No other file can be made in a folder of devices.
         for target in ("folder", os.ttyname(inner), "/dev/stdout", "/proc/self/fd/1"):
             os.symlink(target, self.out)
             self.assert_unwritten(self.out, ": not a regular file")
@@ -161,7 +161,7 @@ class Refreshed(unittest.TestCase):
         self.assertEqual(json.loads(self.content(real))["timestamp"], [10, 0])
         self.assertEqual((os.readlink(self.out), os.path.islink(real)), ("middle", False))
         self.assertEqual(os.listdir(os.path.dirname(real)), ["real.json"])
-        # The lock is beside the file, as git's is.
+        # The lock is next to the file, like git's.
         lock = os.path.realpath(real) + ".lock"
         with open(lock, "w", encoding="utf-8") as file:
             file.write("another's")
@@ -186,7 +186,7 @@ class Refreshed(unittest.TestCase):
             os.chmod(self.out, mode)
             self.assertEqual(self.refresh()[0], 0)
             self.assertEqual(self.mode(), mode)
-        # Bits beside those of reading, writing and running are lost, as where a file is written anew.
+        # Only the bits for reading, writing and running are kept, as for a file that is written anew.
         os.chmod(self.out, 0o4755)
         self.assertEqual((self.refresh()[0], self.mode()), (0, 0o755))
 
@@ -212,7 +212,7 @@ class Refreshed(unittest.TestCase):
 
 @unittest.skipUnless(PROGRAM and compiler(), "no built program, or no C compiler")
 class Failing(unittest.TestCase):
-    """Each call for the file that is written fails in turn, and leaves what was there."""
+    """Lets each call for the written file fail in turn. The file then is unchanged."""
 
     EMPTY = '{"timestamp":[9,0],"index":[],"worktree":[]}'
     NEW = '{"index":[],"timestamp":[10,0],"worktree":[]}\n'
@@ -232,8 +232,9 @@ class Failing(unittest.TestCase):
             file.write(cls.EMPTY)
 
     def put(self, before):
-        """A new folder, with a file that only its owner may read, or a link to one, where something is there before. Gives
-        the folder, what the program is to write, and the file that this is.
+        """Makes a folder. If `before` says so, it has a file that only its owner may read, or a link to one.
+
+        Returns the folder, the path that the program has to write, and the file at that path.
         """
         room = tempfile.TemporaryDirectory()
         self.addCleanup(room.cleanup)
@@ -249,7 +250,7 @@ class Failing(unittest.TestCase):
         return folder, out, target
 
     def run_failing(self, folder, out, at, error):
-        """How a run ends in which this call fails, and the calls that came."""
+        """Runs the program with this call failing. Returns how it ends, and the calls that came."""
         with tempfile.TemporaryFile() as report:
             number = report.fileno()
             settings = {"LD_PRELOAD": self.library, "FAIL_BELOW": folder, "FAIL_AT": at, "FAIL_ERROR": error}
@@ -265,7 +266,7 @@ class Failing(unittest.TestCase):
             return (ran.returncode, ran.stdout.decode(), ran.stderr.decode()), report.read().decode().splitlines()
 
     def assert_files(self, folder, out, target, before, is_written):
-        """The file has its new text or the old one, with the old permissions. A link is still one, and no lock is there."""
+        """Asserts that the file has its new or old text, and the old permissions. A link is still one. No lock is left."""
         self.assertEqual(os.path.islink(out), before == "link")
         there = {os.path.basename(out), os.path.basename(target)} if before or is_written else set()
         self.assertEqual(set(os.listdir(folder)), there)
@@ -284,7 +285,7 @@ class Failing(unittest.TestCase):
                     is_written = at > len(calls)
                     fault = "out of memory\n" if error == errno.ENOMEM else f"cannot write {out}\n"
                     self.assertEqual(ended, (0, "", "") if is_written else (1, "", fault))
-                    # What was opened is removed again.
+                    # The new file that was opened is removed again.
                     removed = ["unlink"] * (not is_written and "open" in calls[: at - 1])
                     self.assertEqual(came, calls[:at] + removed)
                     self.assert_files(folder, out, target, before, is_written)

@@ -1,9 +1,9 @@
 #!/usr/bin/env python3
 """Tests of refresh_git.py, on repositories that git makes here:  python3 tools/test_refresh_git.py
 
-What git lists, and which files it reads, is what is wanted. `git diff-files` lists an entry whose stat differs, also
-where its file is as staged. A clean filter that leaves a trace tells of each file that git reads. Without git no test
-is run; those of stored stats need the built program, which STATUS_PROGRAM names.
+The expected results are the paths that git lists, and the files that it reads. `git diff-files` lists an entry whose
+stat differs, even if its file is as staged. A clean filter notes each file that git reads. Without git no test is run.
+Tests of stored stats need the built program, which STATUS_PROGRAM names.
 """
 
 import hashlib
@@ -27,7 +27,7 @@ from shared import how_to_build
 from test_status import FOLDERS, NAMES, Drawn, git_lines, kept
 
 THEN = 1_600_000_000
-# A run of the tool in which something happens before or after a call: of `os`, or the `write` of its line.
+# A run of the tool with hooks before or after calls: of `os`, or the `write` of its line.
 HOOKED = """
 import builtins, os, runpy, signal, sys
 lock = {lock!r}
@@ -72,7 +72,7 @@ LONG = ["n" * 200 + "/" + "m" * 200, "n" * 200 + "x"]
 
 
 class Refreshes(Drawn):
-    """Refreshes a repository, and asks git what it then does."""
+    """Refreshes a repository, and checks what git then does."""
 
     def index(self):
         with open(self.path(".git/index"), "rb") as file:
@@ -83,7 +83,7 @@ class Refreshes(Drawn):
             file.write(index)
 
     def stage(self, *names, text="foo"):
-        """Files that are staged, with a time before that of the index."""
+        """Stages files with a time before that of the index."""
         for name in names:
             self.write(name, text)
             self.touch(name)
@@ -96,7 +96,7 @@ class Refreshes(Drawn):
         os.utime(self.path(".git/index"), (second, second))
 
     def refresh(self, *words, program=None):
-        """The line that the tool prints, and its notes."""
+        """Runs the tool. Returns the line that it prints, and its notes."""
         printed, noted = io.StringIO(), io.StringIO()
         command = ["refresh_git.py", *words, self.top, "--program", program or PROGRAM]
         with mock.patch("sys.argv", command), redirect_stdout(printed), redirect_stderr(noted):
@@ -111,17 +111,17 @@ class Refreshes(Drawn):
         self.assertEqual(self.refresh(*words, program=program), (line, []))
 
     def listed(self, *settings):
-        """The paths that git lists where it compares stats alone, but for racy ones."""
+        """Returns the paths that git lists if it compares only stats. Of racy files it compares the content too."""
         return self.git(*settings, "diff-files", "--name-only", "-z").decode().split("\0")[:-1]
 
     def stats(self):
-        """What the index has of each path at stage 0."""
+        """Returns the fields of each entry at stage 0, by its path."""
         listed = self.git("ls-files", "--stage", "--debug", "-z").decode()
         entries = [found.groupdict() for found in LISTED.finditer(listed)]
         return {entry["path"]: entry for entry in entries if entry["stage"] == "0"}
 
     def assert_stored(self, name):
-        """The index has all that lstat says of a file."""
+        """Asserts that the index has the whole stat of a file."""
         node, stat = os.lstat(self.path(name)), self.stats()[name]
         for part in ("mtime", "ctime"):
             self.assertEqual(stat[part], "%d:%d" % divmod(getattr(node, f"st_{part}_ns"), 10**9))
@@ -129,7 +129,7 @@ class Refreshes(Drawn):
             self.assertEqual(int(stat[part]), getattr(node, f"st_{part}") & 0xFFFFFFFF)
 
     def read_by_git(self):
-        """The paths of the files that `git status` reads, told by a filter that writes them down."""
+        """Returns the paths of the files that `git status` reads, noted by a filter."""
         seen = os.path.join(self.room, "seen")
         open(seen, "wb").close()
         clean = f"filter.seen.clean=printf '%s\\0' %f >> {shlex.quote(seen)}; cat"
@@ -143,7 +143,7 @@ class Refreshes(Drawn):
 
 
 def without_stats(content, kind):
-    """An index's bytes with all stats zero, and without the checksum."""
+    """Returns an index's bytes with all stats zero, and without the checksum."""
     width = hashlib.new(kind).digest_size
     index, content = index_file.Index("", kind, content, 0), bytearray(content[:-width])
     _, version, count = index_file.HEADER.unpack_from(content)
@@ -157,7 +157,7 @@ def without_stats(content, kind):
 @unittest.skipUnless(PROGRAM, "no built program")
 class Stored(Refreshes):
     def make_odd(self, kind):
-        """A clean repository with odd names, a link and all kinds of extensions. Gives its paths."""
+        """Makes a clean repository with odd names, a link and all kinds of extensions. Returns its paths."""
         self.make(f"odd-{kind}", kind)
         for name in [*ODD, *LONG]:
             self.write(name, name)
@@ -199,7 +199,7 @@ class Stored(Refreshes):
                 self.assertEqual((self.told(), self.git("ls-files", "--stage", "-z")), (told, staged))
 
     def told(self):
-        """What git says under its own settings, and where it compares what the program compares."""
+        """Returns git's status under its own settings, and under those by which it compares what the program compares."""
         return self.git("--no-optional-locks", "status", "--porcelain", "-uno"), git_lines(self)
 
     def test_git_reads_what_is_not_refreshed(self):
@@ -270,7 +270,7 @@ class Stored(Refreshes):
         self.assert_line(1, 0, program=self.around(**{name: f"sleep 0.02; {edit}" for name, edit in edits.items()}))
         times = [os.stat(self.path(f".git/{name}")).st_mtime_ns for name in ("index", "began", "ended")]
         self.assertEqual([before - 10**8, *times], sorted([before - 10**8, *times]))
-        # What isn't older than that is racy, and so is what has a time to come.
+        # A file that isn't older than that is racy, and so is one with a time in the future.
         self.touch("a", int(time.time()) + 1000)
         self.assert_line(0, 1)
         self.assertEqual((self.listed(), self.read_by_git()), ([], ["a"]))
@@ -370,7 +370,7 @@ class Stored(Refreshes):
         self.assertIn(b"\tout/\n", before)
         self.assert_line(2, 0)
         self.assertEqual((self.git("ls-files", "--sparse", "--stage"), self.listed()), (before, []))
-        # A file outside of what is checked out has no entry in the index: its folder has.
+        # A file outside of the sparse checkout has no entry in the index. Its folder has one.
         self.write("out/a", "foo")
         index = self.index()
         self.assert_line(0, 1)
@@ -394,7 +394,7 @@ class Stored(Refreshes):
         self.assertEqual(os.stat(self.path(".git/other")).st_mode & 0o777, 0o640)
 
     def around(self, before="", after=""):
-        """The program with commands of a shell before and behind it."""
+        """Returns the path of a script: the program, with commands of a shell before and after it."""
         name = os.path.join(self.room, "around")
         with open(name, "w", encoding="utf-8") as file:
             file.write(f'#!/bin/sh\ncd {shlex.quote(self.top)}\n{before}\n{shlex.quote(PROGRAM)} "$@"\n{after}\n')
@@ -403,7 +403,7 @@ class Stored(Refreshes):
 
     def test_what_is_edited_meanwhile_is_read_by_git(self):
         self.stage("a", "b")
-        # The last has the time put back, but another inode.
+        # For the last, the time is put back, but the inode is another.
         before = ["touch a", "touch -d @6 a"]
         after = ["printf bar > a", "printf bar > c && touch -d @7 c && mv c a"]
         for edits in [*({"before": edit} for edit in before), *({"after": edit} for edit in after)]:
@@ -422,7 +422,7 @@ class Stored(Refreshes):
 
 
 class Stats(Refreshes):
-    """What is stored, without a program."""
+    """Tests of the stored stats, without a program."""
 
     def test_conflicts_and_submodules_have_no_place(self):
         self.stage("a", "z")
@@ -439,7 +439,7 @@ class Stats(Refreshes):
 
 
 class Faults(Refreshes):
-    """What is refused, with programs of the test's own in place of the built one. Nothing is written then."""
+    """Tests of refusals, with the test's own programs in place of the built one. Nothing is written then."""
 
     def setUp(self):
         super().setUp()
@@ -454,11 +454,11 @@ class Faults(Refreshes):
         return name
 
     def updates(self, *lines):
-        """A program that says of the first entry that it is as staged, and leaves the profile as it was."""
+        """Returns a program that reports the first entry as staged, and copies the profile unchanged."""
         return self.program("""echo '0 update "a"'""", 'cp "$2" "$3"', *lines)
 
     def refused(self, words, folder=None, program=None):
-        """The tool refuses in one line, and all stays as it was."""
+        """Asserts that the tool refuses in one line, and all files are unchanged."""
         before, printed = kept(self.top), io.StringIO()
         command = ["refresh_git.py", folder or self.top, "--program", program or self.updates()]
         with mock.patch("sys.argv", command), redirect_stdout(printed), self.assertRaises(tool.Refused) as refusal:
@@ -468,7 +468,7 @@ class Faults(Refreshes):
         self.assertEqual((printed.getvalue(), kept(self.top)), ("", before))
 
     def refused_by_itself(self, words, program=None, **settings):
-        """The tool, run by itself, ends with the status 2 and one line, and all stays as it was."""
+        """Asserts that the tool, run by itself, ends with status 2 and one line, and all files are unchanged."""
         before = kept(self.top)
         ran = run_tool("refresh_git.py", self.top, "--program", program or self.updates(), **settings)
         self.assert_refused(ran, 2, words)
@@ -535,7 +535,7 @@ class Faults(Refreshes):
         self.refused_meanwhile("there is no index at", f"rm {name}")
 
     def refused_meanwhile(self, words, edit):
-        """The tool refuses an index that is edited while the program runs, and leaves it so."""
+        """Asserts that the tool refuses an index that is edited while the program runs, and doesn't change it."""
         index, program = self.index(), self.updates(edit)
         command = ["refresh_git.py", self.top, "--program", program]
         with mock.patch("sys.argv", command), self.assertRaisesRegex(tool.Refused, words):
@@ -596,7 +596,7 @@ class Faults(Refreshes):
         reader, writer = os.pipe()
         self.addCleanup(os.close, reader)
         fill(writer)
-        # The tool has the lock while it waits with its line.
+        # The tool has the lock while it waits to print its line.
         command = [sys.executable, tool.__file__, self.top, "--program", self.updates()]
         ran = subprocess.Popen(command, stdout=writer, stderr=subprocess.DEVNULL)
         os.close(writer)
@@ -608,7 +608,7 @@ class Faults(Refreshes):
         self.assertEqual(kept(self.top), before)
 
     def ended_by(self, hooks):
-        """The tool's exit status, its output and its errors, where hooks are put around calls of the system."""
+        """Runs the tool with hooks around calls of the system. Returns its exit status, its output and its errors."""
         folder = os.path.dirname(tool.__file__)
         words = [tool.__file__, self.top, "--program", self.updates()]
         code = HOOKED.format(folder=folder, hooks=hooks, words=words, lock=self.path(".git/index.lock"))
@@ -657,13 +657,13 @@ class Faults(Refreshes):
             self.assertEqual((status, said), (2, f"refused: the lock {lock} was removed meanwhile\n".encode()))
             self.assertEqual(kept(self.path(".git/index")), before)
             self.assert_another(lock)
-        # A signal that comes then changes nothing of that.
+        # A signal at that time changes nothing.
         hooks = "hook('write', before=lambda: (take(), send(signal.SIGINT)))"
         self.assertEqual(self.ended_by(hooks)[0], 130)
         self.assert_another(lock)
 
     def assert_another(self, lock):
-        """A lock of another process is there. It is removed for the next run."""
+        """Asserts that a lock of another process is there, and removes it for the next run."""
         with open(lock, encoding="utf-8") as file:
             self.assertEqual(file.read(), "another's")
         os.remove(lock)

@@ -1,7 +1,7 @@
 #!/usr/bin/env python3
 """Tests of refuse_memory.py:  python3 tools/test_refuse_memory.py
 
-Small C programs stand for the program, good and bad. Where STATUS_PROGRAM names the built program, one row is swept.
+Small C programs, right and wrong ones, replace the program. If STATUS_PROGRAM names the built program, one row is swept.
 """
 
 import contextlib
@@ -22,8 +22,8 @@ PROGRAM = os.path.abspath(os.environ["STATUS_PROGRAM"]) if os.environ.get("STATU
 LINE = '0 modified -c- "a"\n'
 # The rows that have one piece at most.
 ONE_PIECE = ("malformed",)
-# More calls than these are refused in each row that the gate sweeps, so that no profile shrinks unseen: about nine tenths
-# of what there were.
+# In each row that the gate sweeps, more calls than these are refused, so that a profile that shrinks is noticed. These
+# are about nine tenths of the calls that there were.
 FEWEST = {
     "modified": 45,
     "conflict": 56,
@@ -35,7 +35,7 @@ FEWEST = {
     "reopened": 746,
 }
 
-# Takes memory twice and starts a thread, which takes memory too, and then prints the line of the first row.
+# Takes memory twice, starts a thread, which takes memory too, and then prints the line of the first row.
 STAND_IN = r"""
 #include <pthread.h>
 #include <stdio.h>
@@ -131,7 +131,7 @@ class Judging(unittest.TestCase):
     def test_a_joined_status_that_fails_before_it_reports_has_no_line(self):
         line = ROWS["renames"].out.splitlines(keepends=True)[0]
         self.assertIsNone(self.said("renames", "m", 1, "", "out of memory\n", 10))
-        # Of the hundred calls three lines take eighteen at most.
+        # Of the hundred calls, three lines take at most eighteen.
         for at in (10, 82):
             self.assertIsNotNone(self.said("renames", "m", 1, line, "out of memory\n", at), at)
         self.assertIsNone(self.said("renames", "m", 1, line, "out of memory\n", 83))
@@ -172,7 +172,7 @@ class Judging(unittest.TestCase):
 
 class Files(unittest.TestCase):
     def said(self, status, old, new, **left):
-        """What is wrong where a refresh leaves these texts, by `out` and `lock`. Nothing is left after that."""
+        """Returns what is wrong if a refresh leaves these texts, by `out` and `lock`. Asserts that no file is left."""
         with tempfile.TemporaryDirectory() as room:
             file = os.path.join(room, "profile.json")
             put_out(file, left.get("out"))
@@ -207,7 +207,7 @@ class Files(unittest.TestCase):
 @unittest.skipUnless(tool.compiler() and sys.platform == "linux", "no C compiler")
 class StandIns(unittest.TestCase):
     def swept(self, refused, source=STAND_IN, seconds=10, row="modified"):
-        """How a sweep over a stand-in with this answer to a refusal ends, and what it prints."""
+        """Sweeps over a stand-in that does this after a refusal. Returns how the sweep ends, and its output."""
         with tempfile.TemporaryDirectory() as room:
             program = os.path.join(room, "stand_in")
             with open(program + ".c", "w", encoding="ascii") as file:
@@ -221,7 +221,7 @@ class StandIns(unittest.TestCase):
     def test_one_that_answers_rightly_passes(self):
         status, printed = self.swept("")
         self.assertEqual(status, 0, printed)
-        # Two calls of its own, the thread, what the C library takes for that, and the thread's own.
+        # Two calls of its own, the thread, the C library's call for that, and the thread's own call.
         self.assertIn("modified, limit 1, one: 5 calls, 6 runs, 0 wrong\n", printed)
         self.assertIn("modified, limit 1, each from one on: 5 calls, 6 runs, 0 wrong\n", printed)
 
@@ -257,7 +257,7 @@ class StandIns(unittest.TestCase):
 @unittest.skipUnless(tool.compiler() and sys.platform == "linux", "no C compiler")
 class Program(unittest.TestCase):
     def assert_swept(self, words, sweeps, fewest):
-        """Each run of these sweeps ends as it may, and each sweep has more than so many calls."""
+        """Asserts that each run of these sweeps ends as it may, and each sweep has more than so many calls."""
         with contextlib.redirect_stdout(io.StringIO()) as printed:
             status = tool.main(["--program", PROGRAM, *words.split()])
         self.assertEqual(status, 0, printed.getvalue())

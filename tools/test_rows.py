@@ -1,7 +1,7 @@
 #!/usr/bin/env python3
-"""Tests of what the program prints of whole profiles, which tools/rows has as text:  python3 tools/test_rows.py
+"""Tests of the program's output for whole profiles, which tools/rows has as text:  python3 tools/test_rows.py
 
-The rows are run where STATUS_PROGRAM names the built program. Without it they are read alone.
+The rows are run if STATUS_PROGRAM names the built program. Without it they are only read.
 """
 
 import json
@@ -18,11 +18,11 @@ from cases import FOO, PROGRAM, limit_files, may_read_all
 from refuse_memory import compile_library, compiler
 from row_files import Malformed, read_rows, row_files, rows_of
 
-# A profile of no entries and no nodes, and what it prints.
+# A profile without entries and nodes, and its output.
 NOTHING = b'{"timestamp":[9,0],"options":{"counts":true},"index":[],"worktree":[]}'
 TOTALS = b"total: to process 0, processed 0, skipped 0, lstat 0, to update 0, racy 0, read 0, bytes 0\n"
 
-# So many lists in one another, within a profile.
+# Nested lists within a profile, by their number of levels.
 LEVELS = [
     ("", 128, "", "bad profile: hash"),
     ("", 129, "", "not JSON"),
@@ -122,7 +122,7 @@ class Reader(unittest.TestCase):
 
 
 def make_node(folder, kind, name, text="", second=None):
-    """Makes a node in a folder, with a time of change where one is given."""
+    """Makes a node in a folder, with a time of change if one is passed."""
     path = os.path.join(folder, name)
     if kind == "folder":
         os.mkdir(path)
@@ -139,7 +139,7 @@ def make_node(folder, kind, name, text="", second=None):
 
 @contextmanager
 def folder_of(row):
-    """A folder with the row's nodes, and with its profile in `f`."""
+    """Yields a folder with the row's nodes, and with its profile in `f`."""
     with tempfile.TemporaryDirectory() as name:
         folder = os.path.realpath(name)
         for node in row.nodes:
@@ -150,8 +150,9 @@ def folder_of(row):
 
 
 def behind_other_lists(row):
-    """The row with an index and a worktree that are no lists before its own. None where it has no index of its own, or
-    is of another command.
+    """Returns the row with an index and a worktree that aren't lists, before its own.
+
+    Returns None if the row has no index, or is of another command.
     """
     if row.words[:1] not in (["status"], ["refresh"]) or not re.search(r'^\{.*"index"\s*:', row.profile or "", re.DOTALL):
         return None
@@ -160,13 +161,13 @@ def behind_other_lists(row):
 
 
 def run_program(folder, words, **settings):
-    """How the program ends in a folder, with these arguments."""
+    """Runs the program in a folder, with these arguments. Returns the ended process."""
     given = {"stdin": subprocess.DEVNULL, "stdout": subprocess.PIPE, "stderr": subprocess.PIPE, **settings}
     return subprocess.run([PROGRAM, *words], cwd=folder, timeout=60, **given)
 
 
 def all_rows():
-    """Each row, with the name of its file."""
+    """Returns each row, with the name of its file."""
     return [(os.path.basename(path), row) for path in row_files() for row in read_rows(path)]
 
 
@@ -175,7 +176,7 @@ class Rows(unittest.TestCase):
     maxDiff = None
 
     def assert_left(self, folder, before, left):
-        """Beside what was there before, the folder has the file `o` with this text, or where that is None nothing."""
+        """Asserts that the folder has the files from before, and `o` with this text, unless that is None."""
         self.assertEqual(sorted(os.listdir(folder)), sorted(before + ([] if left is None else ["o"])))
         if left is not None:
             with open(os.path.join(folder, "o"), "rb") as file:
@@ -190,7 +191,7 @@ class Rows(unittest.TestCase):
             self.assert_left(folder, before, row.left)
 
     def test_of_equal_lists_the_last_counts(self):
-        # Lists of another form are read in another way, which has to be as good.
+        # Lists of another form are read in another way, which has to have the same result.
         rows = [(file, behind_other_lists(row)) for file, row in all_rows()]
         for file, row in rows:
             if row is not None:
@@ -199,7 +200,7 @@ class Rows(unittest.TestCase):
 
     def test_an_output_that_is_too_small_is_a_failure_with_no_line(self):
         # Lines are kept until they are flushed, and then written at once. The system takes as many bytes of them as it
-        # has room for, so that these stand there, and refuses the next write.
+        # has room for, and refuses the next write. So the output has these bytes.
         for file, row in all_rows():
             for size in row.rooms:
                 with self.subTest(file=file, row=row.name, room=size), folder_of(row) as folder:
@@ -229,7 +230,7 @@ for name, found in all_rows():
 
 @unittest.skipUnless(PROGRAM, "no built program")
 class Inputs(unittest.TestCase):
-    """Profiles that are no text of a row."""
+    """Tests of profiles that can't be the text of a row."""
 
     def setUp(self):
         room = tempfile.TemporaryDirectory()
@@ -245,7 +246,7 @@ class Inputs(unittest.TestCase):
             file.write(content)
 
     def write_over_folder(self, index):
-        """Writes a profile of these entries over the folder, which asks for the totals, with a piece for each entry."""
+        """Writes a profile of these entries over the folder, with totals and a piece for each entry."""
         options = {"counts": True, "chunk_size": 1, "thread_limit": 1}
         profile = {"timestamp": [9, 0], "options": options, "index": index, "folder": self.folder}
         self.write(json.dumps(profile).encode())
@@ -283,7 +284,7 @@ class Inputs(unittest.TestCase):
         self.assertEqual(os.listdir(self.folder), [])
 
     def assert_long_path_ends(self, text, mtime, record, read):
-        """What is printed of a path of 10,000 components with this file: a record's words, if any, and what was read."""
+        """Asserts the output for a path of 10,000 components with this file: a record's words, if any, and the reads."""
         path = "/".join(["a"] * 10_000)
         entry = {"path": path, "id": FOO, "size": 3, "mtime": [5, 0]}
         node = {"path": path, "text": text, "mtime": mtime}
@@ -342,7 +343,7 @@ class Inputs(unittest.TestCase):
                 entries = [{"path": "a", "id": FOO}, {"path": "late", "id": FOO}]
                 self.write_over_folder(entries)
                 self.assert_ends("status f", 1, b'0 removed "a"\n', b"status failed: time\n")
-                # An entry that is skipped isn't looked at.
+                # An entry that is skipped isn't compared.
                 self.write_over_folder([entries[0], {**entries[1], "flags": ["skip-worktree"]}])
                 totals = b"total: to process 2, processed 2, skipped 1, lstat 1, to update 0, racy 0, read 0, bytes 0\n"
                 self.assert_ends("status f", 0, b'0 removed "a"\n' + totals, b"")
@@ -391,7 +392,7 @@ class Workers(unittest.TestCase):
                     self.assertEqual(self.starts(folder, library), threads)
 
     def starts(self, folder, library):
-        """How many threads the program starts on the profile in a folder."""
+        """Returns how many threads the program starts for the profile in a folder."""
         with tempfile.TemporaryFile() as report:
             number = report.fileno()
             settings = {"LD_PRELOAD": library, "REFUSE_AT": "0", "REFUSE_REPORT": str(number)}

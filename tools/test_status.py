@@ -1,7 +1,7 @@
 #!/usr/bin/env python3
 """Tests of status.py, on repositories that git makes here:  python3 tools/test_status.py
 
-What git says is what is wanted. Without git no test is run; those of lines need the built program, which STATUS_PROGRAM
+The expected lines are git's. Without git no test is run. Tests of lines need the built program, which STATUS_PROGRAM
 names.
 """
 
@@ -32,7 +32,7 @@ from repository import Repository, quoted
 from shared import Refused, how_to_build
 from untracked import untracked
 
-# Names that sort otherwise by bytes than by components, and names that git quotes.
+# Names that have another order by bytes than by components, and names that git quotes.
 NAMES = ["a", "a-", "a0", "b c", "d\te", "f\ng", 'h"i', "j\\k", "\x01l\x7f", "é", "\u2028m", "\x85n", "\U00010000"]
 NAMES += [" o ", "\\", "-p", "p"]
 FOLDERS = ["", "", "p/", "p/q/", "p-/", "r s/", "é/"]
@@ -43,7 +43,7 @@ THEN = 1_600_000_000
 
 
 class Drawn(Case):
-    """A repository of a seed: an index, and then edits of the worktree."""
+    """Makes the repository of a seed: an index, and then edits of the worktree."""
 
     def draw(self, seed, kind):
         self.random = random.Random(seed)
@@ -57,11 +57,11 @@ class Drawn(Case):
         self.conflict(kind)
         for path in self.random.sample(self.paths, len(self.paths) * 2 // 3):
             self.edit(path)
-        # What was written in the second of the index, or after it, is racy.
+        # A file that was written in the second of the index, or after it, is racy.
         os.utime(self.path(".git/index"), (THEN, THEN))
 
     def put(self, path):
-        """A file or a link, of a second around that of the index."""
+        """Makes a file or a link, with a time around that of the index."""
         if self.random.random() < 0.2:
             os.makedirs(os.path.dirname(self.path(path)), exist_ok=True)
             os.symlink(self.random.choice(["foo", "bar", "é"]), self.path(path))
@@ -88,7 +88,7 @@ class Drawn(Case):
         self.git("update-index", "-z", "--index-info", given=lines.encode())
 
     def edit(self, path):
-        """An edit that may leave the path as it was."""
+        """Edits a path. The path may be unchanged afterwards."""
         if not os.path.lexists(self.path(path)):
             return
         how = self.random.choice(["put", "put", "same stat", "touch", "chmod", "remove", "folder", "link above"])
@@ -116,7 +116,7 @@ class Drawn(Case):
 
 
 def git_lines(case, *words):
-    """git's lines in the tool's form: the first column is a space where there is no conflict."""
+    """Returns git's lines in the tool's form: the first column is a space unless there is a conflict."""
     command = ["git", "--no-optional-locks", "-C", case.top, *COMPARABLE, "status", "--porcelain", "--no-renames"]
     said = subprocess.run([*command, "-uno", *words], capture_output=True, check=True).stdout.decode("ascii")
     lines = []
@@ -130,7 +130,7 @@ def git_lines(case, *words):
 @unittest.skipUnless(PROGRAM, "no built program")
 class Comparison(Drawn):
     def said(self, *words):
-        """The tool's lines, and its exit status."""
+        """Runs the tool. Returns its lines, and its exit status."""
         printed = io.StringIO()
         command = ["status.py", "--program", PROGRAM, self.top, *words]
         with mock.patch("sys.argv", command), redirect_stdout(printed), redirect_stderr(io.StringIO()):
@@ -138,7 +138,7 @@ class Comparison(Drawn):
         return sorted(printed.getvalue().split("\n")[:-1]), status
 
     def assert_as_git(self):
-        """The tool's lines are git's, and it says itself that they are. Gives them."""
+        """Asserts that the tool's lines are git's, and that `--compare` says so. Returns them."""
         lines, status = self.said("--exit-code")
         self.assertEqual((lines, status), (git_lines(self), int(lines != [])))
         as_git = f"as git: {len(lines)} path" + "s" * (len(lines) != 1)
@@ -229,7 +229,7 @@ class Comparison(Drawn):
         self.assertEqual(self.assert_as_git(), [' D gone', ' T "a file"'])
         self.write("as it is/new", "foo")
         self.assertEqual(self.said("--untracked")[0], [' D gone', ' T "a file"'])
-        # What isn't seen is told where git is compared with.
+        # Differences that aren't seen are printed by the comparison with git.
         self.git("-C", "as it is", "commit", "-q", "--allow-empty", "-m", "two")
         told, status = self.said("--compare")
         self.assertEqual((told, status), (['program     git  M  "as it is"'], 1))
@@ -331,7 +331,7 @@ def program_at(path, *lines):
 
 
 def kept(top):
-    """What each file of a folder holds, and when it was written."""
+    """Returns the content and the time of each file of a folder."""
     found = {}
     for folder, _, names in os.walk(top):
         for name in names:
@@ -346,7 +346,7 @@ def kept(top):
 
 
 def is_running(process):
-    """Whether a process is there that hasn't ended. One that nobody waits for stays there as a zombie."""
+    """Returns whether a process is running. An ended one that nobody waits for still exists, as a zombie."""
     try:
         with open(f"/proc/{process}/stat", encoding="utf-8") as file:
             return file.read().rpartition(") ")[2][0] != "Z"
@@ -355,13 +355,13 @@ def is_running(process):
 
 
 class Printed(Case):
-    """What the tool makes of the program's lines, with programs of the test's own in place of the built one."""
+    """Tests of the tool's output for lines of the test's own programs, which replace the built one."""
 
     def program(self, *lines):
         return program_at(os.path.join(self.room, "program"), *lines)
 
     def ran(self, *words, program=None, folder=None, **settings):
-        """How the tool ends, run by itself. Without words it is run in the repository."""
+        """Runs the tool by itself. Without words it is run in the repository. Returns the ended process."""
         settings = {"STATUS_PROGRAM": program or self.program("exit 0"), **settings}
         return run_tool("status.py", *words, folder=folder or self.top, **settings)
 
@@ -411,7 +411,7 @@ class Printed(Case):
         os.symlink(b"\xff", self.path("odd"))
         self.write("a", "foo")
         self.git("add", "a", "odd")
-        # The first run would take too long. It isn't awaited.
+        # The first run would take too long. The tool doesn't wait for it.
         ran = self.ran(program=self.program("grep -q odd /dev/stdin && exec sleep 60", """echo '0 removed "a"'"""))
         self.assertEqual((ran.stdout, ran.returncode), (b" D a\n", 0))
         self.assertIn(b"note: left out, since the link's target isn't UTF-8: odd\n", ran.stderr)
@@ -424,7 +424,7 @@ class Printed(Case):
         self.assertFalse(is_running(process))
 
     def started(self, *lines, stderr=subprocess.PIPE):
-        """The tool, which was started, and what reads the number of the program's process."""
+        """Starts the tool. Returns it, and a reader of the number of the program's process."""
         pipe = os.path.join(self.room, "pipe")
         os.mkfifo(pipe)
         settings = {**os.environ, "STATUS_PROGRAM": self.program(f"echo $$ > {pipe}", *lines)}
@@ -486,7 +486,7 @@ def is_plain(path):
 
 
 class Quick(Case):
-    """What takes time is left out: modules whose import is slow, and processes."""
+    """Tests that the tool doesn't import slow modules, and starts few processes."""
 
     def test_no_slow_module_is_imported(self):
         for name in ("a", "b c"):
@@ -571,7 +571,7 @@ class Quick(Case):
 
 
 class Untracked(Case):
-    """The tool's own half, which needs no program."""
+    """Tests of the tool's own part, which needs no program."""
 
     def assert_as_git(self):
         found = untracked(Profile(Repository(self.top)), set())
@@ -580,7 +580,7 @@ class Untracked(Case):
         return [path.decode() for path in found]
 
     def make_cases(self):
-        """Paths that differ from those of the index in the case of letters."""
+        """Makes paths that differ from those of the index in the case of letters."""
         for name in ("A", "b", "d/x", "é"):
             self.write(name, "foo")
         self.git("init", "-q", "S")
@@ -603,7 +603,7 @@ class Untracked(Case):
 
 
 class Faults(Case):
-    """What the tool says where something is wrong, with programs of the test's own in place of the built one."""
+    """Tests of the tool's faults, with the test's own programs in place of the built one."""
 
     def program(self, *lines):
         return program_at(os.path.join(self.room, "program"), *lines)

@@ -3,7 +3,7 @@
 
     python3 tools/time_status.py [--runs 21] [--bare] REPOSITORY...
 
-For each repository (bench/folder.py makes some) there is a row for each of the two. It has the least and the middle time
+For each repository (bench/folder.py makes some) there is a row for each of the two. It has the least and the median time
 of the runs in milliseconds: elapsed, and of the processor (user and system, with the processes that a command starts).
 The last two numbers are the least times divided by git's. A first run isn't counted: it fills caches, also that of
 Python's compiled modules. It needs the built program (STATUS_PROGRAM, or this checkout's).

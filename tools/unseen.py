@@ -1,4 +1,4 @@
-"""What the program doesn't see in the folder of a git repository, though git may."""
+"""Finds differences in the folder of a git repository that the program doesn't see, though git may."""
 
 import os
 import stat
@@ -22,12 +22,12 @@ PASSED_OVER = STAGES | UP_TO_DATE | SKIP_WORKTREE | ASSUME_VALID | FSMONITOR_VAL
 EXECUTABLE, LINK, SUBMODULE = 0o100755, 0o120000, 0o160000
 # The bits of a mode in which an entry and its file agree: the type, and whether the owner may run it.
 COMPARED = 0o170100
-# The numbers of a stat are stored with so many bits.
+# The numbers of a stat are stored with 32 bits.
 MASK = (1 << 32) - 1
 
 
 class Unseen:
-    """How many entries have something that isn't seen. `left_out` has the reason for each path that is left out."""
+    """Counts of entries with a difference that isn't seen. `left_out` has the reason for each path that is left out."""
 
     def __init__(self):
         self.conversions = self.executable = self.repositories = self.restored = self.submodules = 0
@@ -57,7 +57,7 @@ def files(count):
 
 
 def unseen_of(profile):
-    """Returns what isn't seen of a profile's entries."""
+    """Returns the counts for a profile's entries."""
     found, repository, entries = Unseen(), profile.repository, profile.entries
     if converts_lines(repository):
         add_nodes(found, profile)
@@ -72,27 +72,27 @@ def unseen_of(profile):
 
 
 def files_among(paths, entries):
-    """Returns those of some paths that are files: at a link and at a submodule nothing is converted."""
+    """Returns the paths that are files. Links and submodules aren't converted."""
     if not paths:
         return paths
     return {path for path, record in entries if path in paths and record[MODE] not in (LINK, SUBMODULE)}
 
 
 def converts_lines(repository):
-    """Whether git converts line ends without an attribute: if the setting is `input`, or what git takes as true."""
+    """Returns whether git converts line ends without an attribute: if the setting is `input`, or true for git."""
     value = repository.settings.get("core.autocrlf", b"")
     return value.lower() == b"input" or repository.is_set("core.autocrlf")
 
 
 def conversions_in(listed):
-    """Returns the path, the name and the value of each attribute that converts, of those that `check-attr -z` lists."""
+    """Returns the path, the name and the value of each converting attribute that `check-attr -z` lists."""
     parts = listed.split(b"\0")
     attributes = zip(parts[0::3], parts[1::3], parts[2::3])
     return [it for it in attributes if it[1] in CONVERSIONS and it[2] not in (b"unspecified", b"unset")]
 
 
 def add_nodes(found, profile):
-    """Adds what isn't seen of the files and links, to what was found."""
+    """Adds the files and links with differences that aren't seen."""
     top, links = os.fsencode(profile.repository.top), {}
     modes_count = profile.repository.is_set("core.filemode")
     found.submodules, changed = changed_nodes(top, profile.entries)
@@ -143,14 +143,14 @@ def changed_nodes(top, entries):
 
 
 def is_passed_over(record):
-    """Whether no node is compared with an entry."""
+    """Returns whether no node is compared with an entry."""
     return bool(record[BITS] & PASSED_OVER)
 
 
 def node_at(top, path, links):
-    """Returns what lstat reports of a path, or None if there is nothing, or a link is on the way.
+    """Returns the result of lstat for a path, or None if nothing is there, or a link is on the way.
 
-    `links` has what is known of the directories.
+    `links` caches which directories are links.
     """
     if is_behind_link(top, path, links):
         return None
@@ -161,7 +161,7 @@ def node_at(top, path, links):
 
 
 def is_behind_link(top, path, links):
-    """Whether a link is on the way to a path. `links` has what is known of the directories."""
+    """Returns whether a link is on the way to a path. `links` caches which directories are links."""
     at = path.find(b"/")
     while at >= 0:
         directory = path[:at]
@@ -188,7 +188,7 @@ def unreadable(top, path, record, node):
 
 
 def is_restored(timestamp, record, node):
-    """Whether a file is believed for its length and its time, though ctime or inode aren't the index's."""
+    """Returns whether a file is trusted by its length and its time, though ctime or inode aren't the index's."""
     ctime, mtime, inode, _, size, _, _ = record
     if (node.st_mtime_ns // 10**9, node.st_size & MASK) != (mtime, size) or mtime >= timestamp[0]:
         return False

@@ -45,7 +45,7 @@ def nodes_in(top, front, fold):
 
 
 def not_ignored(folder, paths):
-    """Returns those of some untracked paths that git doesn't ignore."""
+    """Returns the untracked paths that git doesn't ignore."""
     if not paths:
         return []
     asked = b"".join(path + b"\0" for path in paths)

@@ -1,5 +1,5 @@
-// The floor of a status: calls lstat on each path, below a folder, and nothing else. The paths are in a file, each ended
-// by a zero byte.
+// The least that a status has to do: calls lstat on each path below a folder, and does nothing else. The paths are in a
+// file, each ended by a zero byte.
 //
 //     lstat_loop FOLDER PATHS
 #include <stdio.h>

@@ -50,8 +50,8 @@ fn a_profile_that_cannot_be_replayed_is_refused(rt: HostRuntime) {
     assert_eq!(rt; faults.as_slice(), "not JSON\n".as_bytes());
 }
 
-// Profiles. For each: the exit status of `refresh`, its output, its line on standard error, and the file, which had
-// `before `.
+// Profiles, each with the exit status of `refresh`, its output, its line on standard error, and the bytes of its file.
+// The file has `before ` at first.
 static REFRESHES: [(&str, u8, &str, &str, &str); 2] = [
     (PROFILE, 0, LINES, "", REFRESHED),
     (SORTED, 1, "", "bad profile: options\n", "before "),

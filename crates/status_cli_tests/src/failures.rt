@@ -115,7 +115,7 @@ fn assert_joined_faults<R: AllocGlobal + Abort>(rt: &R) {
     assert_joined(rt, convert, "status failed: convert: interrupted\n");
 }
 
-// Asserts that an error of a status has the same line in a status with renames.
+// Asserts that errors of a status have the same lines in a status with renames.
 fn assert_joined_errors<R: AllocGlobal + Abort>(rt: &R) {
     let fault = JoinedError::TrackedFileModifications(Error::Io(Fault::NotNormal));
     assert_joined(rt, fault, "status failed: not normal\n");

@@ -1,6 +1,6 @@
 //! Tests of the program's commands over bytes in memory, and of lines that no profile causes: what no clause of theirs says.
 //!
-//! What a profile causes is a row of `tools/rows`, over the built program.
+//! The lines that a profile causes are tested by the rows of `tools/rows`, with the built program.
 #![tactic(auto)]
 
 #[cfg(test)]
