@@ -59,7 +59,7 @@ const COLLAPSED: Found<'static> = Found {
     ..UNTRACKED
 };
 
-/// A listing of the root with the file `a`, which is as staged with the content `foo`.
+/// A listing of the root with the file `a`, as it was staged with the content `foo`.
 const LISTED: &[Directory<'static>] = &[(
     "",
     Some(&[(

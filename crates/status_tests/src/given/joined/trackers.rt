@@ -29,7 +29,7 @@ impl Told {
     }
 }
 
-/// Returns these pairs for any list of changes.
+/// Returns these pairs for all changes.
 #[derive(Clone, Copy)]
 pub struct Answers<'a> {
     pub alloc: Global,

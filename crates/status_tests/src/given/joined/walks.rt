@@ -71,7 +71,7 @@ pub fn hand_out<D: Delegate>(
     })
 }
 
-/// Passes these nodes for any worktree and index, and then fails at a path, if `fault` is set.
+/// Passes these nodes for every worktree and index, and then has a fault at a path, if `fault` is set.
 #[derive(Clone, Copy)]
 pub struct HandsOut<'a> {
     pub alloc: Global,
