@@ -2,14 +2,9 @@
 use Rattle.std.proofs.Common.{map, ◌≡◌, Bool, true, ℕ, List, Option, Some, None, Result, Ok, Err, inl, inr, sym, subst, ◌∙◌}
 use Rattle.std.specs.Prelude.{◌⊎◌, IfSome}
 use Rattle.std.specs.Result.{IsErrAnd}
-use Rattle.status_base.specs.MemoryTree.{lstat_in, open_in, target_in}
 use Rattle.status_call.specs.declared.index_as_worktree.types.Outcome.{Outcome}
 use Rattle.status_call.specs.Query.{Query}
-use Rattle.status_index.specs.Content.{Content}
-use Rattle.status_index.specs.Entries.{IndexEntry}
-use Rattle.status_index.specs.declared.fault.Fault.{Fault}
 use Rattle.status_index.specs.declared.id.HashKind.{HashKind}
-use Rattle.status_index.specs.declared.metadata.Metadata.{Metadata}
 use Rattle.status_index.specs.declared.state.State.{State}
 use Rattle.status_profile.specs.declared.node.Place.{Place}
 use Rattle.status_profile.specs.declared.node.Place.TheVariants as places
@@ -19,8 +14,8 @@ use Rattle.status_profile.specs.Nodes.{node_value}
 use Rattle.status_profile.specs.Options.{OptionValues, option_values}
 use Rattle.status_cli.specs.declared.failure.Failure.{Failure}
 use Rattle.status_cli.specs.declared.failure.Failure.TheVariants.{Memory}
-use Rattle.status_cli.specs.Statuses.{IsJoinedPrinted, IsStatusPrinted, IsEnded, JoinedParts}
-use Rattle.status_cli.specs.ProfileStatuses.{IsJoinedOver, IsPlacePrinted, IsPrintedOver, IsUnplanted, walked_in}
+use Rattle.status_cli.specs.Statuses.{IsJoinedPrinted, IsStatusPrinted, IsEnded, JoinedInputs}
+use Rattle.status_cli.specs.ProfileStatuses.{IsPlacePrinted, IsPrintedOver, IsStatusOver, IsUnplanted, WorktreeResults, tree_results, tree_walk}
 
 -- both succeeded, or both failed for one reason
 abbrev pub AreAlike : {A B : Type 0} → Result A Failure → Result B Failure → Type 0
@@ -55,30 +50,25 @@ pub status_alike : {T U A B : Type 0} (query : Query T U) (index : State) (count
 status_alike query index counts old new r s same h = record { visits = h.visits; answer = h.answer; met = h.met; whole = h.whole; ended = ended_alike _ _ old new r s same h.ended }
 
 module _ {A B : Type 0} (r : Result A Failure) (s : Result B Failure) (same : AreAlike r s) (old new : Option (List ℕ)) where
-  shown_alike : {T U : Type 0} (query : Query T U) (index : State) (counts : Bool) → (IsErrAnd r (λ f. f ≡ Memory) × (new ≡ old)) ⊎ IsStatusPrinted query index counts old r new → (IsErrAnd s (λ f. f ≡ Memory) × (new ≡ old)) ⊎ IsStatusPrinted query index counts old s new
-  shown_alike query index counts (inl p) = inl (failed_too (λ f. f ≡ Memory) r s same p.0, p.1)
-  shown_alike query index counts (inr h) = inr (status_alike query index counts old new r s same h)
+  pub joined_alike : {T U : Type 0} (inputs : JoinedInputs T U) (o : OptionValues) (hash : HashKind) (index : State) → IsJoinedPrinted inputs o hash index old r new → IsJoinedPrinted inputs o hash index old s new
+  joined_alike inputs o hash index h = record { entries = h.entries; answer = h.answer; met = h.met; ended = ended_alike _ _ old new r s same h.ended }
 
-  over_alike : {W : Type 0} (modelled : W → Bool) (lstat : W → List ℕ → Result Metadata Fault) (opened : W → List ℕ → Result Content Fault) (linked : W → List ℕ → Result (List ℕ) Fault) (w : W) (options : ProfileOptions) (index : State)
-      → IsPrintedOver modelled lstat opened linked w options index old r new → IsPrintedOver modelled lstat opened linked w options index old s new
-  over_alike modelled lstat opened linked w options index h = λ plain. shown_alike _ index options.counts (h plain)
+  over_alike : (w : WorktreeResults) (options : ProfileOptions) (index : State) (prefix : List ℕ) (included : List ℕ → Bool → Bool) (walking : Walking) (hash : HashKind)
+      → IsStatusOver w options index prefix included old r new walking hash → IsStatusOver w options index prefix included old s new walking hash
+  over_alike w options index prefix included walking hash h = record {
+    plain = λ plain. status_alike _ index options.counts old new r s same (h.plain plain);
+    joined = λ joined. joined_alike _ (option_values options) hash index (h.joined joined);
+  }
 
-  pub joined_alike : {T U : Type 0} (parts : JoinedParts T U) (o : OptionValues) (hash : HashKind) (index : State) → IsJoinedPrinted parts o hash index old r new → IsJoinedPrinted parts o hash index old s new
-  joined_alike parts o hash index h = record { entries = h.entries; answer = h.answer; met = h.met; ended = ended_alike _ _ old new r s same h.ended }
-
-  joined_or_memory : {T U : Type 0} (parts : JoinedParts T U) (o : OptionValues) (hash : HashKind) (index : State) → (IsErrAnd r (λ f. f ≡ Memory) × (new ≡ old)) ⊎ IsJoinedPrinted parts o hash index old r new → (IsErrAnd s (λ f. f ≡ Memory) × (new ≡ old)) ⊎ IsJoinedPrinted parts o hash index old s new
-  joined_or_memory parts o hash index (inl p) = inl (failed_too (λ f. f ≡ Memory) r s same p.0, p.1)
-  joined_or_memory parts o hash index (inr h) = inr (joined_alike parts o hash index h)
-
-  joined_over_alike : {W : Type 0} (modelled : W → Bool) (lstat : W → List ℕ → Result Metadata Fault) (opened : W → List ℕ → Result Content Fault) (linked : W → List ℕ → Result (List ℕ) Fault) (walked : W → List IndexEntry → List ℕ → (List ℕ → Bool → Bool) → Walking) (w : W) (hash : HashKind) (options : ProfileOptions) (index : State)
-      → IsJoinedOver modelled lstat opened linked walked w hash options index old r new → IsJoinedOver modelled lstat opened linked walked w hash options index old s new
-  joined_over_alike modelled lstat opened linked walked w hash options index h = λ joined. joined_or_memory _ (option_values options) hash index (h joined)
+  printed_alike : (w : WorktreeResults) (walked : List ℕ → (List ℕ → Bool → Bool) → Walking) (hash : HashKind) (options : ProfileOptions) (index : State)
+      → IsPrintedOver w walked hash options index old r new → IsPrintedOver w walked hash options index old s new
+  printed_alike w walked hash options index (inl p) = inl (failed_too (λ f. f ≡ Memory) r s same p.0, p.1)
+  printed_alike w walked hash options index (inr h) = inr (over_alike w options index _ _ _ hash h)
 
   pub place_alike : (place : Place) (hash : HashKind) (options : ProfileOptions) (index : State) → IsPlacePrinted place hash options index old r new → IsPlacePrinted place hash options index old s new
   place_alike (places.Folder path) hash options index h = tt
   place_alike (places.Nodes nodes) hash options index (inl p) = inl (failed_too (IsUnplanted (map node_value nodes.items)) r s same p.0, p.1)
-  place_alike (places.Nodes nodes) hash options index (inr p) =
-      inr (p.0, p.1, over_alike (λ t. true) lstat_in open_in target_in p.0 options index p.2.0, joined_over_alike (λ t. true) lstat_in open_in target_in walked_in p.0 hash options index p.2.1)
+  place_alike (places.Nodes nodes) hash options index (inr p) = inr (p.0, p.1, printed_alike (tree_results p.0) (tree_walk p.0 index) hash options index p.2)
 
 -- what holds of the text that was read holds of the reader's, if that is known
 pub of_known : (P : List ℕ → Type 0) (known : Option (List ℕ)) (text : List ℕ) → IfSome known (λ all. text ≡ all) → P text → IfSome known P

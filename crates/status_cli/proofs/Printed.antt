@@ -9,7 +9,7 @@ use Rattle.status_call.specs.declared.index_as_worktree.types.Outcome.{Outcome}
 use Rattle.status_cli.specs.declared.failure.Failure.{Failure}
 use Rattle.status_cli.specs.declared.failure.Failure.TheVariants.{Memory}
 use Rattle.status_cli.specs.Printing.{IsBegun, IsPrinted, IsUnprinted}
-use Rattle.status_cli.specs.Statuses.{IsJoinedBy, IsJoinedPrinted, IsStatusPrinted, IsEnded, JoinedParts, answered, closing, entry_lines, joined_answered, visit_lines}
+use Rattle.status_cli.specs.Statuses.{IsEnded, IsJoinedAnswer, IsJoinedPrinted, IsStatusPrinted, JoinedInputs, answered, closing, entry_lines, joined_answered, visit_lines}
 use Rattle.status_index.specs.declared.id.HashKind.{HashKind}
 use Rattle.status_index.specs.declared.state.State.{State}
 use Rattle.status_joined.specs.Items.{Reported}
@@ -130,10 +130,10 @@ pub printed_status : {T U A : Type 0} (query : Query T U) (index : State) (count
 printed_status query index counts none visits answer old new result empty met whole ended =
     record { visits = visits; answer = answer; met = subst (λ start. IsMet query index start answer visits) empty met; whole = whole; ended = ended }
 
-pub printed_joined : {T U A : Type 0} (parts : JoinedParts T U) (o : OptionValues) (hash : HashKind) (index : State) (none entries : List (Reported T U)) (answer : Result JoinedOutcome JoinedError) (old new : Option (List ℕ)) (result : Result A Failure)
-    → none ≡ [] → IsJoinedBy parts o hash index true none answer entries → IsEnded (entry_lines entries ++ closing o.counts (joined_answered answer)) (joined_answered answer) old result new → IsJoinedPrinted parts o hash index old result new
-printed_joined parts o hash index none entries answer old new result empty met ended =
-    record { entries = entries; answer = answer; met = subst (λ start. IsJoinedBy parts o hash index true start answer entries) empty met; ended = ended }
+pub printed_joined : {T U A : Type 0} (inputs : JoinedInputs T U) (o : OptionValues) (hash : HashKind) (index : State) (none entries : List (Reported T U)) (answer : Result JoinedOutcome JoinedError) (old new : Option (List ℕ)) (result : Result A Failure)
+    → none ≡ [] → IsJoinedAnswer inputs o hash index none answer entries → IsEnded (entry_lines entries ++ closing o.counts (joined_answered answer)) (joined_answered answer) old result new → IsJoinedPrinted inputs o hash index old result new
+printed_joined inputs o hash index none entries answer old new result empty met ended =
+    record { entries = entries; answer = answer; met = subst (λ start. IsJoinedAnswer inputs o hash index start answer entries) empty met; ended = ended }
 
 pub memory_unprinted : {T : Type 0} (result : Result T Failure) → IsErrAnd result (λ e. e ≡ Memory) → IfErr result IsUnprinted
 memory_unprinted (Ok v) failed = tt

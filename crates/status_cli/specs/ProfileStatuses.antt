@@ -72,7 +72,7 @@ options_inputs o timestamp w prefix included walking hash = record {
 
 -- the paths that begin with a prefix
 abbrev pub begins_with : List ℕ → List ℕ → Bool → Bool
-begins_with prefix path is_directory = starts_with nat_eq path prefix
+begins_with prefix = λ path _. starts_with nat_eq path prefix
 
 -- the command fails as if the text of a profile couldn't be read, or since memory ran out; and nothing was printed
 abbrev pub IsUnreadPrinted : {A : Type 0} → Option (List ℕ) → Result A Failure → Option (List ℕ) → Type 0

@@ -1,6 +1,6 @@
 -- A replay prints the lines of its reports, up to its end or to what stops it; then the command fails for that. A refused start
 -- prints nothing.
-use Rattle.std.specs.Prelude.{◌≡◌, ◌⊎◌, ℕ, ◌+◌, Bool, List, [], ◌∷◌, ◌++◌, map, Option, None, Some, Result, Ok, Err}
+use Rattle.std.specs.Prelude.{◌≡◌, ◌⊎◌, IfSome, ℕ, ◌+◌, Bool, List, [], ◌∷◌, ◌++◌, map, Option, None, Some, Result, Ok, Err}
 use Rattle.std.specs.Io.KnownBytes.{Appends}
 use Rattle.std.specs.List.{flat_map}
 use Rattle.std.specs.Result.{IsErrAnd}
@@ -16,7 +16,7 @@ use Rattle.status_profile.specs.declared.error.ProfileError.{ProfileError}
 use Rattle.status_profile.specs.declared.history.History.{History}
 use Rattle.status_profile.specs.Histories.{IsHistoryRead}
 use Rattle.status_cli.specs.Failures.{failure_of_event, failure_of_profile, failure_of_start}
-use Rattle.status_cli.specs.ProfileStatuses.{IsUnreadPrinted}
+use Rattle.status_cli.specs.ProfileStatuses.{IsFailed, IsUnreadPrinted}
 use Rattle.status_cli.specs.declared.failure.Failure.{Failure}
 use Rattle.status_cli.specs.declared.failure.Failure.TheVariants.{Memory}
 use Rattle.status_cli.specs.Lines.{record_line, run_line}
@@ -86,6 +86,10 @@ abbrev pub IsReplayText : {A : Type 0} → List ℕ → Option (List ℕ) → Re
 IsReplayText text old result new =
     (IsUnreadPrinted old result new ⊎ ((e : ProfileError) × IsHistoryRead text (Err e) × IsErrAnd result (λ f. f ≡ failure_of_profile e) × (new ≡ old)))
     ⊎ ((h : History) × IsHistoryRead text (Ok h) × IsHistoryPrinted h old result new)
+
+-- the same of a text, if that is known: a beginning of the failure's line was written
+abbrev pub IsReplayFailed : Option (List ℕ) → Option (List ℕ) → Option (List ℕ) → List ℕ → Option (List ℕ) → Option (List ℕ) → Type 0
+IsReplayFailed text old new name old_faults new_faults = IfSome text (λ t. IsFailed (λ failure. IsReplayText t old failure new) name old_faults new_faults)
 
 -- exactly the lines of all reports of the history that a text says were printed, and its replay ended
 pub record IsReplayed (text : List ℕ) (old new : Option (List ℕ)) : Type 0 where

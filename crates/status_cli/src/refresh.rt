@@ -1,7 +1,7 @@
 //! The refresh of a profile's index.
 
-ghost use Rattle.std.specs.Prelude.{◌≡◌, ◌⊎◌, Ok, IfSome, OnOk};
-ghost use Rattle.status_cli.specs.ProfileStatuses.{IsReadPrinted};
+ghost use Rattle.std.specs.Prelude.{◌≡◌, ◌⊎◌, OnOk};
+ghost use Rattle.status_cli.specs.ProfileStatuses.{IsTextSucceeded};
 
 use crate::failure::Failure;
 use crate::input::read_all;
@@ -38,7 +38,7 @@ where
     R::File: Send,
     R::Dir: Send,
     ensures status { (result ≡ 0) ⊎ (result ≡ 1) }
-    ensures printed { result ≡ 0 → IfSome (I.remaining profile.old) (λ text. IsReadPrinted {A = Unit {0}} Kind.Plain text (O.contents output.old) (Ok tt) (O.contents output.new)) }
+    ensures printed { result ≡ 0 → IsTextSucceeded Kind.Plain (I.remaining profile.old) (O.contents output.old) (O.contents output.new) }
     ensures quiet { result ≡ 0 → E.contents faults.new ≡ E.contents faults.old }
     ensures kept { result ≡ 1 → refreshed.new.items ≡ refreshed.old.items }
 {
@@ -61,7 +61,7 @@ fn refresh<R: AllocGlobal + Files + Sync + Threads + Wait, I: io::Read, O: io::W
 where
     R::File: Send,
     R::Dir: Send,
-    ensures { OnOk result (IfSome (I.remaining profile.old) (λ text. IsReadPrinted {A = Unit {0}} Kind.Plain text (O.contents output.old) (Ok tt) (O.contents output.new))) }
+    ensures { OnOk result (IsTextSucceeded Kind.Plain (I.remaining profile.old) (O.contents output.old) (O.contents output.new)) }
 {
     let alloc = rt.alloc();
     let text = read_all(alloc, profile)?;

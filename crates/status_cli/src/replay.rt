@@ -4,8 +4,7 @@ ghost use Rattle.std.specs.Prelude.{◌≡◌, ◌⊎◌, All, IfErr, IfOk, IfSo
 ghost use Rattle.status_world.specs.Refusals.{start_refusal};
 ghost use Rattle.status_world.specs.Reports.{HasSum, report_value};
 ghost use Rattle.status_cli.specs.Printing.{IsPrinted};
-ghost use Rattle.status_cli.specs.ProfileStatuses.{IsFailed};
-ghost use Rattle.status_cli.specs.Replays.{IsHistoryPrinted, IsNoStart, IsReplayed, IsReplayText, IsStopOf};
+ghost use Rattle.status_cli.specs.Replays.{IsHistoryPrinted, IsNoStart, IsReplayed, IsReplayFailed, IsReplayText, IsStopOf};
 ghost use Rattle.status_cli.specs.Replays.{replay_lines, report_lines, run_lines, start_of};
 
 use crate::failure::Failure;
@@ -33,8 +32,8 @@ pub fn run_replay<R: AllocGlobal + Threads + Wait, I: io::Read, O: io::Write, E:
 ) -> u8
     ensures status { (result ≡ 0) ⊎ (result ≡ 1) }
     ensures printed { result ≡ 0 → IfSome (I.remaining profile.old) (λ text. IsReplayed text (O.contents output.old) (O.contents output.new)) }
-    ensures failed { result ≡ 1 → IfSome (I.remaining profile.old) (λ text. IsFailed (λ failure. IsReplayText text
-        (O.contents output.old) failure (O.contents output.new)) name.now (E.contents faults.old) (E.contents faults.new)) }
+    ensures failed { result ≡ 1 → IsReplayFailed (I.remaining profile.old) (O.contents output.old) (O.contents output.new)
+        name.now (E.contents faults.old) (E.contents faults.new) }
     ensures quiet { result ≡ 0 → E.contents faults.new ≡ E.contents faults.old }
 {
     match print_replay(rt, profile, output) {

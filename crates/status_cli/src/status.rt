@@ -1,12 +1,9 @@
 //! The status of a profile's index against its worktree.
 
-ghost use Rattle.std.specs.Prelude.{◌≡◌, ◌⊎◌, Ok, IfErr, IfOk, IfSome, false, map, true};
+ghost use Rattle.std.specs.Prelude.{◌≡◌, ◌⊎◌, Ok, IfErr, IfOk, IfSome, map};
 ghost use Rattle.status_base.specs.Trees.{empty_tree};
-ghost use Rattle.status_call.specs.Inputs.{usual};
 ghost use Rattle.status_profile.specs.Nodes.{node_value};
-ghost use Rattle.status_profile.specs.Options.{is_joined, option_values};
-ghost use Rattle.status_cli.specs.ProfileStatuses.{IsFailed, IsJoinedOver, IsPlacePrinted, IsPrintedOver, IsProfilePrinted, IsReadPrinted, IsTextPrinted, IsUnplanted, planted};
-ghost use Rattle.status_cli.specs.Statuses.{IsJoinedShown, IsPlainShown, status_parts};
+ghost use Rattle.status_cli.specs.ProfileStatuses.{IsPlacePrinted, IsProfilePrinted, IsProfileShown, IsStatusShown, IsTextFailed, IsTextPrinted, IsTextSucceeded, IsUnplanted, planted, results_of};
 ghost use Rattle.status_index.specs.States.{index_of};
 ghost use Rattle.status_call.specs.IndexChanges.{AreInside};
 
@@ -19,7 +16,7 @@ use crate::failure::Failure;
 use crate::input::read_all;
 use crate::status::joined::print_joined;
 use crate::status::no_walk::NoWalk;
-use crate::status::plain::{Usual, print_plain};
+use crate::status::plain::print_plain;
 use crate::status::profile_status::ProfileStatus;
 pub use crate::status::profile_status::{Changes, IndexChanges};
 use bstr::BString;
@@ -29,8 +26,6 @@ use gix_status::walk::{UntrackedWalk, Walk};
 use gix_status::worktree::{
     AllPaths, DiskWorktree, MemoryWorktree, Node, Pathspec, Prefix, Worktree,
 };
-use gix_status::world::Comparer;
-use status_call::index_as_worktree::inputs::Ask;
 use status_profile::{Kind, Place, Profile, ProfileOptions};
 use std::alloc::Global;
 use std::io;
@@ -54,9 +49,9 @@ where
     R::File: Send,
     R::Dir: Send,
     ensures status { (result ≡ 0) ⊎ (result ≡ 1) }
-    ensures printed { result ≡ 0 → IfSome (I.remaining profile.old) (λ text. IsReadPrinted {A = Unit {0}} Kind.Any text (O.contents output.old) (Ok tt) (O.contents output.new)) }
-    ensures failed { result ≡ 1 → IfSome (I.remaining profile.old) (λ text. IsFailed (λ failure. IsTextPrinted Kind.Any text
-        (O.contents output.old) failure (O.contents output.new)) name.now (E.contents faults.old) (E.contents faults.new)) }
+    ensures printed { result ≡ 0 → IsTextSucceeded Kind.Any (I.remaining profile.old) (O.contents output.old) (O.contents output.new) }
+    ensures failed { result ≡ 1 → IsTextFailed Kind.Any (I.remaining profile.old) (O.contents output.old) (O.contents output.new)
+        name.now (E.contents faults.old) (E.contents faults.new) }
     ensures quiet { result ≡ 0 → E.contents faults.new ≡ E.contents faults.old }
 {
     match print_status(rt, profile, output) {
@@ -175,10 +170,7 @@ fn print_prefixed<
 where
     W::File: Send,
     ensures inside { IfOk result (λ changes. AreInside changes.items (index_of status.entry.index.now)) }
-    ensures printed { IsPrintedOver W.modelled W.lstat_of W.open_of W.target_of status.entry.worktree.now status.entry.options status.entry.index.now
-        (O.contents output.old) result (O.contents output.new) }
-    ensures joined { IsJoinedOver W.modelled W.lstat_of W.open_of W.target_of (K.meaning status.entry.walk) status.entry.worktree.now
-        status.entry.hash status.entry.options status.entry.index.now (O.contents output.old) result (O.contents output.new) }
+    ensures printed { IsProfileShown (results_of W.modelled W.lstat_of W.open_of W.target_of) K.meaning status.entry (O.contents output.old) result (O.contents output.new) }
 {
     let prefix = status.options.prefix.as_bstr();
     if prefix.as_bytes().is_empty() {
@@ -205,16 +197,12 @@ fn print_paths<
 where
     W::File: Send,
     ensures inside { IfOk result (λ changes. AreInside changes.items (index_of status.entry.index.now)) }
-    ensures printed { is_joined (option_values status.entry.options) ≡ false → IsPlainShown ⟦<Usual<'a, W, Comparer, P> as Ask>⟧.query
-        (usual status.entry.worktree status.entry.options.comparer pathspec) status.entry.options status.entry.index.now O.contents output.old result output.new }
-    ensures joined { is_joined (option_values status.entry.options) ≡ true → IsJoinedShown (status_parts (⟦<Usual<'a, W, Comparer, P> as Ask>⟧.query
-        (usual status.entry.worktree status.entry.options.comparer pathspec)) W.modelled W.lstat_of W.open_of W.target_of K.meaning
-        status.entry (P.prefix pathspec) (P.included pathspec)) status.entry O.contents output.old result output.new }
+    ensures printed { IsStatusShown (results_of W.modelled W.lstat_of W.open_of W.target_of) K.meaning status.entry (P.prefix pathspec) (P.included pathspec)
+        (O.contents output.old) result (O.contents output.new) }
 {
-    let comparer = status.options.comparer;
     if status.options.is_joined() {
-        print_joined(rt, status, pathspec, comparer, output)?;
+        print_joined(rt, status, pathspec, output)?;
         return Ok(Vec::new(rt.alloc()));
     }
-    print_plain(rt, status, pathspec, comparer, output)
+    print_plain(rt, status, pathspec, output)
 }

@@ -1,61 +1,50 @@
 //! The status of a profile with untracked files, renames or sorted lines.
 
 ghost use Rattle.std.specs.Prelude.{◌≡◌, map};
-ghost use Rattle.status_call.specs.Inputs.{usual};
 ghost use Rattle.status_joined.specs.Entries.{reported_entry};
+ghost use Rattle.status_joined.specs.RecorderItems.{reported_of_recorder};
 ghost use Rattle.status_profile.specs.Options.{option_values};
 ghost use Rattle.status_cli.specs.Printing.{IsPrinted};
-ghost use Rattle.status_cli.specs.Statuses.{IsJoinedBy, IsJoinedShown, entry_lines, joined_answered, joined_options, status_parts};
+ghost use Rattle.status_cli.specs.ProfileStatuses.{IsJoinedReported, IsJoinedShown, results_of};
+ghost use Rattle.status_cli.specs.Statuses.{entry_lines, joined_answered, joined_options};
 
 use crate::failure::Failure;
 use crate::output::{flush, print_closing, print_entry};
-use crate::status::plain::Usual;
 use crate::status::profile_status::ProfileStatus;
-use gix_status::index::HashKind;
+use gix_status::index::{HashKind, ObjectId};
 use gix_status::index_as_worktree;
-use gix_status::index_as_worktree::traits::CompareBlobs;
 use gix_status::index_as_worktree_with_renames::{
-    Context, DirwalkContext, Entry, Error, ExactClone, Options, Outcome, Recorder, Sorting,
-    VisitEntry, index_as_worktree_with_renames,
+    Context, DirwalkContext, Entry, Error, Options, Outcome, Recorder, Sorting,
+    index_as_worktree_with_renames,
 };
 use gix_status::tracker::{IdentityTracker, Rewrites};
 use gix_status::walk::Walk;
 use gix_status::worktree::{MemoryObjects, NoFilter, NoLister, NoSubmodules, Pathspec, Worktree};
-use status_call::index_as_worktree::inputs::Ask;
 use status_profile::ProfileOptions;
 use std::alloc::Global;
 use std::io;
 use std::sync::Wait;
 use std::thread::Threads;
 
-/// Prints a status of these paths by this comparer. If the status fails, the entries that the recorder holds are printed:
-/// those before one for which it had no memory, and none after any other failure.
+/// Prints a status of these paths. If the status fails, the entries that the recorder holds are printed: those before
+/// one for which it had no memory, and none after any other failure.
 pub fn print_joined<
     'a,
     R: AllocGlobal + Threads + Wait,
     W: Worktree + Sync,
     K: Walk<W> + Send + Drop,
     P: Pathspec + Send,
-    C: CompareBlobs + Send,
     O: io::Write,
->(
-    rt: &R,
-    status: ProfileStatus<'a, W, K>,
-    pathspec: P,
-    compare: C,
-    output: &mut O,
-) -> Result<(), Failure>
+>(rt: &R, status: ProfileStatus<'a, W, K>, pathspec: P, output: &mut O) -> Result<(), Failure>
 where
     W::File: Send,
-    C::Output: Send + ExactClone + 'a,
-    ensures { IsJoinedShown (status_parts (⟦<Usual<'a, W, C, P> as Ask>⟧.query (usual status.entry.worktree compare pathspec))
-        W.modelled W.lstat_of W.open_of W.target_of K.meaning status.entry (P.prefix pathspec) (P.included pathspec))
-        status.entry O.contents output.old result output.new }
+    ensures { IsJoinedShown (results_of W.modelled W.lstat_of W.open_of W.target_of) K.meaning status.entry (P.prefix pathspec) (P.included pathspec)
+        (O.contents output.old) result (O.contents output.new) }
 {
     let alloc = rt.alloc();
     let counts = status.options.counts;
     let mut recorder = Recorder::new(alloc);
-    let answer = report_joined(rt, alloc, status, &mut recorder, pathspec, compare);
+    let answer = report_joined(rt, alloc, status, pathspec, &mut recorder);
     print_entries(alloc, recorder.records.as_slice(), output)?;
     print_closing(alloc, with_failure(answer), counts, output)
 }
@@ -67,30 +56,24 @@ fn with_failure(answer: Result<Outcome, Error>) -> Result<index_as_worktree::Out
     Ok(answer?.tracked_file_modification)
 }
 
-/// Reports a status to a collector, with no filter, listing, submodule or blob, and with renames by equal content.
+/// Reports a status to a recorder, with no filter, listing, submodule or blob, and with renames by equal content.
 fn report_joined<
     'a,
     R: Threads + Wait,
     W: Worktree + Sync,
     K: Walk<W> + Send + Drop,
-    V: VisitEntry<'a, ContentChange = C::Output, SubmoduleStatus = ()>,
     P: Pathspec + Send,
-    C: CompareBlobs + Send,
 >(
     rt: &R,
     alloc: Global,
     status: ProfileStatus<'a, W, K>,
-    collector: &mut V,
     pathspec: P,
-    compare: C,
+    recorder: &mut Recorder<'a, Option<ObjectId>, ()>,
 ) -> Result<Outcome, Error>
 where
     W::File: Send,
-    C::Output: Send + ExactClone + 'a,
-    ensures { IsJoinedBy (status_parts (⟦<Usual<'a, W, C, P> as Ask>⟧.query (usual status.entry.worktree compare pathspec))
-        W.modelled W.lstat_of W.open_of W.target_of K.meaning status.entry (P.prefix pathspec) (P.included pathspec))
-        (option_values status.entry.options) status.entry.hash status.entry.index.now
-        V.fails (V.visits collector.old) result (V.visits collector.new) }
+    ensures { IsJoinedReported (results_of W.modelled W.lstat_of W.open_of W.target_of) K.meaning status.entry (P.prefix pathspec) (P.included pathspec)
+        (reported_of_recorder recorder.old) result (reported_of_recorder recorder.new) }
 {
     let ProfileStatus {
         index,
@@ -114,8 +97,8 @@ where
         alloc,
         index,
         worktree,
-        collector,
-        compare,
+        recorder,
+        options.comparer,
         NoSubmodules,
         objects,
         context,

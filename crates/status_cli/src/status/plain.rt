@@ -3,52 +3,44 @@
 ghost use Rattle.std.specs.Prelude.{◌≡◌, ◌<◌, ◌^◌, [], IfOk, map};
 ghost use Rattle.status_index.specs.States.{index_of};
 ghost use Rattle.status_call.specs.IndexChanges.{AreInside, changes_of};
-ghost use Rattle.status_call.specs.Inputs.{usual};
 ghost use Rattle.status_call.specs.Outcomes.{skipped_of};
 ghost use Rattle.status_call.specs.RecorderVisits.{visit_of};
 ghost use Rattle.status_cli.specs.Printing.{IsPrinted};
-ghost use Rattle.status_cli.specs.Statuses.{IsPlainShown, answered, visit_lines};
+ghost use Rattle.status_cli.specs.ProfileStatuses.{IsPlainShown, results_of};
+ghost use Rattle.status_cli.specs.Statuses.{answered, visit_lines};
 
 use crate::failure::Failure;
 use crate::output::{flush, print_closing, print_record};
 use crate::status::profile_status::{Changes, ProfileStatus};
-use gix_status::index_as_worktree::traits::CompareBlobs;
 use gix_status::index_as_worktree::{
     ApplyChange, Error, Outcome, Record, Recorder, index_as_worktree_with_defaults,
 };
-use gix_status::worktree::{MemoryObjects, NoFilter, NoLister, NoSubmodules, Pathspec, Worktree};
-use status_call::index_as_worktree::inputs::{Ask, Inputs};
+use gix_status::worktree::{Pathspec, Worktree};
 use std::alloc::Global;
 use std::io;
 use std::sync::Wait;
 use std::thread::Threads;
 
-/// A worktree, a comparer and a pathspec, and the usual interfaces.
-pub type Usual<'w, W, C, P> = Inputs<'w, W, C, NoSubmodules, MemoryObjects, P, NoFilter, NoLister>;
-
-/// Prints a status of these paths by this comparer, and returns the changes that it asks for if they are wanted. If the
-/// status fails, the records before the fault are printed.
+/// Prints a status of these paths, and returns the changes that it asks for if they are wanted. If the status fails, the
+/// records before the fault are printed.
 pub fn print_plain<
     'a,
     R: AllocGlobal + Threads + Wait,
     W: Worktree + Sync,
     K: Drop,
     P: Pathspec + Send,
-    C: CompareBlobs + Send,
     O: io::Write,
 >(
     rt: &R,
     status: ProfileStatus<'a, W, K>,
     pathspec: P,
-    compare: C,
     output: &mut O,
 ) -> Result<Vec<ApplyChange>, Failure>
 where
     W::File: Send,
-    C::Output: Send,
     ensures inside { IfOk result (λ changes. AreInside changes.items (index_of status.entry.index.now)) }
-    ensures printed { IsPlainShown ⟦<Usual<'a, W, C, P> as Ask>⟧.query (usual status.entry.worktree compare pathspec)
-        status.entry.options status.entry.index.now O.contents output.old result output.new }
+    ensures printed { IsPlainShown (results_of W.modelled W.lstat_of W.open_of W.target_of) status.entry (P.prefix pathspec) (P.included pathspec)
+        (O.contents output.old) result (O.contents output.new) }
 {
     let alloc = rt.alloc();
     let options = status.options;
@@ -59,7 +51,7 @@ where
         status.index,
         status.worktree,
         &mut recorder,
-        compare,
+        options.comparer,
         pathspec,
         options.status,
     );
