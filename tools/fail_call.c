@@ -1,7 +1,7 @@
 /* Lets one call for a file fail in the program that it is preloaded into. test_refresh.py compiles and uses it.
  *
  *     FAIL_BELOW      the folder whose files count: calls that have a path below it, and calls on a file opened there
- *     FAIL_AT         the call that fails, counted from 1; none where it is 0
+ *     FAIL_AT         the call that fails, counted from 1; none if it is 0
  *     FAIL_ERROR      the number of the error
  *     FAIL_MOST       how many bytes a call writes at most
  *     FAIL_REPORT     the descriptor that gets a line for each call: its name, and at `fchmod` the mode that the file had

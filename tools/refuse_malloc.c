@@ -1,11 +1,11 @@
 /* Refuses memory to the program that it is preloaded into. refuse_memory.py compiles and uses it.
  *
- *     REFUSE_AT       the call that is refused, counted from 1 over all threads; none where it is 0
- *     REFUSE_ON       where it is 1, each call behind that one is refused too
- *     REFUSE_REPORT   the descriptor that gets a letter for each refused call, or for each call where none is refused:
+ *     REFUSE_AT       the call that is refused, counted from 1 over all threads; none if it is 0
+ *     REFUSE_ON       if it is 1, each call after that one is refused too
+ *     REFUSE_REPORT   the descriptor that gets a letter for each refused call, or for each call if none is refused:
  *                     m  the program asked for memory
  *                     t  the program asked for a thread, whose stack the system maps
- *                     c  the C library asked for memory, as it does where a thread starts
+ *                     c  the C library asked for memory, as it does when a thread starts
  *
  * Calls count from the first on that comes from the program's own code: what the C library takes before that, to start
  * the program, is neither counted nor refused. It needs glibc, whose functions it names. */

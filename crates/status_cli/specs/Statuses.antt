@@ -36,17 +36,17 @@ entry_lines entries = flat_map entry_line entries
 abbrev pub totals_text : Bool → Outcome → List ℕ
 totals_text counts outcome = if counts then total_line outcome else []
 
--- what a status answered, with its failure
+-- the outcome of a status, or the failure of its error
 abbrev pub answered : Result Outcome Error → Result Outcome Failure
 answered (Ok outcome) = Ok outcome
 answered (Err error) = Err (failure_of_status error)
 
--- the same of a joined status; its outcome is that of its index
+-- the same of a joined status, whose outcome is that of the index's part
 abbrev pub joined_answered : Result JoinedOutcome JoinedError → Result Outcome Failure
 joined_answered (Ok outcome) = Ok outcome.tracked_file_modification
 joined_answered (Err error) = Err (failure_of_joined error)
 
--- what is printed behind the records: with `counts` the totals, and nothing where the status failed
+-- the text after the records: with `counts` the totals, and nothing if the status failed
 abbrev pub closing : Bool → Result Outcome Failure → List ℕ
 closing counts (Ok outcome) = totals_text counts outcome
 closing counts (Err _) = []
