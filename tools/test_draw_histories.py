@@ -51,7 +51,7 @@ class Judging(unittest.TestCase):
             changed = self.lines[:at] + [self.lines[at].replace(old, new)] + self.lines[at + 1 :]
             self.assertIsNotNone(self.said(changed), old)
 
-    def test_an_update_stands_where_nothing_changed_alone(self):
+    def test_an_update_alone_is_at_an_unchanged_file(self):
         place, path = next((at, path) for at, (path, change) in enumerate(self.drawn.runs[-1]) if not change)
         at = max(at for at, line in enumerate(self.lines) if line.startswith("run ")) + 1
         before = sum(change is not None for _, change in self.drawn.runs[-1][:place])

@@ -51,7 +51,7 @@ class Judging(unittest.TestCase):
             self.assertIsNotNone(self.said(0, out, command="replay"), out)
         self.assertIsNotNone(self.said(1, TOTAL, "status failed: time\n"))
 
-    def test_one_known_line_stands_on_standard_error_with_status_1(self):
+    def test_one_known_line_is_on_standard_error_with_status_1(self):
         known = {"status": ["bad profile: worktree", "bad index: mixed hash at 3", "bad worktree: in the way at 0"]}
         known["replay"] = ["bad profile: events", "refused start: stamp later", "refused 4: clock end"]
         for command, lines in known.items():

@@ -128,7 +128,7 @@ class Planted(unittest.TestCase):
             bad = CI.replace(line, f"rt: must-fail low/one.edit: {said}\n")
             self.assert_fails(f"an edit shows nothing: must-fail low/one.edit: {said}", *words, ci=bad)
 
-    def test_a_bad_edit_beside_enough_others_is_a_failure(self):
+    def test_a_bad_edit_among_enough_others_is_a_failure(self):
         bad = "rt: crates/low/must-fail/x/y.edit: BAD EDIT: an edit stands right in must-fail/\n"
         self.assert_fails("an edit shows nothing: crates/low/must-fail/x/y.edit: BAD EDIT", ci=bad + CI)
         self.write("crates/low/must-fail/three.edit", "")

@@ -109,7 +109,7 @@ class Profiles(Case):
         self.assertEqual(ran.returncode, 0, ran.stderr)
         self.assertEqual([entry["path"] for entry in json.loads(ran.stdout)["index"]], ["é"])
 
-    def test_the_printed_command_can_be_run_as_it_stands(self):
+    def test_the_printed_command_can_be_run_unchanged(self):
         odd = os.path.join(os.path.dirname(self.top), "it's a folder")
         os.rename(self.top, odd)
         self.top = odd
@@ -155,7 +155,7 @@ class Unseen(Case):
         self.git("config", "core.fileMode", "false")
         self.assertEqual(self.unseen().executable, 0)
 
-    def test_a_time_that_was_put_back_is_told(self):
+    def test_a_time_that_was_put_back_is_noted(self):
         names = ["a", "longer", "later", "racy"]
         for name in names:
             self.write(name, "foo")
@@ -210,7 +210,7 @@ class Unseen(Case):
         self.assertEqual([entry["path"] for entry in profile["index"]], wanted)
         self.assertIn("left out, since the link's target isn't UTF-8: odd", found.notes())
 
-    def test_what_lies_behind_a_link_is_not_looked_at(self):
+    def test_files_below_a_link_are_not_read(self):
         self.write("d/a", "foo")
         self.write("e/a", "foo")
         self.git("add", "d")

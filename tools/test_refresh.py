@@ -201,7 +201,7 @@ class Refreshed(unittest.TestCase):
         self.assert_unwritten(self.file, f": {lock} exists; remove it if no other run is writing")
         self.assertEqual((self.content(self.file), self.content(lock)), (before, "another's"))
 
-    def test_other_arguments_are_answered_with_the_usage(self):
+    def test_other_arguments_print_the_usage(self):
         self.write(MODIFIED)
         wrong = [("10",), ("10", "0", "0"), ("4294967296", "0"), ("10", "1000000000"), ("+10", "0"), ("10", "")]
         for words in wrong:

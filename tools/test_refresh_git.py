@@ -188,7 +188,7 @@ class Stored(Refreshes):
                     self.assertEqual((self.read_by_git(), self.git("status", "--porcelain")), ([], b""))
                     self.git("fsck", "--strict")
 
-    def test_git_tells_the_same_of_drawn_repositories(self):
+    def test_git_reports_the_same_of_drawn_repositories(self):
         for seed, kind in enumerate(("sha1", "sha256", "sha1", "sha256")):
             with self.subTest(seed=seed, kind=kind):
                 self.draw(seed, kind)

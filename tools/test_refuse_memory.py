@@ -112,16 +112,16 @@ class Judging(unittest.TestCase):
         ended = Ended(status, out.encode(), fault.encode())
         return tool.wrong(ROWS[name], tool.Refused(letters, at, calls), ended)
 
-    def test_a_calm_answer_is_right_whatever_was_refused(self):
+    def test_a_calm_result_is_right_whatever_was_refused(self):
         for name, row in ROWS.items():
             for letters in ("", "m", "c", "mtm"):
                 self.assertIsNone(self.said(name, letters, row.status, row.out, row.fault), name)
 
-    def test_without_a_refusal_no_other_answer_is_right(self):
+    def test_without_a_refusal_no_other_result_is_right(self):
         self.assertIsNotNone(self.said("modified", "", 1, "", "out of memory\n"))
         self.assertIsNotNone(self.said("malformed", "", 1, "", "out of memory\n"))
 
-    def test_want_of_memory_leaves_a_beginning(self):
+    def test_out_of_memory_leaves_a_beginning(self):
         lines = ROWS["folder"].out.splitlines(keepends=True)
         for count in range(len(lines) + 1):
             self.assertIsNone(self.said("folder", "m", 1, "".join(lines[:count]), "out of memory\n"))
@@ -218,7 +218,7 @@ class StandIns(unittest.TestCase):
                 status = tool.main([*words, "--seconds", str(seconds)])
         return status, printed.getvalue()
 
-    def test_one_that_answers_rightly_passes(self):
+    def test_one_with_right_results_passes(self):
         status, printed = self.swept("")
         self.assertEqual(status, 0, printed)
         # Two calls of its own, the thread, the C library's call for that, and the thread's own call.

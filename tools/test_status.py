@@ -145,7 +145,7 @@ class Comparison(Drawn):
         self.assertEqual(self.said("--compare"), ([as_git], 0))
         return lines
 
-    def test_drawn_repositories_are_told_as_git_tells_them(self):
+    def test_drawn_repositories_are_reported_as_by_git(self):
         columns = set()
         for seed in range(6):
             for kind in ("sha1", "sha256"):
@@ -155,7 +155,7 @@ class Comparison(Drawn):
         wanted = {" M", " D", " T", " A", "DD", "AU", "UD", "UA", "DU", "AA", "UU"}
         self.assertEqual(columns, wanted)
 
-    def test_untracked_paths_are_told_as_git_tells_them(self):
+    def test_untracked_paths_are_reported_as_by_git(self):
         for seed in range(4):
             with self.subTest(seed=seed):
                 self.draw(seed, "sha1")
@@ -168,7 +168,7 @@ class Comparison(Drawn):
                 self.assertEqual(self.said("--untracked")[0], git_lines(self, "-uall"))
                 self.assertEqual(self.said("--untracked", "--compare")[1], 0)
 
-    def test_a_clean_repository_is_told_so(self):
+    def test_a_clean_repository_prints_nothing(self):
         self.write("a", "foo")
         self.assertEqual(self.said("--exit-code"), ([], 0))
         self.git("add", "a")
@@ -179,7 +179,7 @@ class Comparison(Drawn):
         self.assertEqual(self.said(), ([" M a"], 0))
         self.assertEqual(self.said("--exit-code"), ([" M a"], 1))
 
-    def test_a_sparse_checkout_is_told_as_git_tells_it(self):
+    def test_a_sparse_checkout_is_reported_as_by_git(self):
         for name in ("in/a", "in/b", "out/a", "out/d/b", "top"):
             self.write(name, "foo")
         self.git("add", ".")
@@ -192,7 +192,7 @@ class Comparison(Drawn):
         os.remove(self.path("top"))
         self.assertEqual(len(self.assert_as_git()), 3)
 
-    def test_a_split_index_is_told_as_git_tells_it(self):
+    def test_a_split_index_is_reported_as_by_git(self):
         for name in ("a", "b", "c"):
             self.write(name, "foo")
         self.git("add", ".")
@@ -204,7 +204,7 @@ class Comparison(Drawn):
             self.write(name, "bars")
         self.assertEqual(self.assert_as_git(), [" M a", " M d"])
 
-    def test_a_linked_worktree_is_told_as_git_tells_it(self):
+    def test_a_linked_worktree_is_reported_as_by_git(self):
         for name in ("a", "b"):
             self.write(name, "foo")
         self.git("add", ".")
@@ -248,7 +248,7 @@ class Comparison(Drawn):
         os.makedirs(self.top, exist_ok=True)
         self.assertEqual(self.said()[0], wanted)
 
-    def test_files_in_place_of_links_are_told_as_git_tells_them(self):
+    def test_files_in_place_of_links_are_reported_as_by_git(self):
         self.git("config", "core.symlinks", "false")
         blob = self.git("hash-object", "-w", "--stdin", given=b"foo").decode().strip()
         for name, content in (("a", "foo"), ("b", "bar")):
@@ -628,7 +628,7 @@ class Faults(Case):
         os.chmod(self.path("text"), 0o755)
         self.refused("can't be run", program=self.path("text"))
 
-    def test_a_fault_of_the_program_comes_behind_its_lines(self):
+    def test_a_fault_of_the_program_comes_after_its_lines(self):
         program = self.program("echo '0 removed \"a\"'", "echo 'status failed: other 0' >&2", "exit 1")
         printed = self.refused("the program ended early: status failed: other 0", program=program)
         self.assertEqual(printed, " D a\n")

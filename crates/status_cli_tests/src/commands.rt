@@ -58,7 +58,7 @@ static REFRESHES: [(&str, u8, &str, &str, &str); 2] = [
 ];
 
 #[test]
-fn a_refreshed_profile_is_put_behind_what_is_there(rt: HostRuntime) -> Result<(), Fail> {
+fn a_refreshed_profile_is_appended(rt: HostRuntime) -> Result<(), Fail> {
     for (text, status, lines, fault, left) in &REFRESHES {
         let mut profile = text.as_bytes();
         let mut output = Vec::new(rt.alloc());

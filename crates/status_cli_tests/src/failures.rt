@@ -189,7 +189,7 @@ fn assert_memory_of_renames<R: AllocGlobal + Abort>(rt: &R) {
 }
 
 #[test]
-fn want_of_memory_has_one_line_wherever_it_is_met(rt: HostRuntime) -> Result<(), Fail> {
+fn out_of_memory_has_one_line_wherever_it_is_met(rt: HostRuntime) -> Result<(), Fail> {
     let walk = walk_error(rt.alloc(), Fault::Memory)?;
     assert_joined(&rt, walk, MEMORY);
     assert_memory_before(&rt);
