@@ -66,9 +66,9 @@ module _ (tree : Tree) (es : List IndexEntry) (included : List ℕ → Bool → 
       }
       passed_by (Some w) h none = absurd (true≢false none)
 
-      passed_by : (o : Option Walked) → out_of x ≡ o → is_some o ≡ true → IsUnderWay (n + 1) left new
-      passed_by None h some = absurd (true≢false (sym some))
-      passed_by (Some w) h some =
+      passed_on_by : (o : Option Walked) → out_of x ≡ o → is_some o ≡ true → IsUnderWay (n + 1) left new
+      passed_on_by None h some = absurd (true≢false (sym some))
+      passed_on_by (Some w) h some =
           let e : drop n all ≡ w ∷ found left = sym u.rest ∙ ap (λ o. cons_option o (found left)) h in
           let next : suc n ≡ n + 1 = omega arith in
           record {
@@ -85,7 +85,7 @@ module _ (tree : Tree) (es : List IndexEntry) (included : List ℕ → Bool → 
       passed_over = passed_by (out_of x) refl
 
       pub passed : is_some (out_of x) ≡ true → IsUnderWay (n + 1) left new
-      passed = passed_by (out_of x) refl
+      passed = passed_on_by (out_of x) refl
 
     pub at_end : (n : ℕ) (kept : List Walked) → IsUnderWay n [] kept → n ≡ length all
     at_end n kept u = omega (arith, length-drop n all, ap length u.rest, u.inside)
