@@ -15,7 +15,7 @@ use Rattle.status_profile.specs.Options.{OptionValues, option_values}
 use Rattle.status_cli.specs.declared.failure.Failure.{Failure}
 use Rattle.status_cli.specs.declared.failure.Failure.TheVariants.{Memory}
 use Rattle.status_cli.specs.Statuses.{IsJoinedPrinted, IsStatusPrinted, IsEnded, JoinedInputs}
-use Rattle.status_cli.specs.ProfileStatuses.{IsPlacePrinted, IsPrintedOver, IsStatusOver, IsUnplanted, WorktreeResults, tree_results, tree_walk}
+use Rattle.status_cli.specs.ProfileStatuses.{IsPlacePrinted, IsPrintedOver, IsStatusOver, IsUnplanted, WorktreeResults, folder_results, folder_walk, tree_results, tree_walk}
 
 -- both succeeded, or both failed for one reason
 abbrev pub AreAlike : {A B : Type 0} → Result A Failure → Result B Failure → Type 0
@@ -66,7 +66,7 @@ module _ {A B : Type 0} (r : Result A Failure) (s : Result B Failure) (same : Ar
   printed_alike w walked hash options index (inr h) = inr (over_alike w options index _ _ _ hash h)
 
   pub place_alike : (place : Place) (hash : HashKind) (options : ProfileOptions) (index : State) → IsPlacePrinted place hash options index old r new → IsPlacePrinted place hash options index old s new
-  place_alike (places.Folder path) hash options index h = tt
+  place_alike (places.Folder path) hash options index h = printed_alike folder_results folder_walk hash options index h
   place_alike (places.Nodes nodes) hash options index (inl p) = inl (failed_too (IsUnplanted (map node_value nodes.items)) r s same p.0, p.1)
   place_alike (places.Nodes nodes) hash options index (inr p) = inr (p.0, p.1, printed_alike (tree_results p.0) (tree_walk p.0 index) hash options index p.2)
 

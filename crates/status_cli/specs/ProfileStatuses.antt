@@ -1,6 +1,6 @@
 -- A profile's status is by its options, its index and the tree of its nodes, unless one can't be put; its lines are those of the
 -- plain or of the joined status, and a failure has its line.
-use Rattle.std.specs.Prelude.{◌≡◌, ◌⊎◌, IfSome, nat_eq, ℕ, ◌+◌, Bool, true, false, List, [], ◌∷◌, map, Option, Some, None, Result, Ok, Err, ⊤}
+use Rattle.std.specs.Prelude.{◌≡◌, ◌⊎◌, IfSome, nat_eq, ℕ, ◌+◌, Bool, true, false, List, [], ◌∷◌, map, Option, Some, None, Result, Ok, Err}
 use Rattle.std.specs.FinMap as paths
 use Rattle.std.specs.List.{starts_with}
 use Rattle.std.specs.Result.{IsErrAnd}
@@ -8,6 +8,7 @@ use Rattle.status_index.specs.Content.{Content}
 use Rattle.status_index.specs.Entries.{IndexEntry}
 use Rattle.status_index.specs.States.{index_of, timestamp_of}
 use Rattle.status_index.specs.declared.fault.Fault.{Fault}
+use Rattle.status_index.specs.declared.fault.Fault.TheVariants.{NotFound}
 use Rattle.status_index.specs.declared.id.HashKind.{HashKind}
 use Rattle.status_index.specs.declared.id.ObjectId.{ObjectId}
 use Rattle.status_index.specs.declared.metadata.Metadata.{Metadata}
@@ -148,14 +149,22 @@ IsJoinedReported results meaning s prefix included old answer new =
 abbrev pub tree_results : Tree → WorktreeResults
 tree_results tree = record { modelled = true; lstat = lstat_in tree; opened = open_in tree; linked = target_in tree }
 
+-- the results of a folder, of which nothing is specified
+abbrev pub folder_results : WorktreeResults
+folder_results = record { modelled = false; lstat = λ _. Err NotFound; opened = λ _. Err NotFound; linked = λ _. Err NotFound }
+
+-- the walk of a folder finds nothing, since untracked files are refused there
+abbrev pub folder_walk : List ℕ → (List ℕ → Bool → Bool) → Walking
+folder_walk prefix included = Some (record { entries = []; fault = None })
+
 -- the walk of a tree of nodes finds the untracked ones
 abbrev pub tree_walk : Tree → State → List ℕ → (List ℕ → Bool → Bool) → Walking
 tree_walk tree index prefix included = Some (untracked_walk tree (index_of index) included)
 
--- over the tree of a profile's nodes, its lines were printed; or nothing, since one of the nodes can't be put or memory ran out. Of a
--- folder nothing is claimed
+-- a profile's lines were printed, over its folder or over the tree of its nodes; or nothing, since one of these can't be put or memory ran
+-- out
 abbrev pub IsPlacePrinted : {A : Type 0} → Place → HashKind → ProfileOptions → State → Option (List ℕ) → Result A Failure → Option (List ℕ) → Type 0
-IsPlacePrinted (places.Folder path) hash options index old result new = ⊤
+IsPlacePrinted (places.Folder path) hash options index old result new = IsPrintedOver folder_results folder_walk hash options index old result new
 IsPlacePrinted (places.Nodes nodes) hash options index old result new =
     (IsErrAnd result (IsUnplanted (map node_value nodes.items)) × (new ≡ old))
     ⊎ ((tree : Tree) × (planted 0 empty_tree (map node_value nodes.items) ≡ Ok tree) × IsPrintedOver (tree_results tree) (tree_walk tree index) hash options index old result new)

@@ -68,7 +68,7 @@ pub record IsStatusPrinted {T U A : Type 0} (query : Query T U) (index : State) 
   pub ended : IsEnded (visit_lines visits ++ closing counts (answered answer)) (answered answer) old result new
 
 -- the options of a joined status: its lines are sorted by path if the profile has `sort`, it has the untracked files with
--- `untracked`, and with `renames` those of files that aren't empty; ids are of the profile's kind
+-- `untracked`, and with `renames` the renames of content that isn't empty; ids are of the profile's kind
 abbrev pub joined_options : OptionValues → HashKind → JoinedOptions
 joined_options o hash = record {
   sorting = if o.sort then Some ByPathCaseSensitive else None;
@@ -86,7 +86,7 @@ pub record JoinedInputs (T U : Type 0) : Type 0 where
   pub ids : Identifying
 
 -- a joined status of this index by a profile's options, without an interrupt flag and with renames by equal content, returned this, and
--- its collector, which may run out of memory, grew so
+-- appended to its collector, which may run out of memory
 abbrev pub IsJoinedAnswer : {T U : Type 0} → JoinedInputs T U → OptionValues → HashKind → State → List (Reported T U) → Result JoinedOutcome JoinedError → List (Reported T U) → Type 0
 IsJoinedAnswer inputs o hash index old answer new =
     IsJoinedStatus inputs.query (joined_options o hash) index false (wanted_walk o.untracked inputs.walking) inputs.ids IsIdentityAnswer true old answer new

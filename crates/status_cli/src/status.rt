@@ -34,8 +34,8 @@ use std::rt::Files;
 use std::sync::Wait;
 use std::thread::Threads;
 
-/// Reads a profile, computes its status, and prints a line for each record to `output`. With the option `counts` a line
-/// of totals follows. `name` is the name of the profile's file.
+/// Reads a profile, computes its status, and prints a line to `output` for each record, untracked file and rename. With
+/// the option `counts` a line of totals follows. `name` is the name of the profile's file.
 ///
 /// Returns the exit status: 0, or 1 after a failure, which is one line on `faults`. Lines that were printed before it
 /// stay. If `output` can't be written, nothing more is printed.

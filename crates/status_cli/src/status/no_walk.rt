@@ -4,7 +4,7 @@ use gix_status::index::State;
 use gix_status::walk::{Delegate, Outcome, Walk, WalkError};
 use gix_status::worktree::{Pathspec, Worktree};
 
-/// Finds nothing. It is passed if no walk is asked for.
+/// Finds nothing. It is passed over a folder, where `untracked` is refused.
 #[derive(Clone, Copy)]
 pub struct NoWalk;
 
