@@ -106,7 +106,7 @@ where
     )
 }
 
-/// Returns the options of such a status, with ids of untracked files of this kind. Empty files and links are never renamed.
+/// Returns the options of such a status, with ids of this kind. Empty files and links are never renamed.
 fn joined_options(options: ProfileOptions, hash: HashKind) -> Options
     ensures { result ≡ joined_options (option_values options) hash }
 {
