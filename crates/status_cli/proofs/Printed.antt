@@ -131,9 +131,9 @@ printed_status query index counts none visits answer old new result empty met wh
     record { visits = visits; answer = answer; met = subst (λ start. IsMet query index start answer visits) empty met; whole = whole; ended = ended }
 
 pub printed_joined : {T U A : Type 0} (inputs : JoinedInputs T U) (o : OptionValues) (hash : HashKind) (index : State) (none entries : List (Reported T U)) (answer : Result JoinedOutcome JoinedError) (old new : Option (List ℕ)) (result : Result A Failure)
-    → none ≡ [] → IsJoinedAnswer inputs o hash index none answer entries → IsEnded (entry_lines entries ++ closing o.counts (joined_answered answer)) (joined_answered answer) old result new → IsJoinedPrinted inputs o hash index old result new
+    → none ≡ [] → IsJoinedAnswer inputs o hash index true none answer entries → IsEnded (entry_lines entries ++ closing o.counts (joined_answered answer)) (joined_answered answer) old result new → IsJoinedPrinted inputs o hash index old result new
 printed_joined inputs o hash index none entries answer old new result empty met ended =
-    record { entries = entries; answer = answer; met = subst (λ start. IsJoinedAnswer inputs o hash index start answer entries) empty met; ended = ended }
+    record { entries = entries; answer = answer; met = subst (λ start. IsJoinedAnswer inputs o hash index true start answer entries) empty met; ended = ended }
 
 pub memory_unprinted : {T : Type 0} (result : Result T Failure) → IsErrAnd result (λ e. e ≡ Memory) → IfErr result IsUnprinted
 memory_unprinted (Ok v) failed = tt

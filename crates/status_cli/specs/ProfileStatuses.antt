@@ -19,7 +19,9 @@ use Rattle.status_base.specs.MemoryTree.{Placed, Tree, lstat_in, open_in, target
 use Rattle.status_base.specs.Nodes.{put_fault}
 use Rattle.status_base.specs.Trees.{empty_tree}
 use Rattle.status_base.specs.declared.worktree.memory.TreeError.{TreeError}
+use Rattle.status_call.specs.Inputs.{settings}
 use Rattle.status_call.specs.Query.{Query}
+use Rattle.status_call.specs.declared.index_as_worktree.inputs.Settings.{Settings}
 use Rattle.status_joined.specs.Items.{Reported}
 use Rattle.status_joined.specs.NodeIds.{ids_by}
 use Rattle.status_joined.specs.Walkings.{Walking}
@@ -63,10 +65,10 @@ options_query o timestamp w prefix included =
       included = included;
     }
 
--- the inputs of a joined status by a profile's options, which converts nothing
-abbrev pub options_inputs : OptionValues → Moment → WorktreeResults → List ℕ → (List ℕ → Bool → Bool) → Walking → HashKind → JoinedInputs (Option ObjectId) (Unit {0})
-options_inputs o timestamp w prefix included walking hash = record {
-  query = options_query o timestamp w prefix included;
+-- the inputs of a joined status of a worktree, which converts nothing
+abbrev pub joined_inputs : {T U : Type 0} → Query T U → WorktreeResults → Walking → HashKind → JoinedInputs T U
+joined_inputs query w walking hash = record {
+  query = query;
   walking = walking;
   ids = record { modelled = w.modelled; ids = ids_by hash w.lstat w.opened w.linked (λ _ _. same) };
 }
@@ -106,7 +108,7 @@ module _ {A : Type 0} (w : WorktreeResults) (options : ProfileOptions) (index : 
 
   -- those of a joined status, by what there is to walk
   abbrev pub IsJoinedOver : Walking → HashKind → Type 0
-  IsJoinedOver walking hash = IsJoinedPrinted (options_inputs (option_values options) (timestamp_of index) w prefix included walking hash) (option_values options) hash index old result new
+  IsJoinedOver walking hash = IsJoinedPrinted (joined_inputs (options_query (option_values options) (timestamp_of index) w prefix included) w walking hash) (option_values options) hash index old result new
 
   -- those of the plain status; or of the joined one, if the options have untracked files, renames or sorting
   pub record IsStatusOver (walking : Walking) (hash : HashKind) : Type 0 where
@@ -138,12 +140,11 @@ IsStatusShown results meaning s prefix included old result new =
 abbrev pub IsProfileShown : {W K A : Type 0} → (W → WorktreeResults) → (K → W → List IndexEntry → List ℕ → (List ℕ → Bool → Bool) → Walking) → ProfileStatus W K → Option (List ℕ) → Result A Failure → Option (List ℕ) → Type 0
 IsProfileShown results meaning s old result new = IsPrintedOver (results s.worktree.now) (walked_by meaning s) s.hash s.options s.index.now old result new
 
--- what a joined status reports to a recorder, by the same meanings
-abbrev pub IsJoinedReported : {W K : Type 0} → (W → WorktreeResults) → (K → W → List IndexEntry → List ℕ → (List ℕ → Bool → Bool) → Walking) → ProfileStatus W K → List ℕ → (List ℕ → Bool → Bool)
-    → List (Reported (Option ObjectId) (Unit {0})) → Result JoinedOutcome JoinedError → List (Reported (Option ObjectId) (Unit {0})) → Type 0
-IsJoinedReported results meaning s prefix included old answer new =
-    let o = option_values s.options in
-    IsJoinedAnswer (options_inputs o (timestamp_of s.index.now) (results s.worktree.now) prefix included (walked_by meaning s prefix included) s.hash) o s.hash s.index.now old answer new
+-- the report of a joined status by a query to its collector, by the same meanings
+abbrev pub IsJoinedReported : {W K T U : Type 0} → (Settings → Query T U) → (W → WorktreeResults) → (K → W → List IndexEntry → List ℕ → (List ℕ → Bool → Bool) → Walking) → ProfileStatus W K → List ℕ → (List ℕ → Bool → Bool)
+    → Bool → List (Reported T U) → Result JoinedOutcome JoinedError → List (Reported T U) → Type 0
+IsJoinedReported query results meaning s prefix included may_fail old answer new =
+    IsJoinedAnswer (joined_inputs (query (settings s.options.status s.index.now)) (results s.worktree.now) (walked_by meaning s prefix included) s.hash) (option_values s.options) s.hash s.index.now may_fail old answer new
 
 -- the results of a tree of nodes, which are specified
 abbrev pub tree_results : Tree → WorktreeResults

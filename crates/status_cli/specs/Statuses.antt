@@ -86,14 +86,14 @@ pub record JoinedInputs (T U : Type 0) : Type 0 where
   pub ids : Identifying
 
 -- a joined status of this index by a profile's options, without an interrupt flag and with renames by equal content, returned this, and
--- appended to its collector, which may run out of memory
-abbrev pub IsJoinedAnswer : {T U : Type 0} → JoinedInputs T U → OptionValues → HashKind → State → List (Reported T U) → Result JoinedOutcome JoinedError → List (Reported T U) → Type 0
-IsJoinedAnswer inputs o hash index old answer new =
-    IsJoinedStatus inputs.query (joined_options o hash) index false (wanted_walk o.untracked inputs.walking) inputs.ids IsIdentityAnswer true old answer new
+-- reported so to its collector, which may run out of memory or never does
+abbrev pub IsJoinedAnswer : {T U : Type 0} → JoinedInputs T U → OptionValues → HashKind → State → Bool → List (Reported T U) → Result JoinedOutcome JoinedError → List (Reported T U) → Type 0
+IsJoinedAnswer inputs o hash index may_fail old answer new =
+    IsJoinedStatus inputs.query (joined_options o hash) index false (wanted_walk o.untracked inputs.walking) inputs.ids IsIdentityAnswer may_fail old answer new
 
--- a joined status of this index was computed from these inputs; and its lines, with `counts` also its totals, were printed as it ended
+-- a joined status of this index, reported to a list that may run out of memory, was computed from these inputs; and its lines, with `counts` also its totals, were printed as it ended
 pub record IsJoinedPrinted {T U A : Type 0} (inputs : JoinedInputs T U) (o : OptionValues) (hash : HashKind) (index : State) (old : Option (List ℕ)) (result : Result A Failure) (new : Option (List ℕ)) : Type 0 where
   pub entries : List (Reported T U)
   pub answer : Result JoinedOutcome JoinedError
-  pub met : IsJoinedAnswer inputs o hash index [] answer entries
+  pub met : IsJoinedAnswer inputs o hash index true [] answer entries
   pub ended : IsEnded (entry_lines entries ++ closing o.counts (joined_answered answer)) (joined_answered answer) old result new

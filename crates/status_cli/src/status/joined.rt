@@ -1,8 +1,8 @@
 //! The status of a profile with untracked files, renames or sorted lines.
 
 ghost use Rattle.std.specs.Prelude.{◌≡◌, map};
+ghost use Rattle.status_call.specs.Inputs.{usual};
 ghost use Rattle.status_joined.specs.Entries.{reported_entry};
-ghost use Rattle.status_joined.specs.RecorderItems.{reported_of_recorder};
 ghost use Rattle.status_profile.specs.Options.{option_values};
 ghost use Rattle.status_cli.specs.Printing.{IsPrinted};
 ghost use Rattle.status_cli.specs.ProfileStatuses.{IsJoinedReported, IsJoinedShown, results_of};
@@ -11,15 +11,17 @@ ghost use Rattle.status_cli.specs.Statuses.{entry_lines, joined_answered, joined
 use crate::failure::Failure;
 use crate::output::{flush, print_closing, print_entry};
 use crate::status::profile_status::ProfileStatus;
-use gix_status::index::{HashKind, ObjectId};
+use gix_status::index::HashKind;
 use gix_status::index_as_worktree;
+use gix_status::index_as_worktree::traits::CompareBlobs;
 use gix_status::index_as_worktree_with_renames::{
-    Context, DirwalkContext, Entry, Error, Options, Outcome, Recorder, Sorting,
-    index_as_worktree_with_renames,
+    Context, DirwalkContext, Entry, Error, ExactClone, Options, Outcome, Recorder, Sorting,
+    VisitEntry, index_as_worktree_with_renames,
 };
 use gix_status::tracker::{IdentityTracker, Rewrites};
 use gix_status::walk::Walk;
 use gix_status::worktree::{MemoryObjects, NoFilter, NoLister, NoSubmodules, Pathspec, Worktree};
+use status_call::index_as_worktree::inputs::{Ask, Inputs};
 use status_profile::ProfileOptions;
 use std::alloc::Global;
 use std::io;
@@ -42,9 +44,9 @@ where
         (O.contents output.old) result (O.contents output.new) }
 {
     let alloc = rt.alloc();
-    let counts = status.options.counts;
+    let (counts, comparer) = (status.options.counts, status.options.comparer);
     let mut recorder = Recorder::new(alloc);
-    let answer = report_joined(rt, alloc, status, pathspec, &mut recorder);
+    let answer = report_joined(rt, alloc, status, &mut recorder, pathspec, comparer);
     print_entries(alloc, recorder.records.as_slice(), output)?;
     print_closing(alloc, with_failure(answer), counts, output)
 }
@@ -56,24 +58,33 @@ fn with_failure(answer: Result<Outcome, Error>) -> Result<index_as_worktree::Out
     Ok(answer?.tracked_file_modification)
 }
 
-/// Reports a status to a recorder, with no filter, listing, submodule or blob, and with renames by equal content.
+/// A worktree, a comparer and a pathspec, and the usual interfaces.
+type Usual<'w, W, C, P> = Inputs<'w, W, C, NoSubmodules, MemoryObjects, P, NoFilter, NoLister>;
+
+/// Reports a status by a comparer to a collector, with no filter, listing, submodule or blob, and with renames by equal
+/// content. It is generic, since the checker's search gives up at a concrete collector and comparer.
 fn report_joined<
     'a,
     R: Threads + Wait,
     W: Worktree + Sync,
     K: Walk<W> + Send + Drop,
+    V: VisitEntry<'a, ContentChange = C::Output, SubmoduleStatus = ()>,
     P: Pathspec + Send,
+    C: CompareBlobs + Send,
 >(
     rt: &R,
     alloc: Global,
     status: ProfileStatus<'a, W, K>,
+    collector: &mut V,
     pathspec: P,
-    recorder: &mut Recorder<'a, Option<ObjectId>, ()>,
+    compare: C,
 ) -> Result<Outcome, Error>
 where
     W::File: Send,
-    ensures { IsJoinedReported (results_of W.modelled W.lstat_of W.open_of W.target_of) K.meaning status.entry (P.prefix pathspec) (P.included pathspec)
-        (reported_of_recorder recorder.old) result (reported_of_recorder recorder.new) }
+    C::Output: Send + ExactClone + 'a,
+    ensures { IsJoinedReported (⟦<Usual<'a, W, C, P> as Ask>⟧.query (usual status.entry.worktree compare pathspec))
+        (results_of W.modelled W.lstat_of W.open_of W.target_of) K.meaning status.entry (P.prefix pathspec) (P.included pathspec)
+        V.fails (V.visits collector.old) result (V.visits collector.new) }
 {
     let ProfileStatus {
         index,
@@ -97,8 +108,8 @@ where
         alloc,
         index,
         worktree,
-        recorder,
-        options.comparer,
+        collector,
+        compare,
         NoSubmodules,
         objects,
         context,

@@ -8,4 +8,4 @@ returns-in_ok-worktree-in-Nodes-clause-printed g c =
 
 pub returns-in_ok-worktree-in-Folder-clause-printed :
     goal.returns-in_ok-worktree-in-Folder-clause-printed
-returns-in_ok-worktree-in-Folder-clause-printed g c = rw c.in-Folder.is c.print_prefixed-2.ensures.printed
+returns-in_ok-worktree-in-Folder-clause-printed g c = rw c.in-Folder.is c.print_prefixed-in-Folder.ensures.printed

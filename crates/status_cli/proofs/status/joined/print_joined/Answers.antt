@@ -5,20 +5,20 @@ use Rattle.status_cli.proofs.Totals.{skips_fit}
 use Rattle.status_cli.proofs.status.joined.print_joined.Goals as goal
 
 pub print_closing-requires : goal.print_closing-requires
-print_closing-requires g c = rw c.with_failure.ensures (skips_fit _ _ _ _ _ _ _ _ _ _ c.report_joined.result c.report_joined.ensures)
+print_closing-requires g c = rw c.with_failure.ensures (skips_fit _ _ _ _ _ _ _ _ _ _ c.report_joined-answer.result c.report_joined-answer.ensures)
 
 pub returns-in_err-print_entries : goal.returns-in_err-print_entries
 returns-in_err-print_entries g c =
-    let call = c.report_joined in
-    let entries = reported_of_recorder call.new.recorder in
+    let call = c.report_joined-answer in
+    let entries = reported_of_recorder call.new.collector in
     printed_joined _ _ _ _ _ entries call.result _ _ _ c.new-recorder.ensures call.ensures
     (ended_early (entry_lines entries) (closing c.args.status.options.counts (joined_answered call.result)) (joined_answered call.result) _ _ _ c.from_residual.result c.from_residual.ensures.1
     (rw c.as_slice.ensures.value at c.in_err-print_entries.ensures.0) c.in_err-print_entries.ensures.1)
 
 pub returns : goal.returns
 returns g c =
-    let call = c.report_joined in
-    let entries = reported_of_recorder call.new.recorder in
+    let call = c.report_joined-answer in
+    let entries = reported_of_recorder call.new.collector in
     printed_joined _ _ _ _ _ entries call.result _ _ _ c.new-recorder.ensures call.ensures
     (ended_after (entry_lines entries) (closing c.args.status.options.counts (joined_answered call.result)) (joined_answered call.result) _ _ _ _
     (rw c.as_slice.ensures.value at c.in_ok-print_entries.ensures) (rw c.with_failure.ensures at c.print_closing.ensures))
