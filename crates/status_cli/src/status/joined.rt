@@ -62,7 +62,7 @@ fn with_failure(answer: Result<Outcome, Error>) -> Result<index_as_worktree::Out
 type Usual<'w, W, C, P> = Inputs<'w, W, C, NoSubmodules, MemoryObjects, P, NoFilter, NoLister>;
 
 /// Reports a status by a comparer to a collector, with no filter, listing, submodule or blob, and with renames by equal
-/// content. It is generic, since the checker's search gives up at a concrete collector and comparer.
+/// content. It is generic, since the checker's search fails at a concrete collector and comparer.
 fn report_joined<
     'a,
     R: Threads + Wait,
