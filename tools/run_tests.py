@@ -68,8 +68,10 @@ def said(result):
 def main(words, folder=HERE):
     if TRIED not in words and cases.may_read_all() and may_be_ordinary():
         return subprocess.run([*ORDINARY, sys.executable, os.path.abspath(__file__), TRIED], check=False).returncode
-    # In a job in the background the signal is ignored, and processes started here would ignore it too. Tests send it.
+    # In a job in the background, or under nohup, these signals are ignored, and processes started here would ignore them
+    # too. Tests send them.
     signal.signal(signal.SIGINT, signal.default_int_handler)
+    signal.signal(signal.SIGHUP, signal.SIG_DFL)
     runner = unittest.TextTestRunner(stream=sys.stderr, resultclass=Result)
     lines, failed = said(runner.run(unittest.defaultTestLoader.discover(folder)))
     print("\n".join(lines))
