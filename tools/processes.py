@@ -43,10 +43,14 @@ class Running:
 
     def close(self):
         """Ends the program, if it still runs, and closes its files. Later calls do nothing."""
-        if self.process is not None:
-            os.kill(self.process, KILL)
-            os.waitpid(self.process, 0)
-            self.process = None
+        process, self.process = self.process, None
+        if process is not None:
+            try:
+                os.kill(process, KILL)
+                os.waitpid(process, 0)
+            except (ProcessLookupError, ChildProcessError):
+                # An interrupt came right after the program's end had been waited for.
+                pass
         while self.files:
             os.close(self.files.pop())
 

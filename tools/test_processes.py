@@ -78,6 +78,11 @@ class Processes(unittest.TestCase):
             del tool.os.memfd_create
             self.assertEqual(self.ended("os.write(1, os.read(0, 9))", b"given"), (b"given", b"", 0))
 
+    def test_a_program_that_was_waited_for_is_closed_without_an_error(self):
+        with Running(["true"]) as running:
+            os.waitpid(running.process, 0)
+        self.assertEqual((running.process, running.files), (None, []))
+
     def test_standard_files_may_be_closed(self):
         lines = "import processes; it = processes.Running(['/bin/sh', '-c', 'cat; echo said >&2'], [b'given'])\n"
         lines += "assert it.ended() == (b'given', b'said\\n', 0), it.files"
