@@ -79,7 +79,7 @@ class Processes(unittest.TestCase):
             self.assertEqual(self.ended("os.write(1, os.read(0, 9))", b"given"), (b"given", b"", 0))
 
     def test_a_program_that_was_waited_for_is_closed_without_an_error(self):
-        with Running(["true"]) as running:
+        with tool.Running(["true"]) as running:
             os.waitpid(running.process, 0)
         self.assertEqual((running.process, running.files), (None, []))
 
