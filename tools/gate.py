@@ -1,18 +1,19 @@
 #!/usr/bin/env python3
-"""The part of the gate that runs after `rt ci`. It checks how that ended, runs the tests of tools/, and counts evidence:
+"""Runs the gate: `rt ci` on a copy without the must-fail edits, tools/must_fail.py for these, and the tests of tools/.
 
-    rt ci | tee OUTPUT
-    python3 tools/gate.py OUTPUT STATUS
+    python3 tools/gate.py
 
-OUTPUT is the file with the output of `rt ci`, and STATUS its exit status. The gate fails, and a line says why,
+`rt ci` would try each edit by a check of its own. The first two run side by side, each with half of the processors, or of
+the checks at once that RT_JOBS allows. The gate fails, and a line says why,
 
 - if a command ends with another exit status than 0, or without its line 'N passed, M failed', or one with failures;
 - if a part that the tests need isn't there: the built program, git, a C compiler and so on;
 - if a test wasn't run, or a must-fail edit wasn't refused by the prover, as a bad edit;
 - if there is less evidence of a kind than .ci/floors says.
 
-More evidence than that is no failure: a line says that the floor is to be raised. The last line is 'N passed, M failed'
-for all of it, and the exit status is 0 if nothing failed.
+More evidence than that is no failure: a line says that the floor is to be raised. Other lines tell what each command took,
+and what all took as a multiple of one pass over the proofs. The last line is 'N passed, M failed' for all of it, and the
+exit status is 0 if nothing failed.
 """
 
 import os
@@ -20,6 +21,9 @@ import re
 import shutil
 import subprocess
 import sys
+import tempfile
+import time
+from concurrent.futures import ThreadPoolExecutor
 from dataclasses import dataclass
 from pathlib import Path
 
@@ -29,8 +33,10 @@ import run_tests
 
 TOP = Path(__file__).resolve().parent.parent
 KINDS = ("must-fail-edits", "proved-tests", "rows-of-proved-tests", "python-tests", "rows")
-# The words that `rt ci` prints for an edit that shows nothing. It fails only for some of these.
+# The words for an edit that shows nothing.
 USELESS = ("BAD EDIT", "NOT TRIED", "NOT REFUSED")
+# What the copy for `rt ci` is without: edits, and what was built.
+LEFT_OUT = (".git", "must-fail", "out", "__pycache__")
 TEST = r"^ *#\[test\]\n *fn (\w+)"
 
 
@@ -40,11 +46,13 @@ class Malformed(Exception):
 
 @dataclass(frozen=True)
 class Ran:
-    """How a command ended: its name, its whole output, and its exit status."""
+    """How a command ended: its name, its whole output, its exit status, and its seconds of processor and of the clock."""
 
     name: str
     text: str
     status: int
+    processor: float = 0.0
+    clock: float = 0.0
 
 
 @dataclass(frozen=True)
@@ -79,7 +87,7 @@ def missing(program, found=shutil.which):
 def judged(ran):
     """Returns how many passed and failed by a command's last line, and what is wrong with how it ended."""
     last = ran.text.rstrip("\n").split("\n")[-1]
-    line = re.fullmatch(r"(?:tools: )?(\d+) passed, (\d+) failed", last)
+    line = re.fullmatch(r"(?:tools: |must-fail: )?(\d+) passed, (\d+) failed", last)
     passed, failed = (int(line[1]), int(line[2])) if line else (0, 0)
     faults = [] if line else [f"{ran.name} ended without a line 'N passed, M failed'"]
     if ran.status != 0 and failed == 0:
@@ -90,22 +98,22 @@ def judged(ran):
 
 
 def useless_edits(text):
-    """Returns the lines of `rt ci` about edits that show nothing."""
+    """Returns the lines of tools/must_fail.py about edits that show nothing."""
     lines = [line for line in text.splitlines() if any(words in line for words in USELESS)]
-    return [f"an edit shows nothing: {line.removeprefix('rt: ')}" for line in lines]
+    return [f"an edit shows nothing: {line.removeprefix('must-fail: ')}" for line in lines]
 
 
 # The evidence
 
 
 def edits_there(top):
-    """Returns the must-fail edits of the crates, as `rt ci` names them."""
+    """Returns the must-fail edits of the crates, by crate and name."""
     return {f"{path.parts[-3]}/{path.name}" for path in top.glob("crates/*/must-fail/*.edit")}
 
 
 def edits_refused(text):
-    """Returns the must-fail edits that the prover refused, by the output of `rt ci`."""
-    return set(re.findall(r"^rt: must-fail (\S+\.edit): refused, as it must be", text, re.M))
+    """Returns the must-fail edits that the prover refused, by the output of tools/must_fail.py."""
+    return set(re.findall(r"^must-fail: (\S+\.edit): refused: ", text, re.M))
 
 
 def tests_there(top):
@@ -135,11 +143,11 @@ def tools_passed(text, kind):
     return sum(int(number) for number in re.findall(rf"^tools: (\d+) {kind} passed$", text, re.M))
 
 
-def counted(top, ci, tools):
+def counted(top, ci, edits, tools):
     """Returns the counts of all evidence, and of the evidence that passed."""
     return [
         Count("must-fail-edits", "in crates/*/must-fail", len(edits_there(top))),
-        Count("must-fail-edits", "refused by the prover", len(edits_refused(ci) & edits_there(top))),
+        Count("must-fail-edits", "refused by the prover", len(edits_refused(edits) & edits_there(top))),
         Count("proved-tests", "in crates/*/src", len(tests_there(top))),
         Count("proved-tests", "passed", len(tests_passed(ci) & tests_there(top))),
         Count("rows-of-proved-tests", "in crates/*_tests/src", rows_of_tests(top)),
@@ -181,15 +189,15 @@ def above(counts, floors):
     return [f"{kind}: {least[kind]}, and the floor in .ci/floors is {floors[kind]}: raise the floor" for kind in high]
 
 
-def evidence(top, ci, tools):
+def evidence(top, ci, edits, tools):
     """Returns what is wrong with the evidence, and notes on it that are no failures."""
     try:
         floors = floors_of((top / ".ci" / "floors").read_text(encoding="utf-8"))
-        counts = counted(top, ci, tools)
+        counts = counted(top, ci, edits, tools)
     except (Malformed, row_files.Malformed, OSError) as error:
         return [f"the evidence can't be counted: {error}"], []
     without = [
-        ("edits that the prover didn't refuse", edits_there(top) - edits_refused(ci)),
+        ("edits that the prover didn't refuse", edits_there(top) - edits_refused(edits)),
         ("tests of crates that didn't pass", tests_there(top) - tests_passed(ci)),
     ]
     faults = [f"{words}: {', '.join(sorted(names))}" for words, names in without if names]
@@ -197,35 +205,71 @@ def evidence(top, ci, tools):
     return faults + below(counts, floors), notes + above(counts, floors)
 
 
+# What it takes
+
+
+def costs(runs):
+    """Returns lines on the minutes that commands took, and on all of them against one pass over the proofs."""
+    lines = [f"{it.name}: {it.processor / 60:.1f} minutes of processor, {it.clock / 60:.1f} of the clock" for it in runs]
+    passes = [re.search(r"^must-fail: ([\d.]+) minutes of processor for proofs", it.text, re.M) for it in runs]
+    minutes = next((float(it[1]) for it in passes if it), 0.0)
+    if minutes:
+        total = sum(it.processor for it in runs) / 60
+        lines.append(f"all: {total:.1f} minutes of processor, {total / minutes:.1f} times one pass over the proofs ({minutes})")
+    return lines
+
+
 # The gate
 
 
-def run(name, words, settings):
-    """Runs a command, and prints its output as it comes."""
+def run(name, words, settings, folder=TOP, shows=True):
+    """Runs a command in a folder, and prints its output as it comes, or at its end."""
     environment = {**os.environ, **settings}
-    lines = []
-    with subprocess.Popen(words, cwd=TOP, env=environment, stdout=subprocess.PIPE, text=True, errors="replace") as it:
+    lines, begun = [], time.monotonic()
+    how = {"cwd": folder, "env": environment, "stdin": subprocess.DEVNULL, "stdout": subprocess.PIPE}
+    with subprocess.Popen(words, text=True, errors="replace", **how) as it:
         for line in it.stdout:
             lines.append(line)
-            print(line, end="", flush=True)
-    return Ran(name, "".join(lines), it.returncode)
+            if shows:
+                print(line, end="", flush=True)
+        _, status, usage = os.wait4(it.pid, 0)
+        it.returncode = os.waitstatus_to_exitcode(status)
+    if not shows:
+        print("".join(lines), end="", flush=True)
+    return Ran(name, "".join(lines), it.returncode, usage.ru_utime + usage.ru_stime, time.monotonic() - begun)
 
 
-def verdict(top, program, ci, tools, found=shutil.which):
-    """Returns how many passed and failed in all, what is wrong, and notes that are no failures."""
-    (passed, failed, wrong), (passed_too, failed_too, wrong_too) = judged(ci), judged(tools)
-    faults, notes = evidence(top, ci.text, tools.text)
-    faults = missing(program, found) + wrong + wrong_too + useless_edits(ci.text) + faults
-    return passed + passed_too, failed + failed_too + len(faults), faults, notes
+def verdict(top, program, ran, found=shutil.which):
+    """Returns how many passed and failed in all of `rt ci`, the edits and the tests, what is wrong, and notes."""
+    ends = [judged(it) for it in ran]
+    faults, notes = evidence(top, *(it.text for it in ran))
+    wrong = [fault for _, _, faults_of_one in ends for fault in faults_of_one]
+    faults = missing(program, found) + wrong + useless_edits(ran[1].text) + faults
+    return sum(it[0] for it in ends), sum(it[1] for it in ends) + len(faults), faults, notes + costs(ran)
 
 
-def main(output, status):
-    program = TOP / "crates" / "status_program" / "out" / "status_program"
-    ci = Ran("rt ci", Path(output).read_text(encoding="utf-8", errors="replace"), int(status))
-    # If no program was built, each test that needs one says that it wasn't run.
-    settings = {"STATUS_PROGRAM": str(program) if program.is_file() else "", "PYTHONDONTWRITEBYTECODE": "1"}
-    tools = run("tools/run_tests.py", [sys.executable, "tools/run_tests.py"], settings)
-    passed, failed, faults, notes = verdict(TOP, program, ci, tools)
+def lanes():
+    """Returns how many checks run at once in each of the two commands that check."""
+    number = os.environ.get("RT_JOBS", "")
+    both = int(number) if number.isdigit() and int(number) else len(os.sched_getaffinity(0))
+    return max(both // 2, 1)
+
+
+def main():
+    with tempfile.TemporaryDirectory(prefix="gate-") as room:
+        copy = Path(room) / "copy"
+        shutil.copytree(TOP, copy, ignore=shutil.ignore_patterns(*LEFT_OUT))
+        program = copy / "crates" / "status_program" / "out" / "status_program"
+        settings = {"RT_JOBS": str(lanes()), "PYTHONDONTWRITEBYTECODE": "1"}
+        script = [sys.executable, "tools/must_fail.py"]
+        with ThreadPoolExecutor(1) as pool:
+            edits = pool.submit(run, "tools/must_fail.py", script, settings, TOP, False)
+            ci = run("rt ci", ["rt", "ci"], settings, copy)
+            edits = edits.result()
+        # If no program was built, each test that needs one says that it wasn't run.
+        settings["STATUS_PROGRAM"] = str(program) if program.is_file() else ""
+        tools = run("tools/run_tests.py", [sys.executable, "tools/run_tests.py"], settings)
+        passed, failed, faults, notes = verdict(TOP, program, (ci, edits, tools))
     for line in [*notes, *(f"FAILED: {fault}" for fault in faults)]:
         print(f"gate: {line}")
     print(f"{passed} passed, {failed} failed")
@@ -233,4 +277,4 @@ def main(output, status):
 
 
 if __name__ == "__main__":
-    sys.exit(main(*sys.argv[1:]))
+    sys.exit(main())

@@ -34,20 +34,25 @@ FILES = {
     "crates/low_tests/src/b.rt": 'const ROW: Row = Row {\n    name: "z",\n};\n',
     "tools/rows/r.txt": "-- words\nstatus f\n\n== a\n{}\n\n== b\n{}\n",
 }
-CI = """rt: must-fail low/one.edit: refused, as it must be: src/lib.rt:1:1: error
-rt: must-fail high/two.edit: refused, as it must be (only by a limit of the prover): src/lib.rt:1:1: error
-test first ... ok
+CI = """test first ... ok
 test deep::more::tests::second ... ok
 rt: high: its tests passed
-rt: ok; handles allowed: none; must-fail edits: 2 refused, 1 of them only by a limit; all
-6 passed, 0 failed
+rt: ok; handles allowed: none
+4 passed, 0 failed
+"""
+EDITS = """must-fail: low: proved, 1 edits to try
+must-fail: low/one.edit: refused: note: src/lib.rt:1:1: it is not proved that it holds
+must-fail: high/two.edit: refused: (only at a limit of the prover) note: src/lib.rt:1:1: it is not proved that it holds
+must-fail: 2 refused, 1 only at a limit of the prover, 0 only because a proof file names what is gone
+must-fail: 20.0 minutes of processor for proofs, 10.0 minutes of processor for edits
+must-fail: 2 passed, 0 failed
 """
 TOOLS = """tools: 3 Python tests passed
 tools: 2 rows passed
 tools: 5 passed, 0 failed
 """
 # The commands that .ci/run needs, except `rt` and python3.
-COMMANDS = ("bash", "dirname", "mktemp", "nproc", "rm", "tee")
+COMMANDS = ("bash", "dirname", "nproc")
 
 
 class Planted(unittest.TestCase):
@@ -68,11 +73,15 @@ class Planted(unittest.TestCase):
         path.parent.mkdir(parents=True, exist_ok=True)
         path.write_text(text, encoding="utf-8")
 
-    def verdict(self, ci=CI, ci_status=0, tools=TOOLS, tools_status=0, lacking=()):
+    def verdict(self, ci=CI, ci_status=0, edits=EDITS, edits_status=0, tools=TOOLS, tools_status=0, lacking=()):
         """Returns the gate's verdict if these commands aren't there."""
-        ran = gate.Ran("rt ci", ci, ci_status), gate.Ran("tools/run_tests.py", tools, tools_status)
+        ran = (
+            gate.Ran("rt ci", ci, ci_status, 1800.0, 900.0),
+            gate.Ran("tools/must_fail.py", edits, edits_status, 1740.0, 900.0),
+            gate.Ran("tools/run_tests.py", tools, tools_status, 60.0, 90.0),
+        )
         found = lambda name: None if name in lacking else f"/bin/{name}"
-        return gate.verdict(self.top, str(self.program), *ran, found)
+        return gate.verdict(self.top, str(self.program), ran, found)
 
     def assert_fails(self, *words, counted=0, **planted):
         """Asserts that the gate fails for one reason with each of these words, besides failures counted by commands."""
@@ -85,6 +94,8 @@ class Planted(unittest.TestCase):
         passed, failed, faults, notes = self.verdict()
         self.assertEqual((passed, failed, faults), (11, 0, []))
         self.assertIn("must-fail-edits refused by the prover: 2", notes)
+        self.assertIn("rt ci: 30.0 minutes of processor, 15.0 of the clock", notes)
+        self.assertIn("all: 60.0 minutes of processor, 3.0 times one pass over the proofs (20.0)", notes)
         self.assertFalse([note for note in notes if "raise the floor" in note])
 
     def test_a_missing_part_is_a_failure(self):
@@ -100,10 +111,11 @@ class Planted(unittest.TestCase):
 
     def test_a_failing_exit_status_is_a_failure_whatever_was_printed(self):
         self.assert_fails("rt ci ended with exit status 1, and its last line tells of no failure", ci_status=1)
+        self.assert_fails("tools/must_fail.py ended with exit status 1, and", edits_status=1)
         self.assert_fails("tools/run_tests.py ended with exit status -11, and", tools_status=-11)
 
     def test_failures_that_a_command_counts_are_failures(self):
-        one = CI.replace("6 passed, 0 failed", "5 passed, 1 failed")
+        one = CI.replace("4 passed, 0 failed", "3 passed, 1 failed")
         self.assert_fails(ci=one, ci_status=1, counted=1)
         self.assert_fails("rt ci ended with exit status 0, and its last line tells of failures", ci=one, counted=1)
         two = TOOLS.replace("5 passed, 0 failed", "5 passed, 2 failed")
@@ -111,8 +123,9 @@ class Planted(unittest.TestCase):
 
     def test_a_command_without_its_last_line_fails(self):
         alone = CI.replace("0 failed", "0 failed (high and the crates below alone: not the gate)")
-        for ci in (alone, CI + "Killed\n", CI.replace("6 passed, 0 failed\n", "")):
+        for ci in (alone, CI + "Killed\n", CI.replace("4 passed, 0 failed\n", "")):
             self.assert_fails("rt ci ended without a line 'N passed, M failed'", ci=ci)
+        self.assert_fails("tools/must_fail.py ended without a line", edits=EDITS + "x\n")
         self.assert_fails("tools/run_tests.py ended without a line", tools=TOOLS + "x\n")
 
     def test_one_edit_less_is_a_failure(self):
@@ -121,19 +134,19 @@ class Planted(unittest.TestCase):
         self.assert_fails(low, "must-fail-edits refused by the prover: 1, and")
 
     def test_an_edit_that_was_not_refused_is_a_failure(self):
-        line = CI.splitlines(keepends=True)[0]
+        line = EDITS.splitlines(keepends=True)[1]
         words = ("edits that the prover didn't refuse: low/one.edit", "must-fail-edits refused by the prover: 1, and")
-        self.assert_fails(*words, ci=CI.replace(line, ""))
-        for said in ("BAD EDIT: no line has it", "NOT TRIED: run this again", "NOT REFUSED: the crate is still proved"):
-            bad = CI.replace(line, f"rt: must-fail low/one.edit: {said}\n")
-            self.assert_fails(f"an edit shows nothing: must-fail low/one.edit: {said}", *words, ci=bad)
+        self.assert_fails(*words, edits=EDITS.replace(line, ""))
+        for said in ("BAD EDIT: no contract was tried: x", "NOT TRIED: x", "NOT REFUSED: the crate is still proved"):
+            bad = EDITS.replace(line, f"must-fail: low/one.edit: {said}\n")
+            self.assert_fails(f"an edit shows nothing: low/one.edit: {said}", *words, edits=bad)
 
     def test_a_bad_edit_among_enough_others_is_a_failure(self):
-        bad = "rt: crates/low/must-fail/x/y.edit: BAD EDIT: an edit stands right in must-fail/\n"
-        self.assert_fails("an edit shows nothing: crates/low/must-fail/x/y.edit: BAD EDIT", ci=bad + CI)
+        bad = "must-fail: low/x/y.edit: BAD EDIT: an edit stands right in must-fail/\n"
+        self.assert_fails("an edit shows nothing: low/x/y.edit: BAD EDIT", edits=bad + EDITS)
         self.write("crates/low/must-fail/three.edit", "")
-        said = "must-fail low/three.edit: BAD EDIT: no line has it"
-        self.assert_fails(f"nothing: {said}", "didn't refuse: low/three.edit", ci=f"rt: {said}\n{CI}")
+        said = "low/three.edit: BAD EDIT: an old text is in src/lib.rt 0 times, and not once"
+        self.assert_fails(f"nothing: {said}", "didn't refuse: low/three.edit", edits=f"must-fail: {said}\n{EDITS}")
 
     def test_one_proved_test_less_is_a_failure(self):
         unproved = CI.replace("test first ... ok", "test first ... FAILED")
@@ -248,15 +261,15 @@ class Runner(unittest.TestCase):
         self.assertEqual(ran.returncode == 0, run_tests.may_be_ordinary())
 
 
-class Script(unittest.TestCase):
-    """Runs .ci/run with other programs in place of `rt` and tools/gate.py."""
+class Gate(unittest.TestCase):
+    """Runs .ci/run in a small repository, with other programs in place of `rt` and of two tools."""
 
     def setUp(self):
         room = tempfile.TemporaryDirectory()
         self.addCleanup(room.cleanup)
         self.top = Path(room.name)
-        for name in (".ci", "bin", "tools"):
-            (self.top / name).mkdir()
+        for name in (".ci", "bin", "tools", "crates/low/must-fail", "crates/low/out", "crates/low/src"):
+            (self.top / name).mkdir(parents=True)
         shutil.copy(gate.TOP / ".ci" / "run", self.top / ".ci" / "run")
         for name in COMMANDS:
             (self.top / "bin" / name).symlink_to(shutil.which(name))
@@ -266,34 +279,34 @@ class Script(unittest.TestCase):
         path.write_text(f"#!{shutil.which('bash')}\n{lines}\n", encoding="utf-8")
         path.chmod(0o755)
 
-    def ran(self, rt, python=None):
-        """Runs the script with these lines of a shell in place of `rt`, and of python3 if they are passed."""
-        self.stand_in("rt", rt)
-        if python:
-            self.stand_in("python3", python)
+    def ran(self):
         settings = {"PATH": str(self.top / "bin")}
         ran = subprocess.run([self.top / ".ci" / "run"], env=settings, capture_output=True, text=True, timeout=60)
         return ran.returncode, ran.stdout.splitlines()
 
-    def test_it_ends_as_the_gate_does(self):
-        good = 'echo "6 passed, 0 failed"'
-        # The gate gets the output of `rt ci`, and its exit status.
-        given = '[[ $1 == tools/gate.py && $3 == 0 && $(<"$2") == "6 passed, 0 failed" ]] && echo "9 passed, 0 failed"'
-        self.assertEqual(self.ran(good, given), (0, ["6 passed, 0 failed", "9 passed, 0 failed"]))
-        self.assertEqual(self.ran(good, 'echo "9 passed, 0 failed"; exit 1')[0], 1)
+    def test_the_script_ends_as_the_gate_does(self):
+        self.stand_in("rt", "")
+        for status in (0, 1):
+            self.stand_in("python3", f'[[ $1 == tools/gate.py && $RT_JOBS -gt 0 ]] && echo "9 passed"; exit {status}')
+            self.assertEqual(self.ran(), (status, ["9 passed"]))
 
-    def test_a_failing_rt_fails_it_whatever_the_gate_says(self):
-        self.assertEqual(self.ran("exit 3", '[[ $3 == 3 ]] && echo "9 passed, 0 failed"'), (1, ["9 passed, 0 failed"]))
+    def test_a_missing_program_fails_it(self):
+        for name in ("rt", "python3"):
+            status, lines = self.ran()
+            self.assertEqual((status, lines[-1]), (1, "0 passed, 1 failed"))
+            self.assertIn("missing: ", lines[-2])
+            self.stand_in(name, "")
 
-    def test_a_missing_python_fails_it(self):
-        status, lines = self.ran('echo "6 passed, 0 failed"')
-        self.assertEqual((status, lines[-1]), (1, "0 passed, 1 failed"))
-        self.assertIn("missing: python3", lines[-2])
-
-    def test_a_missing_rt_fails_it(self):
-        self.stand_in("python3", '[[ $3 == 127 ]] && echo "9 passed, 0 failed"')
-        ran = subprocess.run([self.top / ".ci" / "run"], env={"PATH": str(self.top / "bin")}, capture_output=True)
-        self.assertEqual((ran.returncode, ran.stdout), (1, b"9 passed, 0 failed\n"))
+    def test_rt_gets_a_copy_without_edits(self):
+        self.stand_in("rt", 'echo "$1 $RT_JOBS $(echo crates/low/*)"; echo "1 passed, 0 failed"; exit 3')
+        self.stand_in("python3", f'exec {sys.executable} "$@"')
+        for path in (gate.TOP / "tools").glob("[!t]*.py"):
+            shutil.copy(path, self.top / "tools" / path.name)
+        (self.top / "tools" / "must_fail.py").write_text("print('must-fail: 0 passed, 1 failed'); raise SystemExit(1)")
+        status, lines = self.ran()
+        self.assertEqual((status, lines[0]), (1, f"ci {max(min(os.cpu_count(), 4) // 2, 1)} crates/low/src"))
+        self.assertIn("must-fail: 0 passed, 1 failed", lines)
+        self.assertTrue([line for line in lines if line.startswith("gate: FAILED: rt ci ended with exit status 3")])
 
 
 if __name__ == "__main__":

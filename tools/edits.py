@@ -1,0 +1,177 @@
+"""The must-fail edits of crates: what they replace, the functions that they are of, and which of them one check can try.
+
+An edit is a file crates/CRATE/must-fail/NAME.edit: a line `file: src/FILE.rt`, and pairs of lines `old: TEXT` and `new:
+TEXT`. Each old text is in its file exactly once.
+"""
+
+import re
+from dataclasses import dataclass
+
+NAME = r"[A-Za-z0-9_-][A-Za-z0-9_.-]*\.edit"
+SOURCES = ("src", "specs", "proofs")
+FUNCTION = re.compile(r"( *)(?:pub(?:\([a-z]+\))? )?(?:const |unsafe )*fn (\w+)")
+OWNER = re.compile(r" *(?:impl(?:<.*?>)?(?: .*? for)?|(?:pub )?trait) (\w+)")
+
+
+class BadEdit(Exception):
+    """Raised if an edit can't be applied. Its text says why."""
+
+
+@dataclass(frozen=True)
+class Function:
+    """A function in a source file: its lines, counted from 1, and the type or trait that it belongs to, if any."""
+
+    path: str
+    first: int
+    last: int
+    owner: str
+    name: str
+
+    def key(self):
+        """Returns what the proof files of the function are found by, which another function may share."""
+        return module_of(self.path), self.owner, self.name
+
+    def has_proofs_in(self, folder):
+        """Returns whether a folder below proofs/ is of this function, by its module, type and name."""
+        *modules, name = folder.split("/")
+        module, owner, own = self.key()
+        is_of_module = not module or modules[:1] == [module]
+        return name == own and is_of_module and (not owner or any(it.startswith(owner) for it in modules))
+
+
+@dataclass(frozen=True)
+class Edit:
+    """An edit: its crate, its file's name, its replacements as paths with old and new texts, and its one function, if any."""
+
+    crate: str
+    name: str
+    pairs: tuple
+    function: "Function | None"
+
+    def label(self):
+        return f"{self.crate}/{self.name}"
+
+
+def module_of(path):
+    """Returns the first module of a source file, or nothing for the crate's own."""
+    module = path.split("/")[1].removesuffix(".rt")
+    return "" if module in ("lib", "main") else module
+
+
+def function_at(path, text, at):
+    """Returns the function around a position of a file that is laid out by `rt fmt`, or None."""
+    lines = text.split("\n")
+    line = text[:at].count("\n")
+    for first in range(line, -1, -1):
+        if not (head := FUNCTION.match(lines[first])):
+            continue
+        last = end_of(lines, first, head[1])
+        if last is not None and last >= line:
+            return Function(path, first + 1, last + 1, owner_of(lines, first, head[1]), head[2])
+        if not head[1]:
+            return None
+    return None
+
+
+def end_of(lines, first, indent):
+    """Returns the last line of the function that begins at a line with this indentation, or None if it has no body."""
+    for at in range(first, len(lines)):
+        ends = lines[at].rstrip() == f"{indent}}}" or lines[at].startswith(f"{indent}{{}}")
+        if ends or at == first and lines[at].rstrip().endswith("}"):
+            return at
+        if lines[at].rstrip().endswith(";") and at == first:
+            return None
+    return None
+
+
+def owner_of(lines, first, indent):
+    """Returns the type or trait of a function by the nearest line above it with less indentation."""
+    above = (lines[at] for at in range(first, -1, -1))
+    found = (OWNER.match(line) for line in above if line.strip() and not line.startswith(indent or " "))
+    return next((it[1] for it in found if it), "") if indent else ""
+
+
+def read_edit(folder, path):
+    """Reads an edit of the crate in a folder."""
+    at, old, pairs, functions, texts = "", None, [], set(), {}
+    for line in path.read_text(encoding="utf-8").split("\n"):
+        word, _, text = line.partition(":")
+        text = text.removeprefix(" ")
+        if word == "file":
+            at = text.strip()
+        elif word == "old":
+            old = text
+        elif word == "new":
+            if not at.startswith(tuple(f"{it}/" for it in SOURCES)) or not old:
+                raise BadEdit("it has a line 'new:' without a file of src/, specs/ or proofs/ and an old text")
+            pairs.append((at, old, text))
+            before = replace(texts, folder, *pairs[-1])
+            functions.add(function_at(at, before, before.index(old)) if at.startswith("src/") else None)
+    if not pairs:
+        raise BadEdit("it has no pair of an old and a new text")
+    return Edit(folder.name, path.name, tuple(pairs), functions.pop() if len(functions) == 1 else None)
+
+
+def text_of(path):
+    try:
+        return path.read_text(encoding="utf-8")
+    except OSError as error:
+        raise BadEdit(f"there is no file {path.name}") from error
+
+
+def replace(texts, folder, path, old, new):
+    """Replaces an old text, which is in its file exactly once, and returns the file's text before."""
+    before = texts[path] if path in texts else text_of(folder / path)
+    if (count := before.count(old)) != 1:
+        raise BadEdit(f"an old text is in {path} {count} times, and not once")
+    texts[path] = before.replace(old, new)
+    return before
+
+
+def edited(folder, edits):
+    """Returns the texts of the files that edits of the crate in a folder change, by their paths."""
+    texts = {}
+    for path, old, new in (pair for edit in edits for pair in edit.pairs):
+        replace(texts, folder, path, old, new)
+    return texts
+
+
+def read_edits(folder):
+    """Returns the edits of the crate in a folder, and a line for each file that is none."""
+    edits, bad = [], []
+    for path in sorted((folder / "must-fail").rglob("*")):
+        label = f"{folder.name}/{path.relative_to(folder / 'must-fail')}"
+        if path.is_dir() or path.suffix == ".md":
+            continue
+        if path.parent.name != "must-fail" or not re.fullmatch(NAME, path.name):
+            bad.append(f"{label}: BAD EDIT: an edit stands right in must-fail/, and its name ends in .edit")
+            continue
+        try:
+            edits.append(read_edit(folder, path))
+        except BadEdit as fault:
+            bad.append(f"{label}: BAD EDIT: {fault}")
+    return edits, bad
+
+
+def batches_of(folder, edits):
+    """Returns lists of edits that one check can try: at most one of each function. Others are alone."""
+    alone = [[edit] for edit in edits if not edit.function]
+    batches = []
+    for edit in (edit for edit in edits if edit.function):
+        for batch in batches:
+            if fits(folder, batch, edit):
+                batch.append(edit)
+                break
+        else:
+            batches.append([edit])
+    return batches + alone
+
+
+def fits(folder, batch, edit):
+    """Returns whether a batch has no edit of the same function, and can be applied with this one."""
+    if any(other.function.key() == edit.function.key() for other in batch):
+        return False
+    try:
+        return bool(edited(folder, [*batch, edit]))
+    except BadEdit:
+        return False

@@ -1,0 +1,295 @@
+#!/usr/bin/env python3
+"""Tries the must-fail edits of crates, many in one check:  python3 tools/must_fail.py [CRATE ..]
+
+An edit, crates/CRATE/must-fail/NAME.edit, puts a wrong body into a function, and the prover has to refuse it. `rt
+must-fail` checks the whole crate once for each edit. Here one check tries wrong bodies of many functions: what is proved
+of a function depends on the contracts of the others, and not on their bodies. So an edit is refused if the check reports
+
+- something unproved at a line of its own function, or
+- an error in the proof files of its own function.
+
+An edit without such a report is tried alone, and so is one that changes more than one function. As for `rt must-fail`,
+it is then refused if the crate isn't proved. All is done in copies of the repository, after one pass over the proofs of
+the crates. As many checks run at once as RT_JOBS says, or as there are processors. The last lines tell how many edits
+were refused, and the minutes of processor for that pass and for the edits. The exit status is 0 if all were refused.
+"""
+
+import os
+import re
+import shutil
+import subprocess
+import sys
+import tempfile
+import threading
+from concurrent.futures import FIRST_COMPLETED, ThreadPoolExecutor, wait
+from dataclasses import dataclass
+from pathlib import Path
+
+from edits import SOURCES, BadEdit, Edit, batches_of, edited, read_edits
+
+TOP = Path(__file__).resolve().parent.parent
+# How a check reports what isn't proved: in the source, and in a function's proof files.
+UNPROVED = re.compile(r"note: (src/\S+\.rt):(\d+):\d+: (it is not proved that|`search` found no proof).*")
+PROOF_ERROR = re.compile(r"(?:\./)?proofs/(\S+)/(?:Answers|Invariants|Proof)\.antt:\d+:\d+: error: .*")
+# A proof file that names what the edit took away.
+TAKEN_AWAY = re.compile(r"has no field|is not in scope|has no `|was not admitted")
+# Reports that show more of the contract than others: a goal that is false for some values; and less: the prover's limits.
+IS_FALSE, AT_LIMIT = "at which this goal is false", "gave up at one of its limits"
+ONLY_TAKEN_AWAY = "(only because a proof file names what the edit took away) "
+ONLY_AT_LIMIT = "(only at a limit of the prover) "
+# A definition that can't be read: an edit of it shows nothing.
+UNREADABLE = re.compile(r"(?:\./)?(?:src|specs)/\S+:\d+:\d+: error: .*")
+
+
+@dataclass(frozen=True)
+class Checked:
+    """How a check ended: what it printed, its exit status, and its seconds of processor."""
+
+    text: str
+    status: int
+    seconds: float = 0.0
+
+    def lines(self):
+        return self.text.splitlines()
+
+    def verdict(self):
+        """Returns whether the crate is proved, or None if the check didn't find out."""
+        last = [line for line in self.lines() if line.startswith("logic=")][-1:]
+        if self.status == 0 and last and last[0].startswith("logic=proved"):
+            return True
+        return False if self.status == 1 and last == ["logic=not-proved"] else None
+
+
+# What a check says of an edit
+
+
+def is_report(line, function=None):
+    """Returns whether a line of a check tells that something isn't proved, of this function if there is one."""
+    if at := UNPROVED.match(line):
+        return not function or at[1] == function.path and function.first <= int(at[2]) <= function.last
+    at = PROOF_ERROR.match(line)
+    return bool(at) and (not function or function.has_proofs_in(at[1]))
+
+
+def weight(line):
+    """Returns what a report shows of the contract, the most as 0, and the words that say so."""
+    if TAKEN_AWAY.search(line):
+        return 3, ONLY_TAKEN_AWAY
+    return (2, ONLY_AT_LIMIT) if AT_LIMIT in line else (int(IS_FALSE not in line), "")
+
+
+def report_of(edit, checked):
+    """Returns the line of a check that refuses an edit's function, or None. Of several it is one that shows most."""
+    if checked.verdict() is not False:
+        return None
+    lines = [line for line in checked.lines() if is_report(line, edit.function)]
+    best = min(lines, key=lambda line: weight(line)[0], default=None)
+    return best and weight(best)[1] + best
+
+
+def refused_alone(edit, checked):
+    """Returns why an edit that was tried alone is refused, or raises what it shows instead."""
+    verdict = checked.verdict()
+    if verdict:
+        raise BadEdit("NOT REFUSED: the crate is still proved with this edit")
+    unread = next(filter(UNREADABLE.match, checked.lines()), None)
+    if verdict is None or unread:
+        raise BadEdit(f"BAD EDIT: no contract was tried: {unread or ' / '.join(checked.lines()[-3:])[:300]}")
+    of_any = Edit(edit.crate, edit.name, edit.pairs, None)
+    return report_of(edit, checked) or report_of(of_any, checked) or "the crate isn't proved"
+
+
+# Copies of the repository
+
+
+def copy_crate(crate, to, parts, copy=shutil.copy2):
+    """Copies parts of a crate's folder, if they are there."""
+    for part in parts:
+        if (crate / part).is_dir():
+            shutil.copytree(crate / part, to / part, copy_function=copy)
+
+
+def make_room(top, to, names):
+    """Copies what a check of these crates needs, without what was built."""
+    to.mkdir(parents=True, exist_ok=True)
+    shutil.copy2(top / "HANDLES", to / "HANDLES")
+    lines = (top / "crates.txt").read_text(encoding="utf-8").splitlines(keepends=True)
+    (to / "crates.txt").write_text("".join(line for line in lines if name_in(line) in names), encoding="utf-8")
+    for name in names:
+        copy_crate(top / "crates" / name, to / "crates" / name, SOURCES)
+
+
+def make_copy(base, to, crate, below):
+    """Copies a room with its built libraries and the kept proofs of one crate. Built files are shared, and never changed."""
+    make_room(base, to, [crate, *below])
+    for name in below:
+        copy_crate(base / "crates" / name, to / "crates" / name, ["out/rlib"], os.link)
+    copy_crate(base / "crates" / crate, to / "crates" / crate, ["out/incremental"], os.link)
+
+
+def check(folder, *words):
+    """Runs a command of `rt` in a crate's folder."""
+    how = {"cwd": folder, "stdin": subprocess.DEVNULL, "stdout": subprocess.PIPE, "stderr": subprocess.STDOUT}
+    with subprocess.Popen(["rt", *words, "--jobs", "1"], text=True, errors="replace", **how) as it:
+        text = it.stdout.read()
+        _, status, usage = os.wait4(it.pid, 0)
+        it.returncode = os.waitstatus_to_exitcode(status)
+    return Checked(text, it.returncode, usage.ru_utime + usage.ru_stime)
+
+
+# The run
+
+
+def name_in(line):
+    """Returns the crate that a line of crates.txt lists, or nothing."""
+    head, colon, _ = line.partition("#")[0].partition(":")
+    return head.split()[0] if colon else ""
+
+
+def crates_below(text):
+    """Returns each crate of crates.txt with the crates of the repository below it, lowest first."""
+    lines = [line for line in text.splitlines() if name_in(line)]
+    own = {name_in(line): line.partition("#")[0].partition(":")[2].split() for line in lines}
+    below = {}
+
+    def add(name):
+        if name not in below:
+            direct = [it for it in own[name] if it in own]
+            found = [it for dep in direct for it in [*add(dep), dep]]
+            below[name] = list(dict.fromkeys(found))
+        return below[name]
+
+    for name in own:
+        add(name)
+    return below
+
+
+class Run:
+    """Builds libraries and tries edits in rooms below a folder."""
+
+    def __init__(self, top, folder, names=()):
+        self.top, self.folder, self.base = top, folder, folder / "base"
+        self.below = crates_below((top / "crates.txt").read_text(encoding="utf-8"))
+        found = {name: read_edits(top / "crates" / name) for name in self.below if not names or name in names}
+        self.edits = {name: read for name, (read, _) in found.items() if read}
+        self.lines = [line for _, bad in found.values() for line in bad]
+        self.refused, self.failed = [], len(self.lines)
+        self.seconds, self.counting = {"proofs": 0.0, "edits": 0.0}, threading.Lock()
+
+    def libraries(self):
+        """Returns the crates to prove first."""
+        return [name for name in self.below if any(name in [it, *self.below[it]] for it in self.edits)]
+
+    def prove(self, name):
+        """Proves a crate, and keeps its proofs."""
+        return self.timed("proofs", check(self.base / "crates" / name, "lib"))
+
+    def timed(self, kind, checked):
+        with self.counting:
+            self.seconds[kind] += checked.seconds
+        return checked
+
+    def attempt(self, crate, edits):
+        """Checks a copy of a crate with edits."""
+        room = Path(tempfile.mkdtemp(prefix="room-", dir=self.folder))
+        try:
+            make_copy(self.base, room, crate, self.below[crate])
+            for path, text in edited(self.top / "crates" / crate, edits).items():
+                (room / "crates" / crate / path).write_text(text, encoding="utf-8")
+            return self.timed("edits", check(room / "crates" / crate, "check"))
+        finally:
+            shutil.rmtree(room, ignore_errors=True)
+
+    def judge(self, crate, edits):
+        """Tries edits, and returns those that need another try, as batches."""
+        checked = self.attempt(crate, edits)
+        if len(edits) == 1:
+            self.judge_alone(edits[0], checked)
+            return []
+        left = []
+        for edit in edits:
+            if report := report_of(edit, checked):
+                self.say(edit, report)
+            else:
+                left.append(edit)
+        # If no function could be checked, one of the edits may be why.
+        middle = len(left) // 2
+        return [[edit] for edit in left] if len(left) < len(edits) else [left[:middle], left[middle:]]
+
+    def judge_alone(self, edit, checked):
+        try:
+            self.say(edit, refused_alone(edit, checked))
+        except BadEdit as fault:
+            self.fail(f"{edit.label()}: {fault}")
+
+    def say(self, edit, report):
+        with self.counting:
+            self.refused.append(report)
+            print(f"must-fail: {edit.label()}: refused: {report[:200]}", flush=True)
+
+    def fail(self, line):
+        with self.counting:
+            self.failed += 1
+            print(f"must-fail: {line}", flush=True)
+
+    def all(self, lanes):
+        """Proves the libraries and tries all edits, as many checks at once as there are lanes."""
+        make_room(self.top, self.base, self.libraries())
+        proofs, batches, running, proved = self.libraries(), [], {}, set()
+        with ThreadPoolExecutor(lanes) as pool:
+            while proofs or batches or running:
+                ready = [name for name in proofs if proved.issuperset(self.below[name])]
+                for name in ready[: lanes - len(running)]:
+                    proofs.remove(name)
+                    running[pool.submit(self.prove, name)] = name
+                while batches and len(running) < lanes:
+                    crate, edits = batches.pop(0)
+                    running[pool.submit(self.judge, crate, edits)] = (crate, edits)
+                if not running:
+                    break
+                for done in wait(running, return_when=FIRST_COMPLETED).done:
+                    self.ended(running.pop(done), done, proved, batches)
+        for name in proofs:
+            self.untried(name, "a library below it isn't proved")
+
+    def ended(self, task, done, proved, batches):
+        """Notes what a task found, and what is to be tried next."""
+        if isinstance(task, tuple):
+            batches[:0] = [(task[0], batch) for batch in done.result()]
+        elif done.result().status == 0:
+            proved.add(task)
+            print(f"must-fail: {task}: proved, {len(self.edits.get(task, []))} edits to try", flush=True)
+            batches += [(task, batch) for batch in batches_of(self.top / "crates" / task, self.edits.get(task, []))]
+        else:
+            print(done.result().text, end="", flush=True)
+            self.untried(task, "the crate isn't proved without them")
+
+    def untried(self, name, why):
+        for edit in self.edits.get(name, []):
+            self.fail(f"{edit.label()}: NOT TRIED: {why}")
+
+
+def summary(run):
+    """Returns the last lines: how many edits were refused, how, and what it took."""
+    starts = [(ONLY_AT_LIMIT, "only at a limit of the prover"), (ONLY_TAKEN_AWAY, "only because a proof file names what is gone")]
+    kinds = [f"{sum(report.startswith(start) for report in run.refused)} {words}" for start, words in starts]
+    minutes = [f"{run.seconds[kind] / 60:.1f} minutes of processor for {kind}" for kind in ("proofs", "edits")]
+    lines = [", ".join([f"{len(run.refused)} refused", *kinds]), ", ".join(minutes)]
+    return [*lines, f"{len(run.refused)} passed, {run.failed} failed"]
+
+
+def main(names):
+    number = os.environ.get("RT_JOBS", "")
+    lanes = int(number) if number.isdigit() and int(number) else len(os.sched_getaffinity(0))
+    with tempfile.TemporaryDirectory(prefix="must-fail-") as folder:
+        run = Run(TOP, Path(folder), names)
+        for line in run.lines:
+            print(f"must-fail: {line}")
+        run.all(lanes)
+    for line in summary(run):
+        print(f"must-fail: {line}")
+    return int(run.failed > 0 or not run.refused)
+
+
+if __name__ == "__main__":
+    sys.exit(main(sys.argv[1:]))

@@ -1,0 +1,231 @@
+#!/usr/bin/env python3
+"""Tests of how must-fail edits are read, tried and judged, with another program for `rt`:  python3 tools/test_must_fail.py"""
+
+import contextlib
+import io
+import os
+import shutil
+import tempfile
+import unittest
+from pathlib import Path
+
+import edits
+import must_fail
+
+LIB = """//! A crate.
+
+pub struct Cell<T>(T);
+
+impl<T: Copy> Cell<T> {
+    /// Returns the value.
+    pub fn get(&self) -> T
+        ensures { result ≡ self.now.0 }
+    {
+        self.0
+    }
+
+    fn set(&mut self, value: T) {
+        self.store(value);
+    }
+}
+
+impl<T> From<T> for Cell<T> {
+    fn from(value: T) -> Cell<T> {
+        Cell(value)
+    }
+}
+
+fn free() -> u8 {
+    7
+}
+
+const NINE: u8 = 9;
+"""
+EDITS = {
+    "from_nothing": ("src/lib.rt", "        Cell(value)", "        Cell(nothing())"),
+    "get_another": ("src/lib.rt", "        self.0", "        other(self.0)"),
+    "set_nothing": ("src/lib.rt", "        self.store(value);", "        let _ = value;"),
+    "six": ("src/lib.rt", "    7", "    6"),
+}
+FREE = edits.Function("src/lib.rt", 24, 26, "", "free")
+# What stands for `rt`: it knows the wrong bodies that are refused, by the words in them.
+RT = """#!{python}
+import os, sys
+text = open("src/lib.rt").read()
+assert sys.argv[-2:] == ["--jobs", "1"], sys.argv
+open({log!r}, "a").write(sys.argv[1] + " " + " ".join(sorted(os.listdir("../..")) + sorted(os.listdir(".."))) + "\\n")
+found = 0
+for word, line in {reports!r}:
+    if word in text:
+        print(line)
+        found += 1
+if "stop" in text:
+    print("src/lib.rt:1:1: error: unknown word")
+    sys.exit(1)
+if sys.argv[1] == "lib":
+    os.makedirs("out/rlib", exist_ok=True), os.makedirs("out/incremental", exist_ok=True)
+print("logic=not-proved" if found else "logic=proved functions=4")
+print("rt: rt lemma finds a lemma")
+sys.exit(found > 0)
+"""
+NOT_PROVED = "it is not proved that what the function ensures holds when it returns (`returns`)"
+REPORTS = [
+    ("nothing()", "./proofs/CellFrom/from/Answers.antt:3:5: error: the two types differ"),
+    ("other(", f"note: src/lib.rt:7:5: {NOT_PROVED}; `search` gave up at one of its limits"),
+    ("let _", f"note: src/lib.rt:13:5: {NOT_PROVED}"),
+    ("    6", f"note: src/lib.rt:24:1: {NOT_PROVED}; the facts known there allow values at which this goal is false"),
+]
+
+
+class Reading(unittest.TestCase):
+    def at(self, text):
+        return edits.function_at("src/lib.rt", LIB, LIB.index(text))
+
+    def test_a_function_is_found_around_a_line(self):
+        self.assertEqual(self.at("    7"), FREE)
+        self.assertEqual(self.at("ensures"), edits.Function("src/lib.rt", 7, 11, "Cell", "get"))
+        self.assertEqual(self.at("Cell(value)").key(), ("", "Cell", "from"))
+        self.assertIsNone(self.at("const NINE"))
+        self.assertIsNone(self.at("//! A crate"))
+
+    def test_proof_files_are_of_a_function_by_module_type_and_name(self):
+        deep = edits.Function("src/state/staging.rt", 1, 2, "State", "put")
+        for folder, is_own in [
+            ("state/State/put", True),
+            ("state/StateClone/put", True),
+            ("state/State/get", False),
+            ("state/Other/put", False),
+            ("other/State/put", False),
+        ]:
+            self.assertEqual(deep.has_proofs_in(folder), is_own, folder)
+        self.assertTrue(FREE.has_proofs_in("free"))
+        self.assertFalse(FREE.has_proofs_in("free/more"))
+
+
+class Planted(unittest.TestCase):
+    """Makes a repository of two crates, and runs the tool on it."""
+
+    def setUp(self):
+        room = tempfile.TemporaryDirectory()
+        self.addCleanup(room.cleanup)
+        self.top = Path(room.name) / "top"
+        self.log = Path(room.name) / "log"
+        self.write("crates.txt", "# crates\nlow: core\nhigh: low std\nother: low\n")
+        self.write("HANDLES", "Handles allowed: none.\n")
+        for name in ("low", "high", "other"):
+            self.write(f"crates/{name}/src/lib.rt", LIB)
+        for name, (path, old, new) in EDITS.items():
+            self.edit(name, path, old, new)
+
+    def write(self, name, text):
+        path = self.top / name
+        path.parent.mkdir(parents=True, exist_ok=True)
+        path.write_text(text, encoding="utf-8")
+
+    def edit(self, name, path, old, new, *more):
+        pairs = "".join(f"old: {old}\nnew: {new}\n" for old, new in [(old, new), *more])
+        self.write(f"crates/high/must-fail/{name}.edit", f"file: {path}\n{pairs}")
+
+    def ran(self, reports=REPORTS, names=(), lanes=2):
+        """Returns the tool's lines and its exit status, if `rt` reports so."""
+        bin = self.top.parent / "bin"
+        bin.mkdir(exist_ok=True)
+        script = RT.format(python=shutil.which("python3"), log=str(self.log), reports=reports)
+        (bin / "rt").write_text(script, encoding="utf-8")
+        (bin / "rt").chmod(0o755)
+        path, top = os.environ["PATH"], must_fail.TOP
+        os.environ["PATH"], os.environ["RT_JOBS"], must_fail.TOP = f"{bin}:{path}", str(lanes), self.top
+        try:
+            with contextlib.redirect_stdout(io.StringIO()) as printed:
+                status = must_fail.main(list(names))
+        finally:
+            os.environ["PATH"], must_fail.TOP = path, top
+            del os.environ["RT_JOBS"]
+        return printed.getvalue().splitlines(), status
+
+    def checks(self):
+        """Returns how many checks of edits ran."""
+        return self.log.read_text().count("check")
+
+    def test_one_check_tries_edits_of_many_functions(self):
+        lines, status = self.ran()
+        self.assertEqual((lines[-1], status), ("must-fail: 4 passed, 0 failed", 0))
+        self.assertEqual(lines[-3], "must-fail: 4 refused, 1 only at a limit of the prover, 0 only because a proof file names what is gone")
+        self.assertRegex(lines[-2], r"^must-fail: \d+\.\d minutes of processor for proofs, \d+\.\d minutes of processor for edits$")
+        self.assertIn(f"must-fail: high/six.edit: refused: {REPORTS[3][1][:200]}", lines)
+        self.assertIn(f"must-fail: high/get_another.edit: refused: (only at a limit of the prover) {REPORTS[1][1]}", lines)
+        self.assertEqual(self.checks(), 1)
+        # The crates below are proved first; one that has no edit above it isn't. A check sees the crates that it needs.
+        self.assertEqual(
+            self.log.read_text().splitlines(),
+            ["lib HANDLES crates crates.txt high low"] * 2 + ["check HANDLES crates crates.txt high low"],
+        )
+
+    def test_two_edits_of_a_function_are_tried_apart(self):
+        self.edit("six_again", *EDITS["six"])
+        self.assertEqual((self.ran()[0][-1], self.checks()), ("must-fail: 5 passed, 0 failed", 2))
+
+    def test_an_edit_outside_of_functions_or_of_several_is_tried_alone(self):
+        self.edit("eight", "src/lib.rt", "const NINE: u8 = 9;", "const NINE: u8 = 8;")
+        self.edit("both", "src/lib.rt", "    7", "    6", ("        self.store(value);", "        let _ = value;"))
+        lines, _ = self.ran([*REPORTS, ("= 8;", f"note: src/lib.rt:13:5: {NOT_PROVED}")])
+        self.assertEqual((lines[-1], self.checks()), ("must-fail: 6 passed, 0 failed", 3))
+
+    def test_an_edit_that_is_proved_is_a_failure(self):
+        lines, status = self.ran(REPORTS[:3])
+        self.assertEqual((lines[-1], status), ("must-fail: 3 passed, 1 failed", 1))
+        self.assertIn("must-fail: high/six.edit: NOT REFUSED: the crate is still proved with this edit", lines)
+
+    def test_a_report_of_another_function_counts_only_for_an_edit_alone(self):
+        other = [*REPORTS[:3], ("    6", f"note: src/lib.rt:13:5: {NOT_PROVED}")]
+        lines, _ = self.ran(other)
+        self.assertEqual((lines[-1], self.checks()), ("must-fail: 4 passed, 0 failed", 2))
+
+    def test_what_a_proof_file_misses_is_said(self):
+        gone = "./proofs/CellFrom/from/Answers.antt:3:5: error: record `C` has no field `x`"
+        lines, status = self.ran([("nothing()", gone), *REPORTS[1:]])
+        self.assertIn(f"must-fail: high/from_nothing.edit: refused: {must_fail.ONLY_TAKEN_AWAY}{gone}", lines)
+        self.assertTrue(lines[-3].endswith(", 1 only because a proof file names what is gone"))
+        self.assertEqual(status, 0)
+
+    def test_an_edit_that_does_not_compile_is_bad_and_hides_no_other(self):
+        self.edit("stops", "src/lib.rt", "const NINE: u8 = 9;", "stop")
+        self.edit("stops_too", "src/lib.rt", "    7", "    stop")
+        lines, status = self.ran()
+        self.assertEqual((lines[-1], status), ("must-fail: 4 passed, 2 failed", 1))
+        bad = "BAD EDIT: no contract was tried: src/lib.rt:1:1: error: unknown word"
+        self.assertLessEqual({f"must-fail: high/{name}.edit: {bad}" for name in ("stops", "stops_too")}, {*lines})
+
+    def test_an_edit_that_cannot_be_applied_is_bad(self):
+        self.edit("twice", "src/lib.rt", "value", "x")
+        self.edit("nowhere", "src/more.rt", "value", "x")
+        self.edit("outside", "HANDLES", "none", "Threads")
+        self.write("crates/high/must-fail/deep/in.edit", "")
+        self.write("crates/high/must-fail/empty.edit", "")
+        self.write("crates/high/must-fail/words.md", "")
+        lines, status = self.ran()
+        self.assertEqual((lines[-1], status), ("must-fail: 4 passed, 5 failed", 1))
+        self.assertEqual(len([line for line in lines if ": BAD EDIT: " in line]), 5)
+
+    def test_edits_of_a_crate_that_is_not_proved_are_not_tried(self):
+        self.write("crates/low/src/lib.rt", LIB.replace("    7", "    6"))
+        lines, status = self.ran()
+        self.assertEqual((lines[-1], status), ("must-fail: 0 passed, 4 failed", 1))
+        self.assertIn("must-fail: high/six.edit: NOT TRIED: a library below it isn't proved", lines)
+
+    def test_named_crates_alone_are_tried(self):
+        self.write("crates/low/must-fail/six.edit", "file: src/lib.rt\nold:     7\nnew:     6\n")
+        self.assertEqual(self.ran(names=["low"])[0][-1], "must-fail: 1 passed, 0 failed")
+        self.assertEqual(self.ran(names=["other"])[1], 1)
+
+    def test_the_edits_of_this_repository_can_be_applied(self):
+        with tempfile.TemporaryDirectory() as folder:
+            run = must_fail.Run(must_fail.TOP, Path(folder))
+        self.assertEqual(run.lines, [])
+        for crate, read in run.edits.items():
+            tried = edits.batches_of(must_fail.TOP / "crates" / crate, read)
+            self.assertEqual(sorted(it.name for batch in tried for it in batch), sorted(it.name for it in read))
+
+
+if __name__ == "__main__":
+    unittest.main()
