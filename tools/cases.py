@@ -77,9 +77,9 @@ class Case(Ends):
         os.mkdir(self.top)
         self.git("init", "-q", f"--object-format={kind}")
 
-    def git(self, *words, given=None):
+    def git(self, *words, stdin=None):
         named = ["-c", "user.name=n", "-c", "user.email=e", "-c", "core.hooksPath=/dev/null"]
-        ran = subprocess.run(["git", "-C", self.top, *named, *words], input=given, capture_output=True, check=True)
+        ran = subprocess.run(["git", "-C", self.top, *named, *words], input=stdin, capture_output=True, check=True)
         return ran.stdout
 
     def path(self, name):

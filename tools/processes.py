@@ -13,11 +13,11 @@ KILL = 9
 class Running:
     """A program that was started. At the end of a `with` block it is ended, if it still runs."""
 
-    def __init__(self, command, given=()):
-        """Starts a command, whose standard input has the parts `given`. Raises an OSError if it can't be run."""
+    def __init__(self, command, inputs=()):
+        """Starts a command, whose standard input has the parts `inputs`. Raises an OSError if it can't be run."""
         self.process, self.files = None, []
         try:
-            for parts in (given, (), ()):
+            for parts in (inputs, (), ()):
                 self.files.append(new_file())
                 write(self.files[-1], parts)
             actions = [(os.POSIX_SPAWN_DUP2, file, place) for place, file in enumerate(self.files)]

@@ -44,11 +44,11 @@ class Runner:
 
     def run(self, words, settings=None):
         """Runs the program with these arguments, and these settings as its whole environment."""
-        given = [(os.POSIX_SPAWN_DUP2, self.nothing, 0)]
+        actions = [(os.POSIX_SPAWN_DUP2, self.nothing, 0)]
         for number, file in enumerate(self.files, 1):
             empty(file.fileno())
-            given.append((os.POSIX_SPAWN_DUP2, file.fileno(), number))
-        child = os.posix_spawn(self.program, [self.program, *words], settings or {}, file_actions=given)
+            actions.append((os.POSIX_SPAWN_DUP2, file.fileno(), number))
+        child = os.posix_spawn(self.program, [self.program, *words], settings or {}, file_actions=actions)
         status = self.wait(child)
         return Ended(status, *(content(file.fileno()) for file in self.files))
 

@@ -69,14 +69,14 @@ def nodes_of(profile, left_out):
 def refresh(program, profile, left_out):
     """Returns the words of paths, the times and lengths that the program stores, and the time before it began."""
     with tempfile.TemporaryDirectory() as room:
-        given, left = os.path.join(room, "profile.json"), os.path.join(room, "left.json")
-        with open(given, "wb") as file:
+        path, out = os.path.join(room, "profile.json"), os.path.join(room, "out.json")
+        with open(path, "wb") as file:
             file.writelines(profile.json(left_out))
         # Files get the time of the clock's last tick. Files that are written from now on have no earlier time.
-        moment = min(os.stat(given).st_mtime_ns, time.time_ns())
-        lines = run(program, given, left, moment)
+        moment = min(os.stat(path).st_mtime_ns, time.time_ns())
+        lines = run(program, path, out, moment)
         try:
-            with open(left, "rb") as file:
+            with open(out, "rb") as file:
                 entries = json.load(file)["index"]
             stored = {entry["path"].encode(): (entry["mtime"], entry["size"]) for entry in entries}
         except (OSError, ValueError, AttributeError, LookupError, TypeError):
@@ -84,9 +84,9 @@ def refresh(program, profile, left_out):
     return words_of(lines, entries), stored, moment
 
 
-def run(program, given, left, moment):
-    """Returns the lines that the program prints while it refreshes a profile."""
-    command = [program, "refresh", given, left, *(str(part) for part in divmod(moment, 10**9))]
+def run(program, path, out, moment):
+    """Returns the lines that the program prints while it refreshes the profile at a path."""
+    command = [program, "refresh", path, out, *(str(part) for part in divmod(moment, 10**9))]
     try:
         with Running(command) as running:
             printed, said, status = running.ended()
@@ -119,7 +119,7 @@ def converted(top, paths):
     """
     found, of_lines, by_itself = set(), set(), set()
     asked = b"".join(path + b"\0" for path in paths)
-    for path, name, value in conversions_in(git(top, "check-attr", "-z", "--all", "--stdin", given=asked)):
+    for path, name, value in conversions_in(git(top, "check-attr", "-z", "--all", "--stdin", stdin=asked)):
         if (name, value) == (b"text", b"auto"):
             by_itself.add(path)
         else:

@@ -18,11 +18,11 @@ TRUTH = {b"true": True, b"yes": True, b"on": True, b"1": True}
 TRUTH |= {b"false": False, b"no": False, b"off": False, b"0": False, b"": False}
 
 
-def start_git(folder, *words, settings=(), given=b""):
+def start_git(folder, *words, settings=(), stdin=b""):
     """Starts git in a folder, under settings. It runs while the tool does something else."""
     command = ["git", "--no-optional-locks", "-C", folder, "-c", "core.fsmonitor=false", *settings, *words]
     try:
-        return Running(command, [given])
+        return Running(command, [stdin])
     except FileNotFoundError:
         raise Refused("git isn't installed") from None
 
@@ -36,9 +36,9 @@ def printed_by(running, word, also=()):
     return printed
 
 
-def git(folder, *words, settings=(), given=b"", also=()):
+def git(folder, *words, settings=(), stdin=b"", also=()):
     """Runs git in a folder, under settings. Returns what it prints. `also` is as for `printed_by`."""
-    with start_git(folder, *words, settings=settings, given=given) as running:
+    with start_git(folder, *words, settings=settings, stdin=stdin) as running:
         return printed_by(running, words[0], also)
 
 
@@ -90,7 +90,7 @@ def described(folder):
 def settings_of(listed):
     """Returns the values that `git config -z --get-regexp` lists, by their names. The last value of a name counts."""
     pairs = (setting.partition(b"\n") for setting in listed.split(b"\0")[:-1])
-    return {name.decode(): value if is_given else b"true" for name, is_given, value in pairs}
+    return {name.decode(): value if has_value else b"true" for name, has_value, value in pairs}
 
 
 def setting(folder, name):

@@ -123,7 +123,7 @@ class Docs(unittest.TestCase):
         for example, link in examples:
             with self.subTest(link=link, example=example):
                 path = os.path.normpath(os.path.join("docs", link))
-                self.assertRegex(path, r"^crates/status_tests/src/given/")
+                self.assertRegex(path, r"^crates/status_tests/src/callers/")
                 self.assertIn("\n" + example, "\n" + text_of(path))
 
     def test_each_crate_begins_with_its_sentence(self):

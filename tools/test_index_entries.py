@@ -52,7 +52,7 @@ class Indexes(Drawn):
     def stage(self, paths, mode="100644"):
         """Stages entries that have no file."""
         lines = "".join(f"{mode} {FOO} 0\t{path}\0" for path in paths)
-        self.git("update-index", "-z", "--index-info", given=lines.encode())
+        self.git("update-index", "-z", "--index-info", stdin=lines.encode())
 
 
 class Plain(Indexes):

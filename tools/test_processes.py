@@ -12,9 +12,9 @@ import processes as tool
 MEGABYTE = 1 << 20
 
 
-def running(lines, *given):
+def running(lines, *inputs):
     """Starts a program of these lines of Python, which can read these parts."""
-    return tool.Running([sys.executable, "-c", "import os, sys\n" + lines], given)
+    return tool.Running([sys.executable, "-c", "import os, sys\n" + lines], inputs)
 
 
 def open_files():
@@ -27,8 +27,8 @@ class Processes(unittest.TestCase):
         before = open_files()
         self.addCleanup(lambda: self.assertEqual(open_files(), before))
 
-    def ended(self, lines, *given):
-        with running(lines, *given) as it:
+    def ended(self, lines, *inputs):
+        with running(lines, *inputs) as it:
             return it.ended()
 
     def test_a_program_reads_what_is_given_and_prints(self):

@@ -73,7 +73,7 @@ class Profiles(Case):
         self.git("update-index", "--assume-unchanged", "assumed")
         self.git("update-index", "--skip-worktree", "skipped")
         lines = "".join(f"100644 {FOO} {stage}\tf\n" for stage in (1, 2, 3))
-        self.git("update-index", "--index-info", given=lines.encode())
+        self.git("update-index", "--index-info", stdin=lines.encode())
         entries = self.entries()
         flags = {name: entries[name, 0].get("flags") for name in ("assumed", "skipped", "intended", odd)}
         wanted = {"assumed": ["assume-valid"], "skipped": ["skip-worktree"], "intended": ["intent-to-add"], odd: None}
@@ -222,7 +222,7 @@ class Unseen(Case):
     def test_paths_are_quoted_as_git_quotes_them(self):
         names = [bytes([byte]) + b"x" for byte in range(1, 256) if byte != ord("/")] + [b"plain", "é x".encode()]
         lines = b"".join(b"100644 " + FOO.encode() + b" 0\t" + name + b"\0" for name in names)
-        self.git("update-index", "-z", "--index-info", given=lines)
+        self.git("update-index", "-z", "--index-info", stdin=lines)
         wanted = [line[3:] for line in self.git("status", "--porcelain").decode("ascii").splitlines()]
         self.assertEqual([quoted(name) for name in sorted(names)], wanted)
 
@@ -235,7 +235,7 @@ class Refusals(Case):
 
     def test_a_path_that_is_no_text_is_refused(self):
         line = b"100644 " + FOO.encode() + b" 0\tx\xff\n"
-        self.git("update-index", "--index-info", given=line)
+        self.git("update-index", "--index-info", stdin=line)
         self.refused("isn't UTF-8")
 
     def test_a_folder_without_a_repository_is_refused(self):
@@ -324,7 +324,7 @@ class Comparison(Case):
         self.git("update-index", "--assume-unchanged", "assumed")
         self.git("update-index", "--skip-worktree", "skipped")
         lines = "".join(f"100644 {FOO} {stage}\tfight\n" for stage in (1, 2, 3))
-        self.git("update-index", "--index-info", given=lines.encode())
+        self.git("update-index", "--index-info", stdin=lines.encode())
         os.utime(self.path("touched"), (5, 5))
         written = [("changed", "longer"), ("shrunk", ""), ("same-size", "bar"), ("odd\t\n\"é", "x"), ("assumed", "x")]
         for name, content in written:

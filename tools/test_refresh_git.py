@@ -280,7 +280,7 @@ class Stored(Refreshes):
         self.git("init", "-q", "sub")
         self.git("-C", "sub", "commit", "-q", "--allow-empty", "-m", "one")
         self.git("add", "sub")
-        self.git("update-index", "--index-info", given=lines.encode())
+        self.git("update-index", "--index-info", stdin=lines.encode())
         self.stage("a")
         self.write("fight", "foo")
         self.touch("a", 5)
@@ -427,7 +427,7 @@ class Stats(Refreshes):
     def test_conflicts_and_submodules_have_no_place(self):
         self.stage("a", "z")
         lines = "".join(f"100644 {FOO} {stage}\tfight\n" for stage in (1, 2, 3)) + f"160000 {FOO} 0\tsub\n"
-        self.git("update-index", "--index-info", given=lines.encode())
+        self.git("update-index", "--index-info", stdin=lines.encode())
         index = index_file.index_at(self.path(".git/index"), "sha1")
         self.assertEqual(list(index.places), [b"a", b"z"])
         self.assertEqual(index.stat_of(b"z")[index_file.MTIME], THEN)

@@ -79,13 +79,13 @@ class Drawn(Case):
             self.paths.append(name)
 
     def conflict(self, kind):
-        blob = self.git("hash-object", "-w", "--stdin", given=b"foo").decode().strip()
+        blob = self.git("hash-object", "-w", "--stdin", stdin=b"foo").decode().strip()
         lines = ""
         for number, stages in enumerate(CONFLICTS):
             lines += "".join(f"100644 {blob} {stage}\tconflict {number}\0" for stage in stages)
             if self.random.random() < 0.5:
                 self.write(f"conflict {number}", "bar")
-        self.git("update-index", "-z", "--index-info", given=lines.encode())
+        self.git("update-index", "-z", "--index-info", stdin=lines.encode())
 
     def edit(self, path):
         """Edits a path. The path may be unchanged afterwards."""
@@ -250,7 +250,7 @@ class Comparison(Drawn):
 
     def test_files_in_place_of_links_are_reported_as_by_git(self):
         self.git("config", "core.symlinks", "false")
-        blob = self.git("hash-object", "-w", "--stdin", given=b"foo").decode().strip()
+        blob = self.git("hash-object", "-w", "--stdin", stdin=b"foo").decode().strip()
         for name, content in (("a", "foo"), ("b", "bar")):
             self.git("update-index", "--add", "--cacheinfo", f"120000,{blob},{name}")
             self.write(name, content)

@@ -64,7 +64,7 @@ def unseen_of(profile):
         found.conversions = len(files_among(set(entries.paths), entries))
         return found
     # The paths are in order, so that git reads the attributes of a folder once.
-    with start_git(repository.top, "check-attr", "-z", "--all", "--stdin", given=entries.joined) as asked:
+    with start_git(repository.top, "check-attr", "-z", "--all", "--stdin", stdin=entries.joined) as asked:
         add_nodes(found, profile)
         listed = printed_by(asked, "check-attr")
     found.conversions = len(files_among({path for path, _, _ in conversions_in(listed)}, entries))

@@ -49,5 +49,5 @@ def not_ignored(folder, paths):
     if not paths:
         return []
     asked = b"".join(path + b"\0" for path in paths)
-    ignored = set(git(folder, "check-ignore", "--no-index", "-z", "--stdin", given=asked, also=[1]).split(b"\0"))
+    ignored = set(git(folder, "check-ignore", "--no-index", "-z", "--stdin", stdin=asked, also=[1]).split(b"\0"))
     return [path for path in paths if path not in ignored]

@@ -9,8 +9,8 @@ use crate::reports::{Says, are_records, is_failed_by, is_taken, read, status_by_
 use bstr::BStr;
 use gix_status::index::ObjectId;
 use gix_status::worktree::{Fault, Metadata, NodeKind, ReadBytes, Worktree};
-use status_tests::given::statuses::StatusReport;
-use status_tests::given::worktrees::Counted;
+use status_tests::callers::statuses::StatusReport;
+use status_tests::callers::worktrees::Counted;
 use std::sync::Wait;
 use std::sync::atomic::{AtomicUsize, Ordering};
 use std::test::Fail;

@@ -4,7 +4,7 @@ ghost use Rattle.std.specs.Prelude.{Ok, None, refl};
 
 use crate::contents::Content;
 use crate::entries::{foo_entry, index};
-use crate::nodes::{GivenNode, later_file, worktree};
+use crate::nodes::{NodeRow, later_file, worktree};
 use crate::reports::{found, is_at, is_changed, is_failed_by, is_removed, is_taken, read};
 use bstr::BStr;
 use gix_status::index::{Entry, Mode, State, compute_hash};
@@ -14,8 +14,8 @@ use gix_status::worktree::{
     AllPaths, Fault, FindError, MemoryObjects, MemoryWorktree, NoFilter, NoSubmodules, NodeKind,
     Point, ReadBytes,
 };
-use status_tests::given::comparers::BlobLength;
-use status_tests::given::statuses::{StatusReport, StatusRequest, options, status_of};
+use status_tests::callers::comparers::BlobLength;
+use status_tests::callers::statuses::{StatusReport, StatusRequest, options, status_of};
 use std::alloc::{AllocError, Global};
 use std::sync::Wait;
 use std::sync::atomic::{AtomicUsize, Ordering};
@@ -53,7 +53,7 @@ fn is_change<T: PartialEq, U>(records: &[Record<'_, T, U>], content: &Option<T>)
 /// `opening` is a fault, opening the file fails by it.
 fn is_compared<R: AllocGlobal + Threads + Wait, C: CompareBlobs + Send>(
     rt: &R,
-    file: GivenNode<'_>,
+    file: NodeRow<'_>,
     opening: Option<Fault>,
     compare: C,
     objects: MemoryObjects,

@@ -1,7 +1,7 @@
 //! Which entries make a conflict, also in lists that aren't a valid index, and where a piece with a conflict ends.
 
 use crate::contents::Content;
-use crate::entries::{GivenEntry, index};
+use crate::entries::{EntryRow, index};
 use crate::nodes::worktree;
 use crate::reports::{is_at, status_by_pieces};
 use bstr::BStr;
@@ -17,10 +17,10 @@ use std::thread::Threads;
 type Found = (Conflict, usize, Option<Mode>, Option<Mode>, Option<Mode>);
 
 /// The name of a row, the entries of an index, and the conflict of `f` at the first.
-type Row = (&'static str, &'static [GivenEntry<'static>], Found);
+type Row = (&'static str, &'static [EntryRow<'static>], Found);
 
 /// The stages of `f`, each with its own mode and content.
-const SIDES: [GivenEntry<'static>; 3] = [
+const SIDES: [EntryRow<'static>; 3] = [
     ("f", 1, Mode::File, Content::Foo),
     ("f", 2, Mode::FileExecutable, Content::Bar),
     ("f", 3, Mode::Symlink, Content::Bars),
@@ -138,7 +138,7 @@ fn nothing_is_found_past_the_end(rt: HostRuntime) -> Result<(), Fail> {
 }
 
 /// Returns what a conflict keeps of an entry.
-fn kept(entry: GivenEntry<'_>) -> Option<ConflictIndexEntry> {
+fn kept(entry: EntryRow<'_>) -> Option<ConflictIndexEntry> {
     let (_path, stage, mode, content) = entry;
     Some(ConflictIndexEntry {
         id: content.id(),
@@ -177,7 +177,7 @@ fn each_side_of_a_conflict_has_its_place(rt: HostRuntime) -> Result<(), Fail> {
 /// ends.
 type PieceRow = (
     &'static str,
-    &'static [GivenEntry<'static>],
+    &'static [EntryRow<'static>],
     usize,
     usize,
     usize,

@@ -1,20 +1,20 @@
 //! Copies of a status's arguments, and of its records and outcome.
 
 use crate::contents::Content;
-use crate::entries::{GivenEntry, index};
+use crate::entries::{EntryRow, index};
 use crate::nodes::worktree;
 use crate::reports::{is_at, status_by_pieces};
 use gix_status::index::{Mode, ObjectId};
 use gix_status::index_as_worktree::{Context, Record};
 use gix_status::worktree::{AllPaths, NoFilter, NoLister};
-use status_tests::given::statuses::{StatusReport, options};
+use status_tests::callers::statuses::{StatusReport, options};
 use std::alloc::AllocError;
 use std::sync::Wait;
 use std::test::Fail;
 use std::thread::Threads;
 
 /// Two stages of a path.
-const STAGES: [GivenEntry<'static>; 2] = [
+const STAGES: [EntryRow<'static>; 2] = [
     ("f", 1, Mode::File, Content::Foo),
     ("f", 3, Mode::File, Content::Foo),
 ];

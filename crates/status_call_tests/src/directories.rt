@@ -1,18 +1,18 @@
 //! How often a status calls `lstat` on the directory above its entries, and lists it.
 
 use crate::contents::Content;
-use crate::entries::{GivenEntry, STAGED, index};
+use crate::entries::{EntryRow, STAGED, index};
 use crate::listings::FILE;
-use crate::nodes::{GivenNode, worktree};
+use crate::nodes::{NodeRow, worktree};
 use crate::statuses::listed_status;
 use crate::watched::CountingLister;
 use bstr::BStr;
 use gix_status::index::{Mode, ObjectId};
 use gix_status::index_as_worktree::{Error, Options};
 use gix_status::worktree::{Fault, NodeKind, Point};
-use status_tests::given::listers::{Directories, Directory};
-use status_tests::given::statuses::{StatusReport, options};
-use status_tests::given::worktrees::Counted;
+use status_tests::callers::listers::{Directories, Directory};
+use status_tests::callers::statuses::{StatusReport, options};
+use status_tests::callers::worktrees::Counted;
 use std::sync::Wait;
 use std::sync::atomic::{AtomicUsize, Ordering};
 use std::test::Fail;
@@ -22,14 +22,14 @@ use std::thread::Threads;
 const DIRECTORIES: [Directory<'static>; 1] = [("d", Some(&[("x", FILE), ("y", FILE)]))];
 
 /// Three entries in the directory `d`.
-const ENTRIES: [GivenEntry<'static>; 3] = [
+const ENTRIES: [EntryRow<'static>; 3] = [
     ("d/gone", 0, Mode::File, Content::Foo),
     ("d/x", 0, Mode::File, Content::Foo),
     ("d/y", 0, Mode::File, Content::Foo),
 ];
 
 /// The files of two of them, unchanged.
-const NODES: [GivenNode<'static>; 2] = [
+const NODES: [NodeRow<'static>; 2] = [
     ("d/x", NodeKind::File, b"foo", 3, Some(STAGED)),
     ("d/y", NodeKind::File, b"foo", 3, Some(STAGED)),
 ];

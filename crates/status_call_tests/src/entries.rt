@@ -15,10 +15,10 @@ pub const LATER: u32 = 7;
 pub const WRITTEN: u32 = 9;
 
 /// The path of an entry, its stage, its mode, and the content that it was staged with.
-pub type GivenEntry<'a> = (&'a str, u32, Mode, Content);
+pub type EntryRow<'a> = (&'a str, u32, Mode, Content);
 
 /// Returns a plain entry of the content `foo`.
-pub fn foo_entry(path: &str) -> GivenEntry<'_> {
+pub fn foo_entry(path: &str) -> EntryRow<'_> {
     (path, 0, Mode::File, Content::Foo)
 }
 
@@ -38,7 +38,7 @@ pub fn stat(mtime: u32) -> Stat {
 }
 
 /// Returns the index of these entries, each of which has a size of three bytes.
-pub fn index(alloc: Global, entries: &[GivenEntry<'_>]) -> Result<State, IndexError> {
+pub fn index(alloc: Global, entries: &[EntryRow<'_>]) -> Result<State, IndexError> {
     let written = Moment {
         secs: WRITTEN,
         nsecs: 0,

@@ -5,8 +5,8 @@ ghost use Rattle.status_base.specs.Conversions.{refused};
 ghost use Rattle.status_tests.specs.Returns.{without_returns};
 
 use crate::contents::Content;
-use crate::entries::{GivenEntry, foo_entry, index};
-use crate::nodes::{GivenNode, later_file, worktree};
+use crate::entries::{EntryRow, foo_entry, index};
+use crate::nodes::{NodeRow, later_file, worktree};
 use crate::reports::{Says, Wanted, are_records, is_failed_by, is_taken, read};
 use bstr::BStr;
 use gix_status::index::Mode;
@@ -15,8 +15,8 @@ use gix_status::index_as_worktree::traits::HashEq;
 use gix_status::worktree::{
     AllPaths, Fault, MemoryObjects, NoSubmodules, ReadBytes, ToGit, ToGitOutcome,
 };
-use status_tests::given::WithoutReturns;
-use status_tests::given::statuses::{StatusRequest, options, status_of};
+use status_tests::callers::WithoutReturns;
+use status_tests::callers::statuses::{StatusRequest, options, status_of};
 use std::alloc::AllocError;
 use std::sync::Wait;
 use std::sync::atomic::{AtomicUsize, Ordering};
@@ -79,8 +79,8 @@ impl<'a> ToGit for Watching<'a> {
 /// Returns whether a status by ids through a filter has these records, and ends with this outcome or fault.
 fn is_converted<R: AllocGlobal + Threads + Wait, T: ToGit + Send>(
     rt: &R,
-    entries: &[GivenEntry<'_>],
-    nodes: &[GivenNode<'_>],
+    entries: &[EntryRow<'_>],
+    nodes: &[NodeRow<'_>],
     filter: T,
     wanted: &[Wanted<'_>],
     end: Result<Outcome, Fault>,

@@ -1,15 +1,15 @@
 //! A status with listings of a folder of the disk.
 
 use crate::contents::Content;
-use crate::entries::{GivenEntry, index};
+use crate::entries::{EntryRow, index};
 use crate::folders::{FolderNode, fill, own_folder};
 use crate::reports::{Says, Wanted, are_records, is_taken, read};
 use crate::statuses::listed_status;
 use gix_status::index::Mode;
 use gix_status::index_as_worktree::{Options, Outcome};
 use gix_status::worktree::DiskWorktree;
-use status_tests::given::listers::FolderLister;
-use status_tests::given::statuses::options;
+use status_tests::callers::listers::FolderLister;
+use status_tests::callers::statuses::options;
 use std::fs;
 use std::path::Path;
 use std::sync::Wait;
@@ -24,7 +24,7 @@ const NODES: [FolderNode<'static>; 3] = [
 ];
 
 /// Nothing is at the first two paths. At the others are a directory, a file with other content, and an unchanged file.
-const ENTRIES: [GivenEntry<'static>; 5] = [
+const ENTRIES: [EntryRow<'static>; 5] = [
     ("Test.txt", 0, Mode::File, Content::Foo),
     ("gone", 0, Mode::File, Content::Foo),
     ("subdir", 0, Mode::File, Content::Foo),

@@ -1,16 +1,16 @@
 //! Blobs in a folder of the disk.
 
 use crate::contents::Content;
-use crate::entries::{GivenEntry, LATER, index, stat};
+use crate::entries::{EntryRow, LATER, index, stat};
 use crate::folders::{FolderNode, fill, own_folder};
 use crate::nodes::{later_file, worktree};
 use crate::reports::{found, is_at, is_changed};
 use gix_status::index::{Mode, State};
 use gix_status::index_as_worktree::{EntryStatus, Error, Outcome, Record};
 use gix_status::worktree::{AllPaths, FindError, MemoryWorktree, NoFilter, NoSubmodules};
-use status_tests::given::comparers::BlobLength;
-use status_tests::given::objects::FolderObjects;
-use status_tests::given::statuses::{StatusReport, StatusRequest, options, status_of};
+use status_tests::callers::comparers::BlobLength;
+use status_tests::callers::objects::FolderObjects;
+use status_tests::callers::statuses::{StatusReport, StatusRequest, options, status_of};
 use std::alloc::Global;
 use std::fs;
 use std::rt::Files;
@@ -24,7 +24,7 @@ const FOO_DIGITS: &str = "19102815663d23f8b75a47e7a01965dcdc96468c";
 /// The id of `bar`.
 const BAR_DIGITS: &str = "ba0e162e1c47469e3fe4b393a8bf8c569f302116";
 
-const ENTRIES: [GivenEntry<'static>; 2] = [
+const ENTRIES: [EntryRow<'static>; 2] = [
     ("a", 0, Mode::File, Content::Foo),
     ("b", 0, Mode::File, Content::Bar),
 ];

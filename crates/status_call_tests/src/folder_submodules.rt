@@ -1,15 +1,15 @@
 //! Submodules in folders of the disk, each with a status of its own.
 
 use crate::contents::Content;
-use crate::entries::{GivenEntry, index};
+use crate::entries::{EntryRow, index};
 use crate::folders::{FolderNode, fill, own_folder};
 use crate::reports::{found, is_taken};
 use gix_status::index::{Mode, ObjectId, State};
 use gix_status::index_as_worktree::traits::HashEq;
 use gix_status::index_as_worktree::{Change, EntryStatus, Error, Options};
 use gix_status::worktree::{AllPaths, DiskWorktree, MemoryObjects, NoFilter};
-use status_tests::given::statuses::{StatusReport, StatusRequest, options, status_of};
-use status_tests::given::submodules::FolderSubmodules;
+use status_tests::callers::statuses::{StatusReport, StatusRequest, options, status_of};
+use status_tests::callers::submodules::FolderSubmodules;
 use std::alloc::AllocError;
 use std::fs;
 use std::path::Path;
@@ -39,9 +39,9 @@ struct Row {
     name: &'static str,
     /// The nodes that are put into the folder first.
     adds: &'static [FolderNode<'static>],
-    submodules: &'static [GivenEntry<'static>],
+    submodules: &'static [EntryRow<'static>],
     /// The entries of each submodule's own index.
-    entries: &'static [GivenEntry<'static>],
+    entries: &'static [EntryRow<'static>],
     workers: usize,
     reported: Verdict,
 }

@@ -1,8 +1,8 @@
 //! Listings of directories, which replace calls of `lstat`.
 
 use crate::contents::Content;
-use crate::entries::{GivenEntry, LATER, STAGED, index};
-use crate::nodes::{GivenNode, worktree};
+use crate::entries::{EntryRow, LATER, STAGED, index};
+use crate::nodes::{NodeRow, worktree};
 use crate::reports::{is_removed, is_taken, read};
 use crate::statuses::listed_status;
 use bstr::BStr;
@@ -10,9 +10,9 @@ use gix_status::fscache::Stat;
 use gix_status::index::{Mode, ObjectId};
 use gix_status::index_as_worktree::{Capabilities, Change, EntryStatus, Options, Outcome};
 use gix_status::worktree::{MemoryWorktree, NodeKind};
-use status_tests::given::listers::{Directories, Directory};
-use status_tests::given::statuses::{StatusReport, options};
-use status_tests::given::worktrees::Counted;
+use status_tests::callers::listers::{Directories, Directory};
+use status_tests::callers::statuses::{StatusReport, options};
+use status_tests::callers::worktrees::Counted;
 use std::alloc::Global;
 use std::sync::Wait;
 use std::sync::atomic::{AtomicUsize, Ordering};
@@ -71,7 +71,7 @@ type Answer = (Verdict, usize, usize);
 #[derive(Clone, Copy)]
 struct Row {
     name: &'static str,
-    entries: &'static [GivenEntry<'static>],
+    entries: &'static [EntryRow<'static>],
     listed: Answer,
     unlisted: Answer,
 }
@@ -114,7 +114,7 @@ static ROWS: [Row; 5] = [
 ];
 
 /// Each file is unchanged. A link is at `l`, which has a listing like a directory.
-const NODES: [GivenNode<'static>; 6] = [
+const NODES: [NodeRow<'static>; 6] = [
     ("clean", NodeKind::File, b"foo", 3, Some(STAGED)),
     ("directory", NodeKind::File, b"foo", 3, Some(STAGED)),
     ("executable", NodeKind::File, b"foo", 3, Some(STAGED)),

@@ -7,24 +7,24 @@ use std::alloc::{AllocError, Global};
 
 /// The path of a node, its kind, its bytes, the length that `lstat` reports, and the second of its last change, if that
 /// is known.
-pub type GivenNode<'a> = (&'a str, NodeKind, &'a [u8], u64, Option<u32>);
+pub type NodeRow<'a> = (&'a str, NodeKind, &'a [u8], u64, Option<u32>);
 
 /// Returns a file that was written after the entries were staged.
-pub fn later_file<'a>(path: &'a str, bytes: &'a [u8]) -> GivenNode<'a> {
+pub fn later_file<'a>(path: &'a str, bytes: &'a [u8]) -> NodeRow<'a> {
     (path, NodeKind::File, bytes, bytes.len() as u64, Some(LATER))
 }
 
 /// Returns the worktree of these nodes.
-pub fn worktree(alloc: Global, nodes: &[GivenNode<'_>]) -> Result<MemoryWorktree, TreeError> {
+pub fn worktree(alloc: Global, nodes: &[NodeRow<'_>]) -> Result<MemoryWorktree, TreeError> {
     let mut worktree = MemoryWorktree::new(alloc);
-    for given in nodes {
-        worktree.put(BStr::from(given.0), node(alloc, given)?)?;
+    for row in nodes {
+        worktree.put(BStr::from(row.0), node(alloc, row)?)?;
     }
     Ok(worktree)
 }
 
-fn node(alloc: Global, given: &GivenNode<'_>) -> Result<Node, AllocError> {
-    let (_path, kind, bytes, len, mtime) = *given;
+fn node(alloc: Global, row: &NodeRow<'_>) -> Result<Node, AllocError> {
+    let (_path, kind, bytes, len, mtime) = *row;
     Ok(Node {
         kind,
         bytes: Vec::from_slice(alloc, bytes)?,

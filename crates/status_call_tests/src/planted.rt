@@ -2,7 +2,7 @@
 
 use crate::contents::Content;
 use crate::entries::{STAGED, foo_entry, index};
-use crate::nodes::{GivenNode, later_file, worktree};
+use crate::nodes::{NodeRow, later_file, worktree};
 use crate::reports::{Says, Wanted, are_records, is_failed_by, status_by_pieces};
 use bstr::BStr;
 use gix_status::index::{IndexError, Mode, State};
@@ -82,13 +82,13 @@ fn entries(alloc: Global) -> Result<State, IndexError> {
     index(alloc, &entries)
 }
 
-fn link<'a>(path: &'a str, target: &'a [u8]) -> GivenNode<'a> {
+fn link<'a>(path: &'a str, target: &'a [u8]) -> NodeRow<'a> {
     let (path, _kind, bytes, len, mtime) = later_file(path, target);
     (path, NodeKind::Link, bytes, len, mtime)
 }
 
 fn nodes(alloc: Global) -> Result<MemoryWorktree, TreeError> {
-    let nodes: [GivenNode<'_>; 8] = [
+    let nodes: [NodeRow<'_>; 8] = [
         later_file("a", b"bar"),
         later_file("b", b"bars"),
         later_file("c", b"foo"),

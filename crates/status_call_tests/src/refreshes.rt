@@ -1,11 +1,11 @@
 //! Refreshed indexes.
 
 use crate::entries::{LATER, STAGED, WRITTEN, foo_entry, index};
-use crate::nodes::{GivenNode, worktree};
+use crate::nodes::{NodeRow, worktree};
 use crate::reports::status_by_pieces;
 use gix_status::index::{Moment, State};
 use gix_status::worktree::{MemoryWorktree, NodeKind};
-use status_tests::given::statuses::refresh;
+use status_tests::callers::statuses::refresh;
 use std::sync::Wait;
 use std::test::Fail;
 use std::thread::Threads;
@@ -15,7 +15,7 @@ type Counts = (usize, usize, u32);
 
 /// The name of a row, the second in which the index was written, the file, and the counts before a refresh and after
 /// it.
-type Row = (&'static str, u32, GivenNode<'static>, Counts, Counts);
+type Row = (&'static str, u32, NodeRow<'static>, Counts, Counts);
 
 const ROWS: [Row; 2] = [
     (

@@ -1,7 +1,7 @@
 //! Threads that are refused, and rounds that start none.
 
 use crate::contents::Content;
-use crate::entries::{GivenEntry, index};
+use crate::entries::{EntryRow, index};
 use crate::reports::is_removed;
 use gix_status::index::{Mode, ObjectId, State, stat};
 use gix_status::index_as_worktree::traits::HashEq;
@@ -36,7 +36,7 @@ enum End {
 #[derive(Clone, Copy)]
 struct Row {
     name: &'static str,
-    entries: &'static [GivenEntry<'static>],
+    entries: &'static [EntryRow<'static>],
     /// How many workers there are at most.
     most: usize,
     /// Whether their stacks are too large for any thread.

@@ -6,7 +6,7 @@ use gix_status::index::{ObjectId, State};
 use gix_status::index_as_worktree::traits::HashEq;
 use gix_status::index_as_worktree::{Change, EntryStatus, Error, Options, Outcome, Record};
 use gix_status::worktree::{Fault, Worktree};
-use status_tests::given::statuses::{StatusReport, options, request_with, status_of};
+use status_tests::callers::statuses::{StatusReport, options, request_with, status_of};
 use std::sync::Wait;
 use std::thread::Threads;
 

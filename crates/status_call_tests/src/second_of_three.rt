@@ -2,14 +2,14 @@
 
 use crate::contents::Content;
 use crate::entries::{LATER, STAGED, foo_entry, index};
-use crate::nodes::{GivenNode, later_file, worktree};
+use crate::nodes::{NodeRow, later_file, worktree};
 use crate::reports::{Says, are_records, is_failed_by, is_taken, read, status_by_pieces};
 use bstr::BStr;
 use gix_status::index::{Mode, ObjectId};
 use gix_status::index_as_worktree::Error;
 use gix_status::worktree::{Fault, MemoryWorktree, NodeKind, Point};
-use status_tests::given::statuses::StatusReport;
-use status_tests::given::worktrees::Counted;
+use status_tests::callers::statuses::StatusReport;
+use status_tests::callers::worktrees::Counted;
 use std::alloc::Global;
 use std::sync::Wait;
 use std::sync::atomic::{AtomicUsize, Ordering};
@@ -41,7 +41,7 @@ impl Second {
         }
     }
 
-    fn node(self) -> GivenNode<'static> {
+    fn node(self) -> NodeRow<'static> {
         match self {
             Second::Changed => later_file("b", b"bar"),
             Second::Longer => ("b", NodeKind::File, b"bar", 4, Some(LATER)),

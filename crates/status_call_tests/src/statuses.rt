@@ -10,7 +10,7 @@ use gix_status::index_as_worktree::{
     Context, EntryStatus, Options, Recorder, VisitEntry, index_as_worktree,
 };
 use gix_status::worktree::{AllPaths, Lister, MemoryObjects, NoFilter, NoSubmodules, Worktree};
-use status_tests::given::statuses::{StatusReport, report_to, request_with};
+use status_tests::callers::statuses::{StatusReport, report_to, request_with};
 use std::alloc::AllocError;
 use std::sync::Wait;
 use std::sync::atomic::{AtomicBool, Ordering};

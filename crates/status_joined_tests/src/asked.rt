@@ -4,7 +4,7 @@ use crate::endings::Ending;
 use crate::entries::{RowEntry, RowNode};
 use crate::interfaces::{Asked, TrackerKind, WalkKind};
 use crate::rows::{PLAIN, RENAMES, Row, is_right};
-use status_tests::given::joined::walks::B;
+use status_tests::callers::joined::walks::B;
 use std::test::Fail;
 
 const NONE: Asked = Asked {

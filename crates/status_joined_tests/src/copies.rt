@@ -3,11 +3,11 @@
 use crate::entries::{RowEntry, RowNode, index, worktree};
 use crate::lines::lines_of;
 use status_joined::index_as_worktree_with_renames::{Options, Sorting};
-use status_tests::given::joined::broken::Broken;
-use status_tests::given::joined::statuses::{JoinedRequest, joined};
-use status_tests::given::joined::trackers::Answers;
-use status_tests::given::joined::trackers::Told::{Copied, Renamed};
-use status_tests::given::joined::walks::{B, C, Found, HandsOut, UNTRACKED};
+use status_tests::callers::joined::broken::Broken;
+use status_tests::callers::joined::statuses::{JoinedRequest, joined};
+use status_tests::callers::joined::trackers::Answers;
+use status_tests::callers::joined::trackers::Told::{Copied, Renamed};
+use status_tests::callers::joined::walks::{B, C, Found, HandsOut, UNTRACKED};
 use std::sync::Wait;
 use std::test::Fail;
 use std::thread::Threads;

@@ -4,7 +4,7 @@ use crate::entries::{BAR, FOO};
 use status_base::index::ObjectId;
 use status_call::index_as_worktree::{Change, EntryStatus};
 use status_joined::index_as_worktree_with_renames::{Entry, RewriteSource, Summary};
-use status_tests::given::joined::walks::Found;
+use status_tests::callers::joined::walks::Found;
 use status_walk::Status;
 
 /// A record of a row. A submodule reports an option of a number.

@@ -11,9 +11,9 @@ use status_base::worktree::{
 };
 use status_joined::index_as_worktree_with_renames::{Error, Recorder};
 use status_rewrites::{IdentityTracker, Tracker};
-use status_tests::given::joined::broken::Broken;
-use status_tests::given::joined::statuses::{JoinedReport, JoinedRequest, report_to};
-use status_tests::given::joined::walks::{B, C, Found, HandsOut};
+use status_tests::callers::joined::broken::Broken;
+use status_tests::callers::joined::statuses::{JoinedReport, JoinedRequest, report_to};
+use status_tests::callers::joined::walks::{B, C, Found, HandsOut};
 use status_walk::{Kind, Walk};
 use std::alloc::AllocError;
 use std::sync::Wait;

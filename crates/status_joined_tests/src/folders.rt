@@ -4,7 +4,7 @@ use crate::entries::{RowEntry, index};
 use crate::lines::lines_of;
 use status_base::worktree::DiskWorktree;
 use status_rewrites::IdentityTracker;
-use status_tests::given::joined::statuses::{JoinedRequest, joined};
+use status_tests::callers::joined::statuses::{JoinedRequest, joined};
 use status_walk::DiskWalk;
 use std::os::unix::fs::symlink;
 use std::path::Path;

@@ -7,8 +7,8 @@ use crate::rows::{REWRITTEN, Row, is_right};
 use status_base::index::{EntryKind, Mode, ObjectId};
 use status_base::worktree::Fault;
 use status_rewrites::ChangeKind;
-use status_tests::given::joined::broken::Point;
-use status_tests::given::joined::walks::{B, Found, UNTRACKED};
+use status_tests::callers::joined::broken::Point;
+use status_tests::callers::joined::walks::{B, Found, UNTRACKED};
 use status_walk::Kind;
 use std::test::Fail;
 

@@ -8,10 +8,10 @@ use status_base::worktree::{
     Fault, MemoryWorktree, Pathspec, SubmoduleFault, SubmoduleStatus, Worktree,
 };
 use status_rewrites::{Change, ChangeKind, IdentityTracker, Pair, Rewrites, Tracker, TrackerError};
-use status_tests::given::joined::broken::{Broken, Point};
-use status_tests::given::joined::trackers::{Answers, Told};
-use status_tests::given::joined::walks::{Found, HandsOut};
-use status_tests::given::worktrees::Counted;
+use status_tests::callers::joined::broken::{Broken, Point};
+use status_tests::callers::joined::trackers::{Answers, Told};
+use status_tests::callers::joined::walks::{Found, HandsOut};
+use status_tests::callers::worktrees::Counted;
 use status_walk::{Delegate, Outcome, UntrackedWalk, Walk, WalkError};
 use std::alloc::Global;
 use std::sync::atomic::{AtomicBool, AtomicUsize, Ordering};

@@ -4,7 +4,7 @@ use crate::endings::Ending;
 use crate::entries::{RowEntry, RowNode};
 use crate::interfaces::WalkKind;
 use crate::rows::{PLAIN, Row, is_right};
-use status_tests::given::joined::walks::{B, C, Found};
+use status_tests::callers::joined::walks::{B, C, Found};
 use status_walk::Status;
 use std::test::Fail;
 

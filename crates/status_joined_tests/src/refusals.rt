@@ -7,9 +7,9 @@ use crate::interfaces::{TrackerKind, WalkKind};
 use crate::rows::{PLAIN, RENAMES, REWRITTEN, Row, is_right};
 use status_base::worktree::Fault;
 use status_rewrites::TrackerError;
-use status_tests::given::joined::broken::Point;
-use status_tests::given::joined::trackers::Told::Renamed;
-use status_tests::given::joined::walks::B;
+use status_tests::callers::joined::broken::Point;
+use status_tests::callers::joined::trackers::Told::Renamed;
+use status_tests::callers::joined::walks::B;
 use std::test::Fail;
 
 /// The tracked `a` was written later and can't be opened, and `b` is untracked.

@@ -8,8 +8,8 @@ use crate::rows::{REWRITTEN, Row, is_right};
 use status_base::index::{HashKind, Mode, ObjectId};
 use status_joined::index_as_worktree_with_renames::Summary;
 use status_rewrites::Rewrites;
-use status_tests::given::joined::trackers::Told;
-use status_tests::given::joined::walks::{B, C, Found};
+use status_tests::callers::joined::trackers::Told;
+use status_tests::callers::joined::walks::{B, C, Found};
 use status_walk::Status;
 use std::test::Fail;
 

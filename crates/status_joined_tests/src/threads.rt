@@ -13,8 +13,8 @@ use status_base::worktree::{Fault, MemoryFile, MemoryWorktree, Metadata, Pathspe
 use status_call::index_as_worktree;
 use status_joined::index_as_worktree_with_renames::Options;
 use status_rewrites::{IdentityTracker, Rewrites};
-use status_tests::given::joined::statuses::{JoinedRequest, joined, options};
-use status_tests::given::joined::walks::{B, C, Found, UNTRACKED, hand_out};
+use status_tests::callers::joined::statuses::{JoinedRequest, joined, options};
+use status_tests::callers::joined::walks::{B, C, Found, UNTRACKED, hand_out};
 use status_walk::{Delegate, Outcome, Walk, WalkError};
 use std::alloc::Global;
 use std::sync::Wait;

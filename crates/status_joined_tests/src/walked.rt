@@ -7,8 +7,8 @@ use crate::interfaces::WalkKind;
 use crate::rows::{PLAIN, REWRITTEN, Row, is_right};
 use status_base::fscache::Stat;
 use status_base::index::Mode;
-use status_tests::given::joined::walks::{B, C, Found, UNTRACKED};
-use status_tests::given::listers::Directory;
+use status_tests::callers::joined::walks::{B, C, Found, UNTRACKED};
+use status_tests::callers::listers::Directory;
 use status_walk::{Kind, Status};
 use std::test::Fail;
 

@@ -19,7 +19,7 @@ struct Numbers {
 }
 
 #[derive(Drop)]
-struct Given {
+struct Piece {
     number: usize,
     short: bool,
 }
@@ -27,7 +27,7 @@ struct Given {
 impl Work for Numbers {
     type State = u64;
 
-    type Out = Given;
+    type Out = Piece;
 
     ghost count = { λ s. s.pieces };
 
@@ -37,14 +37,14 @@ impl Work for Numbers {
 
     ghost short = { λ out. out.short };
 
-    fn piece(&self, _state: &mut u64, number: usize) -> Given {
-        Given {
+    fn piece(&self, _state: &mut u64, number: usize) -> Piece {
+        Piece {
             number,
             short: self.short == Some(number),
         }
     }
 
-    fn is_short(out: &Given) -> bool {
+    fn is_short(out: &Piece) -> bool {
         out.short
     }
 }
@@ -107,7 +107,7 @@ fn outs_of<R: Threads + Wait>(
     workers: usize,
     pieces: usize,
     short: Option<usize>,
-) -> Result<Vec<Given>, Refused>
+) -> Result<Vec<Piece>, Refused>
     requires { (pieces ≤ 2 ^ 20) × (1 ≤ workers) × (workers ≤ 64) }
 {
     let work = Numbers { pieces, short };

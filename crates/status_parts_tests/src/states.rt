@@ -7,12 +7,12 @@ use std::ops::Range;
 use std::test::Fail;
 
 // A path, a stage and a kind of id.
-type Given<'a> = (&'a str, u32, HashKind);
+type EntryRow<'a> = (&'a str, u32, HashKind);
 
 // Returns why entries aren't a valid index. None if they are.
-fn refused(alloc: Global, given: &[Given<'_>]) -> Result<Option<IndexError>, AllocError> {
+fn refused(alloc: Global, rows: &[EntryRow<'_>]) -> Result<Option<IndexError>, AllocError> {
     let mut entries = Vec::new(alloc);
-    for (path, stage, kind) in given {
+    for (path, stage, kind) in rows {
         entries.push(NewEntry {
             path: BString::from_slice(alloc, *path)?,
             stat: Stat::default(),
@@ -25,7 +25,7 @@ fn refused(alloc: Global, given: &[Given<'_>]) -> Result<Option<IndexError>, All
 }
 
 // The name of a row, entries, and why they are refused.
-type Refusal<'a> = (&'a str, &'a [Given<'a>], Option<IndexError>);
+type Refusal<'a> = (&'a str, &'a [EntryRow<'a>], Option<IndexError>);
 
 const REFUSALS: [Refusal<'static>; 8] = [
     (
@@ -84,8 +84,8 @@ const REFUSALS: [Refusal<'static>; 8] = [
 
 #[test]
 fn entries_are_an_index_or_refused(rt: HostRuntime) -> Result<(), Fail> {
-    for (name, given, want) in REFUSALS {
-        assert_eq!(rt; refused(rt.alloc(), given)?, want, "at {name}");
+    for (name, entries, want) in REFUSALS {
+        assert_eq!(rt; refused(rt.alloc(), entries)?, want, "at {name}");
     }
     Ok(())
 }

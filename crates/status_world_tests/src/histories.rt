@@ -5,7 +5,7 @@ use bstr::{BStr, BString};
 use gix_status::index::{Moment, ObjectId, stat};
 use gix_status::stack::{StackError, SymlinkCheck};
 use gix_status::world::{Comparer, Refusal, World};
-use status_tests::given::histories::{Run, Setting, Step, history_at};
+use status_tests::callers::histories::{Run, Setting, Step, history_at};
 use std::alloc::Global;
 use std::sync::Wait;
 use std::test::Fail;

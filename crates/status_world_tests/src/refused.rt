@@ -4,7 +4,7 @@ use crate::histories::{FIVE, RUN, SECONDS};
 use crate::reports::{BAR, RACY, READ, Said, Wanted, are_reports};
 use gix_status::index::Moment;
 use gix_status::world::{Refusal, Replay};
-use status_tests::given::histories::{Run, Step, go_on, history_at};
+use status_tests::callers::histories::{Run, Step, go_on, history_at};
 use std::alloc::{AllocError, Global};
 use std::sync::Wait;
 use std::test::Fail;

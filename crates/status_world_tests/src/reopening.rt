@@ -4,7 +4,7 @@ use crate::histories::{FIVE, RUN, SECONDS};
 use bstr::BString;
 use gix_status::world::{Event, Refusal};
 use status_stored::{ReopenedReplay, Stop, replay_reopening};
-use status_tests::given::histories::{Step, events, new_world};
+use status_tests::callers::histories::{Step, events, new_world};
 use std::alloc::{AllocError, Global};
 use std::sync::Wait;
 use std::test::Fail;

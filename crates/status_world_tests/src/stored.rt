@@ -2,7 +2,7 @@
 
 use gix_status::index::{IndexError, State};
 use status_stored::LoadError;
-use status_tests::given::stored::{loaded, stored};
+use status_tests::callers::stored::{loaded, stored};
 use std::alloc::Global;
 use std::test::Fail;
 

@@ -2,7 +2,7 @@ use Rattle.std.proofs.Common.{subst, sym}
 use Rattle.status_index.specs.States.{index_of}
 use Rattle.status_call.specs.IndexChanges.{AreInside}
 use Rattle.status_call.proofs.IndexChanges.{status_inside}
-use Rattle.status_tests.proofs.given.statuses.changes.Goals as goal
+use Rattle.status_tests.proofs.callers.statuses.changes.Goals as goal
 
 pub returns : goal.returns
 returns g c =

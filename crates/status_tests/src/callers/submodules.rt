@@ -3,7 +3,7 @@
 ghost use Rattle.std.specs.Prelude.{◌≡◌, None, Ok, false, true, refl};
 ghost use Rattle.status_tests.specs.Texts.{answer_of};
 
-use crate::given::statuses::{StatusReport, options, request_with, status_of};
+use crate::callers::statuses::{StatusReport, options, request_with, status_of};
 use bstr::BStr;
 use gix_status::index::{Entry, ObjectId, State};
 use gix_status::index_as_worktree::traits::HashEq;
