@@ -33,4 +33,8 @@ def parsed(words, options, description):
         parser.add_argument(option, action="store_true", help=effect)
     parser.add_argument("--program", metavar="PATH", help="the built program (STATUS_PROGRAM, or this checkout's)")
     parser.add_argument("repository", nargs="?", default=".", help="a folder of the worktree (the current folder)")
-    return parser.parse_args(words, Arguments())
+    arguments, more = parser.parse_known_args(words, Arguments())
+    if more:
+        unknown = [word for word in more if word.startswith("-")]
+        parser.error(f"no such option: {' '.join(unknown)}" if unknown else "one repository at a time")
+    return arguments

@@ -53,7 +53,7 @@ class Repository:
     def __init__(self, folder):
         """Takes a folder of the worktree."""
         if not os.path.isdir(folder):
-            raise Refused(f"{folder} is no folder")
+            raise Refused(f"{folder or repr(folder)} is no folder")
         names = "|".join(name.removeprefix("core.") for name in DEFAULTS)
         with start_git(folder, "config", "-z", "--get-regexp", rf"^core\.({names})$") as config:
             self.top, self.kind, self.index = described(folder)

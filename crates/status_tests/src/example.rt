@@ -35,7 +35,7 @@ fn a_change_and_a_removal(rt: HostRuntime) -> Result<(), Fail> {
     };
     let mut worktree = MemoryWorktree::new(alloc);
     worktree.put(BStr::from("a"), node)?;
-    // What comes back: a record for each entry that differs, in the order of the index, and counts.
+    // What comes back: a record for each entry that differs, in content or stat, in the order of the index, and counts.
     let mut collector = Recorder::new(alloc);
     let outcome = index_as_worktree_with_defaults(
         &rt,
