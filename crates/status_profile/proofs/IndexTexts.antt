@@ -1,6 +1,6 @@
 -- The text of an index's entries, one by one.
 use Rattle.std.proofs.Common.{◌≡◌, ℕ, ◌+◌, ◌<◌, zero, suc, List, [], ◌∷◌, ◌++◌, length, map, All, false, get_or, nat_lt, true, refl, sym, subst, ap, ◌∙◌, arith, append_assoc}
-use Rattle.std.proofs.lemmas.List.{get_or_default, get_or-map, length-map}
+use Rattle.std.proofs.lemmas.List.{get_or-map, length-map}
 use Rattle.std.specs.Str.{IsUtf8}
 use Rattle.serde_json.specs.Data.{Data, Items, no_items, item, array, string}
 use Rattle.serde_json.specs.View.{items_of}
@@ -40,11 +40,11 @@ one_all P e p zero d lt = p
 one_all P e p (suc k) d lt = absurd (omega arith)
 
 -- an entry whose path isn't UTF-8 is one of the index
-pub unwritten_at : (f : Entry → IndexEntry) (xs : List Entry) (i : ℕ) (x : Entry) → i < length xs → x ≡ get_or xs i x → (e : ProfileError) → IsUnwritten (f x ∷ []) e → IsUnwritten (map f xs) e
-unwritten_at f xs i x within here errors.NotJson h = h
-unwritten_at f xs i x within here (errors.Bad key) h = (
+pub unwritten_at : (f : Entry → IndexEntry) (xs : List Entry) (i : ℕ) (x : Entry) → i < length xs → (e : ProfileError) → IsUnwritten (f (get_or xs i x) ∷ []) e → IsUnwritten (map f xs) e
+unwritten_at f xs i x within errors.NotJson h = h
+unwritten_at f xs i x within (errors.Bad key) h = (
       h.0,
-      λ all. h.1 (one_all (λ y. IsUtf8 y.path) (f x) (subst (λ y. IsUtf8 y.path) (get_or-map f xs i x (f x) within ∙ ap f (sym here)) (all i (f x) (rw (length-map xs f) within)))),
+      λ all. h.1 (one_all (λ y. IsUtf8 y.path) (f (get_or xs i x)) (subst (λ y. IsUtf8 y.path) (get_or-map f xs i x (f x) within) (all i (f x) (rw (length-map xs f) within)))),
     )
-unwritten_at f xs i x within here (errors.Index e) h = h
-unwritten_at f xs i x within here errors.Memory h = tt
+unwritten_at f xs i x within (errors.Index e) h = h
+unwritten_at f xs i x within errors.Memory h = tt
