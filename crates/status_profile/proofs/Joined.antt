@@ -6,7 +6,6 @@ use Rattle.json.specs.Print.{ends, print, print_from, quoted}
 use Rattle.json.specs.Token.{Token, key}
 use Rattle.json.specs.Tree.{json_tokens, items_tokens, members_tokens}
 use Rattle.json.proofs.Printed.Tokens.{print_from-append}
-use Rattle.serde_json.specs.Written.{comma_if}
 use Rattle.status_profile.specs.Texts.{joined_texts, member_texts}
 use Rattle.status_profile.specs.Sorted.{compact}
 

@@ -1,5 +1,5 @@
 -- Two members that are put in one after another: in either order, or the later one in place of the earlier.
-use Rattle.std.proofs.Common.{◌≡◌, ◌⊎◌, inl, inr, ℕ, List, [], ◌∷◌, Bool, true, false, ◌||◌, cond, Ordering, Less, Equal, Greater, nat_cmp, refl, sym, ap, ◌∙◌}
+use Rattle.std.proofs.Common.{◌≡◌, ℕ, List, Bool, true, false, ◌||◌, cond, Ordering, Less, Equal, Greater, nat_cmp, refl, sym, ap, ◌∙◌}
 use Rattle.std.proofs.lemmas.Cmp.{nat_list_cmp_total, tied_itself}
 use Rattle.std.specs.Cmp.Lexicographic.{slice_cmp}
 use Rattle.std.specs.Ordering.{match_ordering, ordering_reverse, is_eq}
@@ -8,7 +8,7 @@ use Rattle.std.specs.Str.{bytes_eq}
 use Rattle.std.proofs.lemmas.Map.Text.{is_eq-slice_cmp}
 use Rattle.std.proofs.lemmas.Slice.Eq.{bytes_eq-Decides}
 use Rattle.json.specs.Json.{Json, Members, no_members, member}
-use Rattle.status_profile.specs.Texts.{is_renewed, sorted_others, with_other}
+use Rattle.status_profile.specs.Texts.{sorted_others, with_other}
 use Rattle.status_profile.specs.Sorted.{put_member, sorted, sorted_members}
 
 put_same_at : (o : Ordering) (k l : List ℕ) (x y i : Json) (ms : Members) → slice_cmp nat_cmp k l ≡ o → put_member k x (put_member k y ms) ≡ put_member k x ms

@@ -9,7 +9,7 @@ use Rattle.json.specs.Token.{Token}
 use Rattle.json.specs.Written.{Written}
 use Rattle.status_profile.specs.Steps.{Adds}
 use Rattle.status_profile.proofs.Fronts.{items_onto}
-use Rattle.json.specs.Value.{value_view, items_of, members_of, items_view, members_view}
+use Rattle.json.specs.Value.{value_view, items_of, items_view, members_view}
 use Rattle.json.specs.declared.value.Value.{Value}
 use Rattle.status_profile.specs.Sorted.{put_member, sorted, sorted_items, sorted_members}
 

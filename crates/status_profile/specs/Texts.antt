@@ -1,8 +1,7 @@
 -- The compact texts of an object's members other than those that are stored anew.
-use Rattle.std.specs.Prelude.{◌≡◌, ℕ, List, [], ◌∷◌, ◌++◌, map, Bool, ◌||◌, true, false, if◌then◌else◌, codes, Option, Some, None, Result, Ok, Err, ⊤, String, string_bytes, Vec}
-use Rattle.std.specs.declared.alloc.Global.{Global}
-use Rattle.std.specs.Str.{IsUtf8, bytes_eq}
-use Rattle.json.specs.Json.{Json, object, Members, no_members, member, document}
+use Rattle.std.specs.Prelude.{◌≡◌, ℕ, List, [], ◌∷◌, ◌++◌, map, Bool, ◌||◌, true, false, if◌then◌else◌, codes, Option, Some, None, Result, Ok, Err, ⊤, string_bytes}
+use Rattle.std.specs.Str.{bytes_eq}
+use Rattle.json.specs.Json.{Json, object, Members, no_members, member}
 use Rattle.json.specs.Print.{quoted}
 use Rattle.serde_json.specs.Written.{comma_if}
 use Rattle.status_profile.specs.Forms.{is_object}

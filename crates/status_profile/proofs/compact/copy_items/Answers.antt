@@ -2,12 +2,10 @@ use Rattle.std.proofs.Common.{◌≡◌, ◌-◌, ◌<◌, [], ◌∷◌, ◌++�
 use Rattle.std.proofs.lemmas.Result.{err_from_is_err_and}
 use Rattle.json.specs.Json.{after_end_array, items, no_items, parse_map, value}
 use Rattle.json.specs.Token.{Token}
-use Rattle.json.specs.Tree.{json_tokens}
 use Rattle.json.proofs.Grammar.{items_end, items_fail, items_more}
-use Rattle.status_profile.specs.Sorted.{sorted}
 use Rattle.status_profile.specs.Steps.{Adds, item_depth}
 use Rattle.status_profile.proofs.Fronts.{items_onto, none_before, one_more, unread_via}
-use Rattle.status_profile.proofs.SortedValues.{Adds-none, Adds-then, sorted_tokens, sorted_tokens-push, sorted_tokens-end}
+use Rattle.status_profile.proofs.SortedValues.{Adds-none, Adds-then, sorted_tokens-push, sorted_tokens-end}
 use Rattle.status_profile.proofs.compact.copy_items.Goals as goal
 
 pub loop-alloc-init : goal.loop-alloc-init
