@@ -43,8 +43,8 @@ one_all P e p (suc k) d lt = absurd (omega arith)
 pub unwritten_at : (f : Entry → IndexEntry) (xs : List Entry) (i : ℕ) (x : Entry) → i < length xs → (e : ProfileError) → IsUnwritten (f (get_or xs i x) ∷ []) e → IsUnwritten (map f xs) e
 unwritten_at f xs i x within errors.NotJson h = h
 unwritten_at f xs i x within (errors.Bad key) h = (
-      h.0,
-      λ all. h.1 (one_all (λ y. IsUtf8 y.path) (f (get_or xs i x)) (subst (λ y. IsUtf8 y.path) (get_or-map f xs i x (f x) within) (all i (f x) (rw (length-map xs f) within)))),
-    )
+  h.0,
+  λ all. h.1 (one_all (λ y. IsUtf8 y.path) (f (get_or xs i x)) (subst (λ y. IsUtf8 y.path) (get_or-map f xs i x (f x) within) (all i (f x) (rw (length-map xs f) within)))),
+)
 unwritten_at f xs i x within (errors.Index e) h = h
 unwritten_at f xs i x within errors.Memory h = tt

@@ -1,4 +1,4 @@
-use Rattle.std.proofs.Common.{◌≡◌, [], ◌∷◌, ◌++◌, sym, ap, ◌∙◌, arith}
+use Rattle.std.proofs.Common.{◌≡◌, [], ◌∷◌, ap, ◌∙◌, arith}
 use Rattle.std.proofs.lemmas.Result.{err_from_is_err_and}
 use Rattle.json.specs.Json.{array, object, parse_map, value}
 use Rattle.json.specs.Reads.{token_of}
@@ -8,7 +8,7 @@ use Rattle.json.proofs.Grammar.{value_is, value-begin_array, value-begin_object}
 use Rattle.status_profile.specs.Sorted.{sorted}
 use Rattle.status_profile.specs.Steps.{Adds, member_depth}
 use Rattle.status_profile.proofs.Fronts.{err_via, read_as}
-use Rattle.status_profile.proofs.Tokens.{is_one_token, no_beginning}
+use Rattle.status_profile.proofs.Tokens.{no_beginning, scalar_added}
 use Rattle.status_profile.proofs.compact.copy_value.Goals as goal
 
 pub returns-in_err-token-clause-err : goal.returns-in_err-token-clause-err
@@ -48,9 +48,8 @@ returns-in-BeginObject-clause-err c =
 pub returns-in_ok-token-in-String-clause-ok : goal.returns-in_ok-token-in-String-clause-ok
 returns-in_ok-token-in-String-clause-ok c =
     let next : c.args.reader.now ≡ token_of c.in_ok-token.token ∷ c.next.new.self = grind arith in
-    let one = is_one_token member_depth c.args.reader.now c.next.new.self c.in_ok-token.token next c.in-String.is in
     let written = c.in_ok-token-in-String.ensures in
-    (one.0, one.1, record { before = written.room.0; tokens = written.ok ∙ ap (λ ts. c.args.writer.now.tokens ++ ts) (sym one.2) })
+    scalar_added member_depth c.args.reader.now c.next.new.self c.in_ok-token.token next c.in-String.is c.args.writer.now c.token.new.self written.room.0 written.ok
 
 pub returns-in-EndObject-clause-err : goal.returns-in-EndObject-clause-err
 returns-in-EndObject-clause-err c =
