@@ -42,11 +42,6 @@ HasTexts m ms = texts_in m ≡ member_texts ms
 abbrev pub HoldsTexts : Json → MemberTexts → Type 0
 HoldsTexts j m = (ms : Members) × (j ≡ object ms) × HasTexts m (sorted_others ms no_members)
 
--- the texts of an object's members, or that a value is no object
-abbrev pub AreTextsRead : Json → Option MemberTexts → Type 0
-AreTextsRead j (Some m) = HoldsTexts j m
-AreTextsRead j None = is_object j ≡ false
-
 -- the text of members with these texts, with the closing brace
 abbrev pub joined_texts : Bool → List (List ℕ × List ℕ) → List ℕ
 joined_texts later [] = 125 ∷ []

@@ -3,8 +3,8 @@
 ghost use Rattle.std.specs.Prelude.{◌≡◌, ◌<◌, ℕ, List, Option, IfErr, IfOk, OnOk, None, Some, length};
 ghost use Rattle.json.specs.Find.{get_member};
 ghost use Rattle.json.specs.Json.{Json, Members as MembersOf, document, max_depth, members, value};
-ghost use Rattle.status_profile.specs.Members.{HasMembers, IsMembersRead, with_member};
-ghost use Rattle.status_profile.specs.Steps.{IsUnread, member_depth};
+ghost use Rattle.status_profile.specs.Members.{HasMembers, with_member};
+ghost use Rattle.status_profile.specs.Steps.{AreMade, IsUnread, member_depth};
 
 use crate::entry::Entries;
 use crate::error::{FieldError, ProfileError};
@@ -31,20 +31,6 @@ pub struct Members<'a> {
 }
 
 impl<'a> Members<'a> {
-    /// Returns no members.
-    fn none() -> Members<'a>
-        ensures { HasMembers result (λ _. None) }
-    {
-        Members {
-            hash: None,
-            timestamp: None,
-            options: None,
-            folder: None,
-            entries: Err(FieldError::Form),
-            nodes: Err(FieldError::Form),
-        }
-    }
-
     /// Reads the value of a key.
     ///
     /// # Errors
@@ -72,17 +58,70 @@ impl<'a> Members<'a> {
     }
 }
 
-/// Reads the members of a profile, with at most one entry or node in memory as a JSON value. None if the text isn't an
-/// object.
+impl<'a> FromMembers<'a> for Members<'a> {
+    ghost use Rattle.std.specs.Prelude.{◌≡◌, ◌<◌, IfErr, OnOk, Some, length};
+    ghost use Rattle.json.specs.Find.{get_member};
+    ghost use Rattle.json.specs.Json.{Json, Members as MembersOf, no_members, value};
+    ghost use Rattle.status_profile.specs.Members.{HasMembers};
+    ghost use Rattle.status_profile.specs.Steps.{IsUnread, member_depth, with_last};
+
+    ghost holds = { λ made ms. HasMembers made (λ name. get_member name ms) };
+
+    fn none(_alloc: Global) -> Members<'a>
+        ensures { HasMembers result (λ name. get_member name no_members) }
+    {
+        Members {
+            hash: None,
+            timestamp: None,
+            options: None,
+            folder: None,
+            entries: Err(FieldError::Form),
+            nodes: Err(FieldError::Form),
+        }
+    }
+
+    fn add(&mut self, alloc: Global, key: &str, reader: &mut Reader<'a>) -> Result<(), ProfileError>
+        ensures ok { OnOk result ((j : Json) × (value member_depth reader.old ≡ Some (j, reader.new)) × ((ms : MembersOf) → HasMembers self.old (λ name. get_member name ms) → HasMembers self.new (λ name. get_member name (with_last ms key.now j)))) }
+        ensures shorter { OnOk result (length reader.new < length reader.old) }
+        ensures err { IfErr result (IsUnread (value member_depth reader.old)) }
+    {
+        self.read_member(alloc, key, reader)
+    }
+}
+
+/// What is made of an object's members, which are read one by one.
+pub trait FromMembers<'a>: Sized + Drop {
+    ghost use Rattle.std.specs.Prelude.{◌≡◌, ◌<◌, IfErr, OnOk, Some, length};
+    ghost use Rattle.json.specs.Json.{Json, Members as MembersOf, no_members, value};
+    ghost use Rattle.status_profile.specs.Steps.{IsUnread, member_depth, with_last};
+
+    /// It is made of these members.
+    ghost holds: { Self → MembersOf → Type 0 };
+
+    /// Returns what is made of no members.
+    fn none(alloc: Global) -> Self
+        ensures { holds result no_members };
+
+    /// Reads the value of a key, and adds the member.
+    ///
+    /// # Errors
+    /// The text isn't JSON, or memory ran out.
+    fn add(&mut self, alloc: Global, key: &str, reader: &mut Reader<'a>) -> Result<(), ProfileError>
+        ensures ok { OnOk result ((j : Json) × (value member_depth reader.old ≡ Some (j, reader.new)) × ((ms : MembersOf) → holds self.old ms → holds self.new (with_last ms key.now j))) }
+        ensures shorter { OnOk result (length reader.new < length reader.old) }
+        ensures err { IfErr result (IsUnread (value member_depth reader.old)) };
+}
+
+/// Reads the members of an object. None if the text is another value.
 ///
 /// # Errors
 /// The text isn't JSON, or memory ran out.
-pub fn members_of<'a>(
+pub fn members_of<'a, M: FromMembers<'a>>(
     alloc: Global,
     text: &'a str,
     scratch: &'a mut Scratch,
-) -> Result<Option<Members<'a>>, ProfileError>
-    ensures ok { IfOk result (λ read. (j : Json) × (document text.now ≡ Some j) × IsMembersRead j read) }
+) -> Result<Option<M>, ProfileError>
+    ensures ok { IfOk result (λ read. (j : Json) × (document text.now ≡ Some j) × AreMade M.holds j read) }
     ensures err { IfErr result (IsUnread (document text.now)) }
 {
     let mut reader = Reader::new(text, scratch)?;
@@ -94,11 +133,11 @@ pub fn members_of<'a>(
 }
 
 /// Reads a value, and its members if it is an object.
-fn read_value<'a>(
+fn read_value<'a, M: FromMembers<'a>>(
     alloc: Global,
     reader: &mut Reader<'a>,
-) -> Result<Option<Members<'a>>, ProfileError>
-    ensures ok { IfOk result (λ read. (j : Json) × (value max_depth reader.old ≡ Some (j, reader.new)) × IsMembersRead j read) }
+) -> Result<Option<M>, ProfileError>
+    ensures ok { IfOk result (λ read. (j : Json) × (value max_depth reader.old ≡ Some (j, reader.new)) × AreMade M.holds j read) }
     ensures err { IfErr result (IsUnread (value max_depth reader.old)) }
 {
     match begin_value(reader)? {
@@ -112,13 +151,16 @@ fn read_value<'a>(
 }
 
 /// Reads the members of an object after its opening brace.
-fn read_members<'a>(alloc: Global, reader: &mut Reader<'a>) -> Result<Members<'a>, ProfileError>
-    ensures ok { IfOk result (λ read. (ms : MembersOf) × (members (value member_depth) (length reader.old) reader.old ≡ Some (ms, reader.new)) × HasMembers read (λ name. get_member name ms)) }
+fn read_members<'a, M: FromMembers<'a>>(
+    alloc: Global,
+    reader: &mut Reader<'a>,
+) -> Result<M, ProfileError>
+    ensures ok { IfOk result (λ read. (ms : MembersOf) × (members (value member_depth) (length reader.old) reader.old ≡ Some (ms, reader.new)) × M.holds read ms) }
     ensures err { IfErr result (IsUnread (members (value member_depth) (length reader.old) reader.old)) }
 {
-    let mut members = Members::none();
+    let mut members = M::none(alloc);
     while let Some(key) = reader.next_key()? {
-        members.read_member(alloc, key, reader)?;
+        members.add(alloc, key, reader)?;
     }
     Ok(members)
 }
