@@ -1,5 +1,5 @@
 -- The compact texts of an object's members other than those that are stored anew.
-use Rattle.std.specs.Prelude.{◌≡◌, ℕ, List, [], ◌∷◌, ◌++◌, map, Bool, ◌||◌, true, false, if◌then◌else◌, codes, Option, Some, None, Result, Ok, Err, ⊤, string_bytes}
+use Rattle.std.specs.Prelude.{◌≡◌, ℕ, List, [], ◌∷◌, ◌++◌, map, Bool, ◌||◌, true, false, if◌then◌else◌, codes, Result, Ok, Err, ⊤, string_bytes}
 use Rattle.std.specs.Str.{bytes_eq}
 use Rattle.json.specs.Json.{Json, object, Members, no_members, member}
 use Rattle.json.specs.Print.{quoted}

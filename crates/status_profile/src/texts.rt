@@ -14,7 +14,7 @@ use crate::compact::read_compact;
 use crate::error::{Key, ProfileError};
 use crate::index_text::{index_text, timestamp_text};
 use crate::items::MEMBER_DEPTH;
-use crate::members::{FromMembers, members_of};
+use crate::object::{FromMembers, members_of};
 use gix_status::index::State;
 use json::{Reader, Scratch, Writer};
 use std::alloc::{AllocError, Global};

@@ -1,7 +1,7 @@
-use Rattle.std.proofs.Common.{◌≡◌, false, List, ℕ, Option, Some, refl, ap, ◌∙◌, subst, rules}
+use Rattle.std.proofs.Common.{◌≡◌, false, Option, Some, refl, ap, ◌∙◌, subst, rules}
 use Rattle.std.specs.Str.{IsUtf8}
 use Rattle.json.specs.Find.{get_member}
-use Rattle.json.specs.Json.{Json, Members as MembersOf, object}
+use Rattle.json.specs.Json.{Json, object}
 use Rattle.status_profile.specs.declared.members.Members.{Members}
 use Rattle.status_profile.specs.Forms.{is_object}
 use Rattle.status_profile.specs.Members.{HasMembers}

@@ -6,7 +6,7 @@ use Rattle.status_profile.specs.Steps.{Begins}
 use Rattle.status_profile.specs.declared.items.Begun.TheVariants.{List, Object, Scalar}
 use Rattle.status_profile.proofs.Fronts.{unread_via}
 use Rattle.status_profile.proofs.MemberSteps.{no_object}
-use Rattle.status_profile.proofs.members.read_value.Goals as goal
+use Rattle.status_profile.proofs.object.read_value.Goals as goal
 
 pub returns-in_err-read_members-in-Object-clause-err :
     goal.returns-in_err-read_members-in-Object-clause-err

@@ -1,11 +1,11 @@
-use Rattle.std.proofs.Common.{◌≡◌, ◌-◌, [], ◌∷◌, ◌++◌, length, Some, None, sym, subst, ap, ◌∙◌, arith, rules}
+use Rattle.std.proofs.Common.{◌≡◌, ◌-◌, [], ◌∷◌, ◌++◌, length, Some, None, subst, ap, ◌∙◌, arith}
 use Rattle.std.proofs.lemmas.Result.{err_from_is_err_and}
 use Rattle.json.specs.Json.{members, no_members, parse_map, read_key, value}
 use Rattle.json.proofs.Grammar.{members_end, members_fail, members_more, members_no_key, read_key-shorter}
 use Rattle.status_profile.specs.Steps.{member_depth}
 use Rattle.status_profile.proofs.Fronts.{unread_via}
-use Rattle.status_profile.proofs.MemberSteps.{members_onto, members_onto-last, no_member_before, one_more_member}
-use Rattle.status_profile.proofs.members.read_members.Goals as goal
+use Rattle.status_profile.proofs.MemberSteps.{members_onto, members_onto-last, one_more_member}
+use Rattle.status_profile.proofs.object.read_members.Goals as goal
 
 pub returns-in_err-key-clause-err : goal.returns-in_err-key-clause-err
 returns-in_err-key-clause-err g c =

@@ -2,7 +2,7 @@ use Rattle.std.proofs.Common.{◌≡◌, ℕ, ◌≤◌, List, length}
 use Rattle.json.specs.Json.{Json, members, no_members, parse_map, value}
 use Rattle.status_profile.specs.Steps.{member_depth}
 use Rattle.status_profile.proofs.MemberSteps.{members_onto}
-use Rattle.status_profile.proofs.members.read_members.Given as goal
+use Rattle.status_profile.proofs.object.read_members.Given as goal
 
 abbrev pub invariant-loop-members : goal.invariant-loop-members
 invariant-loop-members g l =
