@@ -14,7 +14,7 @@ use Rattle.status_profile.specs.declared.node.Nodes.{Nodes}
 use Rattle.status_profile.specs.Entries.{entries_in, entry_in}
 use Rattle.status_profile.specs.Forms.{◌>>=◌, Reads, each, is_object}
 use Rattle.status_profile.specs.Held.{AreEntriesRead, HoldsEntries, HoldsNodes, nodes_value}
-use Rattle.status_profile.specs.Members.{HasMembers, with_member}
+use Rattle.status_profile.specs.Members.{AreMembersOf, HasMembers, with_member}
 use Rattle.status_profile.specs.Nodes.{node_in, nodes_in}
 use Rattle.status_profile.specs.Steps.{IsValueRead, with_last}
 use Rattle.status_profile.proofs.Eaches.{each_misfit}
@@ -93,7 +93,7 @@ found_with (member l i ms) k j name =
 
 -- members with one more, for each way to look them up
 pub has_one_more : {T E : Type 0} (r : Result T E) (V : Json → Type 0) (old new : Members) (k : List ℕ) → OnOk r ((j : Json) × V j × ((g : List ℕ → Option Json) → HasMembers old g → HasMembers new (with_member k j g)))
-    → OnOk r ((j : Json) × V j × ((ms : MembersOf) → HasMembers old (λ name. get_member name ms) → HasMembers new (λ name. get_member name (with_last ms k j))))
+    → OnOk r ((j : Json) × V j × ((ms : MembersOf) → AreMembersOf old ms → AreMembersOf new (with_last ms k j)))
 has_one_more (Ok x) V old new k h = (h.0, h.1, λ ms before. same_members new _ _ (found_with ms k h.0) (h.2 (λ name. get_member name ms) before))
 has_one_more (Err e) V old new k h = tt
 

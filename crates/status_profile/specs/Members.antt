@@ -2,8 +2,8 @@
 use Rattle.std.specs.Prelude.{◌≡◌, ℕ, cond, List, Option, Some, None, option_and_then, option_map}
 use Rattle.std.specs.Str.{bytes_eq}
 use Rattle.std.specs.Prelude.{codes}
-use Rattle.json.specs.Json.{Json}
-use Rattle.json.specs.Find.{later_or}
+use Rattle.json.specs.Json.{Json, Members as MembersOf}
+use Rattle.json.specs.Find.{get_member, later_or}
 use Rattle.json.specs.Value.{value_view}
 use Rattle.status_profile.specs.declared.members.Members.{Members}
 use Rattle.status_profile.specs.Entries.{entries_in}
@@ -23,3 +23,7 @@ pub record HasMembers (m : Members) (g : List ℕ → Option Json) : Type 0 wher
 -- what is found with one more member
 abbrev pub with_member : List ℕ → Json → (List ℕ → Option Json) → List ℕ → Option Json
 with_member key j g name = later_or (cond (bytes_eq key name) (Some j) None) (g name)
+
+-- the members of a profile are those of this object
+abbrev pub AreMembersOf : Members → MembersOf → Type 0
+AreMembersOf m ms = HasMembers m (λ name. get_member name ms)

@@ -1,9 +1,8 @@
 //! The members of a profile.
 
 ghost use Rattle.std.specs.Prelude.{◌≡◌, ◌<◌, ℕ, List, Option, IfErr, OnOk, None, Some, length};
-ghost use Rattle.json.specs.Find.{get_member};
 ghost use Rattle.json.specs.Json.{Json, Members as MembersOf, no_members, value};
-ghost use Rattle.status_profile.specs.Members.{HasMembers, with_member};
+ghost use Rattle.status_profile.specs.Members.{AreMembersOf, HasMembers, with_member};
 ghost use Rattle.status_profile.specs.Steps.{IsUnread, member_depth, with_last};
 
 use crate::entry::Entries;
@@ -61,15 +60,14 @@ impl<'a> Members<'a> {
 
 impl<'a> FromMembers<'a> for Members<'a> {
     ghost use Rattle.std.specs.Prelude.{◌≡◌, ◌<◌, IfErr, OnOk, Some, length};
-    ghost use Rattle.json.specs.Find.{get_member};
     ghost use Rattle.json.specs.Json.{Json, Members as MembersOf, no_members, value};
-    ghost use Rattle.status_profile.specs.Members.{HasMembers};
+    ghost use Rattle.status_profile.specs.Members.{AreMembersOf};
     ghost use Rattle.status_profile.specs.Steps.{IsUnread, member_depth, with_last};
 
-    ghost holds = { λ made ms. HasMembers made (λ name. get_member name ms) };
+    ghost holds = { λ made ms. AreMembersOf made ms };
 
     fn none(_alloc: Global) -> Members<'a>
-        ensures { HasMembers result (λ name. get_member name no_members) }
+        ensures { AreMembersOf result no_members }
     {
         Members {
             hash: None,
@@ -82,7 +80,7 @@ impl<'a> FromMembers<'a> for Members<'a> {
     }
 
     fn add(&mut self, alloc: Global, key: &str, reader: &mut Reader<'a>) -> Result<(), ProfileError>
-        ensures ok { OnOk result ((j : Json) × (value member_depth reader.old ≡ Some (j, reader.new)) × ((ms : MembersOf) → HasMembers self.old (λ name. get_member name ms) → HasMembers self.new (λ name. get_member name (with_last ms key.now j)))) }
+        ensures ok { OnOk result ((j : Json) × (value member_depth reader.old ≡ Some (j, reader.new)) × ((ms : MembersOf) → AreMembersOf self.old ms → AreMembersOf self.new (with_last ms key.now j))) }
         ensures shorter { OnOk result (length reader.new < length reader.old) }
         ensures err { IfErr result (IsUnread (value member_depth reader.old)) }
     {

@@ -8,7 +8,7 @@ ghost use Rattle.status_index.specs.States.{index_of, timestamp_of};
 ghost use Rattle.status_profile.specs.Refreshed.{IsUnwritten, refreshed_text};
 ghost use Rattle.status_profile.specs.Sorted.{compact, put_member};
 ghost use Rattle.status_profile.specs.Steps.{IsUnread, member_depth, with_last};
-ghost use Rattle.status_profile.specs.Texts.{HasTexts, HoldsTexts, IsTextsRead, sorted_others};
+ghost use Rattle.status_profile.specs.Texts.{HasOthers, HasTexts, HoldsTexts, IsTextsRead};
 
 use crate::compact::read_compact;
 use crate::error::{Key, ProfileError};
@@ -89,13 +89,13 @@ impl MemberTexts {
 impl<'a> FromMembers<'a> for MemberTexts {
     ghost use Rattle.std.specs.Prelude.{◌≡◌, ◌<◌, IfErr, OnOk, Some, length};
     ghost use Rattle.json.specs.Json.{Json, Members as MembersOf, no_members, value};
-    ghost use Rattle.status_profile.specs.Texts.{HasTexts, sorted_others};
+    ghost use Rattle.status_profile.specs.Texts.{HasOthers};
     ghost use Rattle.status_profile.specs.Steps.{IsUnread, member_depth, with_last};
 
-    ghost holds = { λ made ms. HasTexts made (sorted_others ms no_members) };
+    ghost holds = { λ made ms. HasOthers made ms };
 
     fn none(alloc: Global) -> MemberTexts
-        ensures { HasTexts result no_members }
+        ensures { HasOthers result no_members }
     {
         MemberTexts {
             texts: BTreeMap::new(alloc),
@@ -103,7 +103,7 @@ impl<'a> FromMembers<'a> for MemberTexts {
     }
 
     fn add(&mut self, alloc: Global, key: &str, reader: &mut Reader<'a>) -> Result<(), ProfileError>
-        ensures ok { OnOk result ((j : Json) × (value member_depth reader.old ≡ Some (j, reader.new)) × ((ms : MembersOf) → HasTexts self.old (sorted_others ms no_members) → HasTexts self.new (sorted_others (with_last ms key.now j) no_members))) }
+        ensures ok { OnOk result ((j : Json) × (value member_depth reader.old ≡ Some (j, reader.new)) × ((ms : MembersOf) → HasOthers self.old ms → HasOthers self.new (with_last ms key.now j))) }
         ensures shorter { OnOk result (length reader.new < length reader.old) }
         ensures err { IfErr result (IsUnread (value member_depth reader.old)) }
     {

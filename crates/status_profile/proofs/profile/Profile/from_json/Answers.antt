@@ -1,16 +1,15 @@
 use Rattle.std.proofs.Common.{◌≡◌, false, Option, Some, refl, ap, ◌∙◌, subst, rules}
 use Rattle.std.specs.Str.{IsUtf8}
-use Rattle.json.specs.Find.{get_member}
 use Rattle.json.specs.Json.{Json, object}
 use Rattle.status_profile.specs.declared.members.Members.{Members}
 use Rattle.status_profile.specs.Forms.{is_object}
-use Rattle.status_profile.specs.Members.{HasMembers}
+use Rattle.status_profile.specs.Members.{AreMembersOf}
 use Rattle.status_profile.specs.Steps.{AreMade}
 use Rattle.status_profile.proofs.Keys.{is_read, no_profile}
 use Rattle.status_profile.proofs.profile.Profile.from_json.Goals as goal
 
 abbrev AreRead : Json → Option Members → Type 0
-AreRead = AreMade (λ made ms. HasMembers made (λ name. get_member name ms))
+AreRead = AreMade AreMembersOf
 
 pub returns-in-Some : goal.returns-in-Some
 returns-in-Some c =
