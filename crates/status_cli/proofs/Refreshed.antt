@@ -19,8 +19,8 @@ use Rattle.status_cli.specs.Refreshes.{IsIndexRefreshed, IsRefreshFailed, IsRefr
 
 -- what holds of each failure that this is, holds of the failure
 pub err_weaker : {A : Type 0} (r : Result A Failure) (P Q : Failure → Type 0) → ((f : Failure) → P f → Q f) → IsErrAnd r P → IfErr r Q
-err_weaker (Ok x) P Q use h = absurd h
-err_weaker (Err f) P Q use h = use f h
+err_weaker (Ok x) P Q step h = absurd h
+err_weaker (Err f) P Q step h = step f h
 
 -- the status failed, so there is no index
 pub unrefreshed_index : (p : Profile) (timestamp : Moment) (old new : Option (List ℕ)) (r : Result State Failure) (e : Failure) → IsErrAnd r (λ f. f ≡ e) → IsProfilePrinted p Returned old (Err e) new → IsIndexRefreshed p timestamp old r new
