@@ -47,7 +47,7 @@ where
     ensures kept { result ≡ 1 → refreshed.new.items ≡ refreshed.old.items }
 {
     match refresh(rt, Moment { secs, nsecs }, profile, output) {
-        Ok(text) => match refreshed.extend_from_slice(text.as_bytes()) {
+        Ok(text) => match refreshed.extend_from_slice(text.as_slice()) {
             Ok(()) => 0,
             Err(_) => Failure::Memory.report(rt.alloc(), name, faults),
         },
@@ -61,7 +61,7 @@ fn refresh<R: AllocGlobal + Files + Sync + Threads + Wait, I: io::Read, O: io::W
     timestamp: Moment,
     profile: &mut I,
     output: &mut O,
-) -> Result<String, Failure>
+) -> Result<Vec<u8>, Failure>
 where
     R::File: Send,
     R::Dir: Send,

@@ -1,9 +1,12 @@
 -- Items and members after those that were read.
-use Rattle.std.proofs.Common.{◌≡◌, ◌≢◌, Bool, List, [], ◌∷◌, ◌++◌, Option, Some, None, Result, Ok, Err, IfErr, IfOk, refl, ap, ◌∙◌}
+use Rattle.std.proofs.Common.{◌≡◌, ◌≢◌, Bool, List, [], ◌∷◌, ◌++◌, Option, Some, None, Result, Ok, Err, IfErr, IfOk, OnOk, refl, ap, ◌∙◌}
 use Rattle.json.specs.Token.{Token}
 use Rattle.json.specs.Json.{Json, Items, array, no_items, item, parse_map}
 use Rattle.json.specs.Find.{as_array}
 use Rattle.json.specs.Value.{items_of}
+use Rattle.json.specs.declared.error.Error.{Error}
+use Rattle.json.specs.declared.error.Error.TheVariants as json
+use Rattle.status_profile.specs.Failures.{error_of_json}
 use Rattle.status_profile.specs.Steps.{AreItems, AreRead, IsListRead, IsUnread, IsValueRead}
 use Rattle.status_profile.specs.declared.error.ProfileError.{ProfileError}
 use Rattle.status_profile.specs.declared.error.ProfileError.TheVariants as errors
@@ -64,3 +67,16 @@ unread_via part whole fails (errors.Index e) h = h
 pub err_via : {A B T : Type 0} (part : Option A) (whole : Option B) → (part ≡ None → whole ≡ None) → (r : Result T ProfileError) → IfErr r (IsUnread part) → IfErr r (IsUnread whole)
 err_via part whole fails (Ok x) h = tt
 err_via part whole fails (Err e) h = unread_via part whole fails e h
+
+-- a value isn't read
+pub unread_json : {A T : Type 0} (part : Option A) (r : Result T Error) (e : Error) → r ≡ Err e → (r ≡ Err json.Invalid → part ≡ None) → (r ≡ Err json.TooLong → ⊥) → (r ≡ Err json.DuplicateKey → ⊥) → IsUnread part (error_of_json e)
+unread_json part r json.OutOfMemory is invalid long twice = tt
+unread_json part r json.Invalid is invalid long twice = invalid is
+unread_json part r json.TooLong is invalid long twice = absurd (long is)
+unread_json part r json.DuplicateKey is invalid long twice = absurd (twice is)
+
+-- a value is read as its items or members are
+pub read_as : {A : Type 0} (f : A → Json) (P : Json → Type 0) (parsed : Option (Json × List Token)) (within : Option (A × List Token)) (rest : List Token) → parsed ≡ parse_map f within → {T E : Type 0} (r : Result T E)
+    → OnOk r ((a : A) × (within ≡ Some (a, rest)) × P (f a)) → OnOk r ((j : Json) × (parsed ≡ Some (j, rest)) × P j)
+read_as f P parsed within rest e (Ok x) h = (f h.0, e ∙ ap (parse_map f) h.1, h.2)
+read_as f P parsed within rest e (Err error) h = tt

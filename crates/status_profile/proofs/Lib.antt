@@ -2,10 +2,15 @@ pub mod Eaches
 pub mod Fronts
 pub mod Held
 pub mod Histories
+pub mod IndexTexts
+pub mod Joined
 pub mod Keys
 pub mod Lengths
 pub mod MemberSteps
 pub mod Numbers
+pub mod Puts
+pub mod Renewed
+pub mod SortedValues
 pub mod Stamps
 pub mod Stretches
 pub mod Tokens

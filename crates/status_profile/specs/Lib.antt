@@ -9,6 +9,9 @@ pub mod Nodes
 pub mod Options
 pub mod Parts
 pub mod Profiles
+pub mod Refreshed
+pub mod Sorted
 pub mod Stats
 pub mod Steps
+pub mod Texts
 pub mod Words

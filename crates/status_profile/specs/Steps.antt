@@ -1,10 +1,11 @@
 -- The parts of a profile that were read so far, for the clauses of private functions.
-use Rattle.std.specs.Prelude.{◌≡◌, ℕ, ◌-◌, Bool, true, not, List, length, Option, Some, None, Result, Ok, Err, ⊤}
+use Rattle.std.specs.Prelude.{◌≡◌, ℕ, ◌-◌, ◌++◌, Bool, true, not, List, length, Option, Some, None, Result, Ok, Err, ⊤}
 use Rattle.std.specs.List.{list_any}
 use Rattle.json.specs.Token.{Token}
 use Rattle.json.specs.Json.{Json, Items, array, object, items, members, value, parse_map}
 use Rattle.json.specs.Find.{as_array, as_object}
 use Rattle.json.specs.Value.{items_of}
+use Rattle.json.specs.Written.{Written}
 use Rattle.status_profile.specs.declared.items.Begun.{Begun}
 use Rattle.status_profile.specs.declared.items.Begun.TheVariants as begun
 use Rattle.status_profile.specs.declared.error.ProfileError.{ProfileError}
@@ -59,3 +60,8 @@ pub record IsListRead {T : Type 0} (holds : T → List Json → Type 0) (fits : 
 abbrev pub IsValueRead : {T : Type 0} → (T → List Json → Type 0) → (Json → Bool) → Option Items → Result T FieldError → Type 0
 IsValueRead holds fits (Some js) list = IsListRead holds fits js list
 IsValueRead holds fits None list = list ≡ Err Form
+
+-- a writer has these tokens more
+pub record Adds (old new : Written) (ts : List Token) : Type 0 where
+  pub before : new.before ≡ old.before
+  pub tokens : new.tokens ≡ old.tokens ++ ts

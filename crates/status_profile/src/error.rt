@@ -70,13 +70,14 @@ impl From<AllocError> for ProfileError {
     }
 }
 
-impl From<serde_json::Error> for ProfileError {
-    fn from(error: serde_json::Error) -> ProfileError {
-        if error.is_memory() {
-            ProfileError::Memory
-        } else {
-            ProfileError::NotJson
-        }
+impl<T: Drop> From<AllocFailed<T>> for ProfileError {
+    ghost use Rattle.std.specs.Prelude.{◌≡◌};
+    ghost use Rattle.status_profile.specs.declared.error.ProfileError.TheVariants.{Memory};
+
+    ghost from_gives = { λ _ e. e ≡ Memory };
+
+    fn from(_refused: AllocFailed<T>) -> ProfileError {
+        ProfileError::Memory
     }
 }
 

@@ -16,7 +16,7 @@ use std::alloc::Global;
 pub const MEMBER_DEPTH: usize = MAX_DEPTH - 1;
 
 /// How deep an item of a list may nest.
-const ITEM_DEPTH: usize = MEMBER_DEPTH - 1;
+pub const ITEM_DEPTH: usize = MEMBER_DEPTH - 1;
 
 /// The items of a list, which are added one by one. After an error they can't be used any more.
 pub trait Items: Sized + Drop {

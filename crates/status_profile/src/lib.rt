@@ -2,20 +2,24 @@
 //!
 //! Read `profile` and `history` first, then `options`, `entry`, `node` and `event`, what they are made of, and `error`.
 //! `members` reads a profile's text member by member, and `items` a list item by item, with one item in memory as a JSON
-//! value. `form`, `word` and `stat` have the forms of values. `texts` writes a profile again with another index. What a text
+//! value. `form`, `word` and `stat` have the forms of values. `texts` writes a profile again with another index, over `sorted`,
+//! `compact` and `index_text`. What a text
 //! says is defined in `specs`: `Profiles` and `Histories`, over `Options`, `Entries`, `Nodes`, `Events`, `Forms` and `Words`.
 #![tactic(auto)]
 
+mod compact;
 mod entry;
 mod error;
 mod event;
 mod form;
 mod history;
+mod index_text;
 mod items;
 mod members;
 mod node;
 mod options;
 mod profile;
+mod sorted;
 mod stat;
 mod texts;
 mod word;

@@ -1,165 +1,178 @@
 //! The members of a profile as texts, to write the profile again with another index.
 
+ghost use Rattle.std.specs.Prelude.{◌≡◌, ◌<◌, ℕ, List, ◌++◌, ◌∷◌, [], IfErr, IfOk, OnOk, Some, length};
+ghost use Rattle.json.specs.Json.{Json, Members as MembersOf, document, max_depth, members, no_members, object, value};
+ghost use Rattle.serde_json.specs.Written.{comma_if};
+ghost use Rattle.status_profile.specs.Texts.{AreTextsRead, IsTextsRead, HasTexts, HoldsTexts, joined_texts, sorted_others, texts_in, with_other};
+ghost use Rattle.json.specs.Print.{quoted};
+ghost use Rattle.status_index.specs.States.{index_of, timestamp_of};
+ghost use Rattle.status_profile.specs.Refreshed.{IsUnwritten, refreshed_text};
+ghost use Rattle.status_profile.specs.Sorted.{compact, put_member};
+ghost use Rattle.status_profile.specs.Steps.{IsUnread, member_depth};
+
+use crate::compact::read_compact;
 use crate::error::{Key, ProfileError};
-use gix_status::index::{Moment, State};
-use serde::{Deserialize, DeserializeOwned, Deserializer, Format, Kind};
-use serde_json::Value;
-use status_stored::{StoreError, store_one};
+use crate::index_text::{index_text, timestamp_text};
+use crate::items::{Begun, MEMBER_DEPTH, begin_value, skip_array};
+use gix_status::index::State;
+use json::{Reader, Scratch, Writer};
 use std::alloc::{AllocError, Global};
 use std::collections::BTreeMap;
+use std::str;
 
-/// The compact texts of a profile's members, by key. If a key is repeated, its last member counts.
+/// The compact texts of a profile's members by key, but not those of `index` and `timestamp`. If a key is repeated, its last
+/// member counts.
 #[derive(Drop)]
-pub struct MemberTexts(BTreeMap<String, String>);
+pub struct MemberTexts {
+    texts: BTreeMap<String, Vec<u8>>,
+}
 
 impl MemberTexts {
-    /// Reads the members of a profile from JSON text, with at most one entry or node in memory as a JSON value.
+    /// Reads the members of a profile from JSON text, with at most one item of a list in memory as a JSON value.
     ///
     /// # Errors
-    /// The text isn't JSON, or has a number outside of a float's range, or nests more than 127 deep. Or memory ran out.
-    pub fn from_json(alloc: Global, text: &[u8]) -> Result<MemberTexts, ProfileError> {
-        Ok(serde_json::from_slice(alloc, text)?)
-    }
-
-    /// Returns the text of the profile with another index, and with all other keys unchanged.
-    ///
-    /// # Errors
-    /// Memory ran out.
-    pub fn with_index(self, alloc: Global, index: &State) -> Result<String, ProfileError> {
-        let MemberTexts(mut members) = self;
-        let Moment { secs, nsecs } = index.timestamp();
-        let timestamp = format!(in alloc; "[{secs},{nsecs}]")?;
-        put_member(alloc, &mut members, "index", String::new(alloc))?;
-        put_member(alloc, &mut members, "timestamp", timestamp)?;
-        object_with_index(alloc, members, index)
-    }
-}
-
-impl<'de> Deserialize<'de> for MemberTexts {
-    fn deserialize<F: Format>(
-        alloc: Global,
-        from: &mut Deserializer<'de, '_, F>,
-    ) -> Result<MemberTexts, F::Error> {
-        let mut texts = BTreeMap::new(alloc);
-        from.begin_map()?;
-        for _ in 0..u64::MAX {
-            if !from.next_entry()? {
-                break;
-            }
-            let key = from.string(alloc)?;
-            let text = read_text(alloc, from)?;
-            if texts.insert(key, text).is_err() {
-                return Err(from.no_memory());
-            }
-        }
-        Ok(MemberTexts(texts))
-    }
-}
-
-/// Reads the compact text of a value, with at most one item of a list in memory as a JSON value.
-fn read_text<F: Format>(
-    alloc: Global,
-    from: &mut Deserializer<'_, '_, F>,
-) -> Result<String, F::Error> {
-    let mut text = String::new(alloc);
-    if from.peek()? != Kind::Seq {
-        read_value(alloc, from, "", &mut text)?;
-        return Ok(text);
-    }
-    from.begin_seq()?;
-    let mut before = "[";
-    for _ in 0..u64::MAX {
-        if !from.next_item()? {
-            break;
-        }
-        read_value(alloc, from, before, &mut text)?;
-        before = ",";
-    }
-    // An empty list has no item that comes with the bracket.
-    let end = if text.as_str().is_empty() { "[]" } else { "]" };
-    match text.push_str(end) {
-        Ok(()) => Ok(text),
-        Err(_) => Err(from.no_memory()),
-    }
-}
-
-/// Reads a value, and appends `before` and the value's compact text.
-fn read_value<F: Format>(
-    alloc: Global,
-    from: &mut Deserializer<'_, '_, F>,
-    before: &str,
-    text: &mut String,
-) -> Result<(), F::Error> {
-    let value = Value::deserialize_owned(alloc, from)?;
-    match put_value(alloc, &value, before, text) {
-        Ok(()) => Ok(()),
-        Err(_) => Err(from.no_memory()),
-    }
-}
-
-/// Appends `before` and a value's compact text.
-fn put_value(
-    alloc: Global,
-    value: &Value,
-    before: &str,
-    text: &mut String,
-) -> Result<(), AllocError> {
-    text.push_str(before)?;
-    text.push_str(value.to_string(alloc)?.as_str())
-}
-
-/// Sets a member's text, and replaces the one that is there, if any.
-fn put_member(
-    alloc: Global,
-    members: &mut BTreeMap<String, String>,
-    key: &str,
-    text: String,
-) -> Result<(), ProfileError> {
-    let key = String::from_str(alloc, key)?;
-    match members.insert(key, text) {
-        Ok(_) => Ok(()),
-        Err(_) => Err(ProfileError::Memory),
-    }
-}
-
-/// Returns the text of an object with these members' texts, but with the index's entries, and a line feed.
-fn object_with_index(
-    alloc: Global,
-    members: BTreeMap<String, String>,
-    index: &State,
-) -> Result<String, ProfileError> {
-    let mut text = String::new(alloc);
-    for (at, (key, member)) in members.into_iter().enumerate() {
-        let is_index = key.as_str() == "index";
-        let before = if at == 0 { "{" } else { "," };
-        put_value(alloc, &Value::String(key), before, &mut text)?;
-        text.push(':')?;
-        if is_index {
-            put_entries(alloc, index, &mut text)?;
-        } else {
-            text.push_str(member.as_str())?;
-        }
-    }
-    text.push_str("}\n")?;
-    Ok(text)
-}
-
-/// Appends the list of an index's entries.
-fn put_entries(alloc: Global, index: &State, text: &mut String) -> Result<(), ProfileError> {
-    text.push('[')?;
-    let mut before = "";
-    for (at, entry) in index.entries().iter().enumerate() {
-        let value = match store_one(alloc, entry, index.path_backing(), at) {
-            Ok(value) => value,
-            Err(StoreError::Memory) => return Err(ProfileError::Memory),
-            // The paths of a profile's entries are UTF-8.
-            Err(StoreError::NotUtf8 { .. }) => {
-                return Err(ProfileError::Bad(Key::Index));
-            }
+    /// The text isn't JSON or isn't an object, or memory ran out.
+    pub fn from_json(alloc: Global, text: &[u8]) -> Result<MemberTexts, ProfileError>
+        ensures { IsTextsRead text.now result }
+    {
+        let Ok(text) = str::from_utf8(text) else {
+            return Err(ProfileError::NotJson);
         };
-        put_value(alloc, &value, before, text)?;
-        before = ",";
+        let mut scratch = Scratch::new(alloc);
+        match texts_of(alloc, text, &mut scratch)? {
+            Some(texts) => Ok(texts),
+            None => Err(ProfileError::Bad(Key::Hash)),
+        }
     }
-    text.push(']')?;
-    Ok(())
+
+    /// Returns the text of the profile with another index, and with all other keys unchanged: compact, each object's keys
+    /// ascending, and with a line feed.
+    ///
+    /// # Errors
+    /// An entry's path isn't UTF-8, or memory ran out.
+    pub fn with_index(mut self, alloc: Global, index: &State) -> Result<Vec<u8>, ProfileError>
+        ensures text { IfOk result (λ text. (j : Json) → HoldsTexts j self → text.items ≡ refreshed_text j (index_of index.now) (timestamp_of index.now)) }
+        ensures err { IfErr result (IsUnwritten (index_of index.now)) }
+    {
+        let entries = index_text(alloc, index)?;
+        self.put(alloc, "index", entries)?;
+        let timestamp = timestamp_text(alloc, index.timestamp())?;
+        self.put(alloc, "timestamp", timestamp)?;
+        Ok(self.into_text(alloc)?)
+    }
+
+    /// Returns the text of the object with these members, and a line feed.
+    fn into_text(self, alloc: Global) -> Result<Vec<u8>, AllocError>
+        ensures { IfOk result (λ text. (ms : MembersOf) → HasTexts self ms → text.items ≡ compact (object ms) ++ 10 ∷ []) }
+    {
+        let mut text = Vec::new(alloc);
+        text.push(b'{')?;
+        let mut later = false;
+        for (key, member) in self.texts {
+            text = with_member(text, later, key.as_str(), member.as_slice())?;
+            later = true;
+        }
+        text.extend_from_slice(b"}\n")?;
+        Ok(text)
+    }
+
+    /// Reads the value of a key.
+    ///
+    /// # Errors
+    /// The text isn't JSON, or memory ran out.
+    fn read_member(
+        &mut self,
+        alloc: Global,
+        key: &str,
+        reader: &mut Reader<'_>,
+    ) -> Result<(), ProfileError>
+        ensures ok { OnOk result ((j : Json) × (value member_depth reader.old ≡ Some (j, reader.new)) × ((ms : MembersOf) → HasTexts self.old ms → HasTexts self.new (with_other key.now j ms))) }
+        ensures shorter { OnOk result (length reader.new < length reader.old) }
+        ensures err { IfErr result (IsUnread (value member_depth reader.old)) }
+    {
+        match key {
+            "index" | "timestamp" => reader.skip_value(MEMBER_DEPTH)?,
+            _ => {
+                let text = read_compact(alloc, reader)?;
+                self.put(alloc, key, text)?;
+            }
+        }
+        Ok(())
+    }
+
+    /// Sets a member's text, and replaces the one that is there, if any.
+    fn put(&mut self, alloc: Global, key: &str, text: Vec<u8>) -> Result<(), AllocError>
+        ensures { OnOk result ((j : Json) → (ms : MembersOf) → text.items ≡ compact j → HasTexts self.old ms → HasTexts self.new (put_member key.now j ms)) }
+    {
+        self.texts.insert(String::from_str(alloc, key)?, text)?;
+        Ok(())
+    }
+}
+
+/// Reads the members of a profile. None if the text isn't an object.
+///
+/// # Errors
+/// The text isn't JSON, or memory ran out.
+fn texts_of(
+    alloc: Global,
+    text: &str,
+    scratch: &mut Scratch,
+) -> Result<Option<MemberTexts>, ProfileError>
+    ensures ok { IfOk result (λ read. (j : Json) × (document text.now ≡ Some j) × AreTextsRead j read) }
+    ensures err { IfErr result (IsUnread (document text.now)) }
+{
+    let mut reader = Reader::new(text, scratch)?;
+    let texts = read_value(alloc, &mut reader)?;
+    if reader.next().is_some() {
+        return Err(ProfileError::NotJson);
+    }
+    Ok(texts)
+}
+
+/// Reads a value, and the texts of its members if it is an object.
+fn read_value(alloc: Global, reader: &mut Reader<'_>) -> Result<Option<MemberTexts>, ProfileError>
+    ensures ok { IfOk result (λ read. (j : Json) × (value max_depth reader.old ≡ Some (j, reader.new)) × AreTextsRead j read) }
+    ensures err { IfErr result (IsUnread (value max_depth reader.old)) }
+{
+    match begin_value(reader)? {
+        Begun::Object => Ok(Some(read_texts(alloc, reader)?)),
+        Begun::List => {
+            skip_array(reader, MEMBER_DEPTH)?;
+            Ok(None)
+        }
+        Begun::Scalar => Ok(None),
+    }
+}
+
+/// Reads the members of an object after its opening brace.
+fn read_texts(alloc: Global, reader: &mut Reader<'_>) -> Result<MemberTexts, ProfileError>
+    ensures ok { IfOk result (λ read. (ms : MembersOf) × (members (value member_depth) (length reader.old) reader.old ≡ Some (ms, reader.new)) × HasTexts read (sorted_others ms no_members)) }
+    ensures err { IfErr result (IsUnread (members (value member_depth) (length reader.old) reader.old)) }
+{
+    let mut members = MemberTexts {
+        texts: BTreeMap::new(alloc),
+    };
+    while let Some(key) = reader.next_key()? {
+        members.read_member(alloc, key, reader)?;
+    }
+    Ok(members)
+}
+
+/// Returns a text of members with one more.
+fn with_member(
+    mut text: Vec<u8>,
+    later: bool,
+    key: &str,
+    member: &[u8],
+) -> Result<Vec<u8>, AllocError>
+    ensures { IfOk result (λ more. more.items ≡ text.items ++ (comma_if later ++ (quoted key.now ++ 58 ∷ member.now))) }
+{
+    if later {
+        text.push(b',')?;
+    }
+    let mut writer = Writer::new(text);
+    writer.key(key)?;
+    let mut text = writer.into_inner();
+    text.extend_from_slice(member)?;
+    Ok(text)
 }
