@@ -95,6 +95,10 @@ pub of_known : (P : List ℕ → Type 0) (known : Option (List ℕ)) (text : Lis
 of_known P None text same h = tt
 of_known P (Some all) text same h = subst P same h
 
+pub known_all : (P : List ℕ → Type 0) → ((text : List ℕ) → P text) → (known : Option (List ℕ)) → IfSome known P
+known_all P f None = tt
+known_all P f (Some text) = f text
+
 pub known_map : (P Q : List ℕ → Type 0) → ((text : List ℕ) → P text → Q text) → (known : Option (List ℕ)) → IfSome known P → IfSome known Q
 known_map P Q f None h = tt
 known_map P Q f (Some text) h = f text h

@@ -1,6 +1,6 @@
 //! The refresh of a profile's index.
 
-ghost use Rattle.std.specs.Prelude.{◌≡◌, ◌⊎◌, [], IfErr, IfOk, IfSome, string_bytes};
+ghost use Rattle.std.specs.Prelude.{◌≡◌, ◌⊎◌, [], IfErr, IfOk, IfSome};
 ghost use Rattle.status_cli.specs.ProfileStatuses.{IsFailed};
 ghost use Rattle.status_cli.specs.Refreshes.{IsIndexRefreshed, IsRefreshFailed, IsRefreshed};
 
@@ -65,7 +65,7 @@ fn refresh<R: AllocGlobal + Files + Sync + Threads + Wait, I: io::Read, O: io::W
 where
     R::File: Send,
     R::Dir: Send,
-    ensures ok { IfOk result (λ r. IfSome (I.remaining profile.old) (λ text. IsRefreshed text timestamp (O.contents output.old) (O.contents output.new) [] (string_bytes r))) }
+    ensures ok { IfOk result (λ r. IfSome (I.remaining profile.old) (λ text. IsRefreshed text timestamp (O.contents output.old) (O.contents output.new) [] r.items)) }
     ensures err { IfErr result (λ f. IfSome (I.remaining profile.old) (λ text. IsRefreshFailed text (O.contents output.old) f (O.contents output.new))) }
 {
     let alloc = rt.alloc();

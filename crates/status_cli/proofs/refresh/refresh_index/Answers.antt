@@ -1,9 +1,8 @@
-use Rattle.std.proofs.Common.{◌≡◌, ◌∙◌, Err, refl, ap, subst}
-use Rattle.status_index.specs.States.{index_of}
+use Rattle.std.proofs.Common.{◌∙◌, ap, subst}
 use Rattle.status_cli.specs.declared.status.profile_status.Changes.TheVariants.{Returned}
 use Rattle.status_cli.specs.Printing.{result_map}
 use Rattle.status_cli.specs.ProfileStatuses.{IsProfilePrinted, changes_in}
-use Rattle.status_cli.proofs.Refreshed.{unrefreshed_index}
+use Rattle.status_cli.proofs.Refreshed.{index_kept, unrefreshed_index}
 use Rattle.status_cli.proofs.refresh.refresh_index.Goals as goal
 
 pub returns-in_err-index : goal.returns-in_err-index
@@ -15,7 +14,7 @@ returns-in_err-index g c =
 pub returns : goal.returns
 returns g c =
     let old = g.O.Write.contents c.args.output.now in let new = g.O.Write.contents c.print_profile.new.output in
-    let kept : index_of c.set_timestamp.new.self ≡ index_of c.apply_changes.new.index = rw (c.set_timestamp.ensures.backing, c.set_timestamp.ensures.entries) refl in
+    let kept = index_kept c.apply_changes.new.index c.set_timestamp.new.self c.set_timestamp.ensures.entries c.set_timestamp.ensures.backing in
     let stored = rw (c.deref.ensures.value, c.in_ok-index.ensures.index) at c.apply_changes.ensures.index in (
       c.in_ok-index.field-0.changes.items,
       subst (λ r. IsProfilePrinted c.args.profile Returned old r new) (ap (result_map changes_in) c.in_ok-index.was) c.print_profile.ensures.printed,
