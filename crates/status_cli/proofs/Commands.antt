@@ -1,6 +1,6 @@
 -- The output of a command whose parts pass their results on.
 use Rattle.std.proofs.Common.{◌≡◌, Bool, true, false, ℕ, List, [], ◌++◌, Option, Some, None, Result, Ok, Err, IfOk, inl, inr, refl, sym, ap, subst, ◌∙◌}
-use Rattle.std.specs.Prelude.{◌⊎◌, IfSome}
+use Rattle.std.specs.Prelude.{IfSome}
 use Rattle.std.specs.Result.{IsErrAnd}
 use Rattle.status_compare.specs.declared.error.Error.{Error}
 use Rattle.status_call.specs.declared.index_as_worktree.apply.ApplyChange.{ApplyChange}
@@ -75,10 +75,10 @@ printed_failed {A = A} view query index counts wanted none visits answer old new
 module _ (hash : HashKind) (options : ProfileOptions) (index : State) (old : Option (List ℕ)) (changes : List ApplyChange) (new : Option (List ℕ)) where
   over_dropped : (w : WorktreeResults) (prefix : List ℕ) (included : List ℕ → Bool → Bool) (walking : Walking) → IsStatusOver w options index prefix included walking hash Dropped old (Ok changes) new → changes ≡ []
   over_dropped w prefix included walking h = by_kind (is_joined (option_values options)) refl
-      where
-        by_kind : (b : Bool) → is_joined (option_values options) ≡ b → changes ≡ []
-        by_kind false plain = (h.plain plain).returned
-        by_kind true joined = h.unchanged joined
+    where
+      by_kind : (b : Bool) → is_joined (option_values options) ≡ b → changes ≡ []
+      by_kind false plain = (h.plain plain).returned
+      by_kind true joined = h.unchanged joined
 
   printed_dropped : (w : WorktreeResults) (walked : List ℕ → (List ℕ → Bool → Bool) → Walking) → IsPrintedOver w walked hash options index Dropped old (Ok changes) new → changes ≡ []
   printed_dropped w walked (inl failed) = absurd failed.0

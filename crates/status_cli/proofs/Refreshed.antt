@@ -9,7 +9,7 @@ use Rattle.status_index.specs.declared.stat.Moment.{Moment}
 use Rattle.status_index.specs.declared.state.State.{State}
 use Rattle.status_call.specs.IndexChanges.{applied}
 use Rattle.status_profile.specs.Forms.{is_object}
-use Rattle.status_profile.specs.Profiles.{IsRead, Says, profile_in, profile_values}
+use Rattle.status_profile.specs.Profiles.{IsRead, profile_in, profile_values}
 use Rattle.status_profile.specs.Refreshed.{IsUnwritten, refreshed_text}
 use Rattle.status_profile.specs.Texts.{IsTextsRead}
 use Rattle.status_profile.specs.declared.error.Key.TheVariants as keys

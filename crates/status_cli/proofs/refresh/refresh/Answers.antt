@@ -1,4 +1,4 @@
-use Rattle.std.proofs.Common.{◌≡◌, ℕ, List, [], Ok, Err, sym, subst}
+use Rattle.std.proofs.Common.{◌≡◌, [], Ok, Err, sym, subst}
 use Rattle.std.specs.Prelude.{◌⊎◌}
 use Rattle.status_profile.specs.Profiles.{IsRead}
 use Rattle.status_profile.specs.Texts.{IsTextsRead}

@@ -1,4 +1,4 @@
-use Rattle.std.proofs.Common.{◌≡◌, ◌++◌, ℕ, List, [], Ok, Err}
+use Rattle.std.proofs.Common.{◌≡◌, ◌++◌, []}
 use Rattle.status_index.specs.declared.stat.Moment.{Moment}
 use Rattle.status_cli.specs.declared.failure.Failure.TheVariants.{Memory}
 use Rattle.status_cli.specs.ProfileStatuses.{IsFailed}

@@ -1,4 +1,4 @@
-use Rattle.std.proofs.Common.{Ok, sym, ap, subst, ◌∙◌}
+use Rattle.std.proofs.Common.{sym, ap, subst, ◌∙◌}
 use Rattle.std.specs.Prelude.{vec_items}
 use Rattle.status_cli.specs.ProfileStatuses.{IsProfilePrinted, changes_in}
 use Rattle.status_cli.specs.Printing.{result_map}

@@ -1,5 +1,4 @@
-use Rattle.std.proofs.Common.{List, [], Ok, Err, inr, sym, ap, subst, ◌∙◌}
-use Rattle.status_call.specs.declared.index_as_worktree.apply.ApplyChange.{ApplyChange}
+use Rattle.std.proofs.Common.{[], Ok, inr, sym, ap, subst, ◌∙◌}
 use Rattle.status_profile.specs.Profiles.{IsRead}
 use Rattle.status_profile.specs.declared.options.Kind.TheVariants.{Any}
 use Rattle.status_cli.specs.declared.status.profile_status.Changes.TheVariants.{Dropped}
