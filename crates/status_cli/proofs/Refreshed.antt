@@ -23,7 +23,7 @@ use Rattle.status_cli.specs.declared.failure.Failure.TheVariants.{Unreadable, Me
 use Rattle.status_cli.specs.declared.status.profile_status.Changes.TheVariants.{Returned}
 use Rattle.status_cli.specs.Failures.{failure_of_profile}
 use Rattle.status_cli.specs.ProfileStatuses.{IsProfilePrinted}
-use Rattle.status_cli.specs.Refreshes.{IsIndexRefreshed, IsRefreshFailed, IsRefreshed}
+use Rattle.status_cli.specs.Refreshes.{IsIndexRefreshed, IsRefreshFailed, IsRefreshed, PrintedStatus}
 
 -- of what failed for a reason, what holds for that reason holds
 pub err_weaker : {A : Type 0} (r : Result A Failure) (P Q : Failure → Type 0) → ((f : Failure) → P f → Q f) → IsErrAnd r P → IfErr r Q
@@ -73,29 +73,23 @@ module _ (text : List ℕ) (old new : Option (List ℕ)) (p : Profile) (read : I
   failed_status e f is printed = subst (λ d. IsRefreshFailed text old d new) (sym is) (inl (inr (p, read, printed)))
 
   module _ (timestamp : Moment) (index : State) (refreshed : IsIndexRefreshed p timestamp old (Ok index) new) where
+    abbrev status : PrintedStatus text old new
+    status = record { profile = p; read = read; changes = refreshed.0; printed = refreshed.1 }
+
     -- the refreshed text can't be made
     pub failed_text : (e : ProfileError) → IsUnwritten (index_of index) e → (f : Failure) → f ≡ failure_of_profile e → IsRefreshFailed text old f new
-    failed_text e unwritten f is =
-        inr (record { profile = p; read = read; changes = refreshed.0; printed = refreshed.1; error = e; unwritten = subst (λ es. IsUnwritten es e) refreshed.2 unwritten; failure = is })
+    failed_text e unwritten f is = inr (status, e, subst (λ es. IsUnwritten es e) refreshed.2 unwritten, is)
 
     -- it is made
     pub text_made : (j : Json) → document text ≡ Some j → (bytes : List ℕ) → bytes ≡ refreshed_text j (index_of index) (timestamp_of index) → IsRefreshed text timestamp old new [] bytes
-    text_made j parsed bytes is = record {
-      profile = p;
-      read = read;
-      changes = refreshed.0;
-      printed = refreshed.1;
-      json = j;
-      parsed = parsed;
-      appended = is ∙ ap (λ es. refreshed_text j es (timestamp_of index)) refreshed.2 ∙ ap (refreshed_text j (applied refreshed.0 (index_of p.index))) refreshed.3;
-    }
+    text_made j parsed bytes is =
+        (status, j, parsed, is ∙ ap (λ es. refreshed_text j es (timestamp_of index)) refreshed.2 ∙ ap (refreshed_text j (applied refreshed.0 (index_of p.index))) refreshed.3)
 
 module _ (text : List ℕ) (timestamp : Moment) (old new : Option (List ℕ)) (before added : List ℕ) (h : IsRefreshed text timestamp old new [] added) where
   -- the refreshed text was appended
   pub text_appended : (after : List ℕ) → after ≡ before ++ added → IsRefreshed text timestamp old new before after
-  text_appended after grew =
-      record { profile = h.profile; read = h.read; changes = h.changes; printed = h.printed; json = h.json; parsed = h.parsed; appended = grew ∙ ap (λ text. before ++ text) h.appended }
+  text_appended after grew = (h.0, h.1, h.2, grew ∙ ap (λ text. before ++ text) h.3)
 
   -- there was no memory for it
   pub text_lost : IsRefreshFailed text old Memory new
-  text_lost = inr (record { profile = h.profile; read = h.read; changes = h.changes; printed = h.printed; error = profiles.Memory; unwritten = tt; failure = refl })
+  text_lost = inr (h.0, profiles.Memory, tt, refl)

@@ -22,7 +22,7 @@ abbrev pub IsPrinted : {T : Type 0} → List ℕ → Option (List ℕ) → Resul
 IsPrinted text old (Ok _) new = Appends old new text
 IsPrinted text old (Err failure) new = IsBegun text old new × IsUnprinted failure
 
--- a result by what a word returns of its value
+-- a result with what is made of its value, or with the same failure
 abbrev pub result_map : {A B : Type 0} → (A → B) → Result A Failure → Result B Failure
 result_map f (Ok x) = Ok (f x)
 result_map f (Err failure) = Err failure

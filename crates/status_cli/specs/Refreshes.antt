@@ -2,6 +2,7 @@
 -- another timestamp.
 use Rattle.std.specs.Prelude.{◌≡◌, ◌⊎◌, ℕ, List, ◌++◌, Option, Some, Result, Ok, Err}
 use Rattle.json.specs.Json.{Json, document}
+use Rattle.status_index.specs.Entries.{IndexEntry}
 use Rattle.status_index.specs.States.{index_of, timestamp_of}
 use Rattle.status_index.specs.declared.stat.Moment.{Moment}
 use Rattle.status_index.specs.declared.state.State.{State}
@@ -24,26 +25,25 @@ IsIndexRefreshed p timestamp old (Ok index) new =
     (changes : List ApplyChange) × IsProfilePrinted p Returned old (Ok changes) new × (index_of index ≡ applied changes (index_of p.index)) × (timestamp_of index ≡ timestamp)
 IsIndexRefreshed p timestamp old (Err f) new = IsProfilePrinted p Returned old (Err f) new
 
--- a text says this profile, whose status was printed; and a list of bytes grew by the refreshed text of the text's JSON value, with the
--- changes that the status asks for and with this timestamp
-pub record IsRefreshed (text : List ℕ) (timestamp : Moment) (old new : Option (List ℕ)) (before after : List ℕ) : Type 0 where
+-- a text says this profile, all of whose status was printed, which asks for these changes
+pub record PrintedStatus (text : List ℕ) (old new : Option (List ℕ)) : Type 0 where
   pub profile : Profile
   pub read : IsRead Plain text (Ok profile)
   pub changes : List ApplyChange
   pub printed : IsProfilePrinted profile Returned old (Ok changes) new
-  pub json : Json
-  pub parsed : document text ≡ Some json
-  pub appended : after ≡ before ++ refreshed_text json (applied changes (index_of profile.index)) timestamp
 
--- all of that was printed, but the refreshed text can't be made
-pub record IsUnrefreshed (text : List ℕ) (old : Option (List ℕ)) (f : Failure) (new : Option (List ℕ)) : Type 0 where
-  pub profile : Profile
-  pub read : IsRead Plain text (Ok profile)
-  pub changes : List ApplyChange
-  pub printed : IsProfilePrinted profile Returned old (Ok changes) new
-  pub error : ProfileError
-  pub unwritten : IsUnwritten (applied changes (index_of profile.index)) error
-  pub failure : f ≡ failure_of_profile error
+-- the entries of the profile's index after these changes
+abbrev pub refreshed_entries : {text : List ℕ} {old new : Option (List ℕ)} → PrintedStatus text old new → List IndexEntry
+refreshed_entries s = applied s.changes (index_of s.profile.index)
+
+-- the status was printed, and a list of bytes grew by the refreshed text of the text's JSON value, with these entries and this timestamp
+abbrev pub IsRefreshed : List ℕ → Moment → Option (List ℕ) → Option (List ℕ) → List ℕ → List ℕ → Type 0
+IsRefreshed text timestamp old new before after =
+    (s : PrintedStatus text old new) × (j : Json) × (document text ≡ Some j) × (after ≡ before ++ refreshed_text j (refreshed_entries s) timestamp)
+
+-- the status was printed, but these entries can't be written, for this reason
+abbrev pub IsUnrefreshed : List ℕ → Option (List ℕ) → Failure → Option (List ℕ) → Type 0
+IsUnrefreshed text old f new = (s : PrintedStatus text old new) × (e : ProfileError) × IsUnwritten (refreshed_entries s) e × (f ≡ failure_of_profile e)
 
 -- the refresh of a text fails as its status does, or after it
 abbrev pub IsRefreshFailed : List ℕ → Option (List ℕ) → Failure → Option (List ℕ) → Type 0
