@@ -1,21 +1,27 @@
 -- The output of a command whose parts pass their results on.
-use Rattle.std.proofs.Common.{map, ◌≡◌, Bool, true, ℕ, List, Option, Some, None, Result, Ok, Err, inl, inr, sym, subst, ◌∙◌}
-use Rattle.std.specs.Prelude.{◌⊎◌, IfSome}
+use Rattle.std.proofs.Common.{◌≡◌, Bool, true, false, ℕ, List, [], ◌++◌, Option, Some, None, Result, Ok, Err, IfOk, inl, inr, refl, sym, ap, subst, ◌∙◌}
+use Rattle.std.specs.Prelude.{IfSome}
 use Rattle.std.specs.Result.{IsErrAnd}
+use Rattle.status_compare.specs.declared.error.Error.{Error}
+use Rattle.status_call.specs.declared.index_as_worktree.apply.ApplyChange.{ApplyChange}
 use Rattle.status_call.specs.declared.index_as_worktree.types.Outcome.{Outcome}
 use Rattle.status_call.specs.Query.{Query}
+use Rattle.status_call.specs.StatusTheorem.{IsMet}
+use Rattle.status_call.specs.Visits.{Visit}
 use Rattle.status_index.specs.declared.id.HashKind.{HashKind}
 use Rattle.status_index.specs.declared.state.State.{State}
 use Rattle.status_profile.specs.declared.node.Place.{Place}
 use Rattle.status_profile.specs.declared.node.Place.TheVariants as places
 use Rattle.status_profile.specs.declared.options.ProfileOptions.{ProfileOptions}
 use Rattle.status_joined.specs.Walkings.{Walking}
-use Rattle.status_profile.specs.Nodes.{node_value}
-use Rattle.status_profile.specs.Options.{OptionValues, option_values}
+use Rattle.status_profile.specs.Options.{OptionValues, is_joined, option_values}
 use Rattle.status_cli.specs.declared.failure.Failure.{Failure}
-use Rattle.status_cli.specs.declared.failure.Failure.TheVariants.{Memory}
-use Rattle.status_cli.specs.Statuses.{IsJoinedPrinted, IsStatusPrinted, IsEnded, JoinedInputs}
-use Rattle.status_cli.specs.ProfileStatuses.{IsPlacePrinted, IsPrintedOver, IsStatusOver, IsUnplanted, WorktreeResults, folder_results, folder_walk, tree_results, tree_walk}
+use Rattle.status_cli.specs.declared.status.profile_status.Changes.{Changes}
+use Rattle.status_cli.specs.declared.status.profile_status.Changes.TheVariants.{Dropped}
+use Rattle.status_cli.specs.Printing.{result_map}
+use Rattle.status_cli.specs.Statuses.{IsJoinedPrinted, IsStatusPrinted, IsEnded, JoinedInputs, answered, closing, visit_lines}
+use Rattle.status_cli.specs.ProfileStatuses.{IsPlacePrinted, IsPrintedOver, IsStatusOver, WorktreeResults, folder_results, folder_walk, tree_results, tree_walk}
+use Rattle.status_cli.proofs.Printed.{printed_status}
 
 -- both succeeded, or both failed for one reason
 abbrev pub AreAlike : {A B : Type 0} → Result A Failure → Result B Failure → Type 0
@@ -40,40 +46,58 @@ ended_alike text answer old new (Err e) (Ok y) same h = absurd same
 ended_alike text (Ok o) old new (Err e) (Err f) same h = rw (← same) h
 ended_alike text (Err d) old new (Err e) (Err f) same h = rw (← same) h
 
-failed_too : {A B : Type 0} (P : Failure → Type 0) (r : Result A Failure) (s : Result B Failure) → AreAlike r s → IsErrAnd r P → IsErrAnd s P
-failed_too P (Ok x) (Ok y) same h = h
-failed_too P (Ok x) (Err f) same h = absurd same
-failed_too P (Err e) (Ok y) same h = absurd same
-failed_too P (Err e) (Err f) same h = subst P same h
+-- the lines of a joined status, at another result that is alike
+pub joined_alike : {T U A B : Type 0} (r : Result A Failure) (s : Result B Failure) → AreAlike r s → (old new : Option (List ℕ)) (inputs : JoinedInputs T U) (o : OptionValues) (hash : HashKind) (index : State)
+    → IsJoinedPrinted inputs o hash index old r new → IsJoinedPrinted inputs o hash index old s new
+joined_alike r s same old new inputs o hash index h = record { entries = h.entries; answer = h.answer; met = h.met; ended = ended_alike _ _ old new r s same h.ended }
 
-pub status_alike : {T U A B : Type 0} (query : Query T U) (index : State) (counts : Bool) (old new : Option (List ℕ)) (r : Result A Failure) (s : Result B Failure) → AreAlike r s → IsStatusPrinted query index counts old r new → IsStatusPrinted query index counts old s new
-status_alike query index counts old new r s same h = record { visits = h.visits; answer = h.answer; met = h.met; whole = h.whole; ended = ended_alike _ _ old new r s same h.ended }
+-- what failed, failed alike by a view of values
+pub map_err : {A B : Type 0} (view : A → B) (r : Result A Failure) (e : Failure) → IsErrAnd r (λ f. f ≡ e) → result_map view r ≡ Err e
+map_err view (Ok x) e h = absurd h
+map_err view (Err f) e h = ap Err h
 
-module _ {A B : Type 0} (r : Result A Failure) (s : Result B Failure) (same : AreAlike r s) (old new : Option (List ℕ)) where
-  pub joined_alike : {T U : Type 0} (inputs : JoinedInputs T U) (o : OptionValues) (hash : HashKind) (index : State) → IsJoinedPrinted inputs o hash index old r new → IsJoinedPrinted inputs o hash index old s new
-  joined_alike inputs o hash index h = record { entries = h.entries; answer = h.answer; met = h.met; ended = ended_alike _ _ old new r s same h.ended }
+pub map_failed : {A B : Type 0} (view : A → B) (r : Result A Failure) (e : Failure) (P : Failure → Type 0) → IsErrAnd r (λ f. f ≡ e) → P e → IsErrAnd (result_map view r) P
+map_failed view r e P h p = subst (λ s. IsErrAnd s P) (sym (map_err view r e h)) p
 
-  over_alike : (w : WorktreeResults) (options : ProfileOptions) (index : State) (prefix : List ℕ) (included : List ℕ → Bool → Bool) (walking : Walking) (hash : HashKind)
-      → IsStatusOver w options index prefix included old r new walking hash → IsStatusOver w options index prefix included old s new walking hash
-  over_alike w options index prefix included walking hash h = record {
-    plain = λ plain. status_alike _ index options.counts old new r s same (h.plain plain);
-    joined = λ joined. joined_alike _ (option_values options) hash index (h.joined joined);
-  }
+-- what failed has no value
+pub if_failed : {A : Type 0} (r : Result A Failure) (P : Failure → Type 0) (Q : A → Type 0) → IsErrAnd r P → IfOk r Q
+if_failed (Ok x) P Q h = absurd h
+if_failed (Err e) P Q h = tt
 
-  printed_alike : (w : WorktreeResults) (walked : List ℕ → (List ℕ → Bool → Bool) → Walking) (hash : HashKind) (options : ProfileOptions) (index : State)
-      → IsPrintedOver w walked hash options index old r new → IsPrintedOver w walked hash options index old s new
-  printed_alike w walked hash options index (inl p) = inl (failed_too (λ f. f ≡ Memory) r s same p.0, p.1)
-  printed_alike w walked hash options index (inr h) = inr (over_alike w options index _ _ _ hash h)
+-- a status failed while it was printed, or after it
+pub printed_failed : {T U A : Type 0} (view : A → List ApplyChange) (query : Query T U) (index : State) (counts : Bool) (wanted : Changes) (none visits : List (Visit T U)) (answer : Result Outcome Error) (old new : Option (List ℕ)) (r : Result A Failure) (P : Failure → Type 0)
+    → IsErrAnd r P → none ≡ [] → IsMet query index none answer visits → IfOk answer (λ o. o.interrupted ≡ false) → IsEnded (visit_lines visits ++ closing counts (answered answer)) (answered answer) old r new
+    → IsStatusPrinted query index counts wanted old (result_map view r) new
+printed_failed view query index counts wanted none visits answer old new (Ok x) P failed empty met whole ended = absurd failed
+printed_failed {A = A} view query index counts wanted none visits answer old new (Err e) P failed empty met whole ended =
+    printed_status query index counts wanted none visits answer old new (Err e) empty met whole (ended_alike {A = A} _ _ old new (Err e) (Err e) refl ended) tt
 
-  pub place_alike : (place : Place) (hash : HashKind) (options : ProfileOptions) (index : State) → IsPlacePrinted place hash options index old r new → IsPlacePrinted place hash options index old s new
-  place_alike (places.Folder path) hash options index h = printed_alike folder_results folder_walk hash options index h
-  place_alike (places.Nodes nodes) hash options index (inl p) = inl (failed_too (IsUnplanted (map node_value nodes.items)) r s same p.0, p.1)
-  place_alike (places.Nodes nodes) hash options index (inr p) = inr (p.0, p.1, printed_alike (tree_results p.0) (tree_walk p.0 index) hash options index p.2)
+module _ (hash : HashKind) (options : ProfileOptions) (index : State) (old : Option (List ℕ)) (changes : List ApplyChange) (new : Option (List ℕ)) where
+  over_dropped : (w : WorktreeResults) (prefix : List ℕ) (included : List ℕ → Bool → Bool) (walking : Walking) → IsStatusOver w options index prefix included walking hash Dropped old (Ok changes) new → changes ≡ []
+  over_dropped w prefix included walking h = by_kind (is_joined (option_values options)) refl
+    where
+      by_kind : (b : Bool) → is_joined (option_values options) ≡ b → changes ≡ []
+      by_kind false plain = (h.plain plain).returned
+      by_kind true joined = h.unchanged joined
+
+  printed_dropped : (w : WorktreeResults) (walked : List ℕ → (List ℕ → Bool → Bool) → Walking) → IsPrintedOver w walked hash options index Dropped old (Ok changes) new → changes ≡ []
+  printed_dropped w walked (inl failed) = absurd failed.0
+  printed_dropped w walked (inr h) = over_dropped w _ _ _ h
+
+  -- dropped changes are none
+  pub place_dropped : (place : Place) → IsPlacePrinted place hash options index Dropped old (Ok changes) new → changes ≡ []
+  place_dropped (places.Folder path) h = printed_dropped folder_results folder_walk h
+  place_dropped (places.Nodes nodes) (inl failed) = absurd failed.0
+  place_dropped (places.Nodes nodes) (inr h) = printed_dropped (tree_results h.0) (tree_walk h.0 index) h.2
 
 -- what holds of the text that was read holds of the reader's, if that is known
 pub of_known : (P : List ℕ → Type 0) (known : Option (List ℕ)) (text : List ℕ) → IfSome known (λ all. text ≡ all) → P text → IfSome known P
 of_known P None text same h = tt
 of_known P (Some all) text same h = subst P same h
+
+pub known_all : (P : List ℕ → Type 0) → ((text : List ℕ) → P text) → (known : Option (List ℕ)) → IfSome known P
+known_all P f None = tt
+known_all P f (Some text) = f text
 
 pub known_map : (P Q : List ℕ → Type 0) → ((text : List ℕ) → P text → Q text) → (known : Option (List ℕ)) → IfSome known P → IfSome known Q
 known_map P Q f None h = tt

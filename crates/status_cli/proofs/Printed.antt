@@ -5,11 +5,13 @@ use Rattle.std.specs.Result.{IsErrAnd, IfErr}
 use Rattle.std.proofs.lemmas.List.{map-append}
 use Rattle.std.specs.Io.KnownBytes.{Appends}
 use Rattle.std.proofs.KnownBytes.{Appends-nil, Appends-trans}
+use Rattle.status_call.specs.declared.index_as_worktree.apply.ApplyChange.{ApplyChange}
 use Rattle.status_call.specs.declared.index_as_worktree.types.Outcome.{Outcome}
 use Rattle.status_cli.specs.declared.failure.Failure.{Failure}
 use Rattle.status_cli.specs.declared.failure.Failure.TheVariants.{Memory}
+use Rattle.status_cli.specs.declared.status.profile_status.Changes.{Changes}
 use Rattle.status_cli.specs.Printing.{IsBegun, IsPrinted, IsUnprinted}
-use Rattle.status_cli.specs.Statuses.{IsEnded, IsJoinedAnswer, IsJoinedPrinted, IsStatusPrinted, JoinedInputs, answered, closing, entry_lines, joined_answered, visit_lines}
+use Rattle.status_cli.specs.Statuses.{IsEnded, IsJoinedAnswer, IsJoinedPrinted, IsStatusPrinted, JoinedInputs, answered, closing, entry_lines, joined_answered, returned_changes, visit_lines}
 use Rattle.status_index.specs.declared.id.HashKind.{HashKind}
 use Rattle.status_index.specs.declared.state.State.{State}
 use Rattle.status_joined.specs.Items.{Reported}
@@ -125,10 +127,11 @@ ended_then T text (Ok o) old new v (Err e) why ended = (all_begun text old new e
 ended_then T text (Err f) old new v result why ended = absurd ended
 
 -- a status reported to a collector that had no record, and this was printed of it
-pub printed_status : {T U A : Type 0} (query : Query T U) (index : State) (counts : Bool) (none visits : List (Visit T U)) (answer : Result Outcome Error) (old new : Option (List ℕ)) (result : Result A Failure)
-    → none ≡ [] → IsMet query index none answer visits → IfOk answer (λ o. o.interrupted ≡ false) → IsEnded (visit_lines visits ++ closing counts (answered answer)) (answered answer) old result new → IsStatusPrinted query index counts old result new
-printed_status query index counts none visits answer old new result empty met whole ended =
-    record { visits = visits; answer = answer; met = subst (λ start. IsMet query index start answer visits) empty met; whole = whole; ended = ended }
+pub printed_status : {T U : Type 0} (query : Query T U) (index : State) (counts : Bool) (wanted : Changes) (none visits : List (Visit T U)) (answer : Result Outcome Error) (old new : Option (List ℕ)) (result : Result (List ApplyChange) Failure)
+    → none ≡ [] → IsMet query index none answer visits → IfOk answer (λ o. o.interrupted ≡ false) → IsEnded (visit_lines visits ++ closing counts (answered answer)) (answered answer) old result new
+    → IfOk result (λ changes. changes ≡ returned_changes wanted visits) → IsStatusPrinted query index counts wanted old result new
+printed_status query index counts wanted none visits answer old new result empty met whole ended returned =
+    record { visits = visits; answer = answer; met = subst (λ start. IsMet query index start answer visits) empty met; whole = whole; ended = ended; returned = returned }
 
 pub printed_joined : {T U A : Type 0} (inputs : JoinedInputs T U) (o : OptionValues) (hash : HashKind) (index : State) (none entries : List (Reported T U)) (answer : Result JoinedOutcome JoinedError) (old new : Option (List ℕ)) (result : Result A Failure)
     → none ≡ [] → IsJoinedAnswer inputs o hash index true none answer entries → IsEnded (entry_lines entries ++ closing o.counts (joined_answered answer)) (joined_answered answer) old result new → IsJoinedPrinted inputs o hash index old result new

@@ -22,6 +22,11 @@ abbrev pub IsPrinted : {T : Type 0} → List ℕ → Option (List ℕ) → Resul
 IsPrinted text old (Ok _) new = Appends old new text
 IsPrinted text old (Err failure) new = IsBegun text old new × IsUnprinted failure
 
+-- a result with what is made of its value, or with the same failure
+abbrev pub result_map : {A B : Type 0} → (A → B) → Result A Failure → Result B Failure
+result_map f (Ok x) = Ok (f x)
+result_map f (Err failure) = Err failure
+
 -- texts one after the other
 abbrev pub spelled : List (Bor (List ℕ)) → List ℕ
 spelled parts = flat_map (λ text. text) (map (λ part. part.now) parts)

@@ -1,6 +1,6 @@
 -- A profile's status is by its options, its index and the tree of its nodes, unless one can't be put; its lines are those of the
 -- plain or of the joined status, and a failure has its line.
-use Rattle.std.specs.Prelude.{◌≡◌, ◌⊎◌, IfSome, nat_eq, ℕ, ◌+◌, Bool, true, false, List, [], ◌∷◌, map, Option, Some, None, Result, Ok, Err}
+use Rattle.std.specs.Prelude.{◌≡◌, ◌⊎◌, IfSome, nat_eq, ℕ, ◌+◌, Bool, true, false, List, [], ◌∷◌, map, Option, Some, None, Result, Ok, Err, IfOk}
 use Rattle.std.specs.FinMap as paths
 use Rattle.std.specs.List.{starts_with}
 use Rattle.std.specs.Result.{IsErrAnd}
@@ -21,6 +21,7 @@ use Rattle.status_base.specs.Trees.{empty_tree}
 use Rattle.status_base.specs.declared.worktree.memory.TreeError.{TreeError}
 use Rattle.status_call.specs.Inputs.{settings}
 use Rattle.status_call.specs.Query.{Query}
+use Rattle.status_call.specs.declared.index_as_worktree.apply.ApplyChange.{ApplyChange}
 use Rattle.status_call.specs.declared.index_as_worktree.inputs.Settings.{Settings}
 use Rattle.status_joined.specs.Items.{Reported}
 use Rattle.status_joined.specs.NodeIds.{ids_by}
@@ -40,6 +41,9 @@ use Rattle.status_profile.specs.declared.options.ProfileOptions.{ProfileOptions}
 use Rattle.status_profile.specs.declared.profile.Profile.{Profile}
 use Rattle.status_profile.specs.declared.error.ProfileError.{ProfileError}
 use Rattle.status_cli.specs.declared.failure.Failure.{Failure}
+use Rattle.status_cli.specs.declared.status.profile_status.Changes.{Changes}
+use Rattle.status_cli.specs.declared.status.profile_status.Changes.TheVariants.{Dropped}
+use Rattle.status_cli.specs.declared.status.profile_status.IndexChanges.{IndexChanges}
 use Rattle.status_cli.specs.declared.status.profile_status.ProfileStatus.{ProfileStatus}
 use Rattle.status_cli.specs.declared.failure.Failure.TheVariants.{Unreadable, Memory}
 use Rattle.status_cli.specs.Failures.{failure_of_node, failure_of_profile}
@@ -101,44 +105,45 @@ planted position tree (node ∷ nodes) =
 abbrev pub IsUnplanted : List (List ℕ × Placed) → Failure → Type 0
 IsUnplanted nodes failure = (failure ≡ Memory) ⊎ (planted 0 empty_tree nodes ≡ Err failure)
 
-module _ {A : Type 0} (w : WorktreeResults) (options : ProfileOptions) (index : State) (prefix : List ℕ) (included : List ℕ → Bool → Bool) (old : Option (List ℕ)) (result : Result A Failure) (new : Option (List ℕ)) where
+module _ (w : WorktreeResults) (options : ProfileOptions) (index : State) (prefix : List ℕ) (included : List ℕ → Bool → Bool) where
   -- over a worktree and of these paths, the lines of a plain status by a profile's options were printed
-  abbrev pub IsPlainOver : Type 0
-  IsPlainOver = IsStatusPrinted (options_query (option_values options) (timestamp_of index) w prefix included) index options.counts old result new
+  abbrev pub IsPlainOver : Changes → Option (List ℕ) → Result (List ApplyChange) Failure → Option (List ℕ) → Type 0
+  IsPlainOver wanted old result new = IsStatusPrinted (options_query (option_values options) (timestamp_of index) w prefix included) index options.counts wanted old result new
 
   -- those of a joined status, by what there is to walk
-  abbrev pub IsJoinedOver : Walking → HashKind → Type 0
-  IsJoinedOver walking hash = IsJoinedPrinted (joined_inputs (options_query (option_values options) (timestamp_of index) w prefix included) w walking hash) (option_values options) hash index old result new
+  abbrev pub IsJoinedOver : {A : Type 0} → Walking → HashKind → Option (List ℕ) → Result A Failure → Option (List ℕ) → Type 0
+  IsJoinedOver walking hash old result new = IsJoinedPrinted (joined_inputs (options_query (option_values options) (timestamp_of index) w prefix included) w walking hash) (option_values options) hash index old result new
 
-  -- those of the plain status; or of the joined one, if the options have untracked files, renames or sorting
-  pub record IsStatusOver (walking : Walking) (hash : HashKind) : Type 0 where
-    pub plain : is_joined (option_values options) ≡ false → IsPlainOver
-    pub joined : is_joined (option_values options) ≡ true → IsJoinedOver walking hash
+  -- those of the plain status; or of the joined one, which returns no changes, if the options have untracked files, renames or sorting
+  pub record IsStatusOver (walking : Walking) (hash : HashKind) (wanted : Changes) (old : Option (List ℕ)) (result : Result (List ApplyChange) Failure) (new : Option (List ℕ)) : Type 0 where
+    pub plain : is_joined (option_values options) ≡ false → IsPlainOver wanted old result new
+    pub joined : is_joined (option_values options) ≡ true → IsJoinedOver walking hash old result new
+    pub unchanged : is_joined (option_values options) ≡ true → IfOk result (λ changes. changes ≡ [])
 
 -- the lines of a status were printed, of the paths that begin with the options' prefix; or nothing, since memory ran out
-abbrev pub IsPrintedOver : {A : Type 0} → WorktreeResults → (List ℕ → (List ℕ → Bool → Bool) → Walking) → HashKind → ProfileOptions → State → Option (List ℕ) → Result A Failure → Option (List ℕ) → Type 0
-IsPrintedOver w walked hash options index old result new =
+abbrev pub IsPrintedOver : WorktreeResults → (List ℕ → (List ℕ → Bool → Bool) → Walking) → HashKind → ProfileOptions → State → Changes → Option (List ℕ) → Result (List ApplyChange) Failure → Option (List ℕ) → Type 0
+IsPrintedOver w walked hash options index wanted old result new =
     let prefix = (option_values options).prefix in
     (IsErrAnd result (λ f. f ≡ Memory) × (new ≡ old))
-    ⊎ IsStatusOver w options index prefix (begins_with prefix) old result new (walked prefix (begins_with prefix)) hash
+    ⊎ IsStatusOver w options index prefix (begins_with prefix) (walked prefix (begins_with prefix)) hash wanted old result new
 
 -- the same of a profile's status, by the meanings of its worktree and of its walk
 abbrev pub walked_by : {W K : Type 0} → (K → W → List IndexEntry → List ℕ → (List ℕ → Bool → Bool) → Walking) → ProfileStatus W K → List ℕ → (List ℕ → Bool → Bool) → Walking
 walked_by meaning s prefix included = meaning s.walk s.worktree.now (index_of s.index.now) prefix included
 
-abbrev pub IsPlainShown : {W K A : Type 0} → (W → WorktreeResults) → ProfileStatus W K → List ℕ → (List ℕ → Bool → Bool) → Option (List ℕ) → Result A Failure → Option (List ℕ) → Type 0
-IsPlainShown results s prefix included old result new = IsPlainOver (results s.worktree.now) s.options s.index.now prefix included old result new
+abbrev pub IsPlainShown : {W K : Type 0} → (W → WorktreeResults) → ProfileStatus W K → List ℕ → (List ℕ → Bool → Bool) → Option (List ℕ) → Result (List ApplyChange) Failure → Option (List ℕ) → Type 0
+IsPlainShown results s prefix included old result new = IsPlainOver (results s.worktree.now) s.options s.index.now prefix included s.changes old result new
 
 abbrev pub IsJoinedShown : {W K A : Type 0} → (W → WorktreeResults) → (K → W → List IndexEntry → List ℕ → (List ℕ → Bool → Bool) → Walking) → ProfileStatus W K → List ℕ → (List ℕ → Bool → Bool) → Option (List ℕ) → Result A Failure → Option (List ℕ) → Type 0
 IsJoinedShown results meaning s prefix included old result new =
-    IsJoinedOver (results s.worktree.now) s.options s.index.now prefix included old result new (walked_by meaning s prefix included) s.hash
+    IsJoinedOver (results s.worktree.now) s.options s.index.now prefix included (walked_by meaning s prefix included) s.hash old result new
 
-abbrev pub IsStatusShown : {W K A : Type 0} → (W → WorktreeResults) → (K → W → List IndexEntry → List ℕ → (List ℕ → Bool → Bool) → Walking) → ProfileStatus W K → List ℕ → (List ℕ → Bool → Bool) → Option (List ℕ) → Result A Failure → Option (List ℕ) → Type 0
+abbrev pub IsStatusShown : {W K : Type 0} → (W → WorktreeResults) → (K → W → List IndexEntry → List ℕ → (List ℕ → Bool → Bool) → Walking) → ProfileStatus W K → List ℕ → (List ℕ → Bool → Bool) → Option (List ℕ) → Result (List ApplyChange) Failure → Option (List ℕ) → Type 0
 IsStatusShown results meaning s prefix included old result new =
-    IsStatusOver (results s.worktree.now) s.options s.index.now prefix included old result new (walked_by meaning s prefix included) s.hash
+    IsStatusOver (results s.worktree.now) s.options s.index.now prefix included (walked_by meaning s prefix included) s.hash s.changes old result new
 
-abbrev pub IsProfileShown : {W K A : Type 0} → (W → WorktreeResults) → (K → W → List IndexEntry → List ℕ → (List ℕ → Bool → Bool) → Walking) → ProfileStatus W K → Option (List ℕ) → Result A Failure → Option (List ℕ) → Type 0
-IsProfileShown results meaning s old result new = IsPrintedOver (results s.worktree.now) (walked_by meaning s) s.hash s.options s.index.now old result new
+abbrev pub IsProfileShown : {W K : Type 0} → (W → WorktreeResults) → (K → W → List IndexEntry → List ℕ → (List ℕ → Bool → Bool) → Walking) → ProfileStatus W K → Option (List ℕ) → Result (List ApplyChange) Failure → Option (List ℕ) → Type 0
+IsProfileShown results meaning s old result new = IsPrintedOver (results s.worktree.now) (walked_by meaning s) s.hash s.options s.index.now s.changes old result new
 
 -- the report of a joined status by a query to its collector, by the same meanings
 abbrev pub IsJoinedReported : {W K T U : Type 0} → (Settings → Query T U) → (W → WorktreeResults) → (K → W → List IndexEntry → List ℕ → (List ℕ → Bool → Bool) → Walking) → ProfileStatus W K → List ℕ → (List ℕ → Bool → Bool)
@@ -164,34 +169,38 @@ tree_walk tree index prefix included = Some (untracked_walk tree (index_of index
 
 -- a profile's lines were printed, over its folder or over the tree of its nodes; or nothing, since one of these can't be put or memory ran
 -- out
-abbrev pub IsPlacePrinted : {A : Type 0} → Place → HashKind → ProfileOptions → State → Option (List ℕ) → Result A Failure → Option (List ℕ) → Type 0
-IsPlacePrinted (places.Folder path) hash options index old result new = IsPrintedOver folder_results folder_walk hash options index old result new
-IsPlacePrinted (places.Nodes nodes) hash options index old result new =
+abbrev pub IsPlacePrinted : Place → HashKind → ProfileOptions → State → Changes → Option (List ℕ) → Result (List ApplyChange) Failure → Option (List ℕ) → Type 0
+IsPlacePrinted (places.Folder path) hash options index wanted old result new = IsPrintedOver folder_results folder_walk hash options index wanted old result new
+IsPlacePrinted (places.Nodes nodes) hash options index wanted old result new =
     (IsErrAnd result (IsUnplanted (map node_value nodes.items)) × (new ≡ old))
-    ⊎ ((tree : Tree) × (planted 0 empty_tree (map node_value nodes.items) ≡ Ok tree) × IsPrintedOver (tree_results tree) (tree_walk tree index) hash options index old result new)
+    ⊎ ((tree : Tree) × (planted 0 empty_tree (map node_value nodes.items) ≡ Ok tree) × IsPrintedOver (tree_results tree) (tree_walk tree index) hash options index wanted old result new)
 
-abbrev pub IsProfilePrinted : {A : Type 0} → Profile → Option (List ℕ) → Result A Failure → Option (List ℕ) → Type 0
-IsProfilePrinted p old result new = IsPlacePrinted p.place p.hash p.options p.index old result new
+-- the changes that are returned with a profile's index
+abbrev pub changes_in : IndexChanges → List ApplyChange
+changes_in r = r.changes.items
+
+abbrev pub IsProfilePrinted : Profile → Changes → Option (List ℕ) → Result (List ApplyChange) Failure → Option (List ℕ) → Type 0
+IsProfilePrinted p wanted old result new = IsPlacePrinted p.place p.hash p.options p.index wanted old result new
 
 -- a text was read as a profile, and this was printed of it
-abbrev pub IsReadPrinted : {A : Type 0} → Kind → List ℕ → Option (List ℕ) → Result A Failure → Option (List ℕ) → Type 0
-IsReadPrinted kind text old result new = (p : Profile) × IsRead kind text (Ok p) × IsProfilePrinted p old result new
+abbrev pub IsReadPrinted : Kind → List ℕ → Changes → Option (List ℕ) → Result (List ApplyChange) Failure → Option (List ℕ) → Type 0
+IsReadPrinted kind text wanted old result new = (p : Profile) × IsRead kind text (Ok p) × IsProfilePrinted p wanted old result new
 
 -- a text was read as a profile, and this was printed of it; or it says none, and the command fails for this reason; or it can't be
 -- read. In both of these nothing was printed
-abbrev pub IsTextPrinted : {A : Type 0} → Kind → List ℕ → Option (List ℕ) → Result A Failure → Option (List ℕ) → Type 0
-IsTextPrinted kind text old result new =
+abbrev pub IsTextPrinted : Kind → List ℕ → Changes → Option (List ℕ) → Result (List ApplyChange) Failure → Option (List ℕ) → Type 0
+IsTextPrinted kind text wanted old result new =
     (IsUnreadPrinted old result new ⊎ ((e : ProfileError) × IsRead kind text (Err e) × IsErrAnd result (λ f. f ≡ failure_of_profile e) × (new ≡ old)))
-    ⊎ IsReadPrinted kind text old result new
+    ⊎ IsReadPrinted kind text wanted old result new
 
 -- of a command that ended with exit status 1: a beginning of its failure's line was written, and this holds of what was printed. Of
 -- the line of a submodule's fault nothing is claimed
-abbrev pub IsFailed : (Result (Unit {0}) Failure → Type 0) → List ℕ → Option (List ℕ) → Option (List ℕ) → Type 0
-IsFailed Printed name old new = (f : Failure) × Printed (Err f) × (names_submodule f ≡ false → IsBegun (failure_line name f) old new)
+abbrev pub IsFailed : (Failure → Type 0) → List ℕ → Option (List ℕ) → Option (List ℕ) → Type 0
+IsFailed Printed name old new = (f : Failure) × Printed f × (names_submodule f ≡ false → IsBegun (failure_line name f) old new)
 
 -- the same of a command's text, if that is known: it succeeded, or it failed
 abbrev pub IsTextSucceeded : Kind → Option (List ℕ) → Option (List ℕ) → Option (List ℕ) → Type 0
-IsTextSucceeded kind text old new = IfSome text (λ t. IsReadPrinted {A = Unit {0}} kind t old (Ok tt) new)
+IsTextSucceeded kind text old new = IfSome text (λ t. IsReadPrinted kind t Dropped old (Ok []) new)
 
 abbrev pub IsTextFailed : Kind → Option (List ℕ) → Option (List ℕ) → Option (List ℕ) → List ℕ → Option (List ℕ) → Option (List ℕ) → Type 0
-IsTextFailed kind text old new name old_faults new_faults = IfSome text (λ t. IsFailed (λ failure. IsTextPrinted kind t old failure new) name old_faults new_faults)
+IsTextFailed kind text old new name old_faults new_faults = IfSome text (λ t. IsFailed (λ f. IsTextPrinted kind t Dropped old (Err f) new) name old_faults new_faults)

@@ -89,7 +89,7 @@ IsReplayText text old result new =
 
 -- the same of a text, if that is known: a beginning of the failure's line was written
 abbrev pub IsReplayFailed : Option (List ℕ) → Option (List ℕ) → Option (List ℕ) → List ℕ → Option (List ℕ) → Option (List ℕ) → Type 0
-IsReplayFailed text old new name old_faults new_faults = IfSome text (λ t. IsFailed (λ failure. IsReplayText t old failure new) name old_faults new_faults)
+IsReplayFailed text old new name old_faults new_faults = IfSome text (λ t. IsFailed (λ f. IsReplayText {A = Unit {0}} t old (Err f) new) name old_faults new_faults)
 
 -- exactly the lines of all reports of the history that a text says were printed, and its replay ended
 pub record IsReplayed (text : List ℕ) (old new : Option (List ℕ)) : Type 0 where

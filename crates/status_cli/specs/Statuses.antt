@@ -5,7 +5,9 @@ use Rattle.std.specs.Io.KnownBytes.{Appends}
 use Rattle.status_index.specs.declared.id.HashKind.{HashKind}
 use Rattle.status_index.specs.declared.state.State.{State}
 use Rattle.status_compare.specs.declared.error.Error.{Error}
+use Rattle.status_call.specs.declared.index_as_worktree.apply.ApplyChange.{ApplyChange}
 use Rattle.status_call.specs.declared.index_as_worktree.types.Outcome.{Outcome}
+use Rattle.status_call.specs.IndexChanges.{changes_of}
 use Rattle.status_call.specs.Query.{Query}
 use Rattle.status_call.specs.StatusTheorem.{IsMet}
 use Rattle.status_call.specs.Visits.{Visit}
@@ -20,6 +22,8 @@ use Rattle.status_joined.specs.declared.index_as_worktree_with_renames.types.Sor
 use Rattle.status_rewrites.specs.Renames.{IsIdentityAnswer}
 use Rattle.status_profile.specs.Options.{OptionValues}
 use Rattle.status_cli.specs.declared.failure.Failure.{Failure}
+use Rattle.status_cli.specs.declared.status.profile_status.Changes.{Changes}
+use Rattle.status_cli.specs.declared.status.profile_status.Changes.TheVariants.{Returned, Dropped}
 use Rattle.status_cli.specs.Failures.{failure_of_joined, failure_of_status}
 use Rattle.status_cli.specs.Lines.{entry_line, total_line, visit_line}
 use Rattle.status_cli.specs.Printing.{IsBegun, IsPrinted, IsUnprinted}
@@ -58,14 +62,20 @@ IsEnded text (Ok _) old result new = IsPrinted text old result new
 IsEnded text (Err failure) old (Ok _) new = ⊥
 IsEnded text (Err failure) old (Err e) new = (Appends old new text × (e ≡ failure)) ⊎ (IsBegun text old new × IsUnprinted e)
 
--- a status of this index was computed by this query; it wasn't interrupted if it succeeded; and its lines, with `counts` also its
--- totals, were printed as it ended
-pub record IsStatusPrinted {T U A : Type 0} (query : Query T U) (index : State) (counts : Bool) (old : Option (List ℕ)) (result : Result A Failure) (new : Option (List ℕ)) : Type 0 where
+-- the changes that records ask for, if they are to be returned
+abbrev pub returned_changes : {T U : Type 0} → Changes → List (Visit T U) → List ApplyChange
+returned_changes Returned visits = changes_of visits
+returned_changes Dropped visits = []
+
+-- a status of this index was computed by this query; it wasn't interrupted if it succeeded; its lines, with `counts` also its
+-- totals, were printed as it ended; and the changes that its records ask for were returned, or dropped
+pub record IsStatusPrinted {T U : Type 0} (query : Query T U) (index : State) (counts : Bool) (wanted : Changes) (old : Option (List ℕ)) (result : Result (List ApplyChange) Failure) (new : Option (List ℕ)) : Type 0 where
   pub visits : List (Visit T U)
   pub answer : Result Outcome Error
   pub met : IsMet query index [] answer visits
   pub whole : IfOk answer (λ outcome. outcome.interrupted ≡ false)
   pub ended : IsEnded (visit_lines visits ++ closing counts (answered answer)) (answered answer) old result new
+  pub returned : IfOk result (λ changes. changes ≡ returned_changes wanted visits)
 
 -- the options of a joined status: its lines are sorted by path if the profile has `sort`, it has the untracked files with
 -- `untracked`, and with `renames` the renames of content that isn't empty; ids are of the profile's kind

@@ -1,12 +1,13 @@
 //! The refresh of a profile's index.
 
-ghost use Rattle.std.specs.Prelude.{◌≡◌, ◌⊎◌, OnOk};
-ghost use Rattle.status_cli.specs.ProfileStatuses.{IsTextSucceeded};
+ghost use Rattle.std.specs.Prelude.{◌≡◌, ◌⊎◌, [], IfErr, IfOk, IfSome};
+ghost use Rattle.status_cli.specs.ProfileStatuses.{IsFailed};
+ghost use Rattle.status_cli.specs.Refreshes.{IsIndexRefreshed, IsRefreshFailed, IsRefreshed};
 
 use crate::failure::Failure;
 use crate::input::read_all;
 use crate::status::{Changes, IndexChanges, print_profile};
-use gix_status::index::Moment;
+use gix_status::index::{Moment, State};
 use gix_status::index_as_worktree::apply_changes;
 use status_profile::{Kind, MemberTexts, Profile};
 use std::io;
@@ -38,7 +39,10 @@ where
     R::File: Send,
     R::Dir: Send,
     ensures status { (result ≡ 0) ⊎ (result ≡ 1) }
-    ensures printed { result ≡ 0 → IsTextSucceeded Kind.Plain (I.remaining profile.old) (O.contents output.old) (O.contents output.new) }
+    ensures refreshed { result ≡ 0 → IfSome (I.remaining profile.old) (λ text. IsRefreshed text (record { secs = secs; nsecs = nsecs })
+        (O.contents output.old) (O.contents output.new) refreshed.old.items refreshed.new.items) }
+    ensures failed { result ≡ 1 → IfSome (I.remaining profile.old) (λ text. IsFailed
+        (λ f. IsRefreshFailed text (O.contents output.old) f (O.contents output.new)) name.now (E.contents faults.old) (E.contents faults.new)) }
     ensures quiet { result ≡ 0 → E.contents faults.new ≡ E.contents faults.old }
     ensures kept { result ≡ 1 → refreshed.new.items ≡ refreshed.old.items }
 {
@@ -61,13 +65,30 @@ fn refresh<R: AllocGlobal + Files + Sync + Threads + Wait, I: io::Read, O: io::W
 where
     R::File: Send,
     R::Dir: Send,
-    ensures { OnOk result (IsTextSucceeded Kind.Plain (I.remaining profile.old) (O.contents output.old) (O.contents output.new)) }
+    ensures ok { IfOk result (λ r. IfSome (I.remaining profile.old) (λ text. IsRefreshed text timestamp (O.contents output.old) (O.contents output.new) [] r.items)) }
+    ensures err { IfErr result (λ f. IfSome (I.remaining profile.old) (λ text. IsRefreshFailed text (O.contents output.old) f (O.contents output.new))) }
 {
     let alloc = rt.alloc();
     let text = read_all(alloc, profile)?;
     let profile = Profile::from_json(alloc, text.as_slice(), Kind::Plain)?;
     let members = MemberTexts::from_json(alloc, text.as_slice())?;
     drop(text);
+    let index = refresh_index(rt, profile, timestamp, output)?;
+    Ok(members.with_index(alloc, &index)?)
+}
+
+/// Prints the status of a profile. Returns its index, with the changes that the status asks for and with this timestamp.
+fn refresh_index<R: AllocGlobal + Files + Sync + Threads + Wait, O: io::Write>(
+    rt: &R,
+    profile: Profile,
+    timestamp: Moment,
+    output: &mut O,
+) -> Result<State, Failure>
+where
+    R::File: Send,
+    R::Dir: Send,
+    ensures { IsIndexRefreshed profile timestamp (O.contents output.old) result (O.contents output.new) }
+{
     let IndexChanges { mut index, changes } = print_profile(
         rt,
         profile,
@@ -76,5 +97,5 @@ where
     )?;
     apply_changes(&mut index, &changes);
     index.set_timestamp(timestamp);
-    Ok(members.with_index(alloc, &index)?)
+    Ok(index)
 }

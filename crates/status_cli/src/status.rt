@@ -1,9 +1,11 @@
 //! The status of a profile's index against its worktree.
 
-ghost use Rattle.std.specs.Prelude.{◌≡◌, ◌⊎◌, Ok, IfErr, IfOk, IfSome, map};
+ghost use Rattle.std.specs.Prelude.{◌≡◌, ◌⊎◌, [], Ok, IfErr, IfOk, IfSome, map, vec_items};
 ghost use Rattle.status_base.specs.Trees.{empty_tree};
 ghost use Rattle.status_profile.specs.Nodes.{node_value};
-ghost use Rattle.status_cli.specs.ProfileStatuses.{IsPlacePrinted, IsProfilePrinted, IsProfileShown, IsStatusShown, IsTextFailed, IsTextPrinted, IsTextSucceeded, IsUnplanted, planted, results_of};
+ghost use Rattle.status_cli.specs.Printing.{result_map};
+ghost use Rattle.status_cli.specs.ProfileStatuses.{IsPlacePrinted, IsProfilePrinted, IsProfileShown, IsStatusShown, IsUnplanted, changes_in, planted, results_of};
+ghost use Rattle.status_cli.specs.ProfileStatuses.{IsTextFailed, IsTextPrinted, IsTextSucceeded};
 ghost use Rattle.status_index.specs.States.{index_of};
 ghost use Rattle.status_call.specs.IndexChanges.{AreInside};
 
@@ -68,7 +70,7 @@ fn print_status<R: AllocGlobal + Files + Sync + Threads + Wait, I: io::Read, O: 
 where
     R::File: Send,
     R::Dir: Send,
-    ensures { IfSome (I.remaining profile.old) (λ text. IsTextPrinted Kind.Any text (O.contents output.old) result (O.contents output.new)) }
+    ensures { IfSome (I.remaining profile.old) (λ text. IsTextPrinted Kind.Any text Changes.Dropped (O.contents output.old) (result_map (λ _. []) result) (O.contents output.new)) }
 {
     let text = read_all(rt.alloc(), profile)?;
     let profile = Profile::from_json(rt.alloc(), text.as_slice(), Kind::Any)?;
@@ -87,7 +89,8 @@ where
     R::File: Send,
     R::Dir: Send,
     ensures inside { IfOk result (λ r. AreInside r.changes.items (index_of r.index)) }
-    ensures printed { IsProfilePrinted profile (O.contents output.old) result (O.contents output.new) }
+    ensures index { IfOk result (λ r. r.index ≡ profile.index) }
+    ensures printed { IsProfilePrinted profile changes (O.contents output.old) (result_map changes_in result) (O.contents output.new) }
 {
     let Profile {
         hash,
@@ -113,7 +116,7 @@ where
     R::File: Send,
     R::Dir: Send,
     ensures inside { IfOk result (λ changes. AreInside changes.items (index_of index.now)) }
-    ensures printed { IsPlacePrinted place hash options index.now (O.contents output.old) result (O.contents output.new) }
+    ensures printed { IsPlacePrinted place hash options index.now changes (O.contents output.old) (result_map vec_items result) (O.contents output.new) }
 {
     let alloc = rt.alloc();
     match place {
@@ -170,7 +173,8 @@ fn print_prefixed<
 where
     W::File: Send,
     ensures inside { IfOk result (λ changes. AreInside changes.items (index_of status.entry.index.now)) }
-    ensures printed { IsProfileShown (results_of W.modelled W.lstat_of W.open_of W.target_of) K.meaning status.entry (O.contents output.old) result (O.contents output.new) }
+    ensures printed { IsProfileShown (results_of W.modelled W.lstat_of W.open_of W.target_of) K.meaning status.entry
+        (O.contents output.old) (result_map vec_items result) (O.contents output.new) }
 {
     let prefix = status.options.prefix.as_bstr();
     if prefix.as_bytes().is_empty() {
@@ -198,7 +202,7 @@ where
     W::File: Send,
     ensures inside { IfOk result (λ changes. AreInside changes.items (index_of status.entry.index.now)) }
     ensures printed { IsStatusShown (results_of W.modelled W.lstat_of W.open_of W.target_of) K.meaning status.entry (P.prefix pathspec) (P.included pathspec)
-        (O.contents output.old) result (O.contents output.new) }
+        (O.contents output.old) (result_map vec_items result) (O.contents output.new) }
 {
     if status.options.is_joined() {
         print_joined(rt, status, pathspec, output)?;

@@ -1,11 +1,11 @@
 //! The status of a profile without untracked files, renames and sorted lines.
 
-ghost use Rattle.std.specs.Prelude.{◌≡◌, ◌<◌, ◌^◌, [], IfOk, map};
+ghost use Rattle.std.specs.Prelude.{◌≡◌, ◌<◌, ◌^◌, [], IfOk, map, vec_items};
 ghost use Rattle.status_index.specs.States.{index_of};
 ghost use Rattle.status_call.specs.IndexChanges.{AreInside, changes_of};
 ghost use Rattle.status_call.specs.Outcomes.{skipped_of};
 ghost use Rattle.status_call.specs.RecorderVisits.{visit_of};
-ghost use Rattle.status_cli.specs.Printing.{IsPrinted};
+ghost use Rattle.status_cli.specs.Printing.{IsPrinted, result_map};
 ghost use Rattle.status_cli.specs.ProfileStatuses.{IsPlainShown, results_of};
 ghost use Rattle.status_cli.specs.Statuses.{answered, visit_lines};
 
@@ -40,7 +40,7 @@ where
     W::File: Send,
     ensures inside { IfOk result (λ changes. AreInside changes.items (index_of status.entry.index.now)) }
     ensures printed { IsPlainShown (results_of W.modelled W.lstat_of W.open_of W.target_of) status.entry (P.prefix pathspec) (P.included pathspec)
-        (O.contents output.old) result (O.contents output.new) }
+        (O.contents output.old) (result_map vec_items result) (O.contents output.new) }
 {
     let alloc = rt.alloc();
     let options = status.options;

@@ -17,5 +17,5 @@ returns-in-Err-clause-failed g c one =
     let old = g.O.Write.contents c.args.output.now in
     let new = g.O.Write.contents c.print_replay.new.output in
     let ended : (text : List ℕ) → IsReplayText {A = Unit {0}} text old (Err c.in-Err.failure) new
-    → IsFailed (λ failure. IsReplayText text old failure new) c.args.name.now (g.E.Write.contents c.args.faults.now) (g.E.Write.contents c.report.new.faults) = λ text h. (c.in-Err.failure, h, c.report.ensures.line) in
+    → IsFailed (λ f. IsReplayText {A = Unit {0}} text old (Err f) new) c.args.name.now (g.E.Write.contents c.args.faults.now) (g.E.Write.contents c.report.new.faults) = λ text h. (c.in-Err.failure, h, c.report.ensures.line) in
     known_map _ _ ended _ c.in-Err.ensures

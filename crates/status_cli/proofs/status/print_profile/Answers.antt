@@ -1,12 +1,16 @@
-use Rattle.status_cli.proofs.Commands.{done_alike, failed_alike, place_alike}
+use Rattle.std.proofs.Common.{sym, ap, subst, ◌∙◌}
+use Rattle.std.specs.Prelude.{vec_items}
+use Rattle.status_cli.specs.ProfileStatuses.{IsProfilePrinted, changes_in}
+use Rattle.status_cli.specs.Printing.{result_map}
+use Rattle.status_cli.proofs.Commands.{map_err}
 use Rattle.status_cli.proofs.status.print_profile.Goals as goal
 
 pub returns-in_err-changes-clause-printed : goal.returns-in_err-changes-clause-printed
 returns-in_err-changes-clause-printed g c =
-    let p = c.args.profile in
-    place_alike c.print_place.result c.from_residual.result (failed_alike _ _ c.in_err-changes.field-0.0 c.in_err-changes.was c.from_residual.ensures.1) _ _ p.place p.hash p.options p.index c.print_place.ensures.printed
+    subst (λ r. IsProfilePrinted c.args.profile c.args.changes (g.O.Write.contents c.args.output.now) r (g.O.Write.contents c.print_place.new.output))
+    (ap (result_map vec_items) c.in_err-changes.was ∙ sym (map_err changes_in c.from_residual.result c.in_err-changes.field-0.0 c.from_residual.ensures.1)) c.print_place.ensures.printed
 
 pub returns-clause-printed : goal.returns-clause-printed
 returns-clause-printed g c =
-    let p = c.args.profile in
-    place_alike c.print_place.result _ (done_alike _ c.in_ok-changes.changes _ c.in_ok-changes.was) _ _ p.place p.hash p.options p.index c.print_place.ensures.printed
+    subst (λ r. IsProfilePrinted c.args.profile c.args.changes (g.O.Write.contents c.args.output.now) r (g.O.Write.contents c.print_place.new.output))
+    (ap (result_map vec_items) c.in_ok-changes.was) c.print_place.ensures.printed

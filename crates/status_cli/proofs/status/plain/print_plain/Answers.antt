@@ -1,9 +1,11 @@
 use Rattle.std.proofs.Common.{subst, sym}
+use Rattle.std.specs.Prelude.{vec_items}
 use Rattle.status_index.specs.States.{index_of}
 use Rattle.status_call.specs.IndexChanges.{AreInside}
 use Rattle.status_call.specs.RecorderVisits.{visits_of}
 use Rattle.status_call.proofs.IndexChanges.{status_inside}
 use Rattle.status_cli.specs.Statuses.{answered, closing, visit_lines}
+use Rattle.status_cli.proofs.Commands.{printed_failed}
 use Rattle.status_cli.proofs.Printed.{memory_unprinted, printed_status, ended_after, ended_early, ended_failed, ended_then}
 use Rattle.status_cli.proofs.status.plain.print_plain.Goals as goal
 
@@ -16,16 +18,18 @@ pub returns-in_err-print_records-clause-printed : goal.returns-in_err-print_reco
 returns-in_err-print_records-clause-printed g c =
     let call = c.index_as_worktree_with_defaults-answer in
     let visits = visits_of call.new.collector in
-    printed_status _ _ _ _ visits call.result _ _ _ c.new-recorder.ensures call.ensures.all call.ensures.uninterrupted
-    (ended_early (visit_lines visits) (closing c.args.status.options.counts (answered call.result)) (answered call.result) _ _ _ c.from_residual.result c.from_residual.ensures.1
+    let failed = c.from_residual in
+    printed_failed vec_items _ _ _ _ _ visits call.result _ _ failed.result _ failed.ensures.1 c.new-recorder.ensures call.ensures.all call.ensures.uninterrupted
+    (ended_early (visit_lines visits) (closing c.args.status.options.counts (answered call.result)) (answered call.result) _ _ _ failed.result failed.ensures.1
     (rw c.as_slice.ensures.value at c.in_err-print_records.ensures.0) c.in_err-print_records.ensures.1)
 
 pub returns-in_err-print_closing-clause-printed : goal.returns-in_err-print_closing-clause-printed
 returns-in_err-print_closing-clause-printed g c =
     let call = c.index_as_worktree_with_defaults-answer in
     let visits = visits_of call.new.collector in
-    printed_status _ _ _ _ visits call.result _ _ _ c.new-recorder.ensures call.ensures.all call.ensures.uninterrupted
-    (ended_failed Unit _ _ _ _ _ c.from_residual-in_err-print_closing.result c.from_residual-in_err-print_closing.ensures.1
+    let failed = c.from_residual-in_err-print_closing in
+    printed_failed vec_items _ _ _ _ _ visits call.result _ _ failed.result _ failed.ensures.1 c.new-recorder.ensures call.ensures.all call.ensures.uninterrupted
+    (ended_failed Unit _ _ _ _ _ failed.result failed.ensures.1
     (ended_after (visit_lines visits) (closing c.args.status.options.counts (answered call.result)) (answered call.result) _ _ _ _
     (rw c.as_slice.ensures.value at c.in_ok-print_records.ensures) (rw (c.in_err-print_closing.was, c.with_failure.ensures) at c.print_closing.ensures)))
 
@@ -33,8 +37,9 @@ pub returns-in_err-changes-in-Returned-clause-printed : goal.returns-in_err-chan
 returns-in_err-changes-in-Returned-clause-printed g c =
     let call = c.index_as_worktree_with_defaults-answer in
     let visits = visits_of call.new.collector in
-    printed_status _ _ _ _ visits call.result _ _ _ c.new-recorder.ensures call.ensures.all call.ensures.uninterrupted
-    (ended_then Unit _ _ _ _ c.in_ok-print_closing.field-0 c.from_residual-in_err-changes-in-Returned.result (memory_unprinted _ c.from_residual-in_err-changes-in-Returned.ensures.1)
+    let failed = c.from_residual-in_err-changes-in-Returned in
+    printed_failed vec_items _ _ _ _ _ visits call.result _ _ failed.result _ failed.ensures.1 c.new-recorder.ensures call.ensures.all call.ensures.uninterrupted
+    (ended_then Unit _ _ _ _ c.in_ok-print_closing.field-0 failed.result (memory_unprinted _ failed.ensures.1)
     (ended_after (visit_lines visits) (closing c.args.status.options.counts (answered call.result)) (answered call.result) _ _ _ _
     (rw c.as_slice.ensures.value at c.in_ok-print_records.ensures) (rw (c.in_ok-print_closing.was, c.with_failure.ensures) at c.print_closing.ensures)))
 
@@ -42,16 +47,18 @@ pub returns-in-Returned-clause-printed : goal.returns-in-Returned-clause-printed
 returns-in-Returned-clause-printed g c =
     let call = c.index_as_worktree_with_defaults-answer in
     let visits = visits_of call.new.collector in
-    printed_status _ _ _ _ visits call.result _ _ _ c.new-recorder.ensures call.ensures.all call.ensures.uninterrupted
+    printed_status _ _ _ _ _ visits call.result _ _ _ c.new-recorder.ensures call.ensures.all call.ensures.uninterrupted
     (ended_then Unit _ _ _ _ c.in_ok-print_closing.field-0 _ tt
     (ended_after (visit_lines visits) (closing c.args.status.options.counts (answered call.result)) (answered call.result) _ _ _ _
     (rw c.as_slice.ensures.value at c.in_ok-print_records.ensures) (rw (c.in_ok-print_closing.was, c.with_failure.ensures) at c.print_closing.ensures)))
+    (rw c.in-Returned.is c.in_ok-changes-in-Returned.ensures)
 
 pub returns-clause-printed : goal.returns-clause-printed
 returns-clause-printed g c =
     let call = c.index_as_worktree_with_defaults-answer in
     let visits = visits_of call.new.collector in
-    printed_status _ _ _ _ visits call.result _ _ _ c.new-recorder.ensures call.ensures.all call.ensures.uninterrupted
+    printed_status _ _ _ _ _ visits call.result _ _ _ c.new-recorder.ensures call.ensures.all call.ensures.uninterrupted
     (ended_then Unit _ _ _ _ c.in_ok-print_closing.field-0 _ tt
     (ended_after (visit_lines visits) (closing c.args.status.options.counts (answered call.result)) (answered call.result) _ _ _ _
     (rw c.as_slice.ensures.value at c.in_ok-print_records.ensures) (rw (c.in_ok-print_closing.was, c.with_failure.ensures) at c.print_closing.ensures)))
+    (rw c.in-Dropped.is c.new.ensures.items)

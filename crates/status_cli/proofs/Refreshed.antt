@@ -1,0 +1,95 @@
+-- How a refresh ends, by the ends of its parts.
+use Rattle.std.proofs.Common.{◌≡◌, false, ℕ, List, [], ◌++◌, Option, Some, Result, Ok, Err, inl, inr, refl, sym, ap, subst, ◌∙◌}
+use Rattle.std.specs.Prelude.{◌⊎◌, IfErr}
+use Rattle.std.specs.Result.{IsErrAnd}
+use Rattle.json.specs.Json.{Json, document}
+use Rattle.status_index.specs.Entries.{index_entries}
+use Rattle.status_index.specs.States.{backing_of, entries_of, index_of, timestamp_of}
+use Rattle.status_index.specs.declared.stat.Moment.{Moment}
+use Rattle.status_index.specs.declared.state.State.{State}
+use Rattle.status_call.specs.IndexChanges.{applied}
+use Rattle.status_profile.specs.Forms.{is_object}
+use Rattle.status_profile.specs.Profiles.{IsRead, profile_in, profile_values}
+use Rattle.status_profile.specs.Refreshed.{IsUnwritten, refreshed_text}
+use Rattle.status_profile.specs.Texts.{IsTextsRead}
+use Rattle.status_profile.specs.declared.error.Key.TheVariants as keys
+use Rattle.status_profile.specs.declared.error.ProfileError.{ProfileError}
+use Rattle.status_profile.specs.declared.error.ProfileError.TheVariants as profiles
+use Rattle.status_profile.specs.declared.options.Kind.TheVariants.{Plain}
+use Rattle.status_profile.specs.declared.profile.Profile.{Profile}
+use Rattle.status_profile.proofs.Keys.{no_profile}
+use Rattle.status_cli.specs.declared.failure.Failure.{Failure}
+use Rattle.status_cli.specs.declared.failure.Failure.TheVariants.{Unreadable, Memory}
+use Rattle.status_cli.specs.declared.status.profile_status.Changes.TheVariants.{Returned}
+use Rattle.status_cli.specs.Failures.{failure_of_profile}
+use Rattle.status_cli.specs.ProfileStatuses.{IsProfilePrinted}
+use Rattle.status_cli.specs.Refreshes.{IsIndexRefreshed, IsRefreshFailed, IsRefreshed, PrintedStatus}
+
+-- of what failed for a reason, what holds for that reason holds
+pub err_weaker : {A : Type 0} (r : Result A Failure) (P Q : Failure → Type 0) → ((f : Failure) → P f → Q f) → IsErrAnd r P → IfErr r Q
+err_weaker (Ok x) P Q step h = absurd h
+err_weaker (Err f) P Q step h = step f h
+
+-- a new timestamp keeps the entries
+pub index_kept : (old new : State) → entries_of new ≡ entries_of old → backing_of new ≡ backing_of old → index_of new ≡ index_of old
+index_kept old new entries backing = ap (λ b. index_entries b (entries_of new)) backing ∙ ap (index_entries (backing_of old)) entries
+
+-- the status failed, so there is no index
+pub unrefreshed_index : (p : Profile) (timestamp : Moment) (old new : Option (List ℕ)) (r : Result State Failure) (e : Failure) → IsErrAnd r (λ f. f ≡ e) → IsProfilePrinted p Returned old (Err e) new → IsIndexRefreshed p timestamp old r new
+unrefreshed_index p timestamp old new (Ok index) e h printed = absurd h
+unrefreshed_index p timestamp old new (Err f) e h printed = subst (λ d. IsProfilePrinted p Returned old (Err d) new) (sym h) printed
+
+-- a profile is an object
+no_object_read : (text : List ℕ) (p : Profile) → IsRead Plain text (Ok p) → (j : Json) → document text ≡ Some j → is_object j ≡ false → ⊥
+no_object_read text p read j is none =
+    let here : Some read.1.0 ≡ Some j = sym read.1.1 ∙ is in
+    let one : read.1.0 ≡ j = cc in
+    let wrong : Err keys.Hash ≡ Ok (profile_values p) = sym (no_profile Plain j none) ∙ subst (λ d. profile_in Plain d ≡ Ok (profile_values p)) one read.1.2 in
+    let never : ⊥ = cc in never
+
+-- only memory can run out where a profile's members are read
+members_memory : (text : List ℕ) (p : Profile) → IsRead Plain text (Ok p) → (e : ProfileError) → IsTextsRead text (Err e) → e ≡ profiles.Memory
+members_memory text p read profiles.NotJson h = let none = h read.0 in let said = read.1.1 in let never : ⊥ = cc in absurd never
+members_memory text p read (profiles.Bad key) h = absurd (no_object_read text p read h.1.1.0 h.1.1.1 h.1.1.2)
+members_memory text p read (profiles.Index e) h = absurd h
+members_memory text p read profiles.Memory h = refl
+
+module _ (text : List ℕ) (old : Option (List ℕ)) where
+  -- the text couldn't be read
+  pub failed_unread : (f : Failure) → (f ≡ Unreadable) ⊎ (f ≡ Memory) → IsRefreshFailed text old f old
+  failed_unread f why = inl (inl (inl (why, refl)))
+
+  -- it says no profile
+  pub failed_read : (e : ProfileError) → IsRead Plain text (Err e) → (f : Failure) → f ≡ failure_of_profile e → IsRefreshFailed text old f old
+  failed_read e read f is = inl (inl (inr (e, read, is, refl)))
+
+  -- its members can't be read
+  pub failed_members : (p : Profile) → IsRead Plain text (Ok p) → (e : ProfileError) → IsTextsRead text (Err e) → (f : Failure) → f ≡ failure_of_profile e → IsRefreshFailed text old f old
+  failed_members p read e unread f is = failed_unread f (inr (is ∙ ap failure_of_profile (members_memory text p read e unread)))
+
+module _ (text : List ℕ) (old new : Option (List ℕ)) (p : Profile) (read : IsRead Plain text (Ok p)) where
+  -- the status failed
+  pub failed_status : (e f : Failure) → f ≡ e → IsProfilePrinted p Returned old (Err e) new → IsRefreshFailed text old f new
+  failed_status e f is printed = subst (λ d. IsRefreshFailed text old d new) (sym is) (inl (inr (p, read, printed)))
+
+  module _ (timestamp : Moment) (index : State) (refreshed : IsIndexRefreshed p timestamp old (Ok index) new) where
+    abbrev status : PrintedStatus text old new
+    status = record { profile = p; read = read; changes = refreshed.0; printed = refreshed.1 }
+
+    -- the refreshed text can't be made
+    pub failed_text : (e : ProfileError) → IsUnwritten (index_of index) e → (f : Failure) → f ≡ failure_of_profile e → IsRefreshFailed text old f new
+    failed_text e unwritten f is = inr (status, e, subst (λ es. IsUnwritten es e) refreshed.2 unwritten, is)
+
+    -- it is made
+    pub text_made : (j : Json) → document text ≡ Some j → (bytes : List ℕ) → bytes ≡ refreshed_text j (index_of index) (timestamp_of index) → IsRefreshed text timestamp old new [] bytes
+    text_made j parsed bytes is =
+        (status, j, parsed, is ∙ ap (λ es. refreshed_text j es (timestamp_of index)) refreshed.2 ∙ ap (refreshed_text j (applied refreshed.0 (index_of p.index))) refreshed.3)
+
+module _ (text : List ℕ) (timestamp : Moment) (old new : Option (List ℕ)) (before added : List ℕ) (h : IsRefreshed text timestamp old new [] added) where
+  -- the refreshed text was appended
+  pub text_appended : (after : List ℕ) → after ≡ before ++ added → IsRefreshed text timestamp old new before after
+  text_appended after grew = (h.0, h.1, h.2, grew ∙ ap (λ text. before ++ text) h.3)
+
+  -- there was no memory for it
+  pub text_lost : IsRefreshFailed text old Memory new
+  text_lost = inr (h.0, profiles.Memory, tt, refl)

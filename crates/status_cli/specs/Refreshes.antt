@@ -1,0 +1,50 @@
+-- A refresh prints a profile's status, and then stores the profile again, with the changes that the status asks for in its index and with
+-- another timestamp.
+use Rattle.std.specs.Prelude.{◌≡◌, ◌⊎◌, ℕ, List, ◌++◌, Option, Some, Result, Ok, Err}
+use Rattle.json.specs.Json.{Json, document}
+use Rattle.status_index.specs.Entries.{IndexEntry}
+use Rattle.status_index.specs.States.{index_of, timestamp_of}
+use Rattle.status_index.specs.declared.stat.Moment.{Moment}
+use Rattle.status_index.specs.declared.state.State.{State}
+use Rattle.status_call.specs.IndexChanges.{applied}
+use Rattle.status_call.specs.declared.index_as_worktree.apply.ApplyChange.{ApplyChange}
+use Rattle.status_profile.specs.Profiles.{IsRead}
+use Rattle.status_profile.specs.Refreshed.{IsUnwritten, refreshed_text}
+use Rattle.status_profile.specs.declared.error.ProfileError.{ProfileError}
+use Rattle.status_profile.specs.declared.options.Kind.TheVariants.{Plain}
+use Rattle.status_profile.specs.declared.profile.Profile.{Profile}
+use Rattle.status_cli.specs.declared.failure.Failure.{Failure}
+use Rattle.status_cli.specs.declared.status.profile_status.Changes.TheVariants.{Returned}
+use Rattle.status_cli.specs.Failures.{failure_of_profile}
+use Rattle.status_cli.specs.ProfileStatuses.{IsProfilePrinted, IsTextPrinted}
+
+-- a profile's status was printed, or a part if it failed; then this is its index, with the changes that the status asks for and with this
+-- timestamp
+abbrev pub IsIndexRefreshed : Profile → Moment → Option (List ℕ) → Result State Failure → Option (List ℕ) → Type 0
+IsIndexRefreshed p timestamp old (Ok index) new =
+    (changes : List ApplyChange) × IsProfilePrinted p Returned old (Ok changes) new × (index_of index ≡ applied changes (index_of p.index)) × (timestamp_of index ≡ timestamp)
+IsIndexRefreshed p timestamp old (Err f) new = IsProfilePrinted p Returned old (Err f) new
+
+-- a text says this profile, all of whose status was printed, which asks for these changes
+pub record PrintedStatus (text : List ℕ) (old new : Option (List ℕ)) : Type 0 where
+  pub profile : Profile
+  pub read : IsRead Plain text (Ok profile)
+  pub changes : List ApplyChange
+  pub printed : IsProfilePrinted profile Returned old (Ok changes) new
+
+-- the entries of the profile's index after these changes
+abbrev pub refreshed_entries : {text : List ℕ} {old new : Option (List ℕ)} → PrintedStatus text old new → List IndexEntry
+refreshed_entries s = applied s.changes (index_of s.profile.index)
+
+-- the status was printed, and a list of bytes grew by the refreshed text of the text's JSON value, with these entries and this timestamp
+abbrev pub IsRefreshed : List ℕ → Moment → Option (List ℕ) → Option (List ℕ) → List ℕ → List ℕ → Type 0
+IsRefreshed text timestamp old new before after =
+    (s : PrintedStatus text old new) × (j : Json) × (document text ≡ Some j) × (after ≡ before ++ refreshed_text j (refreshed_entries s) timestamp)
+
+-- the status was printed, but these entries can't be written, for this reason
+abbrev pub IsUnrefreshed : List ℕ → Option (List ℕ) → Failure → Option (List ℕ) → Type 0
+IsUnrefreshed text old f new = (s : PrintedStatus text old new) × (e : ProfileError) × IsUnwritten (refreshed_entries s) e × (f ≡ failure_of_profile e)
+
+-- the refresh of a text fails as its status does, or after it
+abbrev pub IsRefreshFailed : List ℕ → Option (List ℕ) → Failure → Option (List ℕ) → Type 0
+IsRefreshFailed text old f new = IsTextPrinted Plain text Returned old (Err f) new ⊎ IsUnrefreshed text old f new
