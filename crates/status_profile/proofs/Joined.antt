@@ -6,8 +6,14 @@ use Rattle.json.specs.Print.{ends, print, print_from, quoted}
 use Rattle.json.specs.Token.{Token, key}
 use Rattle.json.specs.Tree.{json_tokens, items_tokens, members_tokens}
 use Rattle.json.proofs.Printed.Tokens.{print_from-append}
-use Rattle.status_profile.specs.Texts.{joined_texts, member_texts}
+use Rattle.serde_json.specs.Written.{comma_if}
+use Rattle.status_profile.specs.Texts.{member_texts}
 use Rattle.status_profile.specs.Sorted.{compact}
+
+-- the text of members with these texts, with the closing brace
+abbrev pub joined_texts : Bool → List (List ℕ × List ℕ) → List ℕ
+joined_texts later [] = 125 ∷ []
+joined_texts later (e ∷ es) = comma_if later ++ (quoted e.0 ++ 58 ∷ (e.1 ++ joined_texts true es))
 
 -- whether a value has just ended
 abbrev ended : Bool → List Token → Bool

@@ -1,7 +1,8 @@
 -- The first bad key of a profile.
-use Rattle.std.proofs.Common.{◌≡◌, true, false, List, Option, Some, None, Result, Ok, Err, IfOk, inl, inr, option_and_then, refl, subst}
+use Rattle.std.proofs.Common.{◌≡◌, ℕ, true, false, List, Option, Some, None, Result, Ok, Err, IfOk, inl, inr, option_and_then, refl, subst}
 use Rattle.std.specs.Prelude.{codes}
-use Rattle.json.specs.Json.{Json}
+use Rattle.std.specs.Str.{IsUtf8}
+use Rattle.json.specs.Json.{Json, document}
 use Rattle.json.specs.Find.{get}
 use Rattle.status_index.specs.declared.id.HashKind.{HashKind}
 use Rattle.status_index.specs.declared.id.HashKind.TheVariants.{Sha1}
@@ -17,6 +18,7 @@ use Rattle.status_profile.specs.declared.error.Key.TheVariants as keys
 use Rattle.status_profile.specs.declared.error.ProfileError.{ProfileError}
 use Rattle.status_profile.specs.declared.error.ProfileError.TheVariants as errors
 use Rattle.status_profile.specs.declared.options.Kind.{Kind}
+use Rattle.status_profile.specs.declared.profile.Profile.{Profile}
 use Rattle.status_profile.specs.Entries.{entries_in}
 use Rattle.status_profile.specs.Failures.{error_of_index, result_under}
 use Rattle.status_profile.specs.Forms.{Reads, is_object, or_default, stamp_in}
@@ -24,7 +26,7 @@ use Rattle.status_profile.specs.Held.{AreEntriesRead, HasEntries}
 use Rattle.status_profile.specs.Nodes.{PlaceValue, place_in, place_value}
 use Rattle.status_profile.specs.Options.{OptionValues, options_in}
 use Rattle.status_profile.specs.Parts.{AreParts, AreSaid, ReadsUnder}
-use Rattle.status_profile.specs.Profiles.{IsProfile, ProfileValues, profile_from, profile_in}
+use Rattle.status_profile.specs.Profiles.{IsProfile, IsRead, ProfileValues, profile_from, profile_in}
 use Rattle.status_profile.specs.Words.{hash_in}
 
 pub reads_under : {T A : Type 0} (key : Key) (shown : T → A) (said : Option A) (read : Result T FieldError) (r : Result T ProfileError) → r ≡ result_under key read → Reads shown read said → ReadsUnder key shown r said
@@ -110,3 +112,11 @@ parts_failed whole i w errors.Memory h first then = tt
 pub no_profile : (kind : Kind) (j : Json) → is_object j ≡ false → profile_in kind j ≡ Err keys.Hash
 unfolding profile_in
 no_profile kind j is = rw is refl
+
+-- what a text that is JSON says as a profile
+pub is_read : (kind : Kind) (text : List ℕ) (j : Json) → IsUtf8 text → document text ≡ Some j → (r : Result Profile ProfileError) → IsProfile (profile_in kind j) r → IsRead kind text r
+is_read kind text j utf8 is (Ok p) h = (utf8, (j, is, h))
+is_read kind text j utf8 is (Err errors.NotJson) h = absurd h
+is_read kind text j utf8 is (Err (errors.Bad key)) h = (utf8, (j, is, h))
+is_read kind text j utf8 is (Err (errors.Index e)) h = (utf8, (j, is, h))
+is_read kind text j utf8 is (Err errors.Memory) h = tt

@@ -1,5 +1,5 @@
 -- The members that were read, with one more.
-use Rattle.std.proofs.Common.{◌≡◌, ℕ, Bool, true, false, cond, List, [], ◌∷◌, ◌++◌, Option, Some, None, Result, Ok, Err, is_some, refl, ap, ◌∙◌}
+use Rattle.std.proofs.Common.{◌≡◌, ℕ, Bool, true, false, cond, List, [], ◌∷◌, ◌++◌, Option, Some, None, Result, Ok, Err, is_some, OnOk, refl, ap, ◌∙◌}
 use Rattle.std.specs.Prelude.{codes}
 use Rattle.std.specs.Str.{bytes_eq}
 use Rattle.std.proofs.lemmas.Slice.Eq.{bytes_eq-Decides}
@@ -14,9 +14,9 @@ use Rattle.status_profile.specs.declared.node.Nodes.{Nodes}
 use Rattle.status_profile.specs.Entries.{entries_in, entry_in}
 use Rattle.status_profile.specs.Forms.{◌>>=◌, Reads, each, is_object}
 use Rattle.status_profile.specs.Held.{AreEntriesRead, HoldsEntries, HoldsNodes, nodes_value}
-use Rattle.status_profile.specs.Members.{HasMembers, with_member}
+use Rattle.status_profile.specs.Members.{AreMembersOf, HasMembers, with_member}
 use Rattle.status_profile.specs.Nodes.{node_in, nodes_in}
-use Rattle.status_profile.specs.Steps.{IsValueRead}
+use Rattle.status_profile.specs.Steps.{IsValueRead, with_last}
 use Rattle.status_profile.proofs.Eaches.{each_misfit}
 
 pub entries_read : (js : Option Items) (list : Result Entries FieldError) → IsValueRead HoldsEntries (λ j. is_some (entry_in j)) js list → AreEntriesRead list (js >>= each entry_in)
@@ -85,11 +85,21 @@ later_assoc None b c = refl
 later_assoc (Some j) b c = refl
 
 -- what is found among members with one more
-pub found_with : (xs : List (List ℕ × Json)) (k : List ℕ) (j : Json) (name : List ℕ) → with_member k j (λ n. get_member n (members_onto xs no_members)) name ≡ get_member name (members_onto (xs ++ (k, j) ∷ []) no_members)
-found_with [] k j name = later_none _
-found_with (x ∷ xs) k j name =
-    later_assoc (cond (bytes_eq k name) (Some j) None) (get_member name (members_onto xs no_members)) (cond (bytes_eq x.0 name) (Some x.1) None)
-    ∙ ap (λ o. later_or o (cond (bytes_eq x.0 name) (Some x.1) None)) (found_with xs k j name)
+pub found_with : (ms : MembersOf) (k : List ℕ) (j : Json) (name : List ℕ) → with_member k j (λ n. get_member n ms) name ≡ get_member name (with_last ms k j)
+found_with no_members k j name = later_none _
+found_with (member l i ms) k j name =
+    later_assoc (cond (bytes_eq k name) (Some j) None) (get_member name ms) (cond (bytes_eq l name) (Some i) None)
+    ∙ ap (λ o. later_or o (cond (bytes_eq l name) (Some i) None)) (found_with ms k j name)
+
+-- members with one more, for each way to look them up
+pub has_one_more : {T E : Type 0} (r : Result T E) (V : Json → Type 0) (old new : Members) (k : List ℕ) → OnOk r ((j : Json) × V j × ((g : List ℕ → Option Json) → HasMembers old g → HasMembers new (with_member k j g)))
+    → OnOk r ((j : Json) × V j × ((ms : MembersOf) → AreMembersOf old ms → AreMembersOf new (with_last ms k j)))
+has_one_more (Ok x) V old new k h = (h.0, h.1, λ ms before. same_members new _ _ (found_with ms k h.0) (h.2 (λ name. get_member name ms) before))
+has_one_more (Err e) V old new k h = tt
+
+pub members_onto-last : (xs : List (List ℕ × Json)) (k : List ℕ) (j : Json) → with_last (members_onto xs no_members) k j ≡ members_onto (xs ++ (k, j) ∷ []) no_members
+members_onto-last [] k j = refl
+members_onto-last (x ∷ xs) k j = ap (member x.0 x.1) (members_onto-last xs k j)
 
 pub no_object : (j : Json) → as_object j ≡ None → is_object j ≡ false
 no_object null e = refl

@@ -1,12 +1,13 @@
 -- A member more: in the JSON, and in the texts in memory.
-use Rattle.std.proofs.Common.{◌≡◌, ◌⊎◌, inl, inr, ℕ, List, [], ◌∷◌, ◌++◌, map, true, String, Vec, Global, Ordering, Less, Equal, Greater, string_bytes, string_cmp, nat_cmp, refl, ◌∙◌}
+use Rattle.std.proofs.Common.{◌≡◌, ◌⊎◌, inl, inr, ℕ, List, [], ◌∷◌, map, true, false, String, Vec, Global, Ordering, Less, Equal, Greater, string_bytes, string_cmp, nat_cmp, refl, ◌∙◌}
 use Rattle.std.specs.Cmp.Lexicographic.{slice_cmp}
 use Rattle.std.specs.Prelude.{codes}
 use Rattle.std.specs.Ordering.{match_ordering}
 use Rattle.std.specs.BTreeMap.{insert_entry}
 use Rattle.json.specs.Json.{Json, Members, no_members, member}
-use Rattle.status_profile.proofs.MemberSteps.{members_onto}
+use Rattle.status_profile.proofs.MemberSteps.{unequal}
 use Rattle.status_profile.specs.Texts.{is_renewed, member_texts, sorted_others, with_other}
+use Rattle.status_profile.specs.Steps.{with_last}
 use Rattle.status_profile.specs.Sorted.{put_member, compact}
 
 abbrev pub Texts : Type 0
@@ -40,10 +41,13 @@ pub member_texts-put_member : (k : List ℕ) (j : Json) (ms : Members) → membe
 member_texts-put_member k j no_members = refl
 member_texts-put_member k j (member l i ms) = member_texts-match_ordering (slice_cmp nat_cmp k l) _ _ _ ∙ rw (member_texts-put_member k j ms)
 
-pub sorted_others-push : (xs : List (List ℕ × Json)) (k : List ℕ) (j : Json) (done : Members) → sorted_others (members_onto (xs ++ (k, j) ∷ []) no_members) done ≡ with_other k j (sorted_others (members_onto xs no_members) done)
-sorted_others-push [] k j done = refl
-sorted_others-push (x ∷ xs) k j done = sorted_others-push xs k j (with_other x.0 x.1 done)
+pub sorted_others-last : (ms : Members) (k : List ℕ) (j : Json) (done : Members) → sorted_others (with_last ms k j) done ≡ with_other k j (sorted_others ms done)
+sorted_others-last no_members k j done = refl
+sorted_others-last (member l i ms) k j done = sorted_others-last ms k j (with_other l i done)
 
 pub renewed : (k : List ℕ) → (k ≡ codes "index") ⊎ (k ≡ codes "timestamp") → is_renewed k ≡ true
 renewed k (inl e) = rw e
 renewed k (inr e) = rw e
+
+pub not_renewed : (k : List ℕ) → (k ≡ codes "index" → ⊥) → (k ≡ codes "timestamp" → ⊥) → is_renewed k ≡ false
+not_renewed k a b = rw (unequal k _ a, unequal k _ b)

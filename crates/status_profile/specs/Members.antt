@@ -1,13 +1,13 @@
 -- The members of a profile that were read.
-use Rattle.std.specs.Prelude.{◌≡◌, ℕ, true, false, cond, List, Option, Some, None, option_and_then, option_map}
+use Rattle.std.specs.Prelude.{◌≡◌, ℕ, cond, List, Option, Some, None, option_and_then, option_map}
 use Rattle.std.specs.Str.{bytes_eq}
 use Rattle.std.specs.Prelude.{codes}
-use Rattle.json.specs.Json.{Json}
-use Rattle.json.specs.Find.{get, later_or}
+use Rattle.json.specs.Json.{Json, Members as MembersOf}
+use Rattle.json.specs.Find.{get_member, later_or}
 use Rattle.json.specs.Value.{value_view}
 use Rattle.status_profile.specs.declared.members.Members.{Members}
 use Rattle.status_profile.specs.Entries.{entries_in}
-use Rattle.status_profile.specs.Forms.{Reads, is_object}
+use Rattle.status_profile.specs.Forms.{Reads}
 use Rattle.status_profile.specs.Held.{AreEntriesRead, nodes_value}
 use Rattle.status_profile.specs.Nodes.{nodes_in}
 
@@ -24,7 +24,6 @@ pub record HasMembers (m : Members) (g : List ℕ → Option Json) : Type 0 wher
 abbrev pub with_member : List ℕ → Json → (List ℕ → Option Json) → List ℕ → Option Json
 with_member key j g name = later_or (cond (bytes_eq key name) (Some j) None) (g name)
 
--- an object's members, or that a value is no object
-abbrev pub IsMembersRead : Json → Option Members → Type 0
-IsMembersRead j (Some m) = (is_object j ≡ true) × HasMembers m (λ name. get name j)
-IsMembersRead j None = is_object j ≡ false
+-- the members of a profile are those of this object
+abbrev pub AreMembersOf : Members → MembersOf → Type 0
+AreMembersOf m ms = HasMembers m (λ name. get_member name ms)

@@ -1,11 +1,12 @@
 -- The parts of a profile that were read so far, for the clauses of private functions.
-use Rattle.std.specs.Prelude.{◌≡◌, ℕ, ◌-◌, ◌++◌, Bool, true, not, List, length, Option, Some, None, Result, Ok, Err, ⊤}
+use Rattle.std.specs.Prelude.{◌≡◌, ℕ, ◌-◌, ◌++◌, Bool, true, false, not, List, length, Option, Some, None, Result, Ok, Err, ⊤}
 use Rattle.std.specs.List.{list_any}
 use Rattle.json.specs.Token.{Token}
-use Rattle.json.specs.Json.{Json, Items, array, object, items, members, value, parse_map}
+use Rattle.json.specs.Json.{Json, Items, Members, no_members, member, array, object, items, members, value, parse_map}
 use Rattle.json.specs.Find.{as_array, as_object}
 use Rattle.json.specs.Value.{items_of}
 use Rattle.json.specs.Written.{Written}
+use Rattle.status_profile.specs.Forms.{is_object}
 use Rattle.status_profile.specs.declared.items.Begun.{Begun}
 use Rattle.status_profile.specs.declared.items.Begun.TheVariants as begun
 use Rattle.status_profile.specs.declared.error.ProfileError.{ProfileError}
@@ -65,3 +66,13 @@ IsValueRead holds fits None list = list ≡ Err Form
 pub record Adds (old new : Written) (ts : List Token) : Type 0 where
   pub before : new.before ≡ old.before
   pub tokens : new.tokens ≡ old.tokens ++ ts
+
+-- the members, with one more at the end
+abbrev pub with_last : Members → List ℕ → Json → Members
+with_last no_members k j = member k j no_members
+with_last (member l i ms) k j = member l i (with_last ms k j)
+
+-- what is made of an object's members; or the value is no object
+abbrev pub AreMade : {T : Type 0} → (T → Members → Type 0) → Json → Option T → Type 0
+AreMade holds j (Some made) = (ms : Members) × (j ≡ object ms) × holds made ms
+AreMade holds j None = is_object j ≡ false

@@ -1,9 +1,7 @@
 -- The compact texts of an object's members other than those that are stored anew.
-use Rattle.std.specs.Prelude.{◌≡◌, ℕ, List, [], ◌∷◌, ◌++◌, map, Bool, ◌||◌, true, false, if◌then◌else◌, codes, Option, Some, None, Result, Ok, Err, ⊤, string_bytes}
+use Rattle.std.specs.Prelude.{◌≡◌, ℕ, List, [], ◌∷◌, map, Bool, ◌||◌, false, if◌then◌else◌, codes, Result, Ok, Err, ⊤, string_bytes}
 use Rattle.std.specs.Str.{bytes_eq}
 use Rattle.json.specs.Json.{Json, object, Members, no_members, member}
-use Rattle.json.specs.Print.{quoted}
-use Rattle.serde_json.specs.Written.{comma_if}
 use Rattle.status_profile.specs.Forms.{is_object}
 use Rattle.status_profile.specs.Profiles.{IsNoJson, Says}
 use Rattle.status_profile.specs.Sorted.{put_member, sorted, compact}
@@ -38,21 +36,15 @@ texts_in m = map (λ e. (string_bytes e.0, e.1.items)) m.texts.entries
 abbrev pub HasTexts : MemberTexts → Members → Type 0
 HasTexts m ms = texts_in m ≡ member_texts ms
 
--- the texts in memory are those of an object's members that aren't stored anew
+-- the texts in memory are those of the members that aren't stored anew
+abbrev pub HasOthers : MemberTexts → Members → Type 0
+HasOthers m ms = HasTexts m (sorted_others ms no_members)
+
+-- the same of an object's members
 abbrev pub HoldsTexts : Json → MemberTexts → Type 0
-HoldsTexts j m = (ms : Members) × (j ≡ object ms) × HasTexts m (sorted_others ms no_members)
+HoldsTexts j m = (ms : Members) × (j ≡ object ms) × HasOthers m ms
 
--- the texts of an object's members, or that a value is no object
-abbrev pub AreTextsRead : Json → Option MemberTexts → Type 0
-AreTextsRead j (Some m) = HoldsTexts j m
-AreTextsRead j None = is_object j ≡ false
-
--- the text of members with these texts, with the closing brace
-abbrev pub joined_texts : Bool → List (List ℕ × List ℕ) → List ℕ
-joined_texts later [] = 125 ∷ []
-joined_texts later (e ∷ es) = comma_if later ++ (quoted e.0 ++ 58 ∷ (e.1 ++ joined_texts true es))
-
--- the compact text of an object's members, or why there is none
+-- what reading a text returns: the texts of its members; or that it isn't JSON, or no object. Memory may run out
 abbrev pub IsTextsRead : List ℕ → Result MemberTexts ProfileError → Type 0
 IsTextsRead text (Ok m) = Says text (λ j. HoldsTexts j m)
 IsTextsRead text (Err errors.NotJson) = IsNoJson text

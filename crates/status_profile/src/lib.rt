@@ -1,10 +1,10 @@
 //! Profiles, the program's input: an index, a worktree and options, or a history, read from JSON.
 //!
 //! Read `profile` and `history` first, then `options`, `entry`, `node` and `event`, what they are made of, and `error`.
-//! `members` reads a profile's text member by member, and `items` a list item by item, with one item in memory as a JSON
-//! value. `form`, `word` and `stat` have the forms of values. `texts` writes a profile again with another index, over `sorted`,
-//! `compact` and `index_text`. What a text
-//! says is defined in `specs`: `Profiles` and `Histories`, over `Options`, `Entries`, `Nodes`, `Events`, `Forms` and `Words`.
+//! `object` reads an object's text member by member, to `members` for a profile, and `items` reads a list item by item, with
+//! one item in memory as a JSON value. `form`, `word` and `stat` have the forms of values. `texts` writes a profile again with
+//! another index, over `compact`, `sorted` and `index_text`. What a text says is defined in `specs`: `Profiles` and
+//! `Histories`, over `Options`, `Entries`, `Nodes`, `Events`, `Forms` and `Words`. `Refreshed` has the text that is written.
 #![tactic(auto)]
 
 mod compact;
@@ -17,6 +17,7 @@ mod index_text;
 mod items;
 mod members;
 mod node;
+mod object;
 mod options;
 mod profile;
 mod sorted;

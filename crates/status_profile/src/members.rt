@@ -1,16 +1,16 @@
-//! The members of a profile, read from its text one by one.
+//! The members of a profile.
 
-ghost use Rattle.std.specs.Prelude.{◌≡◌, ◌<◌, ℕ, List, Option, IfErr, IfOk, OnOk, None, Some, length};
-ghost use Rattle.json.specs.Find.{get_member};
-ghost use Rattle.json.specs.Json.{Json, Members as MembersOf, document, max_depth, members, value};
-ghost use Rattle.status_profile.specs.Members.{HasMembers, IsMembersRead, with_member};
-ghost use Rattle.status_profile.specs.Steps.{IsUnread, member_depth};
+ghost use Rattle.std.specs.Prelude.{◌≡◌, ◌<◌, ℕ, List, Option, IfErr, OnOk, None, Some, length};
+ghost use Rattle.json.specs.Json.{Json, Members as MembersOf, no_members, value};
+ghost use Rattle.status_profile.specs.Members.{AreMembersOf, HasMembers, with_member};
+ghost use Rattle.status_profile.specs.Steps.{IsUnread, member_depth, with_last};
 
 use crate::entry::Entries;
 use crate::error::{FieldError, ProfileError};
-use crate::items::{Begun, ItemsRead, MEMBER_DEPTH, begin_value, read_list, skip_array};
+use crate::items::{ItemsRead, MEMBER_DEPTH, read_list};
 use crate::node::Nodes;
-use json::{Reader, Scratch, Value};
+use crate::object::FromMembers;
+use json::{Reader, Value};
 use std::alloc::Global;
 
 /// The members of a profile. If a key is repeated, its last member counts. A list that is missing has a wrong form.
@@ -31,20 +31,6 @@ pub struct Members<'a> {
 }
 
 impl<'a> Members<'a> {
-    /// Returns no members.
-    fn none() -> Members<'a>
-        ensures { HasMembers result (λ _. None) }
-    {
-        Members {
-            hash: None,
-            timestamp: None,
-            options: None,
-            folder: None,
-            entries: Err(FieldError::Form),
-            nodes: Err(FieldError::Form),
-        }
-    }
-
     /// Reads the value of a key.
     ///
     /// # Errors
@@ -72,53 +58,32 @@ impl<'a> Members<'a> {
     }
 }
 
-/// Reads the members of a profile, with at most one entry or node in memory as a JSON value. None if the text isn't an
-/// object.
-///
-/// # Errors
-/// The text isn't JSON, or memory ran out.
-pub fn members_of<'a>(
-    alloc: Global,
-    text: &'a str,
-    scratch: &'a mut Scratch,
-) -> Result<Option<Members<'a>>, ProfileError>
-    ensures ok { IfOk result (λ read. (j : Json) × (document text.now ≡ Some j) × IsMembersRead j read) }
-    ensures err { IfErr result (IsUnread (document text.now)) }
-{
-    let mut reader = Reader::new(text, scratch)?;
-    let members = read_value(alloc, &mut reader)?;
-    if reader.next().is_some() {
-        return Err(ProfileError::NotJson);
-    }
-    Ok(members)
-}
+impl<'a> FromMembers<'a> for Members<'a> {
+    ghost use Rattle.std.specs.Prelude.{◌≡◌, ◌<◌, IfErr, OnOk, Some, length};
+    ghost use Rattle.json.specs.Json.{Json, Members as MembersOf, no_members, value};
+    ghost use Rattle.status_profile.specs.Members.{AreMembersOf};
+    ghost use Rattle.status_profile.specs.Steps.{IsUnread, member_depth, with_last};
 
-/// Reads a value, and its members if it is an object.
-fn read_value<'a>(
-    alloc: Global,
-    reader: &mut Reader<'a>,
-) -> Result<Option<Members<'a>>, ProfileError>
-    ensures ok { IfOk result (λ read. (j : Json) × (value max_depth reader.old ≡ Some (j, reader.new)) × IsMembersRead j read) }
-    ensures err { IfErr result (IsUnread (value max_depth reader.old)) }
-{
-    match begin_value(reader)? {
-        Begun::Object => Ok(Some(read_members(alloc, reader)?)),
-        Begun::List => {
-            skip_array(reader, MEMBER_DEPTH)?;
-            Ok(None)
+    ghost holds = { λ made ms. AreMembersOf made ms };
+
+    fn none(_alloc: Global) -> Members<'a>
+        ensures { AreMembersOf result no_members }
+    {
+        Members {
+            hash: None,
+            timestamp: None,
+            options: None,
+            folder: None,
+            entries: Err(FieldError::Form),
+            nodes: Err(FieldError::Form),
         }
-        Begun::Scalar => Ok(None),
     }
-}
 
-/// Reads the members of an object after its opening brace.
-fn read_members<'a>(alloc: Global, reader: &mut Reader<'a>) -> Result<Members<'a>, ProfileError>
-    ensures ok { IfOk result (λ read. (ms : MembersOf) × (members (value member_depth) (length reader.old) reader.old ≡ Some (ms, reader.new)) × HasMembers read (λ name. get_member name ms)) }
-    ensures err { IfErr result (IsUnread (members (value member_depth) (length reader.old) reader.old)) }
-{
-    let mut members = Members::none();
-    while let Some(key) = reader.next_key()? {
-        members.read_member(alloc, key, reader)?;
+    fn add(&mut self, alloc: Global, key: &str, reader: &mut Reader<'a>) -> Result<(), ProfileError>
+        ensures ok { OnOk result ((j : Json) × (value member_depth reader.old ≡ Some (j, reader.new)) × ((ms : MembersOf) → AreMembersOf self.old ms → AreMembersOf self.new (with_last ms key.now j))) }
+        ensures shorter { OnOk result (length reader.new < length reader.old) }
+        ensures err { IfErr result (IsUnread (value member_depth reader.old)) }
+    {
+        self.read_member(alloc, key, reader)
     }
-    Ok(members)
 }

@@ -1,19 +1,20 @@
 //! The members of a profile as texts, to write the profile again with another index.
 
-ghost use Rattle.std.specs.Prelude.{◌≡◌, ◌<◌, ℕ, List, ◌++◌, ◌∷◌, [], IfErr, IfOk, OnOk, Some, length};
-ghost use Rattle.json.specs.Json.{Json, Members as MembersOf, document, max_depth, members, no_members, object, value};
-ghost use Rattle.serde_json.specs.Written.{comma_if};
-ghost use Rattle.status_profile.specs.Texts.{AreTextsRead, IsTextsRead, HasTexts, HoldsTexts, joined_texts, sorted_others, texts_in, with_other};
+ghost use Rattle.std.specs.Prelude.{◌≡◌, ◌<◌, ◌++◌, ◌∷◌, [], IfErr, IfOk, OnOk, Some, length};
+ghost use Rattle.json.specs.Json.{Json, Members as MembersOf, no_members, object, value};
 ghost use Rattle.json.specs.Print.{quoted};
+ghost use Rattle.serde_json.specs.Written.{comma_if};
 ghost use Rattle.status_index.specs.States.{index_of, timestamp_of};
 ghost use Rattle.status_profile.specs.Refreshed.{IsUnwritten, refreshed_text};
 ghost use Rattle.status_profile.specs.Sorted.{compact, put_member};
-ghost use Rattle.status_profile.specs.Steps.{IsUnread, member_depth};
+ghost use Rattle.status_profile.specs.Steps.{IsUnread, member_depth, with_last};
+ghost use Rattle.status_profile.specs.Texts.{HasOthers, HasTexts, HoldsTexts, IsTextsRead};
 
 use crate::compact::read_compact;
 use crate::error::{Key, ProfileError};
 use crate::index_text::{index_text, timestamp_text};
-use crate::items::{Begun, MEMBER_DEPTH, begin_value, skip_array};
+use crate::items::MEMBER_DEPTH;
+use crate::object::{FromMembers, members_of};
 use gix_status::index::State;
 use json::{Reader, Scratch, Writer};
 use std::alloc::{AllocError, Global};
@@ -39,7 +40,7 @@ impl MemberTexts {
             return Err(ProfileError::NotJson);
         };
         let mut scratch = Scratch::new(alloc);
-        match texts_of(alloc, text, &mut scratch)? {
+        match members_of(alloc, text, &mut scratch)? {
             Some(texts) => Ok(texts),
             None => Err(ProfileError::Bad(Key::Hash)),
         }
@@ -76,17 +77,33 @@ impl MemberTexts {
         Ok(text)
     }
 
-    /// Reads the value of a key.
-    ///
-    /// # Errors
-    /// The text isn't JSON, or memory ran out.
-    fn read_member(
-        &mut self,
-        alloc: Global,
-        key: &str,
-        reader: &mut Reader<'_>,
-    ) -> Result<(), ProfileError>
-        ensures ok { OnOk result ((j : Json) × (value member_depth reader.old ≡ Some (j, reader.new)) × ((ms : MembersOf) → HasTexts self.old ms → HasTexts self.new (with_other key.now j ms))) }
+    /// Sets a member's text, and replaces the one that is there, if any.
+    fn put(&mut self, alloc: Global, key: &str, text: Vec<u8>) -> Result<(), AllocError>
+        ensures { OnOk result ((j : Json) → (ms : MembersOf) → text.items ≡ compact j → HasTexts self.old ms → HasTexts self.new (put_member key.now j ms)) }
+    {
+        self.texts.insert(String::from_str(alloc, key)?, text)?;
+        Ok(())
+    }
+}
+
+impl<'a> FromMembers<'a> for MemberTexts {
+    ghost use Rattle.std.specs.Prelude.{◌≡◌, ◌<◌, IfErr, OnOk, Some, length};
+    ghost use Rattle.json.specs.Json.{Json, Members as MembersOf, no_members, value};
+    ghost use Rattle.status_profile.specs.Texts.{HasOthers};
+    ghost use Rattle.status_profile.specs.Steps.{IsUnread, member_depth, with_last};
+
+    ghost holds = { λ made ms. HasOthers made ms };
+
+    fn none(alloc: Global) -> MemberTexts
+        ensures { HasOthers result no_members }
+    {
+        MemberTexts {
+            texts: BTreeMap::new(alloc),
+        }
+    }
+
+    fn add(&mut self, alloc: Global, key: &str, reader: &mut Reader<'a>) -> Result<(), ProfileError>
+        ensures ok { OnOk result ((j : Json) × (value member_depth reader.old ≡ Some (j, reader.new)) × ((ms : MembersOf) → HasOthers self.old ms → HasOthers self.new (with_last ms key.now j))) }
         ensures shorter { OnOk result (length reader.new < length reader.old) }
         ensures err { IfErr result (IsUnread (value member_depth reader.old)) }
     {
@@ -99,63 +116,6 @@ impl MemberTexts {
         }
         Ok(())
     }
-
-    /// Sets a member's text, and replaces the one that is there, if any.
-    fn put(&mut self, alloc: Global, key: &str, text: Vec<u8>) -> Result<(), AllocError>
-        ensures { OnOk result ((j : Json) → (ms : MembersOf) → text.items ≡ compact j → HasTexts self.old ms → HasTexts self.new (put_member key.now j ms)) }
-    {
-        self.texts.insert(String::from_str(alloc, key)?, text)?;
-        Ok(())
-    }
-}
-
-/// Reads the members of a profile. None if the text isn't an object.
-///
-/// # Errors
-/// The text isn't JSON, or memory ran out.
-fn texts_of(
-    alloc: Global,
-    text: &str,
-    scratch: &mut Scratch,
-) -> Result<Option<MemberTexts>, ProfileError>
-    ensures ok { IfOk result (λ read. (j : Json) × (document text.now ≡ Some j) × AreTextsRead j read) }
-    ensures err { IfErr result (IsUnread (document text.now)) }
-{
-    let mut reader = Reader::new(text, scratch)?;
-    let texts = read_value(alloc, &mut reader)?;
-    if reader.next().is_some() {
-        return Err(ProfileError::NotJson);
-    }
-    Ok(texts)
-}
-
-/// Reads a value, and the texts of its members if it is an object.
-fn read_value(alloc: Global, reader: &mut Reader<'_>) -> Result<Option<MemberTexts>, ProfileError>
-    ensures ok { IfOk result (λ read. (j : Json) × (value max_depth reader.old ≡ Some (j, reader.new)) × AreTextsRead j read) }
-    ensures err { IfErr result (IsUnread (value max_depth reader.old)) }
-{
-    match begin_value(reader)? {
-        Begun::Object => Ok(Some(read_texts(alloc, reader)?)),
-        Begun::List => {
-            skip_array(reader, MEMBER_DEPTH)?;
-            Ok(None)
-        }
-        Begun::Scalar => Ok(None),
-    }
-}
-
-/// Reads the members of an object after its opening brace.
-fn read_texts(alloc: Global, reader: &mut Reader<'_>) -> Result<MemberTexts, ProfileError>
-    ensures ok { IfOk result (λ read. (ms : MembersOf) × (members (value member_depth) (length reader.old) reader.old ≡ Some (ms, reader.new)) × HasTexts read (sorted_others ms no_members)) }
-    ensures err { IfErr result (IsUnread (members (value member_depth) (length reader.old) reader.old)) }
-{
-    let mut members = MemberTexts {
-        texts: BTreeMap::new(alloc),
-    };
-    while let Some(key) = reader.next_key()? {
-        members.read_member(alloc, key, reader)?;
-    }
-    Ok(members)
 }
 
 /// Returns a text of members with one more.

@@ -1,6 +1,6 @@
 use Rattle.std.proofs.Common.{◌≡◌, ◌∷◌, [], ◌++◌, false, sym, ap, ◌∙◌, append_assoc, rules}
-use Rattle.status_profile.specs.Texts.{joined_texts, texts_in}
-use Rattle.status_profile.proofs.Joined.{compact-object}
+use Rattle.status_profile.specs.Texts.{texts_in}
+use Rattle.status_profile.proofs.Joined.{compact-object, joined_texts}
 use Rattle.status_profile.proofs.Puts.{texts_of}
 use Rattle.status_profile.proofs.texts.MemberTexts.into_text.Goals as goal
 

@@ -1,5 +1,6 @@
 use Rattle.std.proofs.Common.{◌≡◌, ◌∷◌, ◌++◌, false}
-use Rattle.status_profile.specs.Texts.{joined_texts, texts_in}
+use Rattle.status_profile.specs.Texts.{texts_in}
+use Rattle.status_profile.proofs.Joined.{joined_texts}
 use Rattle.status_profile.proofs.Puts.{texts_of}
 use Rattle.status_profile.proofs.texts.MemberTexts.into_text.Given as goal
 

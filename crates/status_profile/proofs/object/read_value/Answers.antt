@@ -6,29 +6,29 @@ use Rattle.status_profile.specs.Steps.{Begins}
 use Rattle.status_profile.specs.declared.items.Begun.TheVariants.{List, Object, Scalar}
 use Rattle.status_profile.proofs.Fronts.{unread_via}
 use Rattle.status_profile.proofs.MemberSteps.{no_object}
-use Rattle.status_profile.proofs.texts.read_value.Goals as goal
+use Rattle.status_profile.proofs.object.read_value.Goals as goal
 
-pub returns-in_err-read_texts-in-Object-clause-err :
-    goal.returns-in_err-read_texts-in-Object-clause-err
-returns-in_err-read_texts-in-Object-clause-err c =
+pub returns-in_err-read_members-in-Object-clause-err :
+    goal.returns-in_err-read_members-in-Object-clause-err
+returns-in_err-read_members-in-Object-clause-err g c =
     let old = c.args.reader.now in
     let new = c.begin_value.new.reader in
     let begun : Begins Object max_depth old new = subst (λ b. Begins b max_depth old new) c.in-Object.is (c.in_ok-begin_value.ensures.value max_depth (omega arith)) in
-    let q = err_from_is_err_and c.from_residual-in_err-read_texts-in-Object.result c.from_residual-in_err-read_texts-in-Object.ensures.1 in
-    rw (q.1, q.2) (unread_via _ _ (λ failed. begun ∙ ap (parse_map object) failed) c.in_err-read_texts-in-Object.field-0.0 c.in_err-read_texts-in-Object.ensures.err)
+    let q = err_from_is_err_and c.from_residual-in_err-read_members-in-Object.result c.from_residual-in_err-read_members-in-Object.ensures.1 in
+    rw (q.1, q.2) (unread_via _ _ (λ failed. begun ∙ ap (parse_map object) failed) c.in_err-read_members-in-Object.field-0.0 c.in_err-read_members-in-Object.ensures.err)
 
-pub returns-in_ok-read_texts-in-Object-clause-ok :
-    goal.returns-in_ok-read_texts-in-Object-clause-ok
-returns-in_ok-read_texts-in-Object-clause-ok c =
+pub returns-in_ok-read_members-in-Object-clause-ok :
+    goal.returns-in_ok-read_members-in-Object-clause-ok
+returns-in_ok-read_members-in-Object-clause-ok g c =
     let old = c.args.reader.now in
     let new = c.begin_value.new.reader in
     let begun : Begins Object max_depth old new = subst (λ b. Begins b max_depth old new) c.in-Object.is (c.in_ok-begin_value.ensures.value max_depth (omega arith)) in
-    let read = c.in_ok-read_texts-in-Object.ensures.ok in
+    let read = c.in_ok-read_members-in-Object.ensures.ok in
     (object read.0, begun ∙ ap (parse_map object) read.1, (read.0, refl, read.2))
 
 pub returns-in_err-skip_array-in-List-clause-err :
     goal.returns-in_err-skip_array-in-List-clause-err
-returns-in_err-skip_array-in-List-clause-err c =
+returns-in_err-skip_array-in-List-clause-err g c =
     let old = c.args.reader.now in
     let new = c.begin_value.new.reader in
     let begun : Begins List max_depth old new = subst (λ b. Begins b max_depth old new) c.in-List.is (c.in_ok-begin_value.ensures.value max_depth (omega arith)) in
@@ -37,7 +37,7 @@ returns-in_err-skip_array-in-List-clause-err c =
 
 pub returns-in_ok-skip_array-in-List-clause-ok :
     goal.returns-in_ok-skip_array-in-List-clause-ok
-returns-in_ok-skip_array-in-List-clause-ok c =
+returns-in_ok-skip_array-in-List-clause-ok g c =
     let old = c.args.reader.now in
     let new = c.begin_value.new.reader in
     let begun : Begins List max_depth old new = subst (λ b. Begins b max_depth old new) c.in-List.is (c.in_ok-begin_value.ensures.value max_depth (omega arith)) in
@@ -45,7 +45,7 @@ returns-in_ok-skip_array-in-List-clause-ok c =
     (array js.0, begun ∙ ap (parse_map array) js.1, refl)
 
 pub returns-in-Scalar-clause-ok : goal.returns-in-Scalar-clause-ok
-returns-in-Scalar-clause-ok c =
+returns-in-Scalar-clause-ok g c =
     let old = c.args.reader.now in
     let new = c.begin_value.new.reader in
     let begun : Begins Scalar max_depth old new = subst (λ b. Begins b max_depth old new) c.in-Scalar.is (c.in_ok-begin_value.ensures.value max_depth (omega arith)) in
