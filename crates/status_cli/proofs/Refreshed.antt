@@ -47,7 +47,7 @@ no_object_read text p read j is none =
     let wrong : Err keys.Hash ≡ Ok (profile_values p) = sym (no_profile Plain j none) ∙ subst (λ d. profile_in Plain d ≡ Ok (profile_values p)) one read.1.2 in
     let never : ⊥ = cc in never
 
--- only memory can run out where a profile's members are read
+-- members of a text that says a profile are read, unless memory runs out
 members_memory : (text : List ℕ) (p : Profile) → IsRead Plain text (Ok p) → (e : ProfileError) → IsTextsRead text (Err e) → e ≡ profiles.Memory
 members_memory text p read profiles.NotJson h = let none = h read.0 in let said = read.1.1 in let never : ⊥ = cc in absurd never
 members_memory text p read (profiles.Bad key) h = absurd (no_object_read text p read h.1.1.0 h.1.1.1 h.1.1.2)
