@@ -30,8 +30,8 @@ FEWEST = {
     "renames": 68,
     "listed": 77,
     "folder": 57,
-    "refreshed": 149,
-    "refreshed_over": 149,
+    "refreshed": 130,
+    "refreshed_over": 130,
     "reopened": 746,
 }
 

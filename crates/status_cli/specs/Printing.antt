@@ -13,7 +13,7 @@ pub record IsBegun (text : List ℕ) (old new : Option (List ℕ)) : Type 0 wher
   pub grew : Appends old new printed
   pub beginning : IsBeginning printed text
 
--- the output can't be written, or there is no memory for a line
+-- the output can't be written, or memory ran out
 abbrev pub IsUnprinted : Failure → Type 0
 IsUnprinted failure = (failure ≡ Output) ⊎ (failure ≡ Memory)
 

@@ -1,5 +1,5 @@
--- A refresh prints a profile's status, and then stores the profile again, with the changes that the status asks for in its index and with
--- another timestamp.
+-- A refresh prints a profile's status, and then writes the profile again, with the changes that the status asks for in its index and with
+-- this timestamp.
 use Rattle.std.specs.Prelude.{◌≡◌, ◌⊎◌, ℕ, List, ◌++◌, Option, Some, Result, Ok, Err}
 use Rattle.json.specs.Json.{Json, document}
 use Rattle.status_index.specs.Entries.{IndexEntry}
@@ -18,8 +18,8 @@ use Rattle.status_cli.specs.declared.status.profile_status.Changes.TheVariants.{
 use Rattle.status_cli.specs.Failures.{failure_of_profile}
 use Rattle.status_cli.specs.ProfileStatuses.{IsProfilePrinted, IsTextPrinted}
 
--- a profile's status was printed, or a part if it failed; then this is its index, with the changes that the status asks for and with this
--- timestamp
+-- a profile's status was printed, and this is its index, with the changes that the status asks for and with this timestamp; or the status
+-- failed, and a part was printed
 abbrev pub IsIndexRefreshed : Profile → Moment → Option (List ℕ) → Result State Failure → Option (List ℕ) → Type 0
 IsIndexRefreshed p timestamp old (Ok index) new =
     (changes : List ApplyChange) × IsProfilePrinted p Returned old (Ok changes) new × (index_of index ≡ applied changes (index_of p.index)) × (timestamp_of index ≡ timestamp)

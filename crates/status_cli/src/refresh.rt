@@ -17,9 +17,11 @@ use std::thread::Threads;
 
 /// Reads a profile, prints its status as `run_status` does, applies to the index the changes that it asks for, and sets
 /// the index's timestamp to these seconds and nanoseconds. Then it appends the profile with that index to `refreshed`, as
-/// compact text and a line feed. All other keys are unchanged. `name` is the name of the profile's file.
+/// compact text and a line feed, with the keys of each object ascending. All other values are unchanged; of equal keys the
+/// last is kept. `name` is the name of the profile's file.
 ///
-/// Returns the exit status: 0, or 1 after a failure, which is one line on `faults`. Then `refreshed` is unchanged.
+/// Returns the exit status: 0, or 1 after a failure, which is one line on `faults` (none if `output` can't be written).
+/// Then `refreshed` is unchanged.
 pub fn run_refresh<
     R: AllocGlobal + Files + Sync + Threads + Wait,
     I: io::Read,

@@ -91,7 +91,7 @@ found_with (member l i ms) k j name =
     later_assoc (cond (bytes_eq k name) (Some j) None) (get_member name ms) (cond (bytes_eq l name) (Some i) None)
     ∙ ap (λ o. later_or o (cond (bytes_eq l name) (Some i) None)) (found_with ms k j name)
 
--- members with one more, for each way to look them up
+-- members with one more, for each way to find them
 pub has_one_more : {T E : Type 0} (r : Result T E) (V : Json → Type 0) (old new : Members) (k : List ℕ) → OnOk r ((j : Json) × V j × ((g : List ℕ → Option Json) → HasMembers old g → HasMembers new (with_member k j g)))
     → OnOk r ((j : Json) × V j × ((ms : MembersOf) → AreMembersOf old ms → AreMembersOf new (with_last ms k j)))
 has_one_more (Ok x) V old new k h = (h.0, h.1, λ ms before. same_members new _ _ (found_with ms k h.0) (h.2 (λ name. get_member name ms) before))

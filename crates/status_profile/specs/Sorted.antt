@@ -6,7 +6,7 @@ use Rattle.json.specs.Json.{Json, null, boolean, number, string, array, object, 
 use Rattle.json.specs.Print.{print}
 use Rattle.json.specs.Tree.{json_tokens}
 
--- the members, with the value j at the key k
+-- ascending members, with the value j at the key k, in place of an earlier one
 abbrev pub put_member : List ℕ → Json → Members → Members
 put_member k j no_members = member k j no_members
 put_member k j (member l i ms) = match_ordering (slice_cmp nat_cmp k l) (member k j (member l i ms)) (member l j ms) (member l i (put_member k j ms))
@@ -30,6 +30,6 @@ abbrev mutual
   sorted_members no_members done = done
   sorted_members (member k j ms) done = sorted_members ms (put_member k (sorted j) done)
 
--- with no space; a number keeps its digits
+-- with no space; strings have the shortest escapes, and numbers their digits
 abbrev pub compact : Json → List ℕ
 compact j = print (json_tokens j)

@@ -13,8 +13,8 @@ use crate::sorted::sorted_value;
 use json::{Invalid, Reader, Token, Value, Writer};
 use std::alloc::{AllocError, Global};
 
-/// Reads the value of a member, and returns its compact text with the keys of each object ascending. At most one item of a
-/// list is in memory as a JSON value.
+/// Reads the value of a member, and returns its compact text with the keys of each object ascending. A list is read item by
+/// item, any other value as a whole.
 ///
 /// # Errors
 /// The text isn't JSON, or memory ran out.

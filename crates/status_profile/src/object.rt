@@ -9,7 +9,7 @@ use crate::items::{Begun, MEMBER_DEPTH, begin_value, skip_array};
 use json::{Reader, Scratch};
 use std::alloc::Global;
 
-/// What is made of an object's members, which are read one by one.
+/// A value that is made of an object's members, read one by one.
 pub trait FromMembers<'a>: Sized + Drop {
     ghost use Rattle.std.specs.Prelude.{◌≡◌, ◌<◌, IfErr, OnOk, Some, length};
     ghost use Rattle.json.specs.Json.{Json, Members as MembersOf, no_members, value};

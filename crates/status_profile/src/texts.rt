@@ -29,7 +29,7 @@ pub struct MemberTexts {
 }
 
 impl MemberTexts {
-    /// Reads the members of a profile from JSON text, with at most one item of a list in memory as a JSON value.
+    /// Reads the members of a profile from JSON text. A member that is a list is read item by item, any other as a whole.
     ///
     /// # Errors
     /// The text isn't JSON or isn't an object, or memory ran out.
@@ -62,11 +62,23 @@ impl MemberTexts {
         Ok(self.into_text(alloc)?)
     }
 
+    /// Returns about how many bytes the text of the object has.
+    fn text_len(&self) -> usize {
+        let mut len: usize = 3;
+        for (key, member) in &self.texts {
+            len = len
+                .saturating_add(key.len())
+                .saturating_add(member.len())
+                .saturating_add(4);
+        }
+        len
+    }
+
     /// Returns the text of the object with these members, and a line feed.
     fn into_text(self, alloc: Global) -> Result<Vec<u8>, AllocError>
         ensures { IfOk result (λ text. (ms : MembersOf) → HasTexts self ms → text.items ≡ compact (object ms) ++ 10 ∷ []) }
     {
-        let mut text = Vec::new(alloc);
+        let mut text = Vec::with_capacity(alloc, self.text_len())?;
         text.push(b'{')?;
         let mut later = false;
         for (key, member) in self.texts {
