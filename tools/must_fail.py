@@ -8,10 +8,11 @@ of a function depends on the contracts of the others, and not on their bodies. S
 - something unproved at a line of its own function, or
 - an error in the proof files of its own function.
 
-An edit without such a report is tried alone, and so is one that changes more than one function. As for `rt must-fail`,
-it is then refused if the crate isn't proved. All is done in copies of the repository, after one pass over the proofs of
-the crates. As many checks run at once as RT_JOBS says, or as there are processors. The last lines tell how many edits
-were refused, and the minutes of processor for that pass and for the edits. The exit status is 0 if all were refused.
+Edits without such a report are tried again without the others, and at last alone. One that changes more than one
+function is tried alone at once. As for `rt must-fail`, an edit alone is refused if the crate isn't proved. All is done in
+copies of the repository, after one pass over the proofs of the crates. As many checks run at once as RT_JOBS says, or as
+there are processors. The last lines tell how many edits were refused, and the minutes of processor for that pass and for
+the edits. The exit status is 0 if all were refused.
 """
 
 import os
@@ -212,9 +213,10 @@ class Run:
                 self.say(edit, report)
             else:
                 left.append(edit)
-        # If no function could be checked, one of the edits may be why.
+        # A function whose callee isn't proved may have no report, so the others are tried without those that were refused.
+        # If none was, one of the edits may be why.
         middle = len(left) // 2
-        return [[edit] for edit in left] if len(left) < len(edits) else [left[:middle], left[middle:]]
+        return [left[:middle], left[middle:]] if len(left) == len(edits) else [left] * bool(left)
 
     def judge_alone(self, edit, checked):
         try:

@@ -181,6 +181,12 @@ class Planted(unittest.TestCase):
         lines, _ = self.ran(other)
         self.assertEqual((lines[-1], self.checks()), ("must-fail: 4 passed, 0 failed", 2))
 
+    def test_edits_without_a_report_are_tried_together_again(self):
+        # Both are hidden by an unproved callee.
+        hidden = [("let _", "nothing"), ("nothing()", "nothing")]
+        lines, _ = self.ran([(word, line) for word, line in REPORTS if word not in dict(hidden)] + hidden)
+        self.assertEqual((lines[-1], self.checks()), ("must-fail: 4 passed, 0 failed", 4))
+
     def test_what_a_proof_file_misses_is_said(self):
         gone = "./proofs/CellFrom/from/Answers.antt:3:5: error: record `C` has no field `x`"
         lines, status = self.ran([("nothing()", gone), *REPORTS[1:]])
