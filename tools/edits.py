@@ -27,16 +27,18 @@ class Function:
     owner: str
     name: str
 
-    def key(self):
-        """Returns what the proof files of the function are found by, which another function may share."""
-        return module_of(self.path), self.owner, self.name
-
     def has_proofs_in(self, folder):
-        """Returns whether a folder below proofs/ is of this function, by its module, type and name."""
+        """Returns whether a folder below proofs/ is of this function, by its module, name and type, which a trait may follow."""
         *modules, name = folder.split("/")
-        module, owner, own = self.key()
+        module = module_of(self.path)
         is_of_module = not module or modules[:1] == [module]
-        return name == own and is_of_module and (not owner or any(it.startswith(owner) for it in modules))
+        return name == self.name and is_of_module and (not self.owner or any(it.startswith(self.owner) for it in modules))
+
+    def may_share_proofs(self, other):
+        """Returns whether a folder below proofs/ may seem to be of both functions."""
+        modules = {module_of(self.path), module_of(other.path)}
+        owners = sorted([self.owner, other.owner])
+        return self.name == other.name and (len(modules) == 1 or "" in modules) and owners[1].startswith(owners[0])
 
 
 @dataclass(frozen=True)
@@ -168,8 +170,8 @@ def batches_of(folder, edits):
 
 
 def fits(folder, batch, edit):
-    """Returns whether a batch has no edit of the same function, and can be applied with this one."""
-    if any(other.function.key() == edit.function.key() for other in batch):
+    """Returns whether a batch has no edit whose reports may seem to be of this one, and can be applied with it."""
+    if any(other.function.may_share_proofs(edit.function) for other in batch):
         return False
     try:
         return bool(edited(folder, [*batch, edit]))

@@ -3,7 +3,8 @@
 
 An edit, crates/CRATE/must-fail/NAME.edit, puts a wrong body into a function, and the prover has to refuse it. `rt
 must-fail` checks the whole crate once for each edit. Here one check tries wrong bodies of many functions: what is proved
-of a function depends on the contracts of the others, and not on their bodies. So an edit is refused if the check reports
+of a function depends on the contracts of the others, and not on their bodies; functions in a cycle of calls have one
+proof, but each goal is at a line of its own function. So an edit is refused if the check reports
 
 - something unproved at a line of its own function, or
 - an error in the proof files of its own function.

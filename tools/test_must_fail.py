@@ -84,7 +84,7 @@ class Reading(unittest.TestCase):
     def test_a_function_is_found_around_a_line(self):
         self.assertEqual(self.at("    7"), FREE)
         self.assertEqual(self.at("ensures"), edits.Function("src/lib.rt", 7, 11, "Cell", "get"))
-        self.assertEqual(self.at("Cell(value)").key(), ("", "Cell", "from"))
+        self.assertEqual(self.at("Cell(value)"), edits.Function("src/lib.rt", 19, 21, "Cell", "from"))
         self.assertIsNone(self.at("const NINE"))
         self.assertIsNone(self.at("//! A crate"))
 
@@ -98,6 +98,16 @@ class Reading(unittest.TestCase):
             ("other/State/put", False),
         ]:
             self.assertEqual(deep.has_proofs_in(folder), is_own, folder)
+        for path, owner, name, may_share in [
+            ("src/state.rt", "State", "put", True),
+            ("src/state/more.rt", "StateLock", "put", True),
+            ("src/state.rt", "", "put", True),
+            ("src/lib.rt", "State", "put", True),
+            ("src/state.rt", "Other", "put", False),
+            ("src/other.rt", "State", "put", False),
+            ("src/state.rt", "State", "get", False),
+        ]:
+            self.assertEqual(deep.may_share_proofs(edits.Function(path, 5, 6, owner, name)), may_share, (path, owner, name))
         self.assertTrue(FREE.has_proofs_in("free"))
         self.assertFalse(FREE.has_proofs_in("free/more"))
 
