@@ -22,4 +22,4 @@ IsTarget specified (Err f) target = ((specified ≡ Err f) ⊎ (f ≡ Memory)) �
 
 -- A clone has the specification of its original.
 abbrev pub CloneKeeps : {A M : Type 0} → (A → A → Type 0) → (A → M) → Type 0
-CloneKeeps {A} is_clone meaning = (x y : A) → is_clone x y → meaning y ≡ meaning x
+CloneKeeps {A} is_clone value = (x y : A) → is_clone x y → value y ≡ value x

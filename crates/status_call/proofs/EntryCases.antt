@@ -15,8 +15,8 @@ use Rattle.status_base.specs.LinkCheck.{LinkCheck, accepted, empty_path, not_nor
 use Rattle.status_base.specs.CheckAnswers.{IsRefused}
 use Rattle.status_compare.specs.declared.error.Error.{Error}
 use Rattle.status_compare.specs.declared.error.Error.TheVariants as errors
-use Rattle.status_compare.specs.EntryMeaning.{if_modelled}
-use Rattle.status_compare.specs.Reading.{Meaning}
+use Rattle.status_compare.specs.EntryReadings.{if_modelled}
+use Rattle.status_compare.specs.Reading.{Readings}
 use Rattle.status_compare.specs.declared.reads.Reads.{Reads}
 use Rattle.status_compare.specs.Reads.{no_reads}
 use Rattle.status_call.specs.declared.index_as_worktree.lookup.Look.{Look}
@@ -27,14 +27,14 @@ use Rattle.status_call.specs.Decisions.{IsDecided}
 use Rattle.status_call.specs.EntryParts.{IsLook, found_presence, IsOfCase, IsCaseDecided}
 use Rattle.status_call.specs.Modelled.{all_modelled}
 use Rattle.status_call.specs.Query.{Query}
-use Rattle.status_call.specs.Status.{Found, cached_or, found_by, found_node, refused, present, Case, compared, answer, found, meaning, is_trusted, case_of_found, case_of_content}
+use Rattle.status_call.specs.Status.{Found, cached_or, found_by, found_node, refused, present, Case, compared, answer, found, readings, is_trusted, case_of_found, case_of_content}
 
 -- If all is modelled, each interface is.
 pub all_worktree : (a b c d : Bool) → IsTrue (all_modelled a b c d) → IsTrue a
 all_worktree true b c d t = refl
 all_worktree false b c d t = absurd (cc)
 
-pub all_specified : (a b c d : Bool) (m : Meaning) → IsTrue (all_modelled a b c d) → if_modelled a b m ≡ Some m
+pub all_specified : (a b c d : Bool) (m : Readings) → IsTrue (all_modelled a b c d) → if_modelled a b m ≡ Some m
 all_specified true true c d m t = refl
 all_specified true false c d m t = absurd (cc)
 all_specified false b c d m t = absurd (cc)
@@ -112,7 +112,7 @@ reported_counts None reported = absurd (cc)
 module _ {T U : Type 0} (q : Query T U) (e : IndexEntry) where
   -- The comparer is called, except for entries that are trusted and not racy.
   pub calls_comparer : (n : Metadata) (s : Stat) (x trusted racy : Bool) → (x || not trusted || racy) ≡ true
-      → case_of_content q e n s x trusted racy ≡ compared x trusted racy s (q.compared e n.len (meaning q e n))
+      → case_of_content q e n s x trusted racy ≡ compared x trusted racy s (q.compared e n.len (readings q e n))
   calls_comparer n s true trusted racy h = refl
   calls_comparer n s false false racy h = refl
   calls_comparer n s false true true h = refl
@@ -121,7 +121,7 @@ module _ {T U : Type 0} (q : Query T U) (e : IndexEntry) where
   -- The comparer's change decides.
   pub compared_of_case : (n : Metadata) (s : Stat) (x trusted racy compares : Bool) (change : Option T) (counted : Option Reads) (d : Decided T U)
       → trusted ≡ is_trusted q e s → racy ≡ is_racy q.stat_options q.timestamp s → compares ≡ (x || not trusted || racy) → compares ≡ true
-      → q.compared e n.len (meaning q e n) ≡ Ok change → IsOfCase e.path (compared x trusted racy s (Ok change)) false counted d
+      → q.compared e n.len (readings q e n) ≡ Ok change → IsOfCase e.path (compared x trusted racy s (Ok change)) false counted d
       → IsOfCase e.path (case_of_content q e n s x (is_trusted q e s) (is_racy q.stat_options q.timestamp s)) false counted d
   compared_of_case n s x trusted racy compares change counted d same_trusted same_racy by_test needed answers h =
       let P : Case T U → Type 0 = λ k. IsOfCase e.path k false counted d in

@@ -12,7 +12,7 @@ use Rattle.status_compare.specs.declared.reads.Reads.{Reads}
 use Rattle.status_call.specs.Counts.{is_looked_at, is_compared_case, reads_of, reads_of_case, reads_of_found, ModelsReads}
 use Rattle.status_call.specs.Laws.{ReadsNoBlob, IdReadsLaw, SizeReadsLaw}
 use Rattle.status_call.specs.Query.{Query}
-use Rattle.status_call.specs.Status.{Found, nothing, refused, directory, present, case_of, found, meaning}
+use Rattle.status_call.specs.Status.{Found, nothing, refused, directory, present, case_of, found, readings}
 
 abbrev IsWithoutBlob : Reads → Type 0
 IsWithoutBlob k = (k.objects ≡ 0) × (k.object_bytes ≡ 0)
@@ -36,7 +36,7 @@ sum_of_none f h (e ∷ es) = omega (arith, sum_by-cons f e es, h e, sum_of_none 
 
 module _ {T U : Type 0} (q : Query T U) where
   abbrev counted_at : IndexEntry → Metadata → Option Reads
-  counted_at e n = q.counted e n.len (meaning q e n) no_reads
+  counted_at e n = q.counted e n.len (readings q e n) no_reads
 
   abbrev IsCounted : Type 0
   IsCounted = (e : IndexEntry) (n : Metadata) → IsWithoutBlob (unwrap_or (counted_at e n) no_reads)
@@ -69,10 +69,10 @@ by_counts q h = no_blob q (λ e n. (h e n).1) (λ e n. (h e n).0)
 pub id_reads_law : {U : Type 0} (q : Query ObjectId U) → IdReadsLaw q
 id_reads_law q is =
     by_counts q (λ e n. subst (λ (o : Option Reads). IsModelledWithoutBlob o)
-    (sym (ap (λ f. f e n.len (meaning q e n) no_reads) is)) (refl, after_hash (meaning q e n).file))
+    (sym (ap (λ f. f e n.len (readings q e n) no_reads) is)) (refl, after_hash (readings q e n).file))
 
 pub size_reads_law : {U : Type 0} (q : Query (Unit {0}) U) → SizeReadsLaw q
 size_reads_law q is =
     by_counts q (λ e n. subst (λ (o : Option Reads). IsModelledWithoutBlob o)
-    (sym (ap (λ f. f e n.len (meaning q e n) no_reads) is))
-    (refl, by_sizes (size_decides e n.len) (counts_after_hash (meaning q e n).file no_reads) (after_hash (meaning q e n).file)))
+    (sym (ap (λ f. f e n.len (readings q e n) no_reads) is))
+    (refl, by_sizes (size_decides e n.len) (counts_after_hash (readings q e n).file no_reads) (after_hash (readings q e n).file)))

@@ -20,7 +20,7 @@ use Rattle.status_call.specs.Considered.{is_skipped, is_over, stages_from}
 use Rattle.status_call.specs.Query.{Query}
 use Rattle.status_call.specs.Records.{verdict, conflict_status}
 use Rattle.status_call.specs.Laws.{IdsLaw, SizesLaw}
-use Rattle.status_call.specs.Status.{answer, status_of, meaning, reads_link}
+use Rattle.status_call.specs.Status.{answer, status_of, readings, reads_link}
 use Rattle.status_call.specs.StatusTable.{Row, gone, refused, in_submodule, added, unstamped, retyped, unchanged, failed, modified, to_update, IsInRow}
 use Rattle.status_call.specs.StatusTheorem.{NeverSpawns}
 use Rattle.status_call.proofs.LawRows.{row_of}
@@ -108,15 +108,15 @@ no_size false (Err e) f h = f (ap (λ (x : Error). Err x) (same_fault {A = Optio
 
 module _ {T U : Type 0} (q : Query T U) (e : IndexEntry) (n : Metadata) where
   -- A comparison of an entry with its node never returns it.
-  no_hash : hash_answer e (meaning q e n).file ≡ Err SpawnThread → ⊥
+  no_hash : hash_answer e (readings q e n).file ≡ Err SpawnThread → ⊥
   no_hash =
-      no_change e.id (reading_id (id_kind e.id) (meaning q e n).file)
+      no_change e.id (reading_id (id_kind e.id) (readings q e n).file)
       (no_reading (id_kind e.id) (reads_link q.symlink e.mode n.kind) (λ c. q.conversion c e.path) n.len (q.opened e.path) (q.linked e.path))
 
 pub ids_law : {U : Type 0} (q : Query ObjectId U) → IdsLaw q
-ids_law q is e n h = no_hash q e n (sym (ap (λ f. f e n.len (meaning q e n)) is) ∙ h)
+ids_law q is e n h = no_hash q e n (sym (ap (λ f. f e n.len (readings q e n)) is) ∙ h)
 
 pub sizes_law : {U : Type 0} (q : Query (Unit {0}) U) → SizesLaw q
 sizes_law q is e n h =
-    no_size (size_decides e n.len) (hash_answer e (meaning q e n).file) (no_hash q e n)
-    (sym (ap (λ f. f e n.len (meaning q e n)) is) ∙ h)
+    no_size (size_decides e n.len) (hash_answer e (readings q e n).file) (no_hash q e n)
+    (sym (ap (λ f. f e n.len (readings q e n)) is) ∙ h)

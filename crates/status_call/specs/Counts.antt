@@ -15,7 +15,7 @@ use Rattle.status_call.specs.declared.index_as_worktree.types.Outcome.{Outcome}
 use Rattle.status_call.specs.Considered.{is_flagged, is_excluded, is_skipped, is_over}
 use Rattle.status_call.specs.Query.{Query}
 use Rattle.status_call.specs.Records.{verdict}
-use Rattle.status_call.specs.Status.{Case, compared, case_of, Found, present, found, meaning}
+use Rattle.status_call.specs.Status.{Case, compared, case_of, Found, present, found, readings}
 
 -- The counts of no entries.
 abbrev pub no_counts : Counts
@@ -90,7 +90,7 @@ module _ {T U : Type 0} (q : Query T U) where
   calls_lstat e = is_accepted (link_check q.lstat e.path) && not (is_some (q.cached e.path))
 
   abbrev pub reads_of_found : IndexEntry → Found → Reads
-  reads_of_found e (present n) = unwrap_or (q.counted e n.len (meaning q e n) no_reads) no_reads
+  reads_of_found e (present n) = unwrap_or (q.counted e n.len (readings q e n) no_reads) no_reads
   reads_of_found e _ = no_reads
 
   -- The comparer's reads of an entry, if it is called and its reads are modelled.
@@ -105,7 +105,7 @@ module _ {T U : Type 0} (q : Query T U) where
   -- The comparer's reads are modelled.
   abbrev pub ModelsReads : Type 0
   ModelsReads = (e : IndexEntry) (n : Metadata)
-      → IsTrue (is_some (q.counted e n.len (meaning q e n) no_reads))
+      → IsTrue (is_some (q.counted e n.len (readings q e n) no_reads))
 
 -- The counts of a part of the considered entries, `es` being all of them.
 abbrev pub counts_in : {T U : Type 0} → Query T U → List IndexEntry → List IndexEntry → Counts

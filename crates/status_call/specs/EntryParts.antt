@@ -18,7 +18,7 @@ use Rattle.status_call.specs.declared.index_as_worktree.content.Comparison.{Comp
 use Rattle.status_base.specs.LinkCheck.{link_check}
 use Rattle.status_call.specs.Counts.{is_accepted, is_racy_case, is_compared_case}
 use Rattle.status_call.specs.Query.{Query}
-use Rattle.status_call.specs.Status.{Found, nothing, refused, directory, present, Case, compared, answer, found_by, cached_or, case_of_found, case_of_content, is_trusted, meaning}
+use Rattle.status_call.specs.Status.{Found, nothing, refused, directory, present, Case, compared, answer, found_by, cached_or, case_of_found, case_of_content, is_trusted, readings}
 
 -- The node at a path, from a look-up's result.
 abbrev pub found_presence : AtPath → Found
@@ -71,7 +71,7 @@ IsLooked q path result = IsTrue q.modelled → IsLookAt q.lstat (q.cached path) 
 module _ {T U : Type 0} (q : Query T U) (e : IndexEntry) (n : Metadata) where
   -- The comparer's reads of an entry and its node.
   abbrev pub counted_of : Option Reads
-  counted_of = q.counted e n.len (meaning q e n) no_reads
+  counted_of = q.counted e n.len (readings q e n) no_reads
 
   -- The decision of an entry whose path has this node. It calls `lstat` no more.
   abbrev pub IsNodeDecided : Result (Decided T U) Error → Type 0
@@ -90,4 +90,4 @@ module _ {T U : Type 0} (q : Query T U) (e : IndexEntry) (n : Metadata) where
   -- The comparison of an entry's content with its node's.
   abbrev pub IsContentCompared : Result (Comparison T) Error → Type 0
   IsContentCompared result =
-      IsTrue q.modelled → IsComparison (q.compared e n.len (meaning q e n)) counted_of result
+      IsTrue q.modelled → IsComparison (q.compared e n.len (readings q e n)) counted_of result

@@ -10,7 +10,7 @@ use Rattle.status_index.specs.declared.stat.Options.{Options}
 use Rattle.status_base.specs.Conversions.{Conversion}
 use Rattle.status_base.specs.declared.worktree.objects.FindError.{FindError}
 use Rattle.status_compare.specs.declared.error.Error.{Error}
-use Rattle.status_compare.specs.Reading.{Meaning}
+use Rattle.status_compare.specs.Reading.{Readings}
 use Rattle.status_compare.specs.declared.reads.Reads.{Reads}
 
 -- `T` is the type of a comparer's report of a change, `U` of a submodule's.
@@ -37,5 +37,5 @@ pub record Query (T U : Type 0) : Type 0 where
   pub blob : ObjectId → Result (List ℕ) FindError
   pub submodule : IndexEntry → Result (Option U) (List ℕ)
   -- The comparer: its result, and its reads.
-  pub compared : IndexEntry → ℕ → Meaning → Result (Option T) Error
-  pub counted : IndexEntry → ℕ → Meaning → Reads → Option Reads
+  pub compared : IndexEntry → ℕ → Readings → Result (Option T) Error
+  pub counted : IndexEntry → ℕ → Readings → Reads → Option Reads

@@ -22,7 +22,7 @@ use Rattle.status_base.specs.LinkCheck.{LinkCheck, accepted, empty_path, not_nor
 use Rattle.status_compare.specs.declared.error.Error.{Error}
 use Rattle.status_compare.specs.declared.error.Error.TheVariants as errors
 use Rattle.status_compare.specs.Errors.{error_of}
-use Rattle.status_compare.specs.Reading.{Reading, Meaning, node_reading, blob_reading}
+use Rattle.status_compare.specs.Reading.{Reading, Readings, node_reading, blob_reading}
 use Rattle.status_call.specs.declared.index_as_worktree.types.Change.{Change}
 use Rattle.status_call.specs.declared.index_as_worktree.types.Change.TheVariants as changes
 use Rattle.status_call.specs.declared.index_as_worktree.types.EntryStatus.{EntryStatus}
@@ -141,14 +141,14 @@ module _ {T U : Type 0} (q : Query T U) where
       node_reading (reads_link q.symlink e.mode n.kind) (λ content. q.conversion content e.path)
       n.len (q.opened e.path) (q.linked e.path)
 
-  abbrev pub meaning : IndexEntry → Metadata → Meaning
-  meaning e n = record { file = reading e n; blob = blob_reading (q.blob e.id) }
+  abbrev pub readings : IndexEntry → Metadata → Readings
+  readings e n = record { file = reading e n; blob = blob_reading (q.blob e.id) }
 
   -- The case by whether the executable bit changed, the entry is trusted, and its stat is racy.
   abbrev pub case_of_content : IndexEntry → Metadata → Stat → Bool → Bool → Bool → Case T U
   case_of_content e n s false true false = unchanged
   case_of_content e n s x trusted racy =
-      compared x trusted racy s (q.compared e n.len (meaning e n))
+      compared x trusted racy s (q.compared e n.len (readings e n))
 
   abbrev pub case_of_change : IndexEntry → Metadata → Stat → Option ModeChange → Case T U
   case_of_change e n s (Some (TypeChange mode)) = retyped mode

@@ -22,7 +22,7 @@ use Rattle.status_call.specs.declared.index_as_worktree.types.Change.TheVariants
 use Rattle.status_call.specs.declared.index_as_worktree.types.EntryStatus.TheVariants as statuses
 use Rattle.status_call.specs.Considered.{has_flag}
 use Rattle.status_call.specs.Query.{Query}
-use Rattle.status_call.specs.Status.{cached_or, changed, is_trusted, meaning, status_of}
+use Rattle.status_call.specs.Status.{cached_or, changed, is_trusted, readings, status_of}
 
 -- The rows of the table.
 pub data Row : Type 0 where
@@ -138,7 +138,7 @@ module _ {T U : Type 0} (q : Query T U) (e : IndexEntry) where
 
   -- The comparer's result.
   abbrev pub comparison : Metadata → Result (Option T) Error
-  comparison n = q.compared e n.len (meaning q e n)
+  comparison n = q.compared e n.len (readings q e n)
 
   -- A change of executability or of content.
   abbrev pub HasChange : Bool → Option T → Type 0

@@ -15,7 +15,7 @@ use Rattle.status_call.specs.Counts.{IsOutcome}
 use Rattle.status_call.specs.Outcomes.{skipped_of}
 use Rattle.status_call.specs.Query.{Query}
 use Rattle.status_call.specs.Records.{records_of, records_in, faults_in, first_fault, verdict}
-use Rattle.status_call.specs.Status.{meaning}
+use Rattle.status_call.specs.Status.{readings}
 use Rattle.status_call.specs.Visits.{Visit, finding_of, IsFaithful}
 
 -- A list is a beginning of another.
@@ -25,7 +25,7 @@ IsBeginning {A} front all = (rest : List A) × (front ++ rest ≡ all)
 -- The comparer never returns that a thread was refused.
 abbrev pub NeverSpawns : {T U : Type 0} → Query T U → Type 0
 NeverSpawns q = (e : IndexEntry) (n : Metadata)
-    → q.compared e n.len (meaning q e n) ≢ Err SpawnThread
+    → q.compared e n.len (readings q e n) ≢ Err SpawnThread
 
 module _ {T U : Type 0} (q : Query T U) (index : State) where
   -- The considered entries, and the position of the first of them.

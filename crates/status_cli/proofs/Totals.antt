@@ -15,8 +15,8 @@ use Rattle.status_joined.specs.JoinedTheorem.{IsJoinedStatus}
 use Rattle.status_joined.specs.Walkings.{Walking}
 use Rattle.status_cli.specs.Statuses.{joined_answered}
 
-module _ {T U : Type 0} (query : Query T U) (options : Options) (index : State) (interruptible : Bool) (walking : Option Walking) (ids : Identifying) (means : List Changed → Bool → Result (List Pair) TrackerFault → Type 0) (may_fail : Bool) (old new : List (Reported T U)) where
+module _ {T U : Type 0} (query : Query T U) (options : Options) (index : State) (interruptible : Bool) (walking : Option Walking) (ids : Identifying) (tracks : List Changed → Bool → Result (List Pair) TrackerFault → Type 0) (may_fail : Bool) (old new : List (Reported T U)) where
   -- their skips have a sum
-  pub skips_fit : (r : Result Outcome Error) → IsJoinedStatus query options index interruptible walking ids means may_fail old r new → IfOk (joined_answered r) (λ o. skipped_of o < 2 ^ 64)
+  pub skips_fit : (r : Result Outcome Error) → IsJoinedStatus query options index interruptible walking ids tracks may_fail old r new → IfOk (joined_answered r) (λ o. skipped_of o < 2 ^ 64)
   skips_fit (Ok o) met = met.complete.has.tracked.fits
   skips_fit (Err e) met = tt

@@ -127,29 +127,29 @@ IsPrintedOver w walked hash options index wanted old result new =
     (IsErrAnd result (λ f. f ≡ Memory) × (new ≡ old))
     ⊎ IsStatusOver w options index prefix (begins_with prefix) (walked prefix (begins_with prefix)) hash wanted old result new
 
--- the same of a profile's status, by the meanings of its worktree and of its walk
+-- the same of a profile's status, by the results of its worktree and the specification of its walk
 abbrev pub walked_by : {W K : Type 0} → (K → W → List IndexEntry → List ℕ → (List ℕ → Bool → Bool) → Walking) → ProfileStatus W K → List ℕ → (List ℕ → Bool → Bool) → Walking
-walked_by meaning s prefix included = meaning s.walk s.worktree.now (index_of s.index.now) prefix included
+walked_by walking s prefix included = walking s.walk s.worktree.now (index_of s.index.now) prefix included
 
 abbrev pub IsPlainShown : {W K : Type 0} → (W → WorktreeResults) → ProfileStatus W K → List ℕ → (List ℕ → Bool → Bool) → Option (List ℕ) → Result (List ApplyChange) Failure → Option (List ℕ) → Type 0
 IsPlainShown results s prefix included old result new = IsPlainOver (results s.worktree.now) s.options s.index.now prefix included s.changes old result new
 
 abbrev pub IsJoinedShown : {W K A : Type 0} → (W → WorktreeResults) → (K → W → List IndexEntry → List ℕ → (List ℕ → Bool → Bool) → Walking) → ProfileStatus W K → List ℕ → (List ℕ → Bool → Bool) → Option (List ℕ) → Result A Failure → Option (List ℕ) → Type 0
-IsJoinedShown results meaning s prefix included old result new =
-    IsJoinedOver (results s.worktree.now) s.options s.index.now prefix included (walked_by meaning s prefix included) s.hash old result new
+IsJoinedShown results walking s prefix included old result new =
+    IsJoinedOver (results s.worktree.now) s.options s.index.now prefix included (walked_by walking s prefix included) s.hash old result new
 
 abbrev pub IsStatusShown : {W K : Type 0} → (W → WorktreeResults) → (K → W → List IndexEntry → List ℕ → (List ℕ → Bool → Bool) → Walking) → ProfileStatus W K → List ℕ → (List ℕ → Bool → Bool) → Option (List ℕ) → Result (List ApplyChange) Failure → Option (List ℕ) → Type 0
-IsStatusShown results meaning s prefix included old result new =
-    IsStatusOver (results s.worktree.now) s.options s.index.now prefix included (walked_by meaning s prefix included) s.hash s.changes old result new
+IsStatusShown results walking s prefix included old result new =
+    IsStatusOver (results s.worktree.now) s.options s.index.now prefix included (walked_by walking s prefix included) s.hash s.changes old result new
 
 abbrev pub IsProfileShown : {W K : Type 0} → (W → WorktreeResults) → (K → W → List IndexEntry → List ℕ → (List ℕ → Bool → Bool) → Walking) → ProfileStatus W K → Option (List ℕ) → Result (List ApplyChange) Failure → Option (List ℕ) → Type 0
-IsProfileShown results meaning s old result new = IsPrintedOver (results s.worktree.now) (walked_by meaning s) s.hash s.options s.index.now s.changes old result new
+IsProfileShown results walking s old result new = IsPrintedOver (results s.worktree.now) (walked_by walking s) s.hash s.options s.index.now s.changes old result new
 
--- the report of a joined status by a query to its collector, by the same meanings
+-- the report of a joined status by a query to its collector, by the same two
 abbrev pub IsJoinedReported : {W K T U : Type 0} → (Settings → Query T U) → (W → WorktreeResults) → (K → W → List IndexEntry → List ℕ → (List ℕ → Bool → Bool) → Walking) → ProfileStatus W K → List ℕ → (List ℕ → Bool → Bool)
     → Bool → List (Reported T U) → Result JoinedOutcome JoinedError → List (Reported T U) → Type 0
-IsJoinedReported query results meaning s prefix included may_fail old answer new =
-    IsJoinedAnswer (joined_inputs (query (settings s.options.status s.index.now)) (results s.worktree.now) (walked_by meaning s prefix included) s.hash) (option_values s.options) s.hash s.index.now may_fail old answer new
+IsJoinedReported query results walking s prefix included may_fail old answer new =
+    IsJoinedAnswer (joined_inputs (query (settings s.options.status s.index.now)) (results s.worktree.now) (walked_by walking s prefix included) s.hash) (option_values s.options) s.hash s.index.now may_fail old answer new
 
 -- the results of a tree of nodes, which are specified
 abbrev pub tree_results : Tree → WorktreeResults

@@ -173,7 +173,7 @@ fn print_prefixed<
 where
     W::File: Send,
     ensures inside { IfOk result (λ changes. AreInside changes.items (index_of status.entry.index.now)) }
-    ensures printed { IsProfileShown (results_of W.modelled W.lstat_of W.open_of W.target_of) K.meaning status.entry
+    ensures printed { IsProfileShown (results_of W.modelled W.lstat_of W.open_of W.target_of) K.walking status.entry
         (O.contents output.old) (result_map vec_items result) (O.contents output.new) }
 {
     let prefix = status.options.prefix.as_bstr();
@@ -201,7 +201,7 @@ fn print_paths<
 where
     W::File: Send,
     ensures inside { IfOk result (λ changes. AreInside changes.items (index_of status.entry.index.now)) }
-    ensures printed { IsStatusShown (results_of W.modelled W.lstat_of W.open_of W.target_of) K.meaning status.entry (P.prefix pathspec) (P.included pathspec)
+    ensures printed { IsStatusShown (results_of W.modelled W.lstat_of W.open_of W.target_of) K.walking status.entry (P.prefix pathspec) (P.included pathspec)
         (O.contents output.old) (result_map vec_items result) (O.contents output.new) }
 {
     if status.options.is_joined() {

@@ -1,6 +1,6 @@
 pub mod Blobs
 pub mod Comparers
-pub mod EntryMeaning
+pub mod EntryReadings
 pub mod Errors
 pub mod FastAgrees
 pub mod FaultKinds

@@ -20,7 +20,7 @@ pub data Reading : Type 0 where
   target : List ℕ → Reading
 
 -- The reading of the file, and the result of reading the entry's blob.
-pub record Meaning : Type 0 where
+pub record Readings : Type 0 where
   pub file : Reading
   pub blob : Result (List ℕ) Error
 

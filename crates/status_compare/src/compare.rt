@@ -3,7 +3,7 @@
 ghost use Rattle.std.specs.Prelude.{◌≡◌, ℕ, List, Option, None, Result, IfSome, OnOk};
 ghost use Rattle.status_index.specs.Entries.{IndexEntry, entry_at};
 ghost use Rattle.status_compare.specs.declared.error.Error.{Error as StatusError};
-ghost use Rattle.status_compare.specs.Reading.{Meaning, IsSpecified};
+ghost use Rattle.status_compare.specs.Reading.{Readings, IsSpecified};
 ghost use Rattle.status_compare.specs.Reads.{HasRead};
 ghost use Rattle.status_compare.specs.declared.reads.Reads.{Reads};
 ghost use Rattle.status_base.specs.Lawful.{CloneKeeps};
@@ -19,10 +19,10 @@ pub trait CompareBlobs: Clone {
     type Output: Drop;
 
     /// The specified result, by the index entry, the file's length, and the file and blob that can be read.
-    ghost answer: { Self → IndexEntry → ℕ → Meaning → Result (Option Self.Output) StatusError };
+    ghost answer: { Self → IndexEntry → ℕ → Readings → Result (Option Self.Output) StatusError };
 
     /// The counts of reads after a successful comparison, by those before it. `None` if the reads aren't modelled.
-    ghost counts_after: { Self → IndexEntry → ℕ → Meaning → Reads → Option Reads } = { λ _ _ _ _ _. None };
+    ghost counts_after: { Self → IndexEntry → ℕ → Readings → Reads → Option Reads } = { λ _ _ _ _ _. None };
 
     /// Compares the file with the blob of `entry`, and returns `None` if they are equal. `size` is the file's length by
     /// `lstat`, `data` reads file and blob, and `buffer` may be used for either.
@@ -37,10 +37,10 @@ pub trait CompareBlobs: Clone {
         data: &mut R,
         buffer: &mut Vec<u8>,
     ) -> Result<Option<Self::Output>, Error>
-        ensures answer { (path : List ℕ) → IfSome (R.means «data».old) (λ m. IsSpecified (answer self.old (entry_at path entry.now) size m) result) }
+        ensures answer { (path : List ℕ) → IfSome (R.readings «data».old) (λ m. IsSpecified (answer self.old (entry_at path entry.now) size m) result) }
         ensures same_answer { answer self.new ≡ answer self.old }
         ensures same_counts { counts_after self.new ≡ counts_after self.old }
-        ensures counts { (path : List ℕ) → OnOk result (IfSome (R.means «data».old) (λ m.
+        ensures counts { (path : List ℕ) → OnOk result (IfSome (R.readings «data».old) (λ m.
             HasRead (counts_after self.old (entry_at path entry.now) size m (R.counts «data».old)) (R.counts «data».new))) };
 
     /// A clone returns the same results.

@@ -2,7 +2,7 @@
 
 ghost use Rattle.std.specs.Prelude.{◌≡◌, ◌∷◌, IsTrue, Some, None, length, if◌then◌else◌, OnOk, OnErr};
 ghost use Rattle.bstr.specs.BStr.{bstr_bytes};
-ghost use Rattle.status_compare.specs.EntryMeaning.{entry_meaning, if_modelled};
+ghost use Rattle.status_compare.specs.EntryReadings.{entry_readings, if_modelled};
 ghost use Rattle.status_compare.specs.Reads.{no_reads, with_file};
 ghost use Rattle.status_compare.specs.Reading.{IsReading, target_reading, file_at, counts_at_stream};
 
@@ -112,8 +112,8 @@ impl<'w, 'r, W: Worktree, T: ToGit, O: Find> EntryReader<'w, 'r, W, T, O> {
 impl<'w, 'r, W: Worktree, T: ToGit, O: Find> ReadData for EntryReader<'w, 'r, W, T, O> {
     type File = W::File;
 
-    ghost means = { λ r. if_modelled (W.modelled r.worktree.now) (O.modelled r.objects.now)
-        (entry_meaning r.is_link (λ c. T.conversion r.filter.now c (bstr_bytes r.path)) r.len
+    ghost readings = { λ r. if_modelled (W.modelled r.worktree.now) (O.modelled r.objects.now)
+        (entry_readings r.is_link (λ c. T.conversion r.filter.now c (bstr_bytes r.path)) r.len
         (W.open_of r.worktree.now (bstr_bytes r.path))
         (W.target_of r.worktree.now (bstr_bytes r.path))
         (O.found r.objects.now r.id)) };

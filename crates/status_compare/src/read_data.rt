@@ -1,7 +1,7 @@
 //! The file and the blob that a comparer may read.
 
 ghost use Rattle.std.specs.Prelude.{◌≡◌, Option, IfSome, IfOk, OnOk, OnErr, length};
-ghost use Rattle.status_compare.specs.Reading.{Meaning, IsReading, counts_at_stream};
+ghost use Rattle.status_compare.specs.Reading.{Readings, IsReading, counts_at_stream};
 ghost use Rattle.status_compare.specs.Reads.{with_bytes, with_object};
 ghost use Rattle.status_compare.specs.declared.reads.Reads.{Reads};
 ghost use Rattle.status_compare.specs.Blobs.{IsBlob};
@@ -17,7 +17,7 @@ pub trait ReadData {
     type File: ReadBytes;
 
     /// The file and the blob that can be read. `None` for a reader that isn't modelled.
-    ghost means: { Self → Option Meaning };
+    ghost readings: { Self → Option Readings };
 
     /// The counts of reads so far.
     ghost counts: { Self → Reads };
@@ -27,8 +27,8 @@ pub trait ReadData {
     /// # Errors
     /// `Find` if there is no such blob, or out of memory. An error counts nothing.
     fn read_blob<'a>(&mut self, buffer: &'a mut Vec<u8>) -> Result<&'a [u8], Error>
-        ensures blob { IfSome (means self.old) (λ m. IsBlob m.blob result) }
-        ensures same_meaning { means self.new ≡ means self.old }
+        ensures blob { IfSome (readings self.old) (λ m. IsBlob m.blob result) }
+        ensures same_readings { readings self.new ≡ readings self.old }
         ensures counts { IfOk result (λ b. counts self.new ≡ with_object (counts self.old) (length b.now)) }
         ensures uncounted { OnErr result (counts self.new ≡ counts self.old) };
 
@@ -41,13 +41,13 @@ pub trait ReadData {
         &mut self,
         buffer: &'a mut Vec<u8>,
     ) -> Result<Stream<'a, Self::File>, Error>
-        ensures stream { IfSome (means self.old) (λ m. IsReading Self.File.left m.file result) }
-        ensures same_meaning { means self.new ≡ means self.old }
-        ensures counts { OnOk result (IfSome (means self.old) (λ m. counts self.new ≡ counts_at_stream m.file (counts self.old))) }
+        ensures stream { IfSome (readings self.old) (λ m. IsReading Self.File.left m.file result) }
+        ensures same_readings { readings self.new ≡ readings self.old }
+        ensures counts { OnOk result (IfSome (readings self.old) (λ m. counts self.new ≡ counts_at_stream m.file (counts self.old))) }
         ensures uncounted { OnErr result (counts self.new ≡ counts self.old) };
 
     /// Adds the bytes that a stream counted.
     fn counted(&mut self, bytes: u64)
-        ensures same_meaning { means self.new ≡ means self.old }
+        ensures same_readings { readings self.new ≡ readings self.old }
         ensures counts { counts self.new ≡ with_bytes (counts self.old) bytes };
 }

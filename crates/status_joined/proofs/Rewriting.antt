@@ -38,36 +38,36 @@ count_others ps n h =
     let renames = length-filter (λ (p : Pair). not p.copy) ps in
     omega (arith, h, all, copies, renames)
 
-module _ {T U : Type 0} (ids : Identifying) (kind : HashKind) (means : List Changed → Bool → Result (List Pair) TrackerFault → Type 0) (track_empty : Bool) (list : List (Item T U)) where
+module _ {T U : Type 0} (ids : Identifying) (kind : HashKind) (tracks : List Changed → Bool → Result (List Pair) TrackerFault → Type 0) (track_empty : Bool) (list : List (Item T U)) where
   -- A node has no id.
-  pub id_fault : (e : IdError) → (IsTrue ids.modelled → (slice_get (id_faults ids.ids list) 0 ≡ Some e) ⊎ (fault_of e ≡ Memory)) → IsRewritingFault ids kind means track_empty list (error_of_id e)
+  pub id_fault : (e : IdError) → (IsTrue ids.modelled → (slice_get (id_faults ids.ids list) 0 ≡ Some e) ⊎ (fault_of e ≡ Memory)) → IsRewritingFault ids kind tracks track_empty list (error_of_id e)
   id_fault e h = search (rules, h)
 
-  module _ (xs slice : List (ModificationOrDirwalkEntry T U)) (same : slice ≡ xs) (identified : HaveTheirIds ids kind means list (map item_of xs)) where
+  module _ (xs slice : List (ModificationOrDirwalkEntry T U)) (same : slice ≡ xs) (identified : HaveTheirIds ids kind tracks list (map item_of xs)) where
     -- The changes that a tracker gets for the list's items.
     seen : map (λ (x : ModificationOrDirwalkEntry T U). changed_of (item_of x)) slice ≡ map changed_of (map item_of xs)
     seen = ap (map (λ (x : ModificationOrDirwalkEntry T U). changed_of (item_of x))) same ∙ sym (map-map changed_of item_of xs)
 
     -- The tracker has no pairs.
-    tracker_fault_of : (e : TrackerError) → IsSpecifiedAnswer (means (map changed_of (map item_of xs)) track_empty) (Err e) → IsRewritingFault ids kind means track_empty list (error_of_tracker e)
+    tracker_fault_of : (e : TrackerError) → IsSpecifiedAnswer (tracks (map changed_of (map item_of xs)) track_empty) (Err e) → IsRewritingFault ids kind tracks track_empty list (error_of_tracker e)
     tracker_fault_of (trackers.BadPair at) reported = (map item_of xs, (identified, inl reported))
     tracker_fault_of (trackers.Refused code) reported = (map item_of xs, (identified, reported))
     tracker_fault_of trackers.Memory reported = tt
 
-    pub tracker_fault : (e : TrackerError) → IsSpecifiedAnswer (means (map (λ (x : ModificationOrDirwalkEntry T U). changed_of (item_of x)) slice) track_empty) (Err e) → IsRewritingFault ids kind means track_empty list (error_of_tracker e)
-    tracker_fault e reported = tracker_fault_of e (subst (λ cs. IsSpecifiedAnswer (means cs track_empty) (Err e)) seen reported)
+    pub tracker_fault : (e : TrackerError) → IsSpecifiedAnswer (tracks (map (λ (x : ModificationOrDirwalkEntry T U). changed_of (item_of x)) slice) track_empty) (Err e) → IsRewritingFault ids kind tracks track_empty list (error_of_tracker e)
+    tracker_fault e reported = tracker_fault_of e (subst (λ cs. IsSpecifiedAnswer (tracks cs track_empty) (Err e)) seen reported)
 
-    module _ (ps : List Pair) (reported : means (map (λ (x : ModificationOrDirwalkEntry T U). changed_of (item_of x)) slice) track_empty (Ok ps)) (is_made_of : ModificationOrDirwalkEntry T U → ModificationOrDirwalkEntry T U → Type 0) where
-      specified : means (map changed_of (map item_of xs)) track_empty (Ok ps)
-      specified = subst (λ cs. means cs track_empty (Ok ps)) seen reported
+    module _ (ps : List Pair) (reported : tracks (map (λ (x : ModificationOrDirwalkEntry T U). changed_of (item_of x)) slice) track_empty (Ok ps)) (is_made_of : ModificationOrDirwalkEntry T U → ModificationOrDirwalkEntry T U → Type 0) where
+      specified : tracks (map changed_of (map item_of xs)) track_empty (Ok ps)
+      specified = subst (λ cs. tracks cs track_empty (Ok ps)) seen reported
 
       -- The tracker's pairs break a rule.
-      refused_fault_of : (e : Refused) → IsAnswer (λ x. is_removed (item_of x)) (λ x. is_walked (item_of x)) is_made_of xs ps (Err e) → IsRewritingFault ids kind means track_empty list (error_of_refused e)
+      refused_fault_of : (e : Refused) → IsAnswer (λ x. is_removed (item_of x)) (λ x. is_walked (item_of x)) is_made_of xs ps (Err e) → IsRewritingFault ids kind tracks track_empty list (error_of_refused e)
       refused_fault_of (refusals.BadPair at) bad =
           (map item_of xs, (identified, inr (ps, (specified, bad_pair_mapped item_of (λ x. is_removed (item_of x)) (λ x. is_walked (item_of x)) is_removed is_walked (λ x. refl) (λ x. refl) xs ps at bad))))
       refused_fault_of refusals.Memory bad = tt
 
-      pub refused_fault : (given : List Pair) → given ≡ ps → (e : Refused) → IsAnswer (λ x. is_removed (item_of x)) (λ x. is_walked (item_of x)) is_made_of xs given (Err e) → IsRewritingFault ids kind means track_empty list (error_of_refused e)
+      pub refused_fault : (given : List Pair) → given ≡ ps → (e : Refused) → IsAnswer (λ x. is_removed (item_of x)) (λ x. is_walked (item_of x)) is_made_of xs given (Err e) → IsRewritingFault ids kind tracks track_empty list (error_of_refused e)
       refused_fault given are e bad =
           refused_fault_of e (subst (λ qs. IsAnswer (λ x. is_removed (item_of x)) (λ x. is_walked (item_of x)) is_made_of xs qs (Err e)) are bad)
 
@@ -83,7 +83,7 @@ module _ {T U : Type 0} (ids : Identifying) (kind : HashKind) (means : List Chan
             destinations_walked is_removed is_walked (λ (x y : Item T U). y ≡ x) (map item_of xs) ps (map (map_rewritten item_of) entries) answered.0 answered.1
 
         -- The list has its renames and copies.
-        pub rewriting : (counted : List Pair) → counted ≡ ps → (o : Outcome) → o.renames ≡ count_by (λ (p : Pair). not p.copy) counted → o.copies ≡ count_by (λ (p : Pair). p.copy) counted → IsRewriting ids kind means track_empty list (map (map_rewritten item_of) entries) o
+        pub rewriting : (counted : List Pair) → counted ≡ ps → (o : Outcome) → o.renames ≡ count_by (λ (p : Pair). not p.copy) counted → o.copies ≡ count_by (λ (p : Pair). p.copy) counted → IsRewriting ids kind tracks track_empty list (map (map_rewritten item_of) entries) o
         rewriting counted same_pairs o renames copies = record {
           items = map item_of xs;
           identified = identified;

@@ -3,7 +3,7 @@ use Rattle.std.specs.Prelude.{◌≡◌, Bool, List, false, [], map, IfSome, Res
 use Rattle.status_walk.specs.declared.walk.Outcome.{Outcome}
 use Rattle.status_walk.specs.declared.walk.WalkError.{WalkError}
 use Rattle.status_walk.specs.WalkedNodes.{Walked}
-use Rattle.status_walk.specs.Walks.{WalkMeaning, IsWalked, IsWalkFault}
+use Rattle.status_walk.specs.Walks.{WalkResult, IsWalked, IsWalkFault}
 use Rattle.status_joined.specs.declared.beside.Beside.{Beside}
 use Rattle.status_joined.specs.Keeping.{is_kept, kept_walked}
 use Rattle.status_joined.specs.Walkings.{Walking}
@@ -11,12 +11,12 @@ use Rattle.status_joined.specs.Walkings.{Walking}
 -- The status's records and the walk's kept nodes, or the walk's failure, or otherwise the status's. These are the kept nodes: of
 -- a walk to its end all its nodes that can be tracked and aren't, and of one that the flag ended, the first of these. A walk
 -- without a flag isn't ended early.
-pub record IsKeptOf (m : WalkMeaning) (interruptible : Bool) (kept : List Walked) (o : Outcome) : Type 0 where
+pub record IsKeptOf (m : WalkResult) (interruptible : Bool) (kept : List Walked) (o : Outcome) : Type 0 where
   pub walked : IsWalked m is_kept [] kept o.cancelled o
   pub uncut : interruptible ≡ false → o.cancelled ≡ false
 
 -- The walk ended so, or failed with the specified fault, or memory ran out.
-abbrev pub IsBeside : WalkMeaning → Bool → Result Beside WalkError → Type 0
+abbrev pub IsBeside : WalkResult → Bool → Result Beside WalkError → Type 0
 IsBeside m interruptible (Ok b) = IsKeptOf m interruptible (map kept_walked b.kept.items) b.outcome
 IsBeside m interruptible (Err e) = IsWalkFault m.fault e
 

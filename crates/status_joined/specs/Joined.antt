@@ -34,7 +34,7 @@ tracked_options o = record {
   chunk_size = o.tracked_file_modifications.chunk_size;
 }
 
-module _ {T U : Type 0} (ids : Identifying) (kind : HashKind) (means : List Changed → Bool → Result (List Pair) TrackerFault → Type 0) where
+module _ {T U : Type 0} (ids : Identifying) (kind : HashKind) (tracks : List Changed → Bool → Result (List Pair) TrackerFault → Type 0) where
   -- The list's items with the ids of their contents, and no other change.
   pub record HaveTheirIds (list items : List (Item T U)) : Type 0 where
     pub known : IsTrue ids.modelled → map (identified ids.ids) list ≡ map Ok items
@@ -46,7 +46,7 @@ module _ {T U : Type 0} (ids : Identifying) (kind : HashKind) (means : List Chan
     pub items : List (Item T U)
     pub identified : HaveTheirIds list items
     pub pairs : List Pair
-    pub specified : means (map changed_of items) track_empty (Ok pairs)
+    pub specified : tracks (map changed_of items) track_empty (Ok pairs)
     pub lawful : AreLawful is_removed is_walked items pairs
     pub rewritten : IsRewritten (λ x y. y ≡ x) items pairs entries
     pub renames : o.renames ≡ count_by (λ p. not p.copy) pairs
@@ -59,8 +59,8 @@ module _ {T U : Type 0} (ids : Identifying) (kind : HashKind) (means : List Chan
   -- The tracker itself refuses this pair; or it is the first of its pairs that breaks a rule.
   abbrev pub IsPairFault : Bool → List (Item T U) → ℕ → Type 0
   IsPairFault track_empty items at =
-      means (map changed_of items) track_empty (Err (bad_pair at))
-      ⊎ ((pairs : List Pair) × (means (map changed_of items) track_empty (Ok pairs) × IsBadPair is_removed is_walked items pairs at))
+      tracks (map changed_of items) track_empty (Err (bad_pair at))
+      ⊎ ((pairs : List Pair) × (tracks (map changed_of items) track_empty (Ok pairs) × IsBadPair is_removed is_walked items pairs at))
 
   -- Why a list has no renames and copies. Out of memory is always the error `Memory`.
   abbrev pub IsRewritingFault : Bool → List (Item T U) → Error → Type 0
@@ -75,7 +75,7 @@ module _ {T U : Type 0} (ids : Identifying) (kind : HashKind) (means : List Chan
   IsRewritingFault track_empty list (errors.RewriteTracker (tracker_errors.BadPair at)) =
       (items : List (Item T U)) × (HaveTheirIds list items × IsPairFault track_empty items at)
   IsRewritingFault track_empty list (errors.RewriteTracker (tracker_errors.Refused code)) =
-      (items : List (Item T U)) × (HaveTheirIds list items × means (map changed_of items) track_empty (Err (refused code)))
+      (items : List (Item T U)) × (HaveTheirIds list items × tracks (map changed_of items) track_empty (Err (refused code)))
   IsRewritingFault track_empty list errors.Memory = ⊤
   IsRewritingFault track_empty list _ = ⊥
 

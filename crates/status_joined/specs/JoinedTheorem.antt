@@ -27,12 +27,12 @@ use Rattle.status_joined.specs.Joined.{IsListFault, IsReportedOf, tracked_option
 use Rattle.status_joined.specs.Listing.{HasList, IsHalfFault}
 use Rattle.status_joined.specs.Summaries.{reported_cmp}
 
-module _ {T U : Type 0} (query : Query T U) (options : Options) (index : State) (interruptible : Bool) (walking : Option Walking) (ids : Identifying) (means : List Changed → Bool → Result (List Pair) TrackerFault → Type 0) where
+module _ {T U : Type 0} (query : Query T U) (options : Options) (index : State) (interruptible : Bool) (walking : Option Walking) (ids : Identifying) (tracks : List Changed → Bool → Result (List Pair) TrackerFault → Type 0) where
   -- All reports, with the outcomes of both halves and of the renames and copies.
   pub record IsWhole (reported : List (Reported T U)) (o : Outcome) : Type 0 where
     pub list : List (Item T U)
     pub has : HasList query options index interruptible walking list o.tracked_file_modification o.dirwalk
-    pub is_reported : IsReportedOf ids options.object_hash means options.rewrites list reported o.rewrites
+    pub is_reported : IsReportedOf ids options.object_hash tracks options.rewrites list reported o.rewrites
     -- With sorting: by each report's path, and at equal paths records before nodes.
     pub order : IsTrue (is_some options.sorting) → IsSorted reported_cmp reported
 
@@ -42,7 +42,7 @@ module _ {T U : Type 0} (query : Query T U) (options : Options) (index : State) 
     pub walked : Option WalkOutcome
     pub list : List (Item T U)
     pub has : HasList query options index interruptible walking list tracked walked
-    pub fault : IsListFault ids options.object_hash means options.rewrites list e
+    pub fault : IsListFault ids options.object_hash tracks options.rewrites list e
 
   -- The fault of a half; or, if both succeeded, of their list; or memory ran out.
   abbrev pub IsFault : Error → Type 0

@@ -2,12 +2,12 @@
 use Rattle.std.specs.Prelude.{◌≡◌, Bool, true, false, List, Option, Some, None, option_map}
 use Rattle.std.specs.Borrow.{Bor}
 use Rattle.status_index.specs.Entries.{IndexEntry}
-use Rattle.status_walk.specs.Walks.{WalkMeaning}
+use Rattle.status_walk.specs.Walks.{WalkResult}
 use Rattle.status_joined.specs.declared.walker.Walker.{Walker}
 
 -- The walk's nodes and fault, if it is modelled.
 abbrev pub Walking : Type 0
-Walking = Option WalkMeaning
+Walking = Option WalkResult
 
 abbrev pub walker_of : {W K P : Type 0} → Bor W → K → P → Walker W K P
 walker_of worktree walk pathspec = record { worktree = worktree; walk = walk; pathspec = pathspec }

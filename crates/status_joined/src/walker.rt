@@ -38,7 +38,7 @@ pub struct Walker<'w, W, K, P> {
 }
 
 impl<'w, W: Worktree, K: Walk<W>, P: Pathspec> FindBeside for Walker<'w, W, K, P> {
-    ghost walking = { λ w entries. K.meaning w.walk w.worktree.now entries (P.prefix w.pathspec) (P.included w.pathspec) };
+    ghost walking = { λ w entries. K.walking w.walk w.worktree.now entries (P.prefix w.pathspec) (P.included w.pathspec) };
 
     fn find<D: Delegate>(&mut self, index: &State, delegate: &mut D) -> Result<Outcome, WalkError> {
         self.walk

@@ -94,7 +94,7 @@ pub struct RowWalk<'a> {
 }
 
 impl<'a, W: Worktree> Walk<W> for RowWalk<'a> {
-    ghost meaning = { λ _ _ _ _ _. None };
+    ghost walking = { λ _ _ _ _ _. None };
 
     fn walk<P: Pathspec, D: Delegate>(
         &mut self,
@@ -167,7 +167,7 @@ fn are_seen<C: Change>(items: &[C], wanted: &[Seen]) -> bool {
 }
 
 impl<'a> Tracker for RowTracker<'a> {
-    ghost means = { λ _ _ _ _. ⊤ };
+    ghost tracks = { λ _ _ _ _. ⊤ };
 
     fn pairs<C: Change>(
         &mut self,
@@ -204,11 +204,11 @@ impl SubmoduleStatus for RowSubmodules {
 
     ghost modelled = { λ _. true };
 
-    ghost meaning = { λ s _. Ok s.change };
+    ghost status_of = { λ s _. Ok s.change };
 
     ghost clone_keeps_modelled = { λ _ _ _. refl };
 
-    ghost clone_keeps_meaning = { λ _ _ same. ap (λ s _. Ok s.change) same };
+    ghost clone_keeps_status = { λ _ _ same. ap (λ s _. Ok s.change) same };
 
     fn status(
         &mut self,

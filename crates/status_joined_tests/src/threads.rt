@@ -137,7 +137,7 @@ const D: Found<'static> = Found {
 };
 
 impl<'a, W: Worktree> Walk<W> for SetsFlag<'a> {
-    ghost meaning = { λ _ _ _ _ _. None };
+    ghost walking = { λ _ _ _ _ _. None };
 
     fn walk<P: Pathspec, E: Delegate>(
         &mut self,

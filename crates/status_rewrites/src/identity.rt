@@ -64,7 +64,7 @@ fn identity_pairs<C: Change>(
 }
 
 impl Tracker for IdentityTracker {
-    ghost means = { λ _ xs track_empty answer. IsIdentityAnswer xs track_empty answer };
+    ghost tracks = { λ _ xs track_empty answer. IsIdentityAnswer xs track_empty answer };
 
     fn pairs<C: Change>(
         &mut self,

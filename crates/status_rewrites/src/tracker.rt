@@ -64,7 +64,7 @@ impl<T: Drop> From<AllocFailed<T>> for TrackerError {
 /// Finds renames and copies among changes.
 pub trait Tracker {
     /// The specification: which results are allowed for these changes, and by whether empty files are tracked.
-    ghost means: { Self → List Changed → Bool → Result (List PairValue) TrackerFault → Type 0 };
+    ghost tracks: { Self → List Changed → Bool → Result (List PairValue) TrackerFault → Type 0 };
 
     /// Returns the renames and copies among `items`, by their positions there.
     ///
@@ -75,5 +75,5 @@ pub trait Tracker {
         items: &[C],
         rewrites: Rewrites,
     ) -> Result<Vec<Pair>, TrackerError>
-        ensures { IsSpecifiedAnswer (means self.old (map C.changed items.now) rewrites.track_empty) result };
+        ensures { IsSpecifiedAnswer (tracks self.old (map C.changed items.now) rewrites.track_empty) result };
 }

@@ -13,7 +13,7 @@ use Rattle.status_walk.specs.declared.entry.Kind.{Kind}
 use Rattle.status_walk.specs.declared.entry.Kind.TheVariants as kinds
 use Rattle.status_walk.specs.declared.entry.Status.TheVariants as statuses
 use Rattle.status_walk.specs.WalkedNodes.{Walked}
-use Rattle.status_walk.specs.Walks.{WalkMeaning}
+use Rattle.status_walk.specs.Walks.{WalkResult}
 
 -- Whether an entry has a path.
 abbrev pub is_tracked : List IndexEntry → List ℕ → Bool
@@ -46,7 +46,7 @@ abbrev pub untracked_at : List IndexEntry → (List ℕ → Bool → Bool) → L
 untracked_at es included path kind = if is_untracked es included path then option_map (untracked path) (emitted_kind kind) else None
 
 -- All nodes but directories, by path bytes, that the pathspec includes, no entry has, and no submodule's entry is above.
-abbrev pub untracked_walk : Tree → List IndexEntry → (List ℕ → Bool → Bool) → WalkMeaning
+abbrev pub untracked_walk : Tree → List IndexEntry → (List ℕ → Bool → Bool) → WalkResult
 untracked_walk tree es included = record {
   entries = filter_map (λ p. untracked_at es included p.0 p.1.metadata.kind) (paths.entries tree.nodes);
   fault = None;

@@ -13,13 +13,13 @@ pub record WalkFault : Type 0 where
   pub fault : WorktreeFault
 
 -- The nodes to find, in order, and the fault after them, if one ends the walk.
-pub record WalkMeaning : Type 0 where
+pub record WalkResult : Type 0 where
   pub entries : List Walked
   pub fault : Option WalkFault
 
 -- A walk to its end passes all nodes, and meets no fault. One that the delegate ends passes the first of them, up to the node at
 -- which the delegate ended it.
-pub record IsWalked (m : WalkMeaning) (keeps : Walked → Bool) (old new : List Walked) (cancelled : Bool) (o : Outcome) : Type 0 where
+pub record IsWalked (m : WalkResult) (keeps : Walked → Bool) (old new : List Walked) (cancelled : Bool) (o : Outcome) : Type 0 where
   pub ended : o.cancelled ≡ cancelled
   pub inside : o.emitted ≤ length m.entries
   pub begun : o.cancelled ≡ true → 0 < o.emitted
@@ -33,6 +33,6 @@ IsWalkFault specified Memory = ⊤
 
 -- A walk passes its nodes, up to its fault, to a delegate, which may keep them and end it. So it ends or fails by its
 -- specification and its delegate's.
-abbrev pub IsWalk : WalkMeaning → DelegateState → Result Outcome WalkError → DelegateState → Type 0
+abbrev pub IsWalk : WalkResult → DelegateState → Result Outcome WalkError → DelegateState → Type 0
 IsWalk m old (Ok o) new = IsWalked m old.keeps old.kept new.kept new.cancelled o
 IsWalk m old (Err e) new = IsWalkFault m.fault e

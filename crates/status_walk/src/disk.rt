@@ -77,7 +77,7 @@ impl<R: Files + AllocGlobal + Clone + Drop> DiskWalk<R> {
 }
 
 impl<W: Worktree, R: Files + AllocGlobal + Clone + Drop> Walk<W> for DiskWalk<R> {
-    ghost meaning = { λ _ _ _ _ _. None };
+    ghost walking = { λ _ _ _ _ _. None };
 
     fn walk<P: Pathspec, D: Delegate>(
         &mut self,

@@ -33,7 +33,7 @@ impl UntrackedWalk {
 }
 
 impl Walk<MemoryWorktree> for UntrackedWalk {
-    ghost meaning = { λ _ tree es _ included. Some (untracked_walk tree es included) };
+    ghost walking = { λ _ tree es _ included. Some (untracked_walk tree es included) };
 
     fn walk<P: Pathspec, D: Delegate>(
         &mut self,

@@ -3,7 +3,7 @@
 ghost use Rattle.std.specs.Prelude.{◌≡◌, Bool, List, ℕ, Option, IfSome, false};
 ghost use Rattle.status_index.specs.Entries.{IndexEntry};
 ghost use Rattle.status_index.specs.States.{index_of};
-ghost use Rattle.status_walk.specs.Walks.{WalkMeaning, IsWalk};
+ghost use Rattle.status_walk.specs.Walks.{WalkResult, IsWalk};
 ghost use Rattle.status_walk.specs.declared.walk.WalkError.TheVariants.{Memory};
 
 use crate::delegate::Delegate;
@@ -51,7 +51,7 @@ impl From<AllocError> for WalkError {
 pub trait Walk<W: Worktree> {
     /// The specification: the nodes that it finds, and its fault. It depends on the worktree, the index's entries, the
     /// pathspec's prefix and the paths that the pathspec includes. None if it isn't modelled.
-    ghost meaning: { Self → W → List IndexEntry → List ℕ → (List ℕ → Bool → Bool) → Option WalkMeaning };
+    ghost walking: { Self → W → List IndexEntry → List ℕ → (List ℕ → Bool → Bool) → Option WalkResult };
 
     /// Goes through the worktree. If the delegate returns `Cancel`, the walk ends, and passes no more nodes.
     ///
@@ -65,6 +65,6 @@ pub trait Walk<W: Worktree> {
         delegate: &mut D,
     ) -> Result<Outcome, WalkError>
         requires { (D.state delegate.old).cancelled ≡ false }
-        ensures { IfSome (meaning self.old worktree.now (index_of index.now) (P.prefix pathspec.now) (P.included pathspec.now))
+        ensures { IfSome (walking self.old worktree.now (index_of index.now) (P.prefix pathspec.now) (P.included pathspec.now))
             (λ m. IsWalk m (D.state delegate.old) result (D.state delegate.new)) };
 }

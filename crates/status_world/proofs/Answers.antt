@@ -14,7 +14,7 @@ use Rattle.status_index.specs.declared.id.ObjectId.TheVariants.{Sha1 as Sha1Id, 
 use Rattle.status_compare.specs.declared.error.Error.{Error}
 use Rattle.status_compare.specs.Comparers.{changed_id, hash_answer, fast_answer, size_decides, answer_without_id}
 use Rattle.status_compare.specs.FastAgrees.{HasOwnId, IsKeptSize, IsWholly, reports_change}
-use Rattle.status_compare.specs.Reading.{Reading, Meaning, fails, streams, target}
+use Rattle.status_compare.specs.Reading.{Reading, Readings, fails, streams, target}
 use Rattle.status_compare.proofs.Agree.{agrees}
 use Rattle.status_world.specs.declared.world.event.Comparer.{Comparer}
 use Rattle.status_world.specs.declared.world.event.Comparer.TheVariants.{Hash, Fast}
@@ -63,7 +63,7 @@ fast_answered false (Some id) = (Some None, refl)
 fast_answered false None = (None, refl)
 
 -- Both comparers succeed for a whole node.
-pub answered : (c : Comparer) (e : IndexEntry) (kind : HashKind) (bytes : List ℕ) (len : ℕ) (m : Meaning) → id_kind e.id ≡ kind → IsWholly bytes m.file
+pub answered : (c : Comparer) (e : IndexEntry) (kind : HashKind) (bytes : List ℕ) (len : ℕ) (m : Readings) → id_kind e.id ≡ kind → IsWholly bytes m.file
     → Answered (compared_by c e len m)
 answered Hash e kind bytes len m one whole = (option_map Some (changed_id e.id (blob_id kind bytes)), ap with_id (hash_whole e kind bytes m.file one whole))
 answered Fast e kind bytes len m one whole =
@@ -98,7 +98,7 @@ pub record HasStaged (kind : HashKind) (e : IndexEntry) (s : Plain) (bytes : Lis
   pub own_empty : HasOwnId kind s.bytes []
 
 -- A comparer returns a change exactly if the ids differ.
-reports_ids : (c : Comparer) (e : IndexEntry) (kind : HashKind) (s : Plain) (bytes : List ℕ) (m : Meaning) → HasStaged kind e s bytes → IsWholly bytes m.file
+reports_ids : (c : Comparer) (e : IndexEntry) (kind : HashKind) (s : Plain) (bytes : List ℕ) (m : Readings) → HasStaged kind e s bytes → IsWholly bytes m.file
     → reports_change (compared_by c e (length bytes) m) ≡ not (same_id e.id (blob_id kind bytes))
 reports_ids Hash e kind s bytes m h whole =
     reports_with_id (hash_answer e m.file)
@@ -115,7 +115,7 @@ none_reported (Some id) e = cc
 none_reported None e = refl
 
 -- A comparer returns None exactly if the bytes are the staged ones.
-pub answer_says : (c : Comparer) (e : IndexEntry) (kind : HashKind) (s : Plain) (bytes : List ℕ) (m : Meaning) → HasStaged kind e s bytes → IsWholly bytes m.file
+pub answer_says : (c : Comparer) (e : IndexEntry) (kind : HashKind) (s : Plain) (bytes : List ℕ) (m : Readings) → HasStaged kind e s bytes → IsWholly bytes m.file
     → (found : Option (Option ObjectId)) → compared_by c e (length bytes) m ≡ Ok found → (found ≡ None) ↔ (bytes ≡ s.bytes)
 answer_says c e kind s bytes m h whole found is =
     let reported : reports_change {A = Option ObjectId} (Ok found) ≡ not (same_id e.id (blob_id kind bytes)) = sym (ap reports_change is) ∙ reports_ids c e kind s bytes m h whole in (

@@ -16,7 +16,7 @@ use Rattle.status_compare.specs.FastAgrees.{HasOwnId}
 use Rattle.status_compare.specs.declared.error.Error.{Error}
 use Rattle.status_call.specs.declared.index_as_worktree.types.Change.TheVariants as changes
 use Rattle.status_call.specs.declared.index_as_worktree.types.EntryStatus.TheVariants as statuses
-use Rattle.status_call.specs.Status.{same_bool, is_trusted, meaning}
+use Rattle.status_call.specs.Status.{same_bool, is_trusted, readings}
 use Rattle.status_world.specs.declared.world.event.Comparer.{Comparer}
 use Rattle.status_world.specs.declared.world.event.Comparer.TheVariants.{Hash}
 use Rattle.status_world.specs.PlainWorld.{Plain, Differs, IsExecutableChange}
@@ -91,10 +91,10 @@ module _ (w : StampedWorld) (c : Comparer) (e : IndexEntry) (n : Placed) (s : Pl
     -- The comparer returns None exactly if the bytes are the same.
     same_bytes : n.metadata.kind ≡ s.kind → (found : Option (Option ObjectId)) → comparison_at w c e n ≡ Ok found → (found ≡ None) ↔ (n.bytes ≡ s.bytes)
     same_bytes k found is =
-        answer_says c e w.kind s n.bytes (meaning (query_of w c) e n.metadata)
+        answer_says c e w.kind s n.bytes (readings (query_of w c) e n.metadata)
         (record { id = met.entry.id; small = met.entry.small; size = size; own = own.bytes; own_empty = own.empty })
         (met_whole w c e n s met k) found
-        (ap (λ len. compared_by c e len (meaning (query_of w c) e n.metadata)) (sym met.node.len) ∙ is)
+        (ap (λ len. compared_by c e len (readings (query_of w c) e n.metadata)) (sym met.node.len) ∙ is)
 
     abbrev IsExactFor : Result (Option RunStatus) Error → Type 0
     IsExactFor v = IsChangeVerdict v ↔ Differs w.executable_bit (Some (plain_of n)) s

@@ -16,7 +16,7 @@ use Rattle.status_compare.specs.declared.error.Error.{Error}
 use Rattle.status_call.specs.declared.index_as_worktree.types.Change.TheVariants as changes
 use Rattle.status_call.specs.declared.index_as_worktree.types.EntryStatus.TheVariants as statuses
 use Rattle.status_call.specs.Status as status
-use Rattle.status_call.specs.Status.{answer, case_of_stat, case_of_change, case_of_content, is_trusted, meaning, reading}
+use Rattle.status_call.specs.Status.{answer, case_of_stat, case_of_change, case_of_content, is_trusted, readings, reading}
 use Rattle.status_world.specs.declared.world.event.Comparer.{Comparer}
 use Rattle.status_world.specs.declared.world.event.Comparer.TheVariants.{Hash}
 use Rattle.status_world.specs.PlainWorld.{Plain, IsExecutableChange}
@@ -33,7 +33,7 @@ verdict_at w c e n = answer e.path (case_of_stat (query_of w c) e n.metadata (st
 
 -- The result of the run's comparer.
 abbrev pub comparison_at : StampedWorld → Comparer → IndexEntry → Placed → Result (Option (Option ObjectId)) Error
-comparison_at w c e n = compared_by c e n.metadata.len (meaning (query_of w c) e n.metadata)
+comparison_at w c e n = compared_by c e n.metadata.len (readings (query_of w c) e n.metadata)
 
 -- Whether the entry is trusted with the node's stat, and whether the node's stat is racy.
 abbrev pub trusted_at : StampedWorld → IndexEntry → Stat → Bool
@@ -110,7 +110,7 @@ module _ (w : StampedWorld) (c : Comparer) (e : IndexEntry) (n : Placed) (s : Pl
 
   met_answered : IsMet w e n s → n.metadata.kind ≡ s.kind → Answered (comparison_at w c e n)
   met_answered h k =
-      answered c e w.kind n.bytes n.metadata.len (meaning (query_of w c) e n.metadata)
+      answered c e w.kind n.bytes n.metadata.len (readings (query_of w c) e n.metadata)
       (ap id_kind h.entry.id ∙ kind_of_blob w.kind s.bytes) (met_whole h k)
 
   -- A run's verdict, by cases.

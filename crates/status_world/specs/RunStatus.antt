@@ -11,14 +11,14 @@ use Rattle.status_base.specs.ListedNodes.{known_node}
 use Rattle.status_base.specs.Objects.{found_in}
 use Rattle.status_compare.specs.declared.error.Error.{Error}
 use Rattle.status_compare.specs.declared.reads.Reads.{Reads}
-use Rattle.status_compare.specs.Reading.{Meaning}
+use Rattle.status_compare.specs.Reading.{Readings}
 use Rattle.status_call.specs.declared.index_as_worktree.types.Options.{Options}
 use Rattle.status_call.specs.Modelled.{all_modelled, are_modelled}
 use Rattle.status_call.specs.Query.{Query}
 
 -- The query of a status of all paths, in which nothing is converted, without listings, blobs and submodules.
 abbrev pub status_query : {T : Type 0} → Options → Moment → Bool → (List ℕ → Result Metadata Fault) → (List ℕ → Result Content Fault) → (List ℕ → Result (List ℕ) Fault)
-    → (IndexEntry → ℕ → Meaning → Result (Option T) Error) → (IndexEntry → ℕ → Meaning → Reads → Option Reads) → Query T (Unit {0})
+    → (IndexEntry → ℕ → Readings → Result (Option T) Error) → (IndexEntry → ℕ → Readings → Reads → Option Reads) → Query T (Unit {0})
 status_query options timestamp modelled lstat opened linked compared counted = record {
   modelled = all_modelled modelled true true (are_modelled options.fscache true);
   stat_options = options.stat;

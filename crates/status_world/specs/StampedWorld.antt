@@ -26,7 +26,7 @@ use Rattle.status_base.specs.Trees.{empty_tree}
 use Rattle.status_compare.specs.declared.error.Error.{Error}
 use Rattle.status_compare.specs.declared.reads.Reads.{Reads}
 use Rattle.status_compare.specs.Comparers.{hash_answer, fast_answer, counts_after_hash, counts_after_fast}
-use Rattle.status_compare.specs.Reading.{Meaning}
+use Rattle.status_compare.specs.Reading.{Readings}
 use Rattle.status_call.specs.declared.index_as_worktree.types.Options.{Options}
 use Rattle.status_call.specs.Counts.{counts_in, reads_in}
 use Rattle.status_call.specs.IndexChanges.{change_of, updated_entry}
@@ -168,12 +168,12 @@ without_new_id (Ok change) = Ok (option_map (λ _. None) change)
 without_new_id (Err e) = Err e
 
 -- The result of a run's comparer.
-abbrev pub compared_by : Comparer → IndexEntry → ℕ → Meaning → Result (Option (Option ObjectId)) Error
+abbrev pub compared_by : Comparer → IndexEntry → ℕ → Readings → Result (Option (Option ObjectId)) Error
 compared_by Hash e len m = with_id (hash_answer e m.file)
 compared_by Fast e len m = without_new_id (fast_answer e len m.file)
 
 -- The reads of a run's comparer.
-abbrev pub counted_by : Comparer → IndexEntry → ℕ → Meaning → Reads → Option Reads
+abbrev pub counted_by : Comparer → IndexEntry → ℕ → Readings → Reads → Option Reads
 counted_by Hash e len m k = Some (counts_after_hash m.file k)
 counted_by Fast e len m k = Some (counts_after_fast e len m.file k)
 

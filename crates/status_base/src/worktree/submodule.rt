@@ -44,7 +44,7 @@ pub trait SubmoduleStatus: Clone {
     ghost modelled: { Self → Bool };
 
     /// The specified change of an entry's submodule, or the text of its fault.
-    ghost meaning: { Self → IndexEntry → Result (Option Self.Output) (List ℕ) };
+    ghost status_of: { Self → IndexEntry → Result (Option Self.Output) (List ℕ) };
 
     /// Returns how the submodule of `entry` at `path` changed, or None if it didn't.
     ///
@@ -55,15 +55,15 @@ pub trait SubmoduleStatus: Clone {
         entry: &Entry,
         path: BStr<'_>,
     ) -> Result<Option<Self::Output>, SubmoduleFault>
-        ensures answer { IsTrue (modelled self.old) → IsSubmoduleAnswer (meaning self.old (entry_at (bstr_bytes path.entry) entry.now)) result }
-        ensures same { meaning self.new ≡ meaning self.old }
+        ensures answer { IsTrue (modelled self.old) → IsSubmoduleAnswer (status_of self.old (entry_at (bstr_bytes path.entry) entry.now)) result }
+        ensures same { status_of self.new ≡ status_of self.old }
         ensures modelled { modelled self.new ≡ modelled self.old };
 
     /// A clone is modelled exactly if its original is.
     ghost clone_keeps_modelled: { CloneKeeps Self.is_clone modelled };
 
     /// A clone returns the same status of every submodule.
-    ghost clone_keeps_meaning: { CloneKeeps Self.is_clone meaning };
+    ghost clone_keeps_status: { CloneKeeps Self.is_clone status_of };
 }
 
 /// Submodules that never change.
@@ -75,11 +75,11 @@ impl SubmoduleStatus for NoSubmodules {
 
     ghost modelled = { λ _. true };
 
-    ghost meaning = { λ _ _. Ok None };
+    ghost status_of = { λ _ _. Ok None };
 
     ghost clone_keeps_modelled = { λ _ _ _. refl };
 
-    ghost clone_keeps_meaning = { λ _ _ _. refl };
+    ghost clone_keeps_status = { λ _ _ _. refl };
 
     fn status(&mut self, _entry: &Entry, _path: BStr<'_>) -> Result<Option<()>, SubmoduleFault> {
         Ok(None)

@@ -255,8 +255,8 @@ fn submodule_status<T, S: SubmoduleStatus>(
 ) -> Result<Option<EntryStatus<T, S::Output>>, Error>
     ensures answer { let e = entry_at (bstr_bytes path.entry) entry.now in
         IsTrue (S.modelled submodule.old)
-        → IsSpecified (answer {T = T} e.path (in_submodule (S.meaning submodule.old e))) result }
-    ensures same { S.meaning submodule.new ≡ S.meaning submodule.old }
+        → IsSpecified (answer {T = T} e.path (in_submodule (S.status_of submodule.old e))) result }
+    ensures same { S.status_of submodule.new ≡ S.status_of submodule.old }
     ensures modelled { S.modelled submodule.new ≡ S.modelled submodule.old }
 {
     match submodule.status(entry, path) {

@@ -107,7 +107,7 @@ impl<
       included = P.included i.pathspec;
       conversion = λ content path. T.conversion i.filter content path;
       blob = O.found i.objects;
-      submodule = S.meaning i.submodule;
+      submodule = S.status_of i.submodule;
       compared = C.answer i.compare;
       counted = C.counts_after i.compare;
     } };

@@ -40,7 +40,7 @@ pub fn print_joined<
 >(rt: &R, status: ProfileStatus<'a, W, K>, pathspec: P, output: &mut O) -> Result<(), Failure>
 where
     W::File: Send,
-    ensures { IsJoinedShown (results_of W.modelled W.lstat_of W.open_of W.target_of) K.meaning status.entry (P.prefix pathspec) (P.included pathspec)
+    ensures { IsJoinedShown (results_of W.modelled W.lstat_of W.open_of W.target_of) K.walking status.entry (P.prefix pathspec) (P.included pathspec)
         (O.contents output.old) result (O.contents output.new) }
 {
     let alloc = rt.alloc();
@@ -83,7 +83,7 @@ where
     W::File: Send,
     C::Output: Send + ExactClone + 'a,
     ensures { IsJoinedReported (⟦<Usual<'a, W, C, P> as Ask>⟧.query (usual status.entry.worktree compare pathspec))
-        (results_of W.modelled W.lstat_of W.open_of W.target_of) K.meaning status.entry (P.prefix pathspec) (P.included pathspec)
+        (results_of W.modelled W.lstat_of W.open_of W.target_of) K.walking status.entry (P.prefix pathspec) (P.included pathspec)
         V.fails (V.visits collector.old) result (V.visits collector.new) }
 {
     let ProfileStatus {

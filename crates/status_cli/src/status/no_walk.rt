@@ -12,7 +12,7 @@ impl<W: Worktree> Walk<W> for NoWalk {
     ghost use Rattle.std.specs.Prelude.{◌≡◌, [], None, Some, false};
     ghost use Rattle.status_walk.specs.Walks.{IsWalk};
 
-    ghost meaning = { λ _ _ _ _ _. Some (record { entries = []; fault = None }) };
+    ghost walking = { λ _ _ _ _ _. Some (record { entries = []; fault = None }) };
 
     fn walk<P: Pathspec, D: Delegate>(
         &mut self,

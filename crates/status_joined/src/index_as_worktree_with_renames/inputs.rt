@@ -58,7 +58,7 @@ impl<
       status = ⟦<inputs::Inputs<'w, W, C, S, O, P, T, L> as inputs::Ask>⟧.query i.status;
       walking = ⟦<Walker<'w, W, K, P> as FindBeside>⟧.walking (walker_of i.status.worktree i.walk i.status.pathspec);
       identifying = λ kind. identifying W.modelled W.lstat_of W.open_of W.target_of T.conversion kind i.status.worktree.now i.status.filter;
-      pairs = X.means i.tracker;
+      pairs = X.tracks i.tracker;
       interruptible = is_some i.should_interrupt;
     } };
 }

@@ -51,7 +51,7 @@ fn rewrite_list<'index, N: Identify, X: Tracker, T: ExactClone, U: ExactClone>(
     rewrites: Rewrites,
     mut items: Vec<ModificationOrDirwalkEntry<'index, T, U>>,
 ) -> Result<RewrittenList<'index, T, U>, Error>
-    ensures answer { IsRewritingAnswer (N.identifying ids.now) kind (X.means tracker.old) rewrites items.entry.items result }
+    ensures answer { IsRewritingAnswer (N.identifying ids.now) kind (X.tracks tracker.old) rewrites items.entry.items result }
     ensures led { IfOk result (λ r. All (IsLed is_walked) (map (map_rewritten item_of) r.entries.items)) }
 {
     if let Err(error) = identify(alloc, kind, ids, &mut items) {
@@ -85,7 +85,7 @@ pub(crate) fn report_list<'index, N: Identify, X: Tracker + Drop, V: VisitEntry<
 where
     V::ContentChange: ExactClone + Drop,
     V::SubmoduleStatus: ExactClone + Drop,
-    ensures { IsListFedBy (N.identifying ids.now) (X.means tracker) options.now (map item_of items.entry.items)
+    ensures { IsListFedBy (N.identifying ids.now) (X.tracks tracker) options.now (map item_of items.entry.items)
         V.fails (V.visits collector.old) result (V.visits collector.new) }
 {
     let Some(rewrites) = options.rewrites else {

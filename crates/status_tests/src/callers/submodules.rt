@@ -39,11 +39,11 @@ impl<'a> SubmoduleStatus for Alike<'a> {
 
     ghost modelled = { λ _. true };
 
-    ghost meaning = { λ s _. answer_of s.answer };
+    ghost status_of = { λ s _. answer_of s.answer };
 
     ghost clone_keeps_modelled = { λ _ _ _. refl };
 
-    ghost clone_keeps_meaning = { λ _ _ same. ap (λ s _. answer_of s.answer) same };
+    ghost clone_keeps_status = { λ _ _ same. ap (λ s _. answer_of s.answer) same };
 
     fn status(&mut self, _entry: &Entry, _path: BStr<'_>) -> Result<Option<u32>, SubmoduleFault> {
         match self.answer {
@@ -84,11 +84,11 @@ impl<'a, R: AllocGlobal + Threads + Wait> SubmoduleStatus for FolderSubmodules<'
 
     ghost modelled = { λ _. false };
 
-    ghost meaning = { λ _ _. Ok None };
+    ghost status_of = { λ _ _. Ok None };
 
     ghost clone_keeps_modelled = { λ _ _ _. refl };
 
-    ghost clone_keeps_meaning = { λ _ _ _. refl };
+    ghost clone_keeps_status = { λ _ _ _. refl };
 
     fn status(&mut self, _entry: &Entry, path: BStr<'_>) -> Result<Option<usize>, SubmoduleFault> {
         records_below(self.rt, self.system, self.index, self.root, path)

@@ -37,7 +37,7 @@ pub struct Answers<'a> {
 }
 
 impl<'a> Tracker for Answers<'a> {
-    ghost means = { λ _ _ _ _. ⊤ };
+    ghost tracks = { λ _ _ _ _. ⊤ };
 
     fn pairs<C: Change>(
         &mut self,

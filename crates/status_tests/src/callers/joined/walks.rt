@@ -80,7 +80,7 @@ pub struct HandsOut<'a> {
 }
 
 impl<'a, W: Worktree> Walk<W> for HandsOut<'a> {
-    ghost meaning = { λ _ _ _ _ _. None };
+    ghost walking = { λ _ _ _ _ _. None };
 
     fn walk<P: Pathspec, D: Delegate>(
         &mut self,

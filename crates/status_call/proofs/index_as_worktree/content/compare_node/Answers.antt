@@ -1,7 +1,7 @@
 use Rattle.std.proofs.Common.{rules}
 use Rattle.bstr.specs.BStr.{bstr_bytes}
 use Rattle.status_base.specs.ListedNodes.{known_node}
-use Rattle.status_compare.specs.EntryMeaning.{entry_meaning}
+use Rattle.status_compare.specs.EntryReadings.{entry_readings}
 use Rattle.status_call.specs.Modelled.{all_modelled, are_modelled}
 use Rattle.status_call.proofs.EntryCases.{all_specified}
 use Rattle.status_call.proofs.index_as_worktree.content.compare_node.Goals as goal
@@ -10,7 +10,7 @@ pub returns-in_err-change-clause-compared : goal.returns-in_err-change-clause-co
 returns-in_err-change-clause-compared g c = λ modelled.
     let i = c.args.inputs.now in
     let path = bstr_bytes c.new-path.result in
-    let specified = entry_meaning c.reads_link-is_link.result (λ x. g.T.ToGit.conversion i.filter x path) c.args.node.now.len
+    let specified = entry_readings c.reads_link-is_link.result (λ x. g.T.ToGit.conversion i.filter x path) c.args.node.now.len
     (g.W.Worktree.open_of i.worktree.now path) (g.W.Worktree.target_of i.worktree.now path) (g.O.Find.found i.objects c.args.entry.now.id) in
     let some = all_specified (g.W.Worktree.modelled i.worktree.now) (g.O.Find.modelled i.objects) (g.S.SubmoduleStatus.modelled i.submodule)
     (are_modelled c.args.settings.fscache (g.L.Lister.modelled i.lister)) specified modelled in
@@ -35,7 +35,7 @@ returns-in_err-change-clause-same g c =
       included = g.P.Pathspec.included i.pathspec;
       conversion = λ content path. g.T.ToGit.conversion i.filter content path;
       blob = g.O.Find.found i.objects;
-      submodule = g.S.SubmoduleStatus.meaning i.submodule;
+      submodule = g.S.SubmoduleStatus.status_of i.submodule;
       compared = c.compare_blobs.ensures.same_answer k;
       counted = c.compare_blobs.ensures.same_counts k;
     }
@@ -44,7 +44,7 @@ pub returns-clause-compared : goal.returns-clause-compared
 returns-clause-compared g c = λ modelled.
     let i = c.args.inputs.now in
     let path = bstr_bytes c.new-path.result in
-    let specified = entry_meaning c.reads_link-is_link.result (λ x. g.T.ToGit.conversion i.filter x path) c.args.node.now.len
+    let specified = entry_readings c.reads_link-is_link.result (λ x. g.T.ToGit.conversion i.filter x path) c.args.node.now.len
     (g.W.Worktree.open_of i.worktree.now path) (g.W.Worktree.target_of i.worktree.now path) (g.O.Find.found i.objects c.args.entry.now.id) in
     let some = all_specified (g.W.Worktree.modelled i.worktree.now) (g.O.Find.modelled i.objects) (g.S.SubmoduleStatus.modelled i.submodule)
     (are_modelled c.args.settings.fscache (g.L.Lister.modelled i.lister)) specified modelled in
@@ -70,7 +70,7 @@ returns-clause-same g c =
       included = g.P.Pathspec.included i.pathspec;
       conversion = λ content path. g.T.ToGit.conversion i.filter content path;
       blob = g.O.Find.found i.objects;
-      submodule = g.S.SubmoduleStatus.meaning i.submodule;
+      submodule = g.S.SubmoduleStatus.status_of i.submodule;
       compared = c.compare_blobs.ensures.same_answer k;
       counted = c.compare_blobs.ensures.same_counts k;
     }

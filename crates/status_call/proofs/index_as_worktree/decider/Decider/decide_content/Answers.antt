@@ -44,7 +44,7 @@ returns-clause-decided g c =
       included = g.P.Pathspec.included i.pathspec;
       conversion = λ content path. g.T.ToGit.conversion i.filter content path;
       blob = g.O.Find.found i.objects;
-      submodule = g.S.SubmoduleStatus.meaning i.submodule;
+      submodule = g.S.SubmoduleStatus.status_of i.submodule;
       compared = g.C.CompareBlobs.answer i.compare;
       counted = g.C.CompareBlobs.counts_after i.compare;
     } in

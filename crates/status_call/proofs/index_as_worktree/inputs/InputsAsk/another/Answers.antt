@@ -26,7 +26,7 @@ returns g c =
       included = g.met.P.Pathspec.clone_keeps_included i.pathspec c.in_ok-clone-4.field-0 pathspec k;
       conversion = λ content path. g.met.T.ToGit.clone_keeps_conversion i.filter c.in_ok-clone-5.field-0 filter k content path;
       blob = g.met.O.Find.clone_keeps_found i.objects c.in_ok-clone-3.field-0 objects k;
-      submodule = g.met.S.SubmoduleStatus.clone_keeps_meaning i.submodule c.in_ok-clone-2.field-0 submodule k;
+      submodule = g.met.S.SubmoduleStatus.clone_keeps_status i.submodule c.in_ok-clone-2.field-0 submodule k;
       compared = g.met.C.CompareBlobs.clone_keeps_answer i.compare c.in_ok-clone.field-0 compare k;
       counted = g.met.C.CompareBlobs.clone_keeps_counts i.compare c.in_ok-clone.field-0 compare k;
     }
