@@ -80,12 +80,12 @@ module _ {O : Type 0} where
       each = a.each;
     }
 
-    module _ (s t : SeatState) (f : Finished O) (fs : List (Finished O)) (given : gives f.number f.out) (a : Accounts gives short (f.number ∷ []) s fs) where
+    module _ (s t : SeatState) (f : Finished O) (fs : List (Finished O)) (gave : gives f.number f.out) (a : Accounts gives short (f.number ∷ []) s fs) where
       kept : t.drawn ≡ s.drawn → t.barred ≡ s.barred → t.reported ≡ s.reported ++ shorts_of short (f ∷ []) → Accounts gives short [] t (fs ++ f ∷ [])
       kept same_drawn same_barred reported = record {
         drawn = λ x. let d : times x t.drawn ≡ times x s.drawn = ap (times x) same_drawn in let b : times x t.barred ≡ times x s.barred = ap (times x) same_barred in omega (arith, a.drawn x, outs_more x fs (f ∷ []), one_out x f);
         reported = reported ∙ ap (λ (ks : List ℕ). ks ++ shorts_of short (f ∷ [])) a.reported ∙ sym (shorts_of-append short fs (f ∷ []));
-        each = All-push Given fs f a.each given;
+        each = All-push Given fs f a.each gave;
       }
 
       kept_by : (b : Bool) → short f.out ≡ b → t ≡ (if b then record s { reported = s.reported ++ f.number ∷ [] } else s) → Accounts gives short [] t (fs ++ f ∷ [])

@@ -166,14 +166,14 @@ module _ {O : Type 0} (short : O → Bool) where
 
 -- a fact about each finished piece is one about the results of a round
 module _ {O : Type 0} (gives : ℕ → O → Type 0) (short : O → Bool) (pieces : ℕ) (fs : List (Finished O)) (each : All (λ f. gives f.number f.out) fs) where
-  pub round_given : {E A : Type 0} (r : Result (Vec O A) E) → IfOk r (λ outs. IsRound (IsOutOf fs) short pieces outs.items) → IfOk r (λ outs. IsRound gives short pieces outs.items)
-  round_given (Ok outs) round = record {
+  pub round_of_results : {E A : Type 0} (r : Result (Vec O A) E) → IfOk r (λ outs. IsRound (IsOutOf fs) short pieces outs.items) → IfOk r (λ outs. IsRound gives short pieces outs.items)
+  round_of_results (Ok outs) round = record {
     few = round.few;
     each = λ n out at. All-head (gives n) out [] (subst (λ (os : List O). All (gives n) os) (round.each n out at) (outs_at-each gives n fs each));
     before = round.before;
     through = round.through;
   }
-  round_given (Err e) round = tt
+  round_of_results (Err e) round = tt
 
 -- if there are seats and all are done, some seat is done
 pub some_done : (ss : List SeatState) → 0 < length ss → All (λ s. s.done ≡ true) ss → Any (λ s. IsTrue s.done) ss

@@ -36,7 +36,7 @@ pub record Fits (pieces next least : ℕ) (v : Known) : Type 0 where
   pub few : v.misses ≤ v.parts
   pub idle : v.parts ≡ 0 → (v.drawn ≡ []) × (v.reported ≡ [])
 
--- What all seats know together: every part is held by a seat, each number that was given out was drawn once, and the least
+-- What all seats know together: every part is held by a seat, each number that was dealt was drawn once, and the least
 -- reported number is the second word.
 pub record Facts (pieces seats next least : ℕ) (views : List Known) : Type 0 where
   pub small : pieces + seats < 2 ^ 63

@@ -13,7 +13,7 @@ use Rattle.status_call.specs.declared.index_as_worktree.piece.End.{End}
 use Rattle.status_call.specs.declared.index_as_worktree.piece.Piece.{Piece}
 use Rattle.status_call.specs.Pieces.{IsCut, IsThrough}
 use Rattle.status_call.specs.Query.{Query}
-use Rattle.status_call.specs.Rounds.{AreBounds, AreInRow, ArePieces, IsGiven, IsPieceEnd, bound, last_bound, is_short}
+use Rattle.status_call.specs.Rounds.{AreBounds, AreInRow, ArePieces, IsResult, IsPieceEnd, bound, last_bound, is_short}
 use Rattle.status_call.proofs.Parts.{AllPairs-append}
 
 -- Bounds from a position up to another.
@@ -109,7 +109,7 @@ module _ {T U : Type 0} where
 
 module _ {T U : Type 0} (q : Query T U) (interruptible : Bool) (start : ℕ) (es : List IndexEntry) (bounds : List ℕ) (are : AreBounds es bounds) where
   abbrev Gives : ℕ → Piece T U → Type 0
-  Gives n p = IsGiven q interruptible start es (bound bounds n) (bound bounds (n + 1)) p
+  Gives n p = IsResult q interruptible start es (bound bounds n) (bound bounds (n + 1)) p
 
   abbrev Row : ℕ → List (Piece T U) → Type 0
   Row at ps = AreInRow q interruptible start es (last_bound bounds) at ps
@@ -125,10 +125,10 @@ module _ {T U : Type 0} (q : Query T U) (interruptible : Bool) (start : ℕ) (es
         | inr all ↦ ap (bound bounds) (omega (arith, all, few))
       ]
   row_from n (p ∷ ps) few each through =
-      let given : Gives n p = subst (λ (m : ℕ). Gives m p) (omega arith) (each 0 p refl) in (
-        record { to = bound bounds (n + 1); inside = are.inside (n + 1) 0 (omega (arith, few)); given = given },
+      let result : Gives n p = subst (λ (m : ℕ). Gives m p) (omega arith) (each 0 p refl) in (
+        record { to = bound bounds (n + 1); inside = are.inside (n + 1) 0 (omega (arith, few)); result = result },
         λ whole.
-            let reached : p.reached ≡ bound bounds (n + 1) = subst (λ (e : End). IsThrough q es (bound bounds (n + 1)) p.reached e) whole given.piece.through in
+            let reached : p.reached ≡ bound bounds (n + 1) = subst (λ (e : End). IsThrough q es (bound bounds (n + 1)) p.reached e) whole result.piece.through in
             subst (λ (at : ℕ). Row at ps) (sym reached)
             (row_from (n + 1) ps (omega (arith, few))
             (λ i r h. subst (λ (m : ℕ). Gives m r) (omega arith) (each (suc i) r h))

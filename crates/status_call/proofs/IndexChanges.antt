@@ -125,5 +125,5 @@ module _ {T U : Type 0} where
   pub status_inside : (q : Query T U) (index : State) (old : List (Visit T U)) (result : Result Outcome Error) (new : List (Visit T U)) → IsMet q index old result new
       → old ≡ [] → AreInside (changes_of new) (index_of index)
   status_inside q index old result new met none =
-      let given : new ≡ met.more = met.grew ∙ ap (λ (l : List (Visit T U)). l ++ met.more) none in
-      subst (λ vs. AreInside (changes_of vs) (index_of index)) (sym given) (changes_inside index met.more met.faithful)
+      let grown : new ≡ met.more = met.grew ∙ ap (λ (l : List (Visit T U)). l ++ met.more) none in
+      subst (λ vs. AreInside (changes_of vs) (index_of index)) (sym grown) (changes_inside index met.more met.faithful)

@@ -84,13 +84,13 @@ module _ {T U : Type 0} (q : Query T U) (start : ℕ) (es : List IndexEntry) (fr
   module _ (interruptible : Bool) (workers end at : ℕ) (totals : Totals) (old now : List (Visit T U)) (way : IsUnderWay q start es from faithful at totals old now) (p : Piece T U) (row : IsInRow q interruptible start es at p) where
     -- The work that is done up to the end of a piece.
     done_upto : IsDone q start es from p.reached (way.reported ++ p.findings.items) (plus_totals totals p.totals)
-    done_upto = done_more q start es from at p.reached way.reported p.findings.items totals p.totals way.done row.given.piece.done
+    done_upto = done_more q start es from at p.reached way.reported p.findings.items totals p.totals way.done row.result.piece.done
 
     abbrev Fits : Progress → Type 0
     Fits o = IsWithin (2 ^ 64 - 1) (plus_counts totals.counts o.totals.counts)
 
     fits_upto : length es < 2 ^ 64 → IsWithin (2 ^ 64 - 1) (plus_counts totals.counts p.totals.counts)
-    fits_upto few = sums_fit q start es from at p.reached way.reported p.findings.items totals p.totals way.done row.given.piece.done few
+    fits_upto few = sums_fit q start es from at p.reached way.reported p.findings.items totals p.totals way.done row.result.piece.done few
 
     -- The counts of the piece fit.
     pub piece_fits : (o : Progress) → length es < 2 ^ 64 → IsCounted p o → Fits o
@@ -128,14 +128,14 @@ module _ {T U : Type 0} (q : Query T U) (start : ℕ) (es : List IndexEntry) (fr
         place = p.reached;
         done = done_sum o c true h.1 sums;
         reached = λ still. absurd (cc);
-        uninterrupted = λ still. absurd (subst (λ (e : End). IsUncut e) h.0 (row.given.uncut still));
+        uninterrupted = λ still. absurd (subst (λ (e : End). IsUncut e) h.0 (row.result.uncut still));
       };
     }
 
     -- The piece ended at a fault, and its findings were reported.
     stop_fault : (new : List (Visit T U)) (x : Error) → p.end ≡ Faulty x → Reports faithful p.findings.items now new → IsReportedWork q start es from faithful interruptible workers end old (Err x) new
     stop_fault new x faulty fed =
-        let through : (p.reached < row.to) × (IsTrue q.modelled → IsFaultAt q es p.reached x) = subst (λ (e : End). IsThrough q es row.to p.reached e) faulty row.given.piece.through in
+        let through : (p.reached < row.to) × (IsTrue q.modelled → IsFaultAt q es p.reached x) = subst (λ (e : End). IsThrough q es row.to p.reached e) faulty row.result.piece.through in
         record {
           reported = way.reported ++ p.findings.items;
           fed = reports_more faithful way.reported p.findings.items old now new way.fed fed;

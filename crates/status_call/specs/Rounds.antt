@@ -44,7 +44,7 @@ is_short (Faulty x) = true
 module _ {T U : Type 0} (q : Query T U) (interruptible : Bool) (start : ℕ) (es : List IndexEntry)
   where
     -- The possible results of the piece from position `at` to position `to`.
-    pub record IsGiven (at to : ℕ) (p : Piece T U) : Type 0 where
+    pub record IsResult (at to : ℕ) (p : Piece T U) : Type 0 where
       pub piece : IsPiece q start es at to p
       pub uncut : interruptible ≡ false → IsUncut p.end
 
@@ -52,7 +52,7 @@ module _ {T U : Type 0} (q : Query T U) (interruptible : Bool) (start : ℕ) (es
     pub record IsInRow (at : ℕ) (p : Piece T U) : Type 0 where
       pub to : ℕ
       pub inside : to ≤ length es
-      pub given : IsGiven at to p
+      pub result : IsResult at to p
 
     -- Pieces in a row from position `at` on: whole ones up to position `to`, or up to one that didn't reach its end.
     abbrev pub AreInRow : ℕ → ℕ → List (Piece T U) → Type 0

@@ -114,7 +114,7 @@ ended_after first second (Err f) a b c (Ok v) grew ended = ended
 ended_after first second (Err f) a b c (Err e) grew (inl all) = inl (Appends-trans a b c first second grew all.0, all.1)
 ended_after first second (Err f) a b c (Err e) grew (inr some) = inr (begun_more first second a b c grew some.0, some.1)
 
--- a failure is handed on
+-- a failure is passed on
 pub ended_failed : (T : Type 0) {U : Type 0} (text : List ℕ) (answer : Result Outcome Failure) (old new : Option (List ℕ)) (failure : Failure) (result : Result U Failure) → IsErrAnd result (λ e. e ≡ failure) → IsEnded {T = T} text answer old (Err failure) new → IsEnded text answer old result new
 ended_failed T text answer old new failure (Ok v) failed ended = absurd failed
 ended_failed T text (Ok o) old new failure (Err e) failed ended = (ended.0, rw failed ended.1)

@@ -7,12 +7,12 @@ use status_cli::lines::{push_record, push_totals};
 use std::alloc::Global;
 use std::test::Fail;
 
-type Told = EntryStatus<(), ()>;
+type PlainStatus = EntryStatus<(), ()>;
 
 // Returns whether this is the line of a record of entry 12.
-fn is_line(alloc: Global, path: &[u8], told: &Told, want: &str) -> bool {
+fn is_line(alloc: Global, path: &[u8], status: &PlainStatus, want: &str) -> bool {
     let mut line = Vec::new(alloc);
-    let pushed = push_record(&mut line, alloc, 12, BStr::new(path), told);
+    let pushed = push_record(&mut line, alloc, 12, BStr::new(path), status);
     pushed.is_ok() && line.as_slice() == want.as_bytes()
 }
 

@@ -34,20 +34,20 @@ module _ {T U : Type 0} where
   -- The front of all entries was reported, and these are left.
   pub record IsUnderWay (entries : List (Rewritten (Item T U))) (old now : List (Reported T U)) (left : List (Rewritten (Item T U))) : Type 0 where
     pub front : List (Rewritten (Item T U))
-    pub given : List (Reported T U)
-    pub reported : AreReported front given
-    pub grew : now ≡ old ++ given
+    pub passed : List (Reported T U)
+    pub reported : AreReported front passed
+    pub grew : now ≡ old ++ passed
     pub whole : front ++ left ≡ entries
 
   pub none_reported : (entries : List (Rewritten (Item T U))) (old : List (Reported T U)) → IsUnderWay entries old old entries
-  none_reported entries old = record { front = []; given = []; reported = tt; grew = sym (append-nil old); whole = refl }
+  none_reported entries old = record { front = []; passed = []; reported = tt; grew = sym (append-nil old); whole = refl }
 
   pub one_more : (entries : List (Rewritten (Item T U))) (old now next : List (Reported T U)) (entry : Rewritten (Item T U)) (before left : List (Rewritten (Item T U))) → before ≡ entry ∷ left → IsUnderWay entries old now before → (t : Reported T U) × IsReported entry t × (next ≡ now ++ t ∷ []) → IsUnderWay entries old next left
   one_more entries old now next entry before left step h one = record {
     front = h.front ++ entry ∷ [];
-    given = h.given ++ one.0 ∷ [];
-    reported = reported_append h.front (entry ∷ []) h.given (one.0 ∷ []) h.reported (one.1, tt);
-    grew = one.2 ∙ ap (λ (l : List (Reported T U)). l ++ one.0 ∷ []) h.grew ∙ append_assoc old h.given (one.0 ∷ []);
+    passed = h.passed ++ one.0 ∷ [];
+    reported = reported_append h.front (entry ∷ []) h.passed (one.0 ∷ []) h.reported (one.1, tt);
+    grew = one.2 ∙ ap (λ (l : List (Reported T U)). l ++ one.0 ∷ []) h.grew ∙ append_assoc old h.passed (one.0 ∷ []);
     whole = append_assoc h.front (entry ∷ []) left ∙ ap (λ (l : List (Rewritten (Item T U))). h.front ++ l) (sym step) ∙ h.whole;
   }
 
@@ -66,7 +66,7 @@ module _ {T U : Type 0} where
   pub all_reported : (entries : List (Rewritten (Item T U))) (old now : List (Reported T U)) (left : List (Rewritten (Item T U))) → left ≡ [] → IsUnderWay entries old now left → (ts : List (Reported T U)) × AreReported entries ts × (now ≡ old ++ ts)
   all_reported entries old now left none h =
       let whole : h.front ≡ entries = sym (append-nil h.front) ∙ ap (λ (l : List (Rewritten (Item T U))). h.front ++ l) (sym none) ∙ h.whole in
-      (h.given, subst (λ xs. AreReported xs h.given) whole h.reported, h.grew)
+      (h.passed, subst (λ xs. AreReported xs h.passed) whole h.reported, h.grew)
 
   as_many : (xs : List (Rewritten (Item T U))) (ts : List (Reported T U)) → AreReported xs ts → length ts ≡ length xs
   as_many [] [] h = refl
@@ -79,10 +79,10 @@ module _ {T U : Type 0} where
   reported_until entries old now after entry left behind step led h same =
       let rest = may_report_all left (all_left (IsLed is_walked) entries old now left h led) in
       let some : length rest.0 ≡ suc (length behind) = as_many left rest.0 rest.1 ∙ ap length step in
-      let fits : length h.given < length (h.given ++ rest.0) = omega (arith, length-append h.given rest.0, some) in (
-        h.given ++ rest.0,
-        subst (λ xs. AreReported xs (h.given ++ rest.0)) h.whole (reported_append h.front left h.given rest.0 h.reported rest.1),
-        (length h.given, fits, same ∙ h.grew ∙ ap (λ (l : List (Reported T U)). old ++ l) (sym (take-append_seam h.given rest.0))),
+      let fits : length h.passed < length (h.passed ++ rest.0) = omega (arith, length-append h.passed rest.0, some) in (
+        h.passed ++ rest.0,
+        subst (λ xs. AreReported xs (h.passed ++ rest.0)) h.whole (reported_append h.front left h.passed rest.0 h.reported rest.1),
+        (length h.passed, fits, same ∙ h.grew ∙ ap (λ (l : List (Reported T U)). old ++ l) (sym (take-append_seam h.passed rest.0))),
       )
 
   -- Items alone have no destination.

@@ -67,15 +67,15 @@ module _ {T U : Type 0} (ids : Identifying) (kind : HashKind) (tracks : List Cha
           (map item_of xs, (identified, inr (ps, (specified, bad_pair_mapped item_of (λ x. is_removed (item_of x)) (λ x. is_walked (item_of x)) is_removed is_walked (λ x. refl) (λ x. refl) xs ps at bad))))
       refused_fault_of refusals.Memory bad = tt
 
-      pub refused_fault : (given : List Pair) → given ≡ ps → (e : Refused) → IsAnswer (λ x. is_removed (item_of x)) (λ x. is_walked (item_of x)) is_made_of xs given (Err e) → IsRewritingFault ids kind tracks track_empty list (error_of_refused e)
-      refused_fault given are e bad =
+      pub refused_fault : (pairs : List Pair) → pairs ≡ ps → (e : Refused) → IsAnswer (λ x. is_removed (item_of x)) (λ x. is_walked (item_of x)) is_made_of xs pairs (Err e) → IsRewritingFault ids kind tracks track_empty list (error_of_refused e)
+      refused_fault pairs are e bad =
           refused_fault_of e (subst (λ qs. IsAnswer (λ x. is_removed (item_of x)) (λ x. is_walked (item_of x)) is_made_of xs qs (Err e)) are bad)
 
-      module _ (made : (x y : ModificationOrDirwalkEntry T U) → is_made_of x y → item_of y ≡ item_of x) (entries : List (Rewritten (ModificationOrDirwalkEntry T U))) (given : List Pair) (are : given ≡ ps) (answer : AreLawful (λ x. is_removed (item_of x)) (λ x. is_walked (item_of x)) xs given × IsRewritten is_made_of xs given entries) where
+      module _ (made : (x y : ModificationOrDirwalkEntry T U) → is_made_of x y → item_of y ≡ item_of x) (entries : List (Rewritten (ModificationOrDirwalkEntry T U))) (pairs : List Pair) (are : pairs ≡ ps) (answer : AreLawful (λ x. is_removed (item_of x)) (λ x. is_walked (item_of x)) xs pairs × IsRewritten is_made_of xs pairs entries) where
         answered : AreLawful is_removed is_walked (map item_of xs) ps × IsRewritten (λ (x y : Item T U). y ≡ x) (map item_of xs) ps (map (map_rewritten item_of) entries)
         answered =
             subst (λ qs. AreLawful is_removed is_walked (map item_of xs) qs × IsRewritten (λ (x y : Item T U). y ≡ x) (map item_of xs) qs (map (map_rewritten item_of) entries)) are
-            (rewritten_mapped item_of (λ x. is_removed (item_of x)) (λ x. is_walked (item_of x)) is_removed is_walked (λ x. refl) (λ x. refl) xs is_made_of made given entries answer)
+            (rewritten_mapped item_of (λ x. is_removed (item_of x)) (λ x. is_walked (item_of x)) is_removed is_walked (λ x. refl) (λ x. refl) xs is_made_of made pairs entries answer)
 
         -- The destination of each rewrite is a node.
         pub destinations_led : All (IsLed is_walked) (map (map_rewritten item_of) entries)

@@ -18,7 +18,7 @@ const UNWALKED: Row<'static> = Row {
     name: "nothing is asked",
     entries: &[("a", RowEntry::Foo)],
     nodes: &[("b", RowNode::File("foo"))],
-    walk: WalkKind::HandsOut(&[B], None),
+    walk: WalkKind::Passes(&[B], None),
     tracker: TrackerKind::Answers(&[]),
     dirwalk: false,
     lines: "0 removed \"a\"\n",

@@ -6,8 +6,8 @@ use status_joined::index_as_worktree_with_renames::{Options, Sorting};
 use status_tests::callers::joined::broken::Broken;
 use status_tests::callers::joined::statuses::{JoinedRequest, joined};
 use status_tests::callers::joined::trackers::Answers;
-use status_tests::callers::joined::trackers::Told::{Copied, Renamed};
-use status_tests::callers::joined::walks::{B, C, Found, HandsOut, UNTRACKED};
+use status_tests::callers::joined::trackers::PlannedPair::{Copied, Renamed};
+use status_tests::callers::joined::walks::{B, C, Found, Passes, UNTRACKED};
 use std::sync::Wait;
 use std::test::Fail;
 use std::thread::Threads;
@@ -34,7 +34,7 @@ fn are_copied<R: AllocGlobal + Threads + Wait>(rt: &R) -> Result<bool, Fail> {
         worktree: worktree(alloc, &files)?,
         faults: &[],
     };
-    let walk = HandsOut {
+    let walk = Passes {
         alloc,
         nodes: &[B, C, D],
         fault: None,

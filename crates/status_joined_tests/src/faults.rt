@@ -61,7 +61,7 @@ const BROKEN: Row<'static> = Row {
         ("n", RowNode::Link("foo")),
         ("x", RowNode::File("bar")),
     ],
-    walk: WalkKind::HandsOut(&NODES, None),
+    walk: WalkKind::Passes(&NODES, None),
     ..REWRITTEN
 };
 
@@ -192,7 +192,7 @@ fn assert_walk_fault<R: AllocGlobal + Abort + Threads + Wait>(
             (Point::Open, "b", Fault::Other(1)),
             (Point::Open, "m", Fault::Other(2)),
         ],
-        walk: WalkKind::HandsOut(&NODES, Some(fault)),
+        walk: WalkKind::Passes(&NODES, Some(fault)),
         tracker: TrackerKind::Refuses(3),
         ending: Ending::Failed(exit),
         ..BROKEN

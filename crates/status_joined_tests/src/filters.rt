@@ -13,7 +13,7 @@ use status_joined::index_as_worktree_with_renames::{Error, Recorder};
 use status_rewrites::{IdentityTracker, Tracker};
 use status_tests::callers::joined::broken::Broken;
 use status_tests::callers::joined::statuses::{JoinedReport, JoinedRequest, report_to};
-use status_tests::callers::joined::walks::{B, C, Found, HandsOut};
+use status_tests::callers::joined::walks::{B, C, Found, Passes};
 use status_walk::{Kind, Walk};
 use std::alloc::AllocError;
 use std::sync::Wait;
@@ -100,7 +100,7 @@ fn is_refused<R: AllocGlobal + Threads + Wait>(rt: &R, fault: Fault) -> Result<b
         disk_kind: Some(Kind::Symlink),
         ..B
     };
-    let walk = HandsOut {
+    let walk = Passes {
         alloc,
         nodes: &[link, C],
         fault: None,

@@ -9,8 +9,8 @@ use status_base::worktree::{
 };
 use status_rewrites::{Change, ChangeKind, IdentityTracker, Pair, Rewrites, Tracker, TrackerError};
 use status_tests::callers::joined::broken::{Broken, Point};
-use status_tests::callers::joined::trackers::{Answers, Told};
-use status_tests::callers::joined::walks::{Found, HandsOut};
+use status_tests::callers::joined::trackers::{Answers, PlannedPair};
+use status_tests::callers::joined::walks::{Found, Passes};
 use status_tests::callers::worktrees::Counted;
 use status_walk::{Delegate, Outcome, UntrackedWalk, Walk, WalkError};
 use std::alloc::Global;
@@ -80,7 +80,7 @@ pub enum WalkKind<'a> {
     /// By the walk that finds untracked nodes.
     Untracked,
     /// These nodes are passed, and then `d` has the fault, if there is one.
-    HandsOut(&'a [Found<'a>], Option<Fault>),
+    Passes(&'a [Found<'a>], Option<Fault>),
 }
 
 /// The walk of a row.
@@ -109,12 +109,12 @@ impl<'a, W: Worktree> Walk<W> for RowWalk<'a> {
             WalkKind::Untracked => {
                 UntrackedWalk::new(alloc).walk(self.nodes, index, pathspec, delegate)
             }
-            WalkKind::HandsOut(nodes, fault) => {
+            WalkKind::Passes(nodes, fault) => {
                 let fault = match fault {
                     Some(fault) => Some(("d", fault)),
                     None => None,
                 };
-                let mut walk = HandsOut {
+                let mut walk = Passes {
                     alloc,
                     nodes,
                     fault,
@@ -134,7 +134,7 @@ pub enum TrackerKind<'a> {
     /// The tracker that compares ids.
     Identity,
     /// It returns these pairs.
-    Answers(&'a [Told]),
+    Answers(&'a [PlannedPair]),
     /// It returns no pairs if these are the changes. Otherwise it refuses.
     Sees(&'a [Seen]),
     /// It refuses, with this code.

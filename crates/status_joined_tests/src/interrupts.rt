@@ -42,7 +42,7 @@ static ROWS: [Row; 4] = [
     },
     Row {
         name: "the flag is seen after a node that is dropped too",
-        walk: WalkKind::HandsOut(&[TRACKED, C], None),
+        walk: WalkKind::Passes(&[TRACKED, C], None),
         flag: Some(true),
         lines: "",
         ending: Ending::Early(1, 0, Some(1)),

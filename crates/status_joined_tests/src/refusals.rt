@@ -8,7 +8,7 @@ use crate::rows::{PLAIN, RENAMES, REWRITTEN, Row, is_right};
 use status_base::worktree::Fault;
 use status_rewrites::TrackerError;
 use status_tests::callers::joined::broken::Point;
-use status_tests::callers::joined::trackers::Told::Renamed;
+use status_tests::callers::joined::trackers::PlannedPair::Renamed;
 use status_tests::callers::joined::walks::B;
 use std::test::Fail;
 
@@ -18,7 +18,7 @@ const BROKEN: Row<'static> = Row {
     entries: &[("a", RowEntry::Foo)],
     nodes: &[("a", RowNode::Later("bar")), ("b", RowNode::File("foo"))],
     faults: &[(Point::Open, "a", Fault::PermissionDenied)],
-    walk: WalkKind::HandsOut(&[B], None),
+    walk: WalkKind::Passes(&[B], None),
     ending: Ending::Failed(Exit::Entry(Fault::PermissionDenied)),
     ..PLAIN
 };
@@ -27,7 +27,7 @@ static FAULTS: [Row; 6] = [
     BROKEN,
     Row {
         name: "a fault of the walk comes before one of an entry",
-        walk: WalkKind::HandsOut(&[B], Some(Fault::Other(3))),
+        walk: WalkKind::Passes(&[B], Some(Fault::Other(3))),
         ending: Ending::Failed(Exit::Walk(Fault::Other(3))),
         ..BROKEN
     },
@@ -35,7 +35,7 @@ static FAULTS: [Row; 6] = [
         name: "a file that can't be opened has no id",
         nodes: &[("b", RowNode::File("foo"))],
         faults: &[(Point::Open, "b", Fault::Other(7))],
-        walk: WalkKind::HandsOut(&[B], None),
+        walk: WalkKind::Passes(&[B], None),
         tracker: TrackerKind::Answers(&[]),
         ending: Ending::Failed(Exit::Open(Fault::Other(7))),
         ..REWRITTEN

@@ -8,7 +8,7 @@ use crate::rows::{REWRITTEN, Row, is_right};
 use status_base::index::{HashKind, Mode, ObjectId};
 use status_joined::index_as_worktree_with_renames::Summary;
 use status_rewrites::Rewrites;
-use status_tests::callers::joined::trackers::Told;
+use status_tests::callers::joined::trackers::PlannedPair;
 use status_tests::callers::joined::walks::{B, C, Found};
 use status_walk::Status;
 use std::test::Fail;
@@ -75,7 +75,7 @@ static ROWS: [Row; 9] = [
         name: "what was copied is reported by itself too",
         entries: &[("a", RowEntry::Foo)],
         nodes: &[("a", RowNode::Later("bar")), ("b", RowNode::File("bar"))],
-        tracker: TrackerKind::Answers(&[Told::Copied(0, 1)]),
+        tracker: TrackerKind::Answers(&[PlannedPair::Copied(0, 1)]),
         lines: "0 modified \"a\"\n- copied \"a\" \"b\"\n",
         details: &[
             (1, Detail::CopyOfEntry),
@@ -92,7 +92,7 @@ static ROWS: [Row; 9] = [
             ("c", RowNode::File("foo")),
             ("d", RowNode::File("foo")),
         ],
-        tracker: TrackerKind::Answers(&[Told::Copied(1, 3), Told::Copied(1, 2)]),
+        tracker: TrackerKind::Answers(&[PlannedPair::Copied(1, 3), PlannedPair::Copied(1, 2)]),
         lines: "0 removed \"a\"\n- added \"b\"\n- copied \"b\" \"c\"\n- copied \"b\" \"d\"\n",
         details: &[(2, Detail::CopyOfFile("b")), (3, Detail::CopyOfFile("b"))],
         ending: Ending::Whole(Some(3), Some((0, 2))),
@@ -101,7 +101,7 @@ static ROWS: [Row; 9] = [
     Row {
         name: "a copy has the statuses of both directories",
         nodes: &[("b", RowNode::File("foo")), ("c", RowNode::File("foo"))],
-        walk: WalkKind::HandsOut(
+        walk: WalkKind::Passes(
             &[
                 Found {
                     collapsed: Some(Status::Ignored),
@@ -114,7 +114,7 @@ static ROWS: [Row; 9] = [
             ],
             None,
         ),
-        tracker: TrackerKind::Answers(&[Told::Copied(0, 1)]),
+        tracker: TrackerKind::Answers(&[PlannedPair::Copied(0, 1)]),
         lines: "- added \"b\"\n- copied \"b\" \"c\"\n",
         details: &[(
             1,

@@ -99,15 +99,15 @@ static ROWS: [Row; 10] = [
     Row {
         name: "at equal paths the index comes first",
         entries: &[("a", RowEntry::Foo), ("c", RowEntry::Foo)],
-        walk: WalkKind::HandsOut(&[B, A], None),
+        walk: WalkKind::Passes(&[B, A], None),
         lines: "0 removed \"a\"\n- added \"a\"\n- added \"b\"\n1 removed \"c\"\n",
         ending: Ending::Whole(Some(2), None),
         ..PLAIN
     },
     Row {
-        name: "in no order, the index comes first, and the nodes as they were handed out",
+        name: "in no order, the index comes first, and the nodes in the order of the walk",
         entries: &[("a", RowEntry::Foo), ("c", RowEntry::Foo)],
-        walk: WalkKind::HandsOut(&[B, A], None),
+        walk: WalkKind::Passes(&[B, A], None),
         sorted: false,
         lines: "0 removed \"a\"\n1 removed \"c\"\n- added \"b\"\n- added \"a\"\n",
         ending: Ending::Whole(Some(2), None),
@@ -117,7 +117,7 @@ static ROWS: [Row; 10] = [
         name: "what needs an update or is ignored has no summary",
         entries: &[("a", RowEntry::Foo)],
         nodes: &[("a", RowNode::Later("foo"))],
-        walk: WalkKind::HandsOut(
+        walk: WalkKind::Passes(
             &[Found {
                 status: Status::Ignored,
                 ..B
@@ -131,14 +131,14 @@ static ROWS: [Row; 10] = [
     },
     Row {
         name: "what is tracked or can't be is dropped",
-        walk: WalkKind::HandsOut(&NODES, None),
+        walk: WalkKind::Passes(&NODES, None),
         lines: "- ignored \"d\"\n- pruned \"e\"\n- added \"f\"\n",
         ending: Ending::Whole(Some(6), None),
         ..PLAIN
     },
     Row {
         name: "the status of a directory that stands for its nodes is reported",
-        walk: WalkKind::HandsOut(&[A, COLLAPSED], None),
+        walk: WalkKind::Passes(&[A, COLLAPSED], None),
         lines: "- added \"a\"\n- added \"d\"\n",
         details: &[(0, Detail::Node(A)), (1, Detail::Node(COLLAPSED))],
         ending: Ending::Whole(Some(2), None),

@@ -51,14 +51,16 @@ impl MemberTexts {
     ///
     /// # Errors
     /// An entry's path isn't UTF-8, or memory ran out.
-    pub fn with_index(mut self, alloc: Global, index: &State) -> Result<Vec<u8>, ProfileError>
-        ensures text { IfOk result (λ text. (j : Json) → HoldsTexts j self → text.items ≡ refreshed_text j (index_of index.now) (timestamp_of index.now)) }
-        ensures err { IfErr result (IsUnwritten (index_of index.now)) }
+    pub fn with_index(mut self, alloc: Global, index: State) -> Result<Vec<u8>, ProfileError>
+        ensures text { IfOk result (λ text. (j : Json) → HoldsTexts j self → text.items ≡ refreshed_text j (index_of index) (timestamp_of index)) }
+        ensures err { IfErr result (IsUnwritten (index_of index)) }
     {
-        let entries = index_text(alloc, index)?;
+        let entries = index_text(alloc, &index)?;
         self.put(alloc, "index", entries)?;
         let timestamp = timestamp_text(alloc, index.timestamp())?;
         self.put(alloc, "timestamp", timestamp)?;
+        // The text takes as much memory again as its parts.
+        drop(index);
         Ok(self.into_text(alloc)?)
     }
 

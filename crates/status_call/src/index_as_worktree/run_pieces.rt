@@ -4,7 +4,7 @@ ghost use Rattle.std.specs.Prelude.{◌≡◌, ◌≢◌, ◌+◌, ◌-◌, ◌*
 ghost use Rattle.status_index.specs.Entries.{IsIndex, index_entries};
 ghost use Rattle.status_compare.specs.declared.error.Error.TheVariants.{Memory, SpawnThread as NoThread};
 ghost use Rattle.status_call.specs.Pieces.{IsCut};
-ghost use Rattle.status_call.specs.Rounds.{AreBounds, AreInRow, ArePieces, IsGiven, bound, last_bound, is_short};
+ghost use Rattle.status_call.specs.Rounds.{AreBounds, AreInRow, ArePieces, IsResult, bound, last_bound, is_short};
 ghost use Rattle.status_call.specs.WorkInOrder.{IsShortage, shortage_of};
 
 use crate::index_as_worktree::decide::Decide;
@@ -75,7 +75,7 @@ impl<'a, D: Decide> Work for Round<'a, D> {
 
     ghost fits = { λ r d. D.query d ≡ D.query r.decide.value };
 
-    ghost gives = { λ r n p. IsGiven (D.query r.decide.value) (is_some r.interrupt) r.start
+    ghost gives = { λ r n p. IsResult (D.query r.decide.value) (is_some r.interrupt) r.start
         (index_entries r.backing.now r.entries.now)
         (bound r.bounds.now n) (bound r.bounds.now (n + 1)) p };
 

@@ -7,20 +7,20 @@ use std::alloc::Global;
 
 /// A pair: the list positions of its source and its destination.
 #[derive(Clone, Copy)]
-pub enum Told {
+pub enum PlannedPair {
     Renamed(usize, usize),
     Copied(usize, usize),
 }
 
-impl Told {
+impl PlannedPair {
     fn pair(self) -> Pair {
         match self {
-            Told::Renamed(source, destination) => Pair {
+            PlannedPair::Renamed(source, destination) => Pair {
                 source,
                 destination,
                 copy: false,
             },
-            Told::Copied(source, destination) => Pair {
+            PlannedPair::Copied(source, destination) => Pair {
                 source,
                 destination,
                 copy: true,
@@ -33,7 +33,7 @@ impl Told {
 #[derive(Clone, Copy)]
 pub struct Answers<'a> {
     pub alloc: Global,
-    pub pairs: &'a [Told],
+    pub pairs: &'a [PlannedPair],
 }
 
 impl<'a> Tracker for Answers<'a> {
@@ -45,8 +45,8 @@ impl<'a> Tracker for Answers<'a> {
         _rewrites: Rewrites,
     ) -> Result<Vec<Pair>, TrackerError> {
         let mut pairs = Vec::new(self.alloc);
-        for told in self.pairs {
-            pairs.push(told.pair())?;
+        for planned in self.pairs {
+            pairs.push(planned.pair())?;
         }
         Ok(pairs)
     }

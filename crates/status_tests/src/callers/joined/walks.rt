@@ -73,13 +73,13 @@ pub fn hand_out<D: Delegate>(
 
 /// Passes these nodes for every worktree and index, and then has a fault at a path, if `fault` is set.
 #[derive(Clone, Copy)]
-pub struct HandsOut<'a> {
+pub struct Passes<'a> {
     pub alloc: Global,
     pub nodes: &'a [Found<'a>],
     pub fault: Option<(&'a str, Fault)>,
 }
 
-impl<'a, W: Worktree> Walk<W> for HandsOut<'a> {
+impl<'a, W: Worktree> Walk<W> for Passes<'a> {
     ghost walking = { λ _ _ _ _ _. None };
 
     fn walk<P: Pathspec, D: Delegate>(

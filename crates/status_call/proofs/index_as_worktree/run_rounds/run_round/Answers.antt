@@ -25,7 +25,7 @@ feed_piece-requires g c κs =
     let here = c.loop-piece.invariant in
     let p = c.in-Some.piece in
     let row = row_next _ _ _ _ _ here.at _ (into_iter_items c.next.new.self) p c.in-Some.ensures.steps.0 here.rows in
-    ((refl, tt), piece_placed _ c.args.considered.now.start (part_entries c.args.considered.now) (bound c.args.bounds.now 0) (IsFaithfulTo c.args.considered.now) (length c.args.considered.now.entries.now) here.at row.0.to p (part_inside c.args.considered.now) row.0.given.piece)
+    ((refl, tt), piece_placed _ c.args.considered.now.start (part_entries c.args.considered.now) (bound c.args.bounds.now 0) (IsFaithfulTo c.args.considered.now) (length c.args.considered.now.entries.now) here.at row.0.to p (part_inside c.args.considered.now) row.0.result.piece)
 
 pub add-requires : goal.add-requires
 add-requires g c =

@@ -10,8 +10,8 @@ use Rattle.std.specs.Prelude.{codes}
 
 pub returns-clause-text : goal.returns-clause-text
 returns-clause-text c = λ j held.
-    let i = index_json (index_of c.args.index.now) in
-    let t = timestamp_json (timestamp_of c.args.index.now) in
+    let i = index_json (index_of c.args.index) in
+    let t = timestamp_json (timestamp_of c.args.index) in
     let others = sorted_others held.0 no_members in
     let with_entries = c.in_ok-put.ensures i others c.in_ok-entries.ensures.text held.2 in
     let stamp = c.in_ok-timestamp.ensures ∙ ap (λ m. compact (timestamp_json m)) c.timestamp.ensures in
