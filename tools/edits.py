@@ -9,6 +9,7 @@ from dataclasses import dataclass
 
 NAME = r"[A-Za-z0-9_-][A-Za-z0-9_.-]*\.edit"
 SOURCES = ("src", "specs", "proofs")
+PROOF_FILES = ("Answers.antt", "Invariants.antt", "Proof.antt")
 FUNCTION = re.compile(r"( *)(?:pub(?:\([a-z]+\))? )?(?:const |unsafe )*fn (\w+)")
 OWNER = re.compile(r" *(?:impl(?:<.*?>)?(?: .*? for)?|(?:pub )?trait) (\w+)")
 
@@ -33,12 +34,6 @@ class Function:
         module = module_of(self.path)
         is_of_module = not module or modules[:1] == [module]
         return name == self.name and is_of_module and (not self.owner or any(it.startswith(self.owner) for it in modules))
-
-    def may_share_proofs(self, other):
-        """Returns whether a folder below proofs/ may seem to be of both functions."""
-        modules = {module_of(self.path), module_of(other.path)}
-        owners = sorted([self.owner, other.owner])
-        return self.name == other.name and (len(modules) == 1 or "" in modules) and owners[1].startswith(owners[0])
 
 
 @dataclass(frozen=True)
@@ -155,13 +150,18 @@ def read_edits(folder):
     return edits, bad
 
 
+def proof_folders(folder):
+    """Returns the folders below a crate's proofs/ that have proof files of a function."""
+    found = (folder / "proofs").rglob("*.antt")
+    return {path.parent.relative_to(folder / "proofs").as_posix() for path in found if path.name in PROOF_FILES}
+
+
 def batches_of(folder, edits):
     """Returns lists of edits that one check can try: at most one of each function. Others are alone."""
-    alone = [[edit] for edit in edits if not edit.function]
-    batches = []
+    alone, batches, proofs = [[edit] for edit in edits if not edit.function], [], proof_folders(folder)
     for edit in (edit for edit in edits if edit.function):
         for batch in batches:
-            if fits(folder, batch, edit):
+            if fits(folder, batch, edit, proofs):
                 batch.append(edit)
                 break
         else:
@@ -169,11 +169,16 @@ def batches_of(folder, edits):
     return batches + alone
 
 
-def fits(folder, batch, edit):
+def fits(folder, batch, edit, proofs):
     """Returns whether a batch has no edit whose reports may seem to be of this one, and can be applied with it."""
-    if any(other.function.may_share_proofs(edit.function) for other in batch):
+    if any(may_be_mistaken(other.function, edit.function, proofs) for other in batch):
         return False
     try:
         return bool(edited(folder, [*batch, edit]))
     except BadEdit:
         return False
+
+
+def may_be_mistaken(one, other, proofs):
+    """Returns whether two functions are the same, or one of these folders of proof files may seem to be of both."""
+    return one == other or any(one.has_proofs_in(it) and other.has_proofs_in(it) for it in proofs)

@@ -4,7 +4,7 @@
     python3 tools/gate.py
 
 `rt ci` would try each edit by a check of its own. The first two run side by side, each with half of the processors, or of
-the checks at once that RT_JOBS allows. The gate fails, and a line says why,
+the checks at once that RT_JOBS allows; once `rt ci` has ended, the edits get them all. The gate fails, and a line says why,
 
 - if a command ends with another exit status than 0, or without its line 'N passed, M failed', or one with failures;
 - if a part that the tests need isn't there: the built program, git, a C compiler and so on;
@@ -260,11 +260,13 @@ def main():
         copy = Path(room) / "copy"
         shutil.copytree(TOP, copy, ignore=shutil.ignore_patterns(*LEFT_OUT))
         program = copy / "crates" / "status_program" / "out" / "status_program"
-        settings = {"RT_JOBS": str(lanes()), "PYTHONDONTWRITEBYTECODE": "1"}
+        more = Path(room) / "rt-ci-has-ended"
+        settings = {"RT_JOBS": str(lanes()), "MORE_JOBS": str(more), "PYTHONDONTWRITEBYTECODE": "1"}
         script = [sys.executable, "tools/must_fail.py"]
         with ThreadPoolExecutor(1) as pool:
             edits = pool.submit(run, "tools/must_fail.py", script, settings, TOP, False)
             ci = run("rt ci", ["rt", "ci"], settings, copy)
+            more.touch()
             edits = edits.result()
         # If no program was built, each test that needs one says that it wasn't run.
         settings["STATUS_PROGRAM"] = str(program) if program.is_file() else ""

@@ -12,8 +12,8 @@ proof, but each goal is at a line of its own function. So an edit is refused if 
 Edits without such a report are tried again without the others, and at last alone. One that changes more than one
 function is tried alone at once. As for `rt must-fail`, an edit alone is refused if the crate isn't proved. All is done in
 copies of the repository, after one pass over the proofs of the crates. As many checks run at once as RT_JOBS says, or as
-there are processors. The last lines tell how many edits were refused, and the minutes of processor for that pass and for
-the edits. The exit status is 0 if all were refused.
+there are processors; twice as many once there is a file of the name in MORE_JOBS. The last lines tell how many edits were
+refused, and the minutes of processor for that pass and for the edits. The exit status is 0 if all were refused.
 """
 
 import os
@@ -39,6 +39,8 @@ TAKEN_AWAY = re.compile(r"has no field|is not in scope|has no `|was not admitted
 IS_FALSE, AT_LIMIT = "at which this goal is false", "gave up at one of its limits"
 ONLY_TAKEN_AWAY = "(only because a proof file names what the edit took away) "
 ONLY_AT_LIMIT = "(only at a limit of the prover) "
+# The most checks that run at once, and the seconds after which their number is looked up again.
+MOST_LANES, SECONDS = 64, 5
 # A definition that can't be read: an edit of it shows nothing.
 UNREADABLE = re.compile(r"(?:\./)?(?:src|specs)/\S+:\d+:\d+: error: .*")
 
@@ -236,21 +238,21 @@ class Run:
             print(f"must-fail: {line}", flush=True)
 
     def all(self, lanes):
-        """Proves the libraries and tries all edits, as many checks at once as there are lanes."""
+        """Proves the libraries and tries all edits, as many checks at once as `lanes` returns."""
         make_room(self.top, self.base, self.libraries())
         proofs, batches, running, proved = self.libraries(), [], {}, set()
-        with ThreadPoolExecutor(lanes) as pool:
+        with ThreadPoolExecutor(MOST_LANES) as pool:
             while proofs or batches or running:
-                ready = [name for name in proofs if proved.issuperset(self.below[name])]
-                for name in ready[: lanes - len(running)]:
+                free = lanes() - len(running)
+                for name in [name for name in proofs if proved.issuperset(self.below[name])][: max(free, 0)]:
                     proofs.remove(name)
                     running[pool.submit(self.prove, name)] = name
-                while batches and len(running) < lanes:
+                while batches and len(running) < lanes():
                     crate, edits = batches.pop(0)
                     running[pool.submit(self.judge, crate, edits)] = (crate, edits)
                 if not running:
                     break
-                for done in wait(running, return_when=FIRST_COMPLETED).done:
+                for done in wait(running, timeout=SECONDS, return_when=FIRST_COMPLETED).done:
                     self.ended(running.pop(done), done, proved, batches)
         for name in proofs:
             self.untried(name, "a library below it isn't proved")
@@ -281,9 +283,14 @@ def summary(run):
     return [*lines, f"{len(run.refused)} passed, {run.failed} failed"]
 
 
+def lanes():
+    """Returns how many checks run at once."""
+    number, more = os.environ.get("RT_JOBS", ""), os.environ.get("MORE_JOBS")
+    first = int(number) if number.isdigit() and int(number) else len(os.sched_getaffinity(0))
+    return min(2 * first if more and os.path.exists(more) else first, MOST_LANES)
+
+
 def main(names):
-    number = os.environ.get("RT_JOBS", "")
-    lanes = int(number) if number.isdigit() and int(number) else len(os.sched_getaffinity(0))
     with tempfile.TemporaryDirectory(prefix="must-fail-") as folder:
         run = Run(TOP, Path(folder), names)
         for line in run.lines:

@@ -8,6 +8,7 @@ import shutil
 import tempfile
 import unittest
 from pathlib import Path
+from unittest import mock
 
 import edits
 import must_fail
@@ -98,18 +99,22 @@ class Reading(unittest.TestCase):
             ("other/State/put", False),
         ]:
             self.assertEqual(deep.has_proofs_in(folder), is_own, folder)
-        for path, owner, name, may_share in [
-            ("src/state.rt", "State", "put", True),
-            ("src/state/more.rt", "StateLock", "put", True),
-            ("src/state.rt", "", "put", True),
-            ("src/lib.rt", "State", "put", True),
-            ("src/state.rt", "Other", "put", False),
-            ("src/other.rt", "State", "put", False),
-            ("src/state.rt", "State", "get", False),
-        ]:
-            self.assertEqual(deep.may_share_proofs(edits.Function(path, 5, 6, owner, name)), may_share, (path, owner, name))
         self.assertTrue(FREE.has_proofs_in("free"))
         self.assertFalse(FREE.has_proofs_in("free/more"))
+
+    def test_functions_are_mistaken_for_each_other_if_proof_files_may_be_of_both(self):
+        one = edits.Function("src/state.rt", 1, 2, "State", "put")
+        for other, proofs, may_be in [
+            (one, set(), True),
+            (edits.Function("src/state.rt", 5, 6, "State", "put"), set(), False),
+            (edits.Function("src/state.rt", 5, 6, "State", "put"), {"state/StateClone/put"}, True),
+            (edits.Function("src/state/more.rt", 5, 6, "State", "put"), {"state/State/put"}, True),
+            (edits.Function("src/state.rt", 5, 6, "StateLock", "put"), {"state/State/put"}, False),
+            (edits.Function("src/state.rt", 5, 6, "StateLock", "put"), {"state/StateLock/put"}, True),
+            (edits.Function("src/other.rt", 5, 6, "State", "put"), {"state/State/put"}, False),
+            (edits.Function("src/state.rt", 5, 6, "State", "get"), {"state/State/put"}, False),
+        ]:
+            self.assertEqual(edits.may_be_mistaken(one, other, proofs), may_be, (other, proofs))
 
 
 class Planted(unittest.TestCase):
@@ -171,6 +176,15 @@ class Planted(unittest.TestCase):
             ["lib HANDLES crates crates.txt high low"] * 2 + ["check HANDLES crates crates.txt high low"],
         )
 
+    def test_functions_whose_proof_files_may_be_mistaken_are_tried_apart(self):
+        self.write("crates/high/src/lib.rt", LIB + LIB[LIB.index("impl<T> From<T>") : LIB.index("fn free")].replace("From<T>", "Into<T>").replace("(value)", "(again)"))
+        self.edit("again", "src/lib.rt", "        Cell(again)", "        Cell(nothing(again))")
+        report = [("nothing(again)", f"note: src/lib.rt:31:5: {NOT_PROVED}")]
+        self.assertEqual((self.ran(REPORTS + report)[0][-1], self.checks()), ("must-fail: 5 passed, 0 failed", 1))
+        self.log.unlink()
+        self.write("crates/high/proofs/Cell/from/Answers.antt", "")
+        self.assertEqual((self.ran(REPORTS + report)[0][-1], self.checks()), ("must-fail: 5 passed, 0 failed", 2))
+
     def test_two_edits_of_a_function_are_tried_apart(self):
         self.edit("six_again", *EDITS["six"])
         self.assertEqual((self.ran()[0][-1], self.checks()), ("must-fail: 5 passed, 0 failed", 2))
@@ -228,6 +242,15 @@ class Planted(unittest.TestCase):
         lines, status = self.ran()
         self.assertEqual((lines[-1], status), ("must-fail: 0 passed, 4 failed", 1))
         self.assertIn("must-fail: high/six.edit: NOT TRIED: a library below it isn't proved", lines)
+
+    def test_twice_as_many_checks_run_once_a_file_is_there(self):
+        more = self.top.parent / "more"
+        with mock.patch.dict(os.environ, {"RT_JOBS": "3", "MORE_JOBS": str(more)}):
+            self.assertEqual(must_fail.lanes(), 3)
+            more.touch()
+            self.assertEqual(must_fail.lanes(), 6)
+            os.environ["RT_JOBS"] = "40"
+            self.assertEqual(must_fail.lanes(), must_fail.MOST_LANES)
 
     def test_named_crates_alone_are_tried(self):
         self.write("crates/low/must-fail/six.edit", "file: src/lib.rt\nold:     7\nnew:     6\n")

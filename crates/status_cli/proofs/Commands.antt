@@ -6,6 +6,7 @@ use Rattle.status_compare.specs.declared.error.Error.{Error}
 use Rattle.status_call.specs.declared.index_as_worktree.apply.ApplyChange.{ApplyChange}
 use Rattle.status_call.specs.declared.index_as_worktree.types.Outcome.{Outcome}
 use Rattle.status_call.specs.Query.{Query}
+use Rattle.status_call.specs.StatusOf.{IsUnspawned}
 use Rattle.status_call.specs.StatusTheorem.{IsMet}
 use Rattle.status_call.specs.Visits.{Visit}
 use Rattle.status_index.specs.declared.id.HashKind.{HashKind}
@@ -65,12 +66,12 @@ if_failed (Ok x) P Q h = absurd h
 if_failed (Err e) P Q h = tt
 
 -- a status failed while it was printed, or after it
-pub printed_failed : {T U A : Type 0} (view : A → List ApplyChange) (query : Query T U) (index : State) (counts : Bool) (wanted : Changes) (none visits : List (Visit T U)) (answer : Result Outcome Error) (old new : Option (List ℕ)) (r : Result A Failure) (P : Failure → Type 0)
-    → IsErrAnd r P → none ≡ [] → IsMet query index none answer visits → IfOk answer (λ o. o.interrupted ≡ false) → IsEnded (visit_lines visits ++ closing counts (answered answer)) (answered answer) old r new
-    → IsStatusPrinted query index counts wanted old (result_map view r) new
-printed_failed view query index counts wanted none visits answer old new (Ok x) P failed empty met whole ended = absurd failed
-printed_failed {A = A} view query index counts wanted none visits answer old new (Err e) P failed empty met whole ended =
-    printed_status query index counts wanted none visits answer old new (Err e) empty met whole (ended_alike {A = A} _ _ old new (Err e) (Err e) refl ended) tt
+pub printed_failed : {T U A : Type 0} (view : A → List ApplyChange) (query : Query T U) (limit : Option ℕ) (index : State) (counts : Bool) (wanted : Changes) (none visits : List (Visit T U)) (answer : Result Outcome Error) (old new : Option (List ℕ)) (r : Result A Failure) (P : Failure → Type 0)
+    → IsErrAnd r P → none ≡ [] → IsMet query index none answer visits → IfOk answer (λ o. o.interrupted ≡ false) → IsUnspawned query limit answer → IsEnded (visit_lines visits ++ closing counts (answered answer)) (answered answer) old r new
+    → IsStatusPrinted query limit index counts wanted old (result_map view r) new
+printed_failed view query limit index counts wanted none visits answer old new (Ok x) P failed empty met whole alone ended = absurd failed
+printed_failed {A = A} view query limit index counts wanted none visits answer old new (Err e) P failed empty met whole alone ended =
+    printed_status query limit index counts wanted none visits answer old new (Err e) empty met whole alone (ended_alike {A = A} _ _ old new (Err e) (Err e) refl ended) tt
 
 module _ (hash : HashKind) (options : ProfileOptions) (index : State) (old : Option (List ℕ)) (changes : List ApplyChange) (new : Option (List ℕ)) where
   over_dropped : (w : WorktreeResults) (prefix : List ℕ) (included : List ℕ → Bool → Bool) (walking : Walking) → IsStatusOver w options index prefix included walking hash Dropped old (Ok changes) new → changes ≡ []

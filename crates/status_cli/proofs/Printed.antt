@@ -20,6 +20,7 @@ use Rattle.status_joined.specs.declared.index_as_worktree_with_renames.types.Out
 use Rattle.status_profile.specs.Options.{OptionValues}
 use Rattle.status_compare.specs.declared.error.Error.{Error}
 use Rattle.status_call.specs.Query.{Query}
+use Rattle.status_call.specs.StatusOf.{IsUnspawned}
 use Rattle.status_call.specs.StatusTheorem.{IsMet}
 use Rattle.status_call.specs.Visits.{Visit}
 
@@ -127,11 +128,11 @@ ended_then T text (Ok o) old new v (Err e) why ended = (all_begun text old new e
 ended_then T text (Err f) old new v result why ended = absurd ended
 
 -- a status reported to a collector that had no record, and this was printed of it
-pub printed_status : {T U : Type 0} (query : Query T U) (index : State) (counts : Bool) (wanted : Changes) (none visits : List (Visit T U)) (answer : Result Outcome Error) (old new : Option (List ℕ)) (result : Result (List ApplyChange) Failure)
-    → none ≡ [] → IsMet query index none answer visits → IfOk answer (λ o. o.interrupted ≡ false) → IsEnded (visit_lines visits ++ closing counts (answered answer)) (answered answer) old result new
-    → IfOk result (λ changes. changes ≡ returned_changes wanted visits) → IsStatusPrinted query index counts wanted old result new
-printed_status query index counts wanted none visits answer old new result empty met whole ended returned =
-    record { visits = visits; answer = answer; met = subst (λ start. IsMet query index start answer visits) empty met; whole = whole; ended = ended; returned = returned }
+pub printed_status : {T U : Type 0} (query : Query T U) (limit : Option ℕ) (index : State) (counts : Bool) (wanted : Changes) (none visits : List (Visit T U)) (answer : Result Outcome Error) (old new : Option (List ℕ)) (result : Result (List ApplyChange) Failure)
+    → none ≡ [] → IsMet query index none answer visits → IfOk answer (λ o. o.interrupted ≡ false) → IsUnspawned query limit answer → IsEnded (visit_lines visits ++ closing counts (answered answer)) (answered answer) old result new
+    → IfOk result (λ changes. changes ≡ returned_changes wanted visits) → IsStatusPrinted query limit index counts wanted old result new
+printed_status query limit index counts wanted none visits answer old new result empty met whole alone ended returned =
+    record { visits = visits; answer = answer; met = subst (λ start. IsMet query index start answer visits) empty met; whole = whole; alone = alone; ended = ended; returned = returned }
 
 pub printed_joined : {T U A : Type 0} (inputs : JoinedInputs T U) (o : OptionValues) (hash : HashKind) (index : State) (none entries : List (Reported T U)) (answer : Result JoinedOutcome JoinedError) (old new : Option (List ℕ)) (result : Result A Failure)
     → none ≡ [] → IsJoinedAnswer inputs o hash index true none answer entries → IsEnded (entry_lines entries ++ closing o.counts (joined_answered answer)) (joined_answered answer) old result new → IsJoinedPrinted inputs o hash index old result new

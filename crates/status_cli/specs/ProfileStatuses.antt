@@ -108,7 +108,7 @@ IsUnplanted nodes failure = (failure ≡ Memory) ⊎ (planted 0 empty_tree nodes
 module _ (w : WorktreeResults) (options : ProfileOptions) (index : State) (prefix : List ℕ) (included : List ℕ → Bool → Bool) where
   -- over a worktree and of these paths, the lines of a plain status by a profile's options were printed
   abbrev pub IsPlainOver : Changes → Option (List ℕ) → Result (List ApplyChange) Failure → Option (List ℕ) → Type 0
-  IsPlainOver wanted old result new = IsStatusPrinted (options_query (option_values options) (timestamp_of index) w prefix included) index options.counts wanted old result new
+  IsPlainOver wanted old result new = IsStatusPrinted (options_query (option_values options) (timestamp_of index) w prefix included) options.status.thread_limit index options.counts wanted old result new
 
   -- those of a joined status, by what there is to walk
   abbrev pub IsJoinedOver : {A : Type 0} → Walking → HashKind → Option (List ℕ) → Result A Failure → Option (List ℕ) → Type 0

@@ -9,6 +9,7 @@ use Rattle.status_call.specs.declared.index_as_worktree.apply.ApplyChange.{Apply
 use Rattle.status_call.specs.declared.index_as_worktree.types.Outcome.{Outcome}
 use Rattle.status_call.specs.IndexChanges.{changes_of}
 use Rattle.status_call.specs.Query.{Query}
+use Rattle.status_call.specs.StatusOf.{IsUnspawned}
 use Rattle.status_call.specs.StatusTheorem.{IsMet}
 use Rattle.status_call.specs.Visits.{Visit}
 use Rattle.status_joined.specs.Items.{Reported}
@@ -67,13 +68,14 @@ abbrev pub returned_changes : {T U : Type 0} → Changes → List (Visit T U) �
 returned_changes Returned visits = changes_of visits
 returned_changes Dropped visits = []
 
--- a status of this index was computed by this query; it wasn't interrupted if it succeeded; its lines, with `counts` also its
--- totals, were printed as it ended; and the changes that its records ask for were returned, or dropped
-pub record IsStatusPrinted {T U : Type 0} (query : Query T U) (index : State) (counts : Bool) (wanted : Changes) (old : Option (List ℕ)) (result : Result (List ApplyChange) Failure) (new : Option (List ℕ)) : Type 0 where
+-- a status of this index was computed by this query; it wasn't interrupted if it succeeded, nor refused a thread if this limit is one; its
+-- lines, with `counts` also its totals, were printed as it ended; and the changes that its records ask for were returned, or dropped
+pub record IsStatusPrinted {T U : Type 0} (query : Query T U) (limit : Option ℕ) (index : State) (counts : Bool) (wanted : Changes) (old : Option (List ℕ)) (result : Result (List ApplyChange) Failure) (new : Option (List ℕ)) : Type 0 where
   pub visits : List (Visit T U)
   pub answer : Result Outcome Error
   pub met : IsMet query index [] answer visits
   pub whole : IfOk answer (λ outcome. outcome.interrupted ≡ false)
+  pub alone : IsUnspawned query limit answer
   pub ended : IsEnded (visit_lines visits ++ closing counts (answered answer)) (answered answer) old result new
   pub returned : IfOk result (λ changes. changes ≡ returned_changes wanted visits)
 
