@@ -23,6 +23,9 @@ use Rattle.status_cli.specs.Printing.{result_map}
 use Rattle.status_cli.specs.Statuses.{IsJoinedPrinted, IsStatusPrinted, IsEnded, JoinedInputs, answered, closing, visit_lines}
 use Rattle.status_cli.specs.ProfileStatuses.{IsPlacePrinted, IsPrintedOver, IsStatusOver, WorktreeResults, folder_results, folder_walk, tree_results, tree_walk}
 use Rattle.status_cli.proofs.Printed.{printed_status}
+use Rattle.status_index.specs.declared.id.ObjectId.{ObjectId}
+use Rattle.status_world.specs.declared.world.event.Comparer.{Comparer}
+use Rattle.status_world.specs.StampedWorld.{compared_by}
 
 -- both succeeded, or both failed for one reason
 abbrev pub AreAlike : {A B : Type 0} → Result A Failure → Result B Failure → Type 0
@@ -66,12 +69,12 @@ if_failed (Ok x) P Q h = absurd h
 if_failed (Err e) P Q h = tt
 
 -- a status failed while it was printed, or after it
-pub printed_failed : {T U A : Type 0} (view : A → List ApplyChange) (query : Query T U) (limit : Option ℕ) (index : State) (counts : Bool) (wanted : Changes) (none visits : List (Visit T U)) (answer : Result Outcome Error) (old new : Option (List ℕ)) (r : Result A Failure) (P : Failure → Type 0)
-    → IsErrAnd r P → none ≡ [] → IsMet query index none answer visits → IfOk answer (λ o. o.interrupted ≡ false) → IsUnspawned query limit answer → IsEnded (visit_lines visits ++ closing counts (answered answer)) (answered answer) old r new
+pub printed_failed : {U A : Type 0} (view : A → List ApplyChange) (c : Comparer) (query : Query (Option ObjectId) U) (limit : Option ℕ) (index : State) (counts : Bool) (wanted : Changes) (none visits : List (Visit (Option ObjectId) U)) (answer : Result Outcome Error) (old new : Option (List ℕ)) (r : Result A Failure) (P : Failure → Type 0)
+    → IsErrAnd r P → none ≡ [] → IsMet query index none answer visits → IfOk answer (λ o. o.interrupted ≡ false) → query.compared ≡ compared_by c → IsUnspawned query limit answer → IsEnded (visit_lines visits ++ closing counts (answered answer)) (answered answer) old r new
     → IsStatusPrinted query limit index counts wanted old (result_map view r) new
-printed_failed view query limit index counts wanted none visits answer old new (Ok x) P failed empty met whole alone ended = absurd failed
-printed_failed {A = A} view query limit index counts wanted none visits answer old new (Err e) P failed empty met whole alone ended =
-    printed_status query limit index counts wanted none visits answer old new (Err e) empty met whole alone (ended_alike {A = A} _ _ old new (Err e) (Err e) refl ended) tt
+printed_failed view c query limit index counts wanted none visits answer old new (Ok x) P failed empty met whole by alone ended = absurd failed
+printed_failed {A = A} view c query limit index counts wanted none visits answer old new (Err e) P failed empty met whole by alone ended =
+    printed_status c query limit index counts wanted none visits answer old new (Err e) empty met whole by alone (ended_alike {A = A} _ _ old new (Err e) (Err e) refl ended) tt
 
 module _ (hash : HashKind) (options : ProfileOptions) (index : State) (old : Option (List ℕ)) (changes : List ApplyChange) (new : Option (List ℕ)) where
   over_dropped : (w : WorktreeResults) (prefix : List ℕ) (included : List ℕ → Bool → Bool) (walking : Walking) → IsStatusOver w options index prefix included walking hash Dropped old (Ok changes) new → changes ≡ []

@@ -23,6 +23,10 @@ use Rattle.status_call.specs.Query.{Query}
 use Rattle.status_call.specs.StatusOf.{IsUnspawned}
 use Rattle.status_call.specs.StatusTheorem.{IsMet}
 use Rattle.status_call.specs.Visits.{Visit}
+use Rattle.status_index.specs.declared.id.ObjectId.{ObjectId}
+use Rattle.status_world.specs.declared.world.event.Comparer.{Comparer}
+use Rattle.status_world.specs.StampedWorld.{compared_by}
+use Rattle.status_cli.proofs.NoThreads.{lone_comparers}
 
 -- nothing was printed
 pub none_printed : (text : List ℕ) (known : Option (List ℕ)) → IsBegun text known known
@@ -128,11 +132,11 @@ ended_then T text (Ok o) old new v (Err e) why ended = (all_begun text old new e
 ended_then T text (Err f) old new v result why ended = absurd ended
 
 -- a status reported to a collector that had no record, and this was printed of it
-pub printed_status : {T U : Type 0} (query : Query T U) (limit : Option ℕ) (index : State) (counts : Bool) (wanted : Changes) (none visits : List (Visit T U)) (answer : Result Outcome Error) (old new : Option (List ℕ)) (result : Result (List ApplyChange) Failure)
-    → none ≡ [] → IsMet query index none answer visits → IfOk answer (λ o. o.interrupted ≡ false) → IsUnspawned query limit answer → IsEnded (visit_lines visits ++ closing counts (answered answer)) (answered answer) old result new
+pub printed_status : {U : Type 0} (c : Comparer) (query : Query (Option ObjectId) U) (limit : Option ℕ) (index : State) (counts : Bool) (wanted : Changes) (none visits : List (Visit (Option ObjectId) U)) (answer : Result Outcome Error) (old new : Option (List ℕ)) (result : Result (List ApplyChange) Failure)
+    → none ≡ [] → IsMet query index none answer visits → IfOk answer (λ o. o.interrupted ≡ false) → query.compared ≡ compared_by c → IsUnspawned query limit answer → IsEnded (visit_lines visits ++ closing counts (answered answer)) (answered answer) old result new
     → IfOk result (λ changes. changes ≡ returned_changes wanted visits) → IsStatusPrinted query limit index counts wanted old result new
-printed_status query limit index counts wanted none visits answer old new result empty met whole alone ended returned =
-    record { visits = visits; answer = answer; met = subst (λ start. IsMet query index start answer visits) empty met; whole = whole; alone = alone; ended = ended; returned = returned }
+printed_status c query limit index counts wanted none visits answer old new result empty met whole by alone ended returned =
+    record { visits = visits; answer = answer; met = subst (λ start. IsMet query index start answer visits) empty met; whole = whole; alone = lone_comparers query c by limit answer alone; ended = ended; returned = returned }
 
 pub printed_joined : {T U A : Type 0} (inputs : JoinedInputs T U) (o : OptionValues) (hash : HashKind) (index : State) (none entries : List (Reported T U)) (answer : Result JoinedOutcome JoinedError) (old new : Option (List ℕ)) (result : Result A Failure)
     → none ≡ [] → IsJoinedAnswer inputs o hash index true none answer entries → IsEnded (entry_lines entries ++ closing o.counts (joined_answered answer)) (joined_answered answer) old result new → IsJoinedPrinted inputs o hash index old result new

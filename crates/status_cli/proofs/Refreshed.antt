@@ -1,5 +1,5 @@
 -- How a refresh ends, by the ends of its parts.
-use Rattle.std.proofs.Common.{◌≡◌, false, ℕ, List, Option, Some, Result, Ok, Err, inl, inr, refl, sym, ap, subst, ◌∙◌}
+use Rattle.std.proofs.Common.{◌≡◌, false, ℕ, List, [], ◌++◌, Option, Some, Result, Ok, Err, inl, inr, refl, sym, ap, subst, ◌∙◌}
 use Rattle.std.specs.Prelude.{◌⊎◌, IfErr}
 use Rattle.std.specs.Result.{IsErrAnd}
 use Rattle.json.specs.Json.{Json, document}
@@ -81,6 +81,15 @@ module _ (text : List ℕ) (old new : Option (List ℕ)) (p : Profile) (read : I
     failed_text e unwritten f is = inr (status, e, subst (λ es. IsUnwritten es e) refreshed.2 unwritten, is)
 
     -- it is made
-    pub text_made : (j : Json) → document text ≡ Some j → (bytes : List ℕ) → bytes ≡ refreshed_text j (index_of index) (timestamp_of index) → IsRefreshed text timestamp old new bytes
+    pub text_made : (j : Json) → document text ≡ Some j → (bytes : List ℕ) → bytes ≡ refreshed_text j (index_of index) (timestamp_of index) → IsRefreshed text timestamp old new [] bytes
     text_made j parsed bytes is =
         (status, j, parsed, is ∙ ap (λ es. refreshed_text j es (timestamp_of index)) refreshed.2 ∙ ap (refreshed_text j (applied refreshed.0 (index_of p.index))) refreshed.3)
+
+module _ (text : List ℕ) (timestamp : Moment) (old new : Option (List ℕ)) (before added : List ℕ) (h : IsRefreshed text timestamp old new [] added) where
+  -- the refreshed text was appended
+  pub text_appended : (after : List ℕ) → after ≡ before ++ added → IsRefreshed text timestamp old new before after
+  text_appended after grew = (h.0, h.1, h.2, grew ∙ ap (λ text. before ++ text) h.3)
+
+  -- there was no memory for it
+  pub text_lost : IsRefreshFailed text old Memory new
+  text_lost = inr (h.0, profiles.Memory, tt, refl)

@@ -1,6 +1,6 @@
 -- A refresh prints a profile's status, and then writes the profile again, with the changes that the status asks for in its index and with
 -- this timestamp.
-use Rattle.std.specs.Prelude.{◌≡◌, ◌⊎◌, ℕ, List, Option, Some, Result, Ok, Err}
+use Rattle.std.specs.Prelude.{◌≡◌, ◌⊎◌, ℕ, List, ◌++◌, Option, Some, Result, Ok, Err}
 use Rattle.json.specs.Json.{Json, document}
 use Rattle.status_index.specs.Entries.{IndexEntry}
 use Rattle.status_index.specs.States.{index_of, timestamp_of}
@@ -36,10 +36,10 @@ pub record PrintedStatus (text : List ℕ) (old new : Option (List ℕ)) : Type 
 abbrev pub refreshed_entries : {text : List ℕ} {old new : Option (List ℕ)} → PrintedStatus text old new → List IndexEntry
 refreshed_entries s = applied s.changes (index_of s.profile.index)
 
--- the status was printed, and these bytes are the refreshed text of the text's JSON value, with these entries and this timestamp
-abbrev pub IsRefreshed : List ℕ → Moment → Option (List ℕ) → Option (List ℕ) → List ℕ → Type 0
-IsRefreshed text timestamp old new refreshed =
-    (s : PrintedStatus text old new) × (j : Json) × (document text ≡ Some j) × (refreshed ≡ refreshed_text j (refreshed_entries s) timestamp)
+-- the status was printed, and a list of bytes grew by the refreshed text of the text's JSON value, with these entries and this timestamp
+abbrev pub IsRefreshed : List ℕ → Moment → Option (List ℕ) → Option (List ℕ) → List ℕ → List ℕ → Type 0
+IsRefreshed text timestamp old new before after =
+    (s : PrintedStatus text old new) × (j : Json) × (document text ≡ Some j) × (after ≡ before ++ refreshed_text j (refreshed_entries s) timestamp)
 
 -- the status was printed, but these entries can't be written, for this reason
 abbrev pub IsUnrefreshed : List ℕ → Option (List ℕ) → Failure → Option (List ℕ) → Type 0

@@ -1,15 +1,15 @@
 -- The lines of a status that meets its theorem, and its failure if it fails; or a beginning if output or memory fails.
-use Rattle.std.specs.Prelude.{◌≡◌, ◌⊎◌, Bool, true, false, ℕ, List, [], ◌++◌, Option, Some, None, Result, Ok, Err, IfOk, if◌then◌else◌}
+use Rattle.std.specs.Prelude.{◌≡◌, ◌≢◌, ◌⊎◌, IsTrue, Bool, true, false, ℕ, List, [], ◌++◌, Option, Some, None, Result, Ok, Err, IfOk, if◌then◌else◌}
 use Rattle.std.specs.List.{flat_map}
 use Rattle.std.specs.Io.KnownBytes.{Appends}
 use Rattle.status_index.specs.declared.id.HashKind.{HashKind}
 use Rattle.status_index.specs.declared.state.State.{State}
 use Rattle.status_compare.specs.declared.error.Error.{Error}
+use Rattle.status_compare.specs.declared.error.Error.TheVariants.{SpawnThread}
 use Rattle.status_call.specs.declared.index_as_worktree.apply.ApplyChange.{ApplyChange}
 use Rattle.status_call.specs.declared.index_as_worktree.types.Outcome.{Outcome}
 use Rattle.status_call.specs.IndexChanges.{changes_of}
 use Rattle.status_call.specs.Query.{Query}
-use Rattle.status_call.specs.StatusOf.{IsUnspawned}
 use Rattle.status_call.specs.StatusTheorem.{IsMet}
 use Rattle.status_call.specs.Visits.{Visit}
 use Rattle.status_joined.specs.Items.{Reported}
@@ -68,14 +68,15 @@ abbrev pub returned_changes : {T U : Type 0} → Changes → List (Visit T U) �
 returned_changes Returned visits = changes_of visits
 returned_changes Dropped visits = []
 
--- a status of this index was computed by this query; it wasn't interrupted if it succeeded, nor refused a thread if this limit is one; its
--- lines, with `counts` also its totals, were printed as it ended; and the changes that its records ask for were returned, or dropped
+-- a status of this index was computed by this query; it wasn't interrupted if it succeeded; if it is modelled and this limit is one, it
+-- wasn't refused a thread; its lines, with `counts` also its totals, were printed as it ended; and the changes that its records ask for
+-- were returned, or dropped
 pub record IsStatusPrinted {T U : Type 0} (query : Query T U) (limit : Option ℕ) (index : State) (counts : Bool) (wanted : Changes) (old : Option (List ℕ)) (result : Result (List ApplyChange) Failure) (new : Option (List ℕ)) : Type 0 where
   pub visits : List (Visit T U)
   pub answer : Result Outcome Error
   pub met : IsMet query index [] answer visits
   pub whole : IfOk answer (λ outcome. outcome.interrupted ≡ false)
-  pub alone : IsUnspawned query limit answer
+  pub alone : IsTrue query.modelled → limit ≡ Some 1 → answer ≢ Err SpawnThread
   pub ended : IsEnded (visit_lines visits ++ closing counts (answered answer)) (answered answer) old result new
   pub returned : IfOk result (λ changes. changes ≡ returned_changes wanted visits)
 

@@ -120,9 +120,20 @@ where
             Command::Status => run_status(rt, file, &mut profile, &mut output, faults),
             Command::Replay => run_replay(rt, file, &mut profile, &mut output, faults),
             Command::Refresh { out, secs, nsecs } => {
-                match run_refresh(rt, file, secs, nsecs, &mut profile, &mut output, faults) {
-                    Some(text) => write_refreshed(rt, out.as_str(), &text, faults),
-                    None => 1,
+                let mut refreshed = Vec::new(rt.alloc());
+                let status = run_refresh(
+                    rt,
+                    file,
+                    secs,
+                    nsecs,
+                    &mut profile,
+                    &mut output,
+                    faults,
+                    &mut refreshed,
+                );
+                match status {
+                    0 => write_refreshed(rt, out.as_str(), &refreshed, faults),
+                    failed => failed,
                 }
             }
         },

@@ -1,4 +1,4 @@
-use Rattle.std.proofs.Common.{◌≡◌, Ok, Err, sym, subst}
+use Rattle.std.proofs.Common.{◌≡◌, [], Ok, Err, sym, subst}
 use Rattle.std.specs.Prelude.{◌⊎◌}
 use Rattle.status_profile.specs.Profiles.{IsRead}
 use Rattle.status_profile.specs.Texts.{IsTextsRead}
@@ -71,5 +71,5 @@ returns-clause-ok g c =
     let read : IsRead Plain text (Ok p) = rw c.as_slice.ensures.value at c.in_ok-profile.ensures in
     let held : IsTextsRead text (Ok m) = subst (λ t. IsTextsRead t (Ok m)) c.as_slice-2.ensures.value c.in_ok-members.ensures in
     let refreshed : IsIndexRefreshed p c.args.timestamp old (Ok c.in_ok-index.index) new = subst (λ r. IsIndexRefreshed p c.args.timestamp old r new) c.in_ok-index.was c.refresh_index.ensures in
-    of_known (λ all. IsRefreshed all c.args.timestamp old new bytes) _ text c.in_ok-text.ensures.ok
+    of_known (λ all. IsRefreshed all c.args.timestamp old new [] bytes) _ text c.in_ok-text.ensures.ok
     (text_made text old new p read c.args.timestamp c.in_ok-index.index refreshed held.1.0 held.1.1 bytes (c.in_ok-with_index.ensures.text held.1.0 held.1.2))

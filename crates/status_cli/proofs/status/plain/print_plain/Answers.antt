@@ -1,4 +1,4 @@
-use Rattle.std.proofs.Common.{subst, sym}
+use Rattle.std.proofs.Common.{refl, subst, sym}
 use Rattle.std.specs.Prelude.{vec_items}
 use Rattle.status_index.specs.States.{index_of}
 use Rattle.status_call.specs.IndexChanges.{AreInside}
@@ -19,7 +19,7 @@ returns-in_err-print_records-clause-printed g c =
     let call = c.index_as_worktree_with_defaults-answer in
     let visits = visits_of call.new.collector in
     let failed = c.from_residual in
-    printed_failed vec_items _ _ _ _ _ _ visits call.result _ _ failed.result _ failed.ensures.1 c.new-recorder.ensures call.ensures.all call.ensures.uninterrupted call.ensures.alone
+    printed_failed vec_items c.args.status.options.comparer _ _ _ _ _ _ visits call.result _ _ failed.result _ failed.ensures.1 c.new-recorder.ensures call.ensures.all call.ensures.uninterrupted refl call.ensures.alone
     (ended_early (visit_lines visits) (closing c.args.status.options.counts (answered call.result)) (answered call.result) _ _ _ failed.result failed.ensures.1
     (rw c.as_slice.ensures.value at c.in_err-print_records.ensures.0) c.in_err-print_records.ensures.1)
 
@@ -28,7 +28,7 @@ returns-in_err-print_closing-clause-printed g c =
     let call = c.index_as_worktree_with_defaults-answer in
     let visits = visits_of call.new.collector in
     let failed = c.from_residual-in_err-print_closing in
-    printed_failed vec_items _ _ _ _ _ _ visits call.result _ _ failed.result _ failed.ensures.1 c.new-recorder.ensures call.ensures.all call.ensures.uninterrupted call.ensures.alone
+    printed_failed vec_items c.args.status.options.comparer _ _ _ _ _ _ visits call.result _ _ failed.result _ failed.ensures.1 c.new-recorder.ensures call.ensures.all call.ensures.uninterrupted refl call.ensures.alone
     (ended_failed Unit _ _ _ _ _ failed.result failed.ensures.1
     (ended_after (visit_lines visits) (closing c.args.status.options.counts (answered call.result)) (answered call.result) _ _ _ _
     (rw c.as_slice.ensures.value at c.in_ok-print_records.ensures) (rw (c.in_err-print_closing.was, c.with_failure.ensures) at c.print_closing.ensures)))
@@ -38,7 +38,7 @@ returns-in_err-changes-in-Returned-clause-printed g c =
     let call = c.index_as_worktree_with_defaults-answer in
     let visits = visits_of call.new.collector in
     let failed = c.from_residual-in_err-changes-in-Returned in
-    printed_failed vec_items _ _ _ _ _ _ visits call.result _ _ failed.result _ failed.ensures.1 c.new-recorder.ensures call.ensures.all call.ensures.uninterrupted call.ensures.alone
+    printed_failed vec_items c.args.status.options.comparer _ _ _ _ _ _ visits call.result _ _ failed.result _ failed.ensures.1 c.new-recorder.ensures call.ensures.all call.ensures.uninterrupted refl call.ensures.alone
     (ended_then Unit _ _ _ _ c.in_ok-print_closing.field-0 failed.result (memory_unprinted _ failed.ensures.1)
     (ended_after (visit_lines visits) (closing c.args.status.options.counts (answered call.result)) (answered call.result) _ _ _ _
     (rw c.as_slice.ensures.value at c.in_ok-print_records.ensures) (rw (c.in_ok-print_closing.was, c.with_failure.ensures) at c.print_closing.ensures)))
@@ -47,7 +47,7 @@ pub returns-in-Returned-clause-printed : goal.returns-in-Returned-clause-printed
 returns-in-Returned-clause-printed g c =
     let call = c.index_as_worktree_with_defaults-answer in
     let visits = visits_of call.new.collector in
-    printed_status _ _ _ _ _ _ visits call.result _ _ _ c.new-recorder.ensures call.ensures.all call.ensures.uninterrupted call.ensures.alone
+    printed_status c.args.status.options.comparer _ _ _ _ _ _ visits call.result _ _ _ c.new-recorder.ensures call.ensures.all call.ensures.uninterrupted refl call.ensures.alone
     (ended_then Unit _ _ _ _ c.in_ok-print_closing.field-0 _ tt
     (ended_after (visit_lines visits) (closing c.args.status.options.counts (answered call.result)) (answered call.result) _ _ _ _
     (rw c.as_slice.ensures.value at c.in_ok-print_records.ensures) (rw (c.in_ok-print_closing.was, c.with_failure.ensures) at c.print_closing.ensures)))
@@ -57,7 +57,7 @@ pub returns-clause-printed : goal.returns-clause-printed
 returns-clause-printed g c =
     let call = c.index_as_worktree_with_defaults-answer in
     let visits = visits_of call.new.collector in
-    printed_status _ _ _ _ _ _ visits call.result _ _ _ c.new-recorder.ensures call.ensures.all call.ensures.uninterrupted call.ensures.alone
+    printed_status c.args.status.options.comparer _ _ _ _ _ _ visits call.result _ _ _ c.new-recorder.ensures call.ensures.all call.ensures.uninterrupted refl call.ensures.alone
     (ended_then Unit _ _ _ _ c.in_ok-print_closing.field-0 _ tt
     (ended_after (visit_lines visits) (closing c.args.status.options.counts (answered call.result)) (answered call.result) _ _ _ _
     (rw c.as_slice.ensures.value at c.in_ok-print_records.ensures) (rw (c.in_ok-print_closing.was, c.with_failure.ensures) at c.print_closing.ensures)))
