@@ -14,6 +14,9 @@ use json::Writer;
 use status_stored::{StoreError, store_one};
 use std::alloc::{AllocError, Global};
 
+/// How many bytes the text of an entry mostly has at most, so that the text of an index is seldom moved while it grows.
+const ENTRY_LEN: usize = 320;
+
 /// Returns the text of the list of an index's entries, with one entry in memory as a JSON value.
 ///
 /// # Errors
@@ -22,9 +25,9 @@ pub fn index_text(alloc: Global, index: &State) -> Result<Vec<u8>, ProfileError>
     ensures text { IfOk result (λ text. text.items ≡ compact (index_json (index_of index.now))) }
     ensures err { IfErr result (IsUnwritten (index_of index.now)) }
 {
-    let mut text = Vec::new(alloc);
-    text.push(b'[')?;
     let entries = index.entries();
+    let mut text = Vec::with_capacity(alloc, entries.len().saturating_mul(ENTRY_LEN))?;
+    text.push(b'[')?;
     for at in 0..entries.len() {
         put_entry(alloc, &entries[at], index.path_backing(), at, &mut text)?;
     }
