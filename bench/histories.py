@@ -1,12 +1,14 @@
 #!/usr/bin/env python3
 """Times histories: the time of an event, and the time of a run for each entry.
 
-    python3 bench/histories.py PROGRAM [--paths 1000 10000] [--events 100000] [--runs 100] [--times 5]
+    python3 bench/histories.py PROGRAM [--paths 1000 10000] [--events 100000] [--runs 100] [--times 5] [--staging 10000 ..]
 
 A history writes and stages each path. Then it has writes, stagings, changes of executability and ticks of drawn paths,
 with runs among them at equal distances. Three profiles measure the parts. The first event of one is refused, so that it
 is only read. One has all events except the runs, and one has all. Each time is the least processor time, of user and
 system together.
+
+With --staging, histories are timed that only write and stage so many paths: in ascending and in descending order.
 """
 
 import argparse
@@ -62,6 +64,16 @@ def time_of(program: str, events: list, times: int) -> float:
         return least
 
 
+def staging(program: str, paths: int, times: int) -> list[float]:
+    """Returns the times of writing and staging paths, in microseconds a path: in ascending and in descending order."""
+    spent = []
+    for numbers in (range(paths), reversed(range(paths))):
+        events = [event for number in numbers for event in (["write", path_of(number), "first\n"], ["stage", path_of(number)])]
+        read = time_of(program, [["tick", 4294967295], *events], times)
+        spent.append((time_of(program, events, times) - read) / paths * 1e6)
+    return spent
+
+
 def main() -> None:
     parser = argparse.ArgumentParser(description="Times histories.")
     parser.add_argument("program")
@@ -69,9 +81,13 @@ def main() -> None:
     parser.add_argument("--events", type=int, default=100000)
     parser.add_argument("--runs", type=int, default=100)
     parser.add_argument("--times", type=int, default=5, help="how often each is run")
+    parser.add_argument("--staging", type=int, nargs="+", metavar="PATHS", help="only time the staging of so many paths")
     arguments = parser.parse_args()
     program = os.path.abspath(arguments.program)
-    for paths in arguments.paths:
+    for paths in arguments.staging or []:
+        ascending, descending = staging(program, paths, arguments.times)
+        print(f"{paths} paths written and staged: {ascending:.2f} us a path in ascending order, {descending:.2f} us in descending")
+    for paths in [] if arguments.staging else arguments.paths:
         whole, plain = history(paths, arguments.events, arguments.runs)
         runs = len(whole) - len(plain)
         if runs == 0 or len(plain) <= 2 * paths:
