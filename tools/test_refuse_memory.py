@@ -30,8 +30,8 @@ FEWEST = {
     "renames": 68,
     "listed": 77,
     "folder": 57,
-    "refreshed": 130,
-    "refreshed_over": 130,
+    "refreshed": 120,
+    "refreshed_over": 120,
     "reopened": 746,
 }
 
