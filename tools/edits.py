@@ -157,7 +157,11 @@ def proof_folders(folder):
 
 
 def batches_of(folder, edits):
-    """Returns lists of edits that one check can try: at most one of each function. Others are alone."""
+    """Returns lists of edits that one check can try: at most one of each function, and not of one that calls another. Others
+    are alone.
+
+    A function whose callee isn't proved may have no report of its own, and its edit would have to be tried again.
+    """
     alone, batches, proofs = [[edit] for edit in edits if not edit.function], [], proof_folders(folder)
     for edit in (edit for edit in edits if edit.function):
         for batch in batches:
@@ -171,7 +175,10 @@ def batches_of(folder, edits):
 
 def fits(folder, batch, edit, proofs):
     """Returns whether a batch has no edit whose reports may seem to be of this one, and can be applied with it."""
-    if any(may_be_mistaken(other.function, edit.function, proofs) for other in batch):
+    functions = [other.function for other in batch]
+    if any(may_be_mistaken(it, edit.function, proofs) for it in functions):
+        return False
+    if any(calls(folder, it, edit.function) or calls(folder, edit.function, it) for it in functions):
         return False
     try:
         return bool(edited(folder, [*batch, edit]))
@@ -182,3 +189,9 @@ def fits(folder, batch, edit, proofs):
 def may_be_mistaken(one, other, proofs):
     """Returns whether two functions are the same, or one of these folders of proof files may seem to be of both."""
     return one == other or any(one.has_proofs_in(it) and other.has_proofs_in(it) for it in proofs)
+
+
+def calls(folder, one, other):
+    """Returns whether the code of a function calls something of the other function's name."""
+    lines = text_of(folder / one.path).split("\n")[one.first : one.last]
+    return re.search(rf"\b{other.name}\(", "\n".join(lines)) is not None

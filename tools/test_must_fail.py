@@ -185,6 +185,11 @@ class Planted(unittest.TestCase):
         self.write("crates/high/proofs/Cell/from/Answers.antt", "")
         self.assertEqual((self.ran(REPORTS + report)[0][-1], self.checks()), ("must-fail: 5 passed, 0 failed", 2))
 
+    def test_a_function_and_one_that_it_calls_are_tried_apart(self):
+        self.write("crates/high/src/lib.rt", LIB.replace("        self.0", "        first(self.0, free())"))
+        self.edit("get_another", "src/lib.rt", "        first(self.0, free())", "        other(self.0, free())")
+        self.assertEqual((self.ran()[0][-1], self.checks()), ("must-fail: 4 passed, 0 failed", 2))
+
     def test_two_edits_of_a_function_are_tried_apart(self):
         self.edit("six_again", *EDITS["six"])
         self.assertEqual((self.ran()[0][-1], self.checks()), ("must-fail: 5 passed, 0 failed", 2))
