@@ -1,7 +1,7 @@
-//! Tests of the status call: what no clause of it says.
+//! Tests of the status call: what no clause of it says. README's example.
 //!
-//! Begin at `second_of_three`. `entries`, `nodes`, `contents`, `statuses`, `watched` and `reports` have what several tests
-//! use.
+//! Begin at `example`, and then `second_of_three`. `entries`, `nodes`, `contents`, `statuses`, `watched` and `reports`
+//! have what several tests use.
 #![tactic(auto)]
 
 #[cfg(test)]
@@ -20,6 +20,8 @@ mod copies;
 mod directories;
 #[cfg(test)]
 mod entries;
+#[cfg(test)]
+mod example;
 #[cfg(test)]
 mod filters;
 #[cfg(test)]

@@ -1,9 +1,6 @@
-//! Interfaces and calls as a caller writes them, with README's example.
+//! Interfaces and calls as a caller writes them.
 //!
-//! Read `example` first, which README.md shows, and then `callers`, the interfaces and calls of a caller. Other tests are
-//! in the other crates whose names end in `_tests`.
+//! It has no test, since all of it would be proved again with one.
 #![tactic(auto)]
 
 pub mod callers;
-#[cfg(test)]
-mod example;
