@@ -4,6 +4,7 @@ An edit is a file crates/CRATE/must-fail/NAME.edit: a line `file: src/FILE.rt`, 
 TEXT`. Each old text is in its file exactly once.
 """
 
+import itertools
 import re
 from dataclasses import dataclass
 
@@ -12,6 +13,7 @@ SOURCES = ("src", "specs", "proofs")
 PROOF_FILES = ("Answers.antt", "Invariants.antt", "Proof.antt")
 FUNCTION = re.compile(r"( *)(?:pub(?:\([a-z]+\))? )?(?:const |unsafe )*fn (\w+)")
 OWNER = re.compile(r" *(?:impl(?:<.*?>)?(?: .*? for)?|(?:pub )?trait) (\w+)")
+METHOD = re.compile(r"fn \w+(?:<[^(]*>)?\(\s*(?:&(?:'\w+ )?)?(?:mut )?self\b")
 
 
 class BadEdit(Exception):
@@ -20,13 +22,15 @@ class BadEdit(Exception):
 
 @dataclass(frozen=True)
 class Function:
-    """A function in a source file: its lines, counted from 1, and the type or trait that it belongs to, if any."""
+    """A function in a source file: its lines, counted from 1, the type or trait that it belongs to, if any, and whether it
+    takes `self`."""
 
     path: str
     first: int
     last: int
     owner: str
     name: str
+    is_method: bool = False
 
     def has_proofs_in(self, folder):
         """Returns whether a folder below proofs/ is of this function, by its module, name and type, which a trait may follow."""
@@ -64,7 +68,8 @@ def function_at(path, text, at):
             continue
         last = end_of(lines, first, head[1])
         if last is not None and last >= line:
-            return Function(path, first + 1, last + 1, owner_of(lines, first, head[1]), head[2])
+            is_method = METHOD.search("\n".join(lines[first : last + 1])) is not None
+            return Function(path, first + 1, last + 1, owner_of(lines, first, head[1]), head[2], is_method)
         if not head[1]:
             return None
     return None
@@ -160,12 +165,14 @@ def batches_of(folder, edits):
     """Returns lists of edits that one check can try: at most one of each function, and not of one that calls another. Others
     are alone.
 
-    A function whose callee isn't proved may have no report of its own, and its edit would have to be tried again.
+    A function whose callee isn't proved may have no report of its own, and its edit would have to be tried again. Edits that
+    can't be tried with many others come first, which makes fewer lists.
     """
-    alone, batches, proofs = [[edit] for edit in edits if not edit.function], [], proof_folders(folder)
-    for edit in (edit for edit in edits if edit.function):
+    alone, batches = [[edit] for edit in edits if not edit.function], []
+    apart = edits_apart(folder, [edit for edit in edits if edit.function])
+    for edit in sorted(apart, key=lambda it: -len(apart[it])):
         for batch in batches:
-            if fits(folder, batch, edit, proofs):
+            if apart[edit].isdisjoint(batch) and fits(folder, batch, edit):
                 batch.append(edit)
                 break
         else:
@@ -173,25 +180,40 @@ def batches_of(folder, edits):
     return batches + alone
 
 
-def fits(folder, batch, edit, proofs):
-    """Returns whether a batch has no edit whose reports may seem to be of this one, and can be applied with it."""
-    functions = [other.function for other in batch]
-    if any(may_be_mistaken(it, edit.function, proofs) for it in functions):
-        return False
-    if any(calls(folder, it, edit.function) or calls(folder, edit.function, it) for it in functions):
-        return False
+def edits_apart(folder, edits):
+    """Returns for each of these edits, which are of functions, the others that one check can't try with it: of the same
+    function, of one with a folder of proof files that may seem to be of both, and of one that calls the other."""
+    functions, folders = {edit.function for edit in edits}, proof_folders(folder)
+    proofs = {it: {path for path in folders if it.has_proofs_in(path)} for it in functions}
+    code = {it: code_of(folder, it) for it in functions}
+    apart = {edit: set() for edit in edits}
+    for one, other in itertools.combinations(edits, 2):
+        a, b = one.function, other.function
+        if a == b or proofs[a] & proofs[b] or calls(code[a], b) or calls(code[b], a):
+            apart[one].add(other)
+            apart[other].add(one)
+    return apart
+
+
+def code_of(folder, function):
+    """Returns the lines of a function after its first."""
+    return "\n".join(text_of(folder / function.path).split("\n")[function.first : function.last])
+
+
+def fits(folder, batch, edit):
+    """Returns whether a batch can be applied with one more edit."""
     try:
         return bool(edited(folder, [*batch, edit]))
     except BadEdit:
         return False
 
 
-def may_be_mistaken(one, other, proofs):
-    """Returns whether two functions are the same, or one of these folders of proof files may seem to be of both."""
-    return one == other or any(one.has_proofs_in(it) and other.has_proofs_in(it) for it in proofs)
-
-
-def calls(folder, one, other):
-    """Returns whether the code of a function calls something of the other function's name."""
-    lines = text_of(folder / one.path).split("\n")[one.first : one.last]
-    return re.search(rf"\b{other.name}\(", "\n".join(lines)) is not None
+def calls(code, other):
+    """Returns whether a function's code calls another function, as far as the call's words tell."""
+    if other.is_method:
+        words = rf"[.:]{other.name}\("
+    elif other.owner:
+        words = rf"\b(?:{other.owner}|Self)::{other.name}\("
+    else:
+        words = rf"(?<![.:\w])(?:[a-z]\w*::)*{other.name}\("
+    return re.search(words, code) is not None

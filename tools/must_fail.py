@@ -2,18 +2,20 @@
 """Tries the must-fail edits of crates, many in one check:  python3 tools/must_fail.py [CRATE ..]
 
 An edit, crates/CRATE/must-fail/NAME.edit, puts a wrong body into a function, and the prover has to refuse it. `rt
-must-fail` checks the whole crate once for each edit. Here one check tries wrong bodies of many functions: what is proved
-of a function depends on the contracts of the others, and not on their bodies; functions in a cycle of calls have one
-proof, but each goal is at a line of its own function. So an edit is refused if the check reports
+must-fail` checks the whole crate once for each edit. Here one check tries many wrong bodies, each in a copy of its function
+(tools/edit_copies.py). A method of a trait has its wrong body in place, beside those of other functions: what is proved of
+a function depends on the contracts of the others, and not on their bodies; functions in a cycle of calls have one proof,
+but each goal is at a line of its own function. So an edit is refused if the check reports
 
-- something unproved at a line of its own function, or
-- an error in the proof files of its own function.
+- something unproved at a line of the copy, or of the function itself, or
+- an error in the proof files of one of these.
 
-Edits without such a report are tried again without the others, and at last alone. One that changes more than one
-function is tried alone at once. As for `rt must-fail`, an edit alone is refused if the crate isn't proved. All is done in
-copies of the repository, after one pass over the proofs of the crates. As many checks run at once as RT_JOBS says, or as
-there are processors; twice as many once there is a file of the name in MORE_JOBS. The last lines tell how many edits were
-refused, and the minutes of processor for that pass and for the edits. The exit status is 0 if all were refused.
+Edits without such a report are tried again in place, without those that were refused, and at last alone. So are those
+whose copy's proof files may have been copied wrongly. One that changes more than one function is tried alone at once. As
+for `rt must-fail`, an edit alone is refused if the crate isn't proved. All is done in copies of the repository, after one
+pass over the proofs of the crates. As many checks run at once as RT_JOBS says, or as there are processors; twice as many
+once there is a file of the name in MORE_JOBS. The last lines tell how many edits were refused, and the minutes of processor
+for that pass and for the edits. The exit status is 0 if all were refused.
 """
 
 import os
@@ -27,6 +29,7 @@ from concurrent.futures import FIRST_COMPLETED, ThreadPoolExecutor, wait
 from dataclasses import dataclass
 from pathlib import Path
 
+from edit_copies import copies_of, shares_of, with_copies
 from edits import SOURCES, BadEdit, Edit, batches_of, edited, read_edits
 
 TOP = Path(__file__).resolve().parent.parent
@@ -84,11 +87,20 @@ def weight(line):
 
 def report_of(edit, checked):
     """Returns the line of a check that refuses an edit's function, or None. Of several it is one that shows most."""
-    if checked.verdict() is not False:
-        return None
-    lines = [line for line in checked.lines() if is_report(line, edit.function)]
+    lines = reports_of(edit, checked)
     best = min(lines, key=lambda line: weight(line)[0], default=None)
     return best and weight(best)[1] + best
+
+
+def reports_of(edit, checked):
+    """Returns the lines of a check that refuse an edit's function."""
+    return [line for line in checked.lines() if is_report(line, edit.function)] if checked.verdict() is False else []
+
+
+def is_miscopied(line, name):
+    """Returns whether a report on a copy's proof files may be due to how they were copied: they name what isn't there, and it
+    is none of the copy's own goals, nor a field."""
+    return bool(TAKEN_AWAY.search(line)) and "has no field" not in line and f".{name}.Goals` has no" not in line
 
 
 def refused_alone(edit, checked):
@@ -193,20 +205,31 @@ class Run:
             self.seconds[kind] += checked.seconds
         return checked
 
-    def attempt(self, crate, edits):
-        """Checks a copy of a crate with edits."""
+    def attempt(self, crate, texts):
+        """Checks a copy of a crate with these texts of files."""
         room = Path(tempfile.mkdtemp(prefix="room-", dir=self.folder))
         try:
             make_copy(self.base, room, crate, self.below[crate])
-            for path, text in edited(self.top / "crates" / crate, edits).items():
+            for path, text in texts.items():
+                (room / "crates" / crate / path).parent.mkdir(parents=True, exist_ok=True)
                 (room / "crates" / crate / path).write_text(text, encoding="utf-8")
             return self.timed("edits", check(room / "crates" / crate, "check"))
         finally:
             shutil.rmtree(room, ignore_errors=True)
 
+    def judge_copies(self, crate, copies):
+        """Tries edits by copies of their functions, and returns those that need a try in place, as batches."""
+        texts, tried = with_copies(self.top / "crates" / crate, copies)
+        checked, left = self.attempt(crate, texts), {it.edit.name: it.edit for it in copies}
+        for edit in tried:
+            is_sound = not any(is_miscopied(line, edit.function.name) for line in reports_of(edit, checked))
+            if is_sound and (report := report_of(edit, checked)):
+                self.say(left.pop(edit.name), report)
+        return batches_of(self.top / "crates" / crate, left.values())
+
     def judge(self, crate, edits):
-        """Tries edits, and returns those that need another try, as batches."""
-        checked = self.attempt(crate, edits)
+        """Tries edits in place, and returns those that need another try, as batches."""
+        checked = self.attempt(crate, edited(self.top / "crates" / crate, edits))
         if len(edits) == 1:
             self.judge_alone(edits[0], checked)
             return []
@@ -240,34 +263,42 @@ class Run:
     def all(self, lanes):
         """Proves the libraries and tries all edits, as many checks at once as `lanes` returns."""
         make_room(self.top, self.base, self.libraries())
-        proofs, batches, running, proved = self.libraries(), [], {}, set()
+        proofs, trials, running, proved = self.libraries(), [], {}, set()
         with ThreadPoolExecutor(MOST_LANES) as pool:
-            while proofs or batches or running:
+            while proofs or trials or running:
                 free = lanes() - len(running)
                 for name in [name for name in proofs if proved.issuperset(self.below[name])][: max(free, 0)]:
                     proofs.remove(name)
                     running[pool.submit(self.prove, name)] = name
-                while batches and len(running) < lanes():
-                    crate, edits = batches.pop(0)
-                    running[pool.submit(self.judge, crate, edits)] = (crate, edits)
+                while trials and len(running) < lanes():
+                    judge, crate, tried = trials.pop(0)
+                    running[pool.submit(judge, crate, tried)] = (crate,)
                 if not running:
                     break
                 for done in wait(running, timeout=SECONDS, return_when=FIRST_COMPLETED).done:
-                    self.ended(running.pop(done), done, proved, batches)
+                    self.ended(running.pop(done), done, proved, trials)
         for name in proofs:
             self.untried(name, "a library below it isn't proved")
 
-    def ended(self, task, done, proved, batches):
+    def ended(self, task, done, proved, trials):
         """Notes what a task found, and what is to be tried next."""
         if isinstance(task, tuple):
-            batches[:0] = [(task[0], batch) for batch in done.result()]
+            trials[:0] = [(self.judge, task[0], batch) for batch in done.result()]
         elif done.result().status == 0:
             proved.add(task)
             print(f"must-fail: {task}: proved, {len(self.edits.get(task, []))} edits to try", flush=True)
-            batches += [(task, batch) for batch in batches_of(self.top / "crates" / task, self.edits.get(task, []))]
+            trials += self.trials_of(task)
         else:
             print(done.result().text, end="", flush=True)
             self.untried(task, "the crate isn't proved without them")
+
+    def trials_of(self, name):
+        """Returns what is to be tried of a proved crate: copies, and the other edits in place."""
+        folder, edits = self.top / "crates" / name, self.edits.get(name, [])
+        copies = copies_of(folder, edits)
+        copied = {it.edit.name for it in copies}
+        in_place = batches_of(folder, [edit for edit in edits if edit.name not in copied])
+        return [(self.judge_copies, name, share) for share in shares_of(copies)] + [(self.judge, name, batch) for batch in in_place]
 
     def untried(self, name, why):
         for edit in self.edits.get(name, []):

@@ -2,6 +2,7 @@
 """Tests of how must-fail edits are read, tried and judged, with another program for `rt`:  python3 tools/test_must_fail.py"""
 
 import contextlib
+import dataclasses
 import io
 import os
 import shutil
@@ -10,6 +11,7 @@ import unittest
 from pathlib import Path
 from unittest import mock
 
+import edit_copies
 import edits
 import must_fail
 
@@ -49,7 +51,7 @@ EDITS = {
     "six": ("src/lib.rt", "    7", "    6"),
 }
 FREE = edits.Function("src/lib.rt", 24, 26, "", "free")
-# What stands for `rt`: it knows the wrong bodies that are refused, by the words in them.
+# What stands for `rt`: it knows the wrong bodies that are refused, by the words in them, and where these stand.
 RT = """#!{python}
 import os, sys
 text = open("src/lib.rt").read()
@@ -57,8 +59,8 @@ assert sys.argv[-2:] == ["--jobs", "1"], sys.argv
 open({log!r}, "a").write(sys.argv[1] + " " + " ".join(sorted(os.listdir("../..")) + sorted(os.listdir(".."))) + "\\n")
 found = 0
 for word, line in {reports!r}:
-    if word in text:
-        print(line)
+    for at in (at for at, it in enumerate(text.split("\\n"), 1) if word in it):
+        print(line.replace("AT", str(at)))
         found += 1
 if "stop" in text:
     print("src/lib.rt:1:1: error: unknown word")
@@ -72,10 +74,20 @@ sys.exit(found > 0)
 NOT_PROVED = "it is not proved that what the function ensures holds when it returns (`returns`)"
 REPORTS = [
     ("nothing()", "./proofs/CellFrom/from/Answers.antt:3:5: error: the two types differ"),
-    ("other(", f"note: src/lib.rt:7:5: {NOT_PROVED}; `search` gave up at one of its limits"),
-    ("let _", f"note: src/lib.rt:13:5: {NOT_PROVED}"),
-    ("    6", f"note: src/lib.rt:24:1: {NOT_PROVED}; the facts known there allow values at which this goal is false"),
+    ("other(", f"note: src/lib.rt:AT:5: {NOT_PROVED}; `search` gave up at one of its limits"),
+    ("let _", f"note: src/lib.rt:AT:5: {NOT_PROVED}"),
+    ("    6", f"note: src/lib.rt:AT:1: {NOT_PROVED}; the facts known there allow values at which this goal is false"),
 ]
+# Another method of a trait, whose wrong body is tried in place, as that of `from` is.
+MAKE = """
+impl<T> Make<T> for Cell<T> {
+    fn make(made: T) -> Cell<T> {
+        Cell(made)
+    }
+}
+"""
+MADE = ("src/lib.rt", "        Cell(made)", "        Cell(anew(made))")
+REPORT_OF_MADE = ("anew(made)", f"note: src/lib.rt:AT:5: {NOT_PROVED}")
 
 
 class Reading(unittest.TestCase):
@@ -84,7 +96,7 @@ class Reading(unittest.TestCase):
 
     def test_a_function_is_found_around_a_line(self):
         self.assertEqual(self.at("    7"), FREE)
-        self.assertEqual(self.at("ensures"), edits.Function("src/lib.rt", 7, 11, "Cell", "get"))
+        self.assertEqual(self.at("ensures"), edits.Function("src/lib.rt", 7, 11, "Cell", "get", is_method=True))
         self.assertEqual(self.at("Cell(value)"), edits.Function("src/lib.rt", 19, 21, "Cell", "from"))
         self.assertIsNone(self.at("const NINE"))
         self.assertIsNone(self.at("//! A crate"))
@@ -102,19 +114,92 @@ class Reading(unittest.TestCase):
         self.assertTrue(FREE.has_proofs_in("free"))
         self.assertFalse(FREE.has_proofs_in("free/more"))
 
-    def test_functions_are_mistaken_for_each_other_if_proof_files_may_be_of_both(self):
-        one = edits.Function("src/state.rt", 1, 2, "State", "put")
-        for other, proofs, may_be in [
-            (one, set(), True),
-            (edits.Function("src/state.rt", 5, 6, "State", "put"), set(), False),
-            (edits.Function("src/state.rt", 5, 6, "State", "put"), {"state/StateClone/put"}, True),
-            (edits.Function("src/state/more.rt", 5, 6, "State", "put"), {"state/State/put"}, True),
-            (edits.Function("src/state.rt", 5, 6, "StateLock", "put"), {"state/State/put"}, False),
-            (edits.Function("src/state.rt", 5, 6, "StateLock", "put"), {"state/StateLock/put"}, True),
-            (edits.Function("src/other.rt", 5, 6, "State", "put"), {"state/State/put"}, False),
-            (edits.Function("src/state.rt", 5, 6, "State", "get"), {"state/State/put"}, False),
+    def test_a_call_is_known_by_its_words(self):
+        free = edits.Function("src/a.rt", 1, 2, "", "put")
+        made = edits.Function("src/a.rt", 1, 2, "State", "put")
+        method = edits.Function("src/a.rt", 1, 2, "State", "put", is_method=True)
+        for code, of_free, of_made, of_method in [
+            ("let a = put(1);", True, False, False),
+            ("staging::put(1)", True, False, True),
+            ("self.put(1)", False, False, True),
+            ("State::put(1)", False, True, True),
+            ("Self::put(1)", False, True, True),
+            ("Other::put(1)", False, False, True),
+            ("input(put_entry(1), State::put_back(2), it.puts(put))", False, False, False),
         ]:
-            self.assertEqual(edits.may_be_mistaken(one, other, proofs), may_be, (other, proofs))
+            called = [edits.calls(code, it) for it in (free, made, method)]
+            self.assertEqual(called, [of_free, of_made, of_method], code)
+
+
+class Copying(unittest.TestCase):
+    """Copies the functions of a crate."""
+
+    def setUp(self):
+        room = tempfile.TemporaryDirectory()
+        self.addCleanup(room.cleanup)
+        self.folder = Path(room.name) / "high"
+        self.write("src/lib.rt", LIB)
+
+    def write(self, name, text):
+        path = self.folder / name
+        path.parent.mkdir(parents=True, exist_ok=True)
+        path.write_text(text, encoding="utf-8")
+
+    def copies(self, *pairs):
+        """Returns the copies for edits, each of one replacement in src/lib.rt."""
+        for number, (old, new) in enumerate(pairs):
+            self.write(f"must-fail/{number}.edit", f"file: src/lib.rt\nold: {old}\nnew: {new}\n")
+        return edit_copies.copies_of(self.folder, edits.read_edits(self.folder)[0])
+
+    def test_a_copy_stands_below_its_function_and_has_its_contract(self):
+        copies = self.copies(("        self.0", "        other(self.0)"), ("    7", "    6"))
+        texts, tried = edit_copies.with_copies(self.folder, copies)
+        lines = texts["src/lib.rt"].split("\n")
+        self.assertEqual([it.function.name for it in tried], ["get_edit_0", "free_edit_1"])
+        self.assertEqual([lines[it.function.first - 1 : it.function.last] for it in tried], [
+            ["    fn get_edit_0(&self) -> T", "        ensures { result ≡ self.now.0 }", "    {", "        other(self.0)", "    }"],
+            ["fn free_edit_1() -> u8 {", "    6", "}"],
+        ])
+        taken = {at for it in tried for at in range(it.function.first - 2, it.function.last)}
+        self.assertEqual("\n".join(line for at, line in enumerate(lines) if at not in taken), LIB)
+
+    def test_a_method_of_a_trait_has_no_copy(self):
+        self.assertEqual(self.copies(("        Cell(value)", "        Cell(nothing())")), [])
+        trait = "pub trait Get {\n    fn get(&self) -> u8 {\n        5\n    }\n}\n"
+        self.write("src/lib.rt", trait + "impl<T>\n    Get for Cell<T>\n{\n    fn get(&self) -> u8 {\n        4\n    }\n}\n")
+        self.assertEqual(self.copies(("        5", "        6"), ("        4", "        3")), [])
+
+    def test_a_copy_has_attributes_and_no_lines_of_documentation(self):
+        self.write("src/lib.rt", LIB.replace("fn free", "/// Returns 7.\n#[tactic(auto)]\npub(crate) const fn free"))
+        self.assertEqual(self.copies(("    7", "    6"))[0].lines, ("#[tactic(auto)]", "const fn free_edit_0() -> u8 {", "    6", "}"))
+
+    def test_a_copy_has_the_proof_files_of_its_function(self):
+        own = "use Rattle.high.proofs.Cell.get.Goals as goal\nuse Rattle.high.proofs.Cell.get_all.{x}\nget_spec = get\n"
+        self.write("proofs/Cell/get/Answers.antt", own)
+        self.write("proofs/Cell/get/Lemmas.antt", "")
+        self.write("proofs/Cell/get_all/Answers.antt", "")
+        self.write("proofs/more/free/Answers.antt", "")
+        texts, _ = edit_copies.with_copies(self.folder, self.copies(("        self.0", "        other(self.0)"), ("    7", "    6")))
+        copied = "use Rattle.high.proofs.Cell.get_edit_0.Goals as goal\nuse Rattle.high.proofs.Cell.get_all.{x}\nget_edit_0_spec = get\n"
+        del texts["src/lib.rt"]
+        self.assertEqual(texts, {"proofs/Cell/get_edit_0/Answers.antt": copied})
+
+    def test_a_function_in_a_module_has_its_proof_files_by_the_modules_name(self):
+        for path, within in [("src/a/b.rt", "a/b/free"), ("src/a/mod.rt", "a/free"), ("src/main.rt", "free")]:
+            self.write(f"proofs/{within}/Answers.antt", "")
+            self.assertEqual(edit_copies.folders_of(self.folder, dataclasses.replace(FREE, path=path)), [within])
+
+    def test_a_function_whose_proof_files_are_not_known_has_no_copy(self):
+        for module in ("a", "b"):
+            self.write(f"proofs/{module}/Cell/get/Answers.antt", "")
+        self.assertEqual(self.copies(("        self.0", "        other(self.0)")), [])
+
+    def test_checks_share_many_copies(self):
+        copies = list(range(2 * edit_copies.MOST_COPIES + 1))
+        shares = edit_copies.shares_of(copies)
+        self.assertEqual(sorted(len(it) for it in shares), [27, 27, 27])
+        self.assertEqual(sorted(it for share in shares for it in share), copies)
+        self.assertEqual(edit_copies.shares_of([]), [])
 
 
 class Planted(unittest.TestCase):
@@ -162,43 +247,58 @@ class Planted(unittest.TestCase):
         """Returns how many checks of edits ran."""
         return self.log.read_text().count("check")
 
-    def test_one_check_tries_edits_of_many_functions(self):
+    def test_one_check_tries_edits_of_many_functions_and_another_those_in_place(self):
         lines, status = self.ran()
         self.assertEqual((lines[-1], status), ("must-fail: 4 passed, 0 failed", 0))
         self.assertEqual(lines[-3], "must-fail: 4 refused, 1 only at a limit of the prover, 0 only because a proof file names what is gone")
         self.assertRegex(lines[-2], r"^must-fail: \d+\.\d minutes of processor for proofs, \d+\.\d minutes of processor for edits$")
-        self.assertIn(f"must-fail: high/six.edit: refused: {REPORTS[3][1][:200]}", lines)
-        self.assertIn(f"must-fail: high/get_another.edit: refused: (only at a limit of the prover) {REPORTS[1][1]}", lines)
-        self.assertEqual(self.checks(), 1)
+        self.assertIn(f"must-fail: high/six.edit: refused: {REPORTS[3][1].replace('AT', '39')[:200]}", lines)
+        self.assertIn(f"must-fail: high/get_another.edit: refused: (only at a limit of the prover) {REPORTS[1][1].replace('AT', '16')}", lines)
+        self.assertEqual(self.checks(), 2)
         # The crates below are proved first; one that has no edit above it isn't. A check sees the crates that it needs.
         self.assertEqual(
             self.log.read_text().splitlines(),
-            ["lib HANDLES crates crates.txt high low"] * 2 + ["check HANDLES crates crates.txt high low"],
+            ["lib HANDLES crates crates.txt high low"] * 2 + ["check HANDLES crates crates.txt high low"] * 2,
         )
 
-    def test_functions_whose_proof_files_may_be_mistaken_are_tried_apart(self):
-        self.write("crates/high/src/lib.rt", LIB + LIB[LIB.index("impl<T> From<T>") : LIB.index("fn free")].replace("From<T>", "Into<T>").replace("(value)", "(again)"))
-        self.edit("again", "src/lib.rt", "        Cell(again)", "        Cell(nothing(again))")
-        report = [("nothing(again)", f"note: src/lib.rt:31:5: {NOT_PROVED}")]
-        self.assertEqual((self.ran(REPORTS + report)[0][-1], self.checks()), ("must-fail: 5 passed, 0 failed", 1))
+    def test_methods_whose_proof_files_may_be_mistaken_are_tried_apart(self):
+        self.write("crates/high/src/lib.rt", LIB + MAKE.replace("fn make", "fn from"))
+        self.edit("made", *MADE)
+        self.assertEqual((self.ran([*REPORTS, REPORT_OF_MADE])[0][-1], self.checks()), ("must-fail: 5 passed, 0 failed", 2))
         self.log.unlink()
         self.write("crates/high/proofs/Cell/from/Answers.antt", "")
-        self.assertEqual((self.ran(REPORTS + report)[0][-1], self.checks()), ("must-fail: 5 passed, 0 failed", 2))
+        self.assertEqual((self.ran([*REPORTS, REPORT_OF_MADE])[0][-1], self.checks()), ("must-fail: 5 passed, 0 failed", 3))
 
-    def test_a_function_and_one_that_it_calls_are_tried_apart(self):
-        self.write("crates/high/src/lib.rt", LIB.replace("        self.0", "        first(self.0, free())"))
-        self.edit("get_another", "src/lib.rt", "        first(self.0, free())", "        other(self.0, free())")
-        self.assertEqual((self.ran()[0][-1], self.checks()), ("must-fail: 4 passed, 0 failed", 2))
+    def test_a_method_and_one_that_it_calls_are_tried_apart(self):
+        self.write("crates/high/src/lib.rt", LIB + MAKE.replace("Cell(made)", "Cell::from(made)"))
+        self.edit("made", "src/lib.rt", "        Cell::from(made)", "        Cell::from(anew(made))")
+        self.assertEqual((self.ran([*REPORTS, REPORT_OF_MADE])[0][-1], self.checks()), ("must-fail: 5 passed, 0 failed", 3))
 
-    def test_two_edits_of_a_function_are_tried_apart(self):
+    def test_two_edits_of_a_function_are_tried_side_by_side_and_of_a_method_apart(self):
         self.edit("six_again", *EDITS["six"])
         self.assertEqual((self.ran()[0][-1], self.checks()), ("must-fail: 5 passed, 0 failed", 2))
+        self.log.unlink()
+        self.edit("from_again", *EDITS["from_nothing"])
+        self.assertEqual((self.ran()[0][-1], self.checks()), ("must-fail: 6 passed, 0 failed", 3))
+
+    def test_a_copy_whose_proof_files_name_what_is_not_there_is_tried_in_place(self):
+        for gone, is_own in [
+            ("`x` is not in scope", False),
+            ("module `Rattle.high.proofs` has no `free_edit_3` that can be named from here", False),
+            ("module `Rattle.high.proofs.free_edit_3.Goals` has no `returns-then` that can be named from here", True),
+            ("record `Rattle.high.proofs.free_edit_3.Lts.After` has no field `x`", True),
+        ]:
+            lines, _ = self.ran([*REPORTS, ("fn free_edit_3", f"./proofs/free_edit_3/Answers.antt:3:5: error: {gone}")])
+            at = "39" if is_own else "25"
+            self.assertIn(f"must-fail: high/six.edit: refused: {REPORTS[3][1].replace('AT', at)[:200]}", lines)
+            self.assertEqual((lines[-1], self.checks()), ("must-fail: 4 passed, 0 failed", 2 if is_own else 3))
+            self.log.unlink()
 
     def test_an_edit_outside_of_functions_or_of_several_is_tried_alone(self):
         self.edit("eight", "src/lib.rt", "const NINE: u8 = 9;", "const NINE: u8 = 8;")
         self.edit("both", "src/lib.rt", "    7", "    6", ("        self.store(value);", "        let _ = value;"))
         lines, _ = self.ran([*REPORTS, ("= 8;", f"note: src/lib.rt:13:5: {NOT_PROVED}")])
-        self.assertEqual((lines[-1], self.checks()), ("must-fail: 6 passed, 0 failed", 3))
+        self.assertEqual((lines[-1], self.checks()), ("must-fail: 6 passed, 0 failed", 4))
 
     def test_an_edit_that_is_proved_is_a_failure(self):
         lines, status = self.ran(REPORTS[:3])
@@ -206,15 +306,17 @@ class Planted(unittest.TestCase):
         self.assertIn("must-fail: high/six.edit: NOT REFUSED: the crate is still proved with this edit", lines)
 
     def test_a_report_of_another_function_counts_only_for_an_edit_alone(self):
-        other = [*REPORTS[:3], ("    6", f"note: src/lib.rt:13:5: {NOT_PROVED}")]
+        other = [*REPORTS[:3], ("    6", f"note: src/lib.rt:4:5: {NOT_PROVED}")]
         lines, _ = self.ran(other)
-        self.assertEqual((lines[-1], self.checks()), ("must-fail: 4 passed, 0 failed", 2))
+        self.assertEqual((lines[-1], self.checks()), ("must-fail: 4 passed, 0 failed", 3))
 
     def test_edits_without_a_report_are_tried_together_again(self):
-        # Both are hidden by an unproved callee.
-        hidden = [("let _", "nothing"), ("nothing()", "nothing")]
-        lines, _ = self.ran([(word, line) for word, line in REPORTS if word not in dict(hidden)] + hidden)
-        self.assertEqual((lines[-1], self.checks()), ("must-fail: 4 passed, 0 failed", 4))
+        # Both are hidden by an unproved callee, and then by each other.
+        self.write("crates/high/src/lib.rt", LIB + MAKE)
+        self.edit("made", *MADE)
+        hidden = [("anew(made)", "nothing"), ("nothing()", "nothing")]
+        lines, _ = self.ran([*REPORTS[1:], *hidden])
+        self.assertEqual((lines[-1], self.checks()), ("must-fail: 5 passed, 0 failed", 4))
 
     def test_what_a_proof_file_misses_is_said(self):
         gone = "./proofs/CellFrom/from/Answers.antt:3:5: error: record `C` has no field `x`"

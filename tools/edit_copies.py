@@ -1,0 +1,100 @@
+"""Copies of functions with the wrong bodies of must-fail edits, so that one check can try edits of any functions.
+
+A copy stands below its function, with the same contract, attributes and proof files, and under another name. Nothing calls
+it: unlike a function with a wrong body, it leaves no caller without a proof, and two wrong bodies of one function can
+stand side by side. A method of a trait has no copy, since its contract is the trait's.
+"""
+
+import re
+from dataclasses import dataclass, replace
+
+from edits import OWNER, PROOF_FILES, Edit, proof_folders, text_of
+
+# How many copies one check tries, so that several checks can share the work on a crate.
+MOST_COPIES = 40
+HEAD = r"(?:pub(?:\([a-z]+\))? )?((?:const |unsafe )*)fn {}\b"
+
+
+@dataclass(frozen=True)
+class Copy:
+    """The copy of an edit's function: its name, and its lines with the wrong body."""
+
+    edit: Edit
+    name: str
+    lines: tuple
+
+
+def copies_of(folder, edits):
+    """Returns a copy for each of these edits of the crate in a folder, where there can be one."""
+    found = (copy_of(folder, edit, f"{edit.function.name}_edit_{number}") for number, edit in enumerate(edits) if edit.function)
+    return [it for it in found if it]
+
+
+def copy_of(folder, edit, name):
+    """Returns the copy of an edit's function under a name, or None if there can be none."""
+    function, paths = edit.function, {path for path, _, _ in edit.pairs}
+    lines = text_of(folder / function.path).split("\n")
+    if paths != {function.path} or is_of_trait(lines, function) or len(folders_of(folder, function)) > 1:
+        return None
+    first = function.first - 1
+    while lines[first - 1].strip().startswith(("#[", "///")):
+        first -= 1
+    text = "\n".join(line for line in lines[first : function.last] if not line.strip().startswith("///"))
+    for _, old, new in edit.pairs:
+        if text.count(old) != 1:
+            return None
+        text = text.replace(old, new)
+    return Copy(edit, name, tuple(re.sub(HEAD.format(function.name), rf"\1fn {name}", text, count=1).split("\n")))
+
+
+def shares_of(copies):
+    """Returns the copies in shares of about the same size, each for one check."""
+    number = -(-len(copies) // MOST_COPIES)
+    return [copies[first::number] for first in range(number)]
+
+
+def is_of_trait(lines, function):
+    """Returns whether a function belongs to a trait, or to a type's `impl` of one."""
+    if not function.owner:
+        return False
+    first = next(at for at in range(function.first - 1, -1, -1) if OWNER.match(lines[at]) and not lines[at].startswith(" "))
+    head = " ".join(lines[first : function.first]).partition("{")[0]
+    return " for " in head or "trait " in head
+
+
+def folders_of(folder, function):
+    """Returns the folders below a crate's proofs/ that have the proof files of a function of no trait."""
+    within = re.sub(r"(^|/)(lib|main|mod)$", "", function.path.removeprefix("src/").removesuffix(".rt"))
+    whole = f"{within}/{function.name}".removeprefix("/")
+    is_own = lambda it: f"/{it}".endswith(f"/{function.owner}/{function.name}") if function.owner else it == whole
+    return [it for it in sorted(proof_folders(folder)) if is_own(it)]
+
+
+def with_copies(folder, copies):
+    """Returns the texts of the files that have these copies, by their paths, and the edits with the copies for their
+    functions."""
+    texts, tried = {}, []
+    for path in sorted({it.edit.function.path for it in copies}):
+        lines, own = [], [it for it in copies if it.edit.function.path == path]
+        for number, line in enumerate(text_of(folder / path).split("\n"), 1):
+            lines.append(line)
+            for copy in (it for it in own if it.edit.function.last == number):
+                placed = replace(copy.edit.function, name=copy.name, first=len(lines) + 2, last=len(lines) + 1 + len(copy.lines))
+                lines += ["", *copy.lines]
+                tried.append(replace(copy.edit, function=placed))
+        texts[path] = "\n".join(lines)
+    for copy in copies:
+        texts.update(proofs_of(folder, copy))
+    return texts, tried
+
+
+def proofs_of(folder, copy):
+    """Returns the texts of a copy's proof files, which name the copy in place of its function."""
+    texts, name = {}, copy.edit.function.name
+    for own in folders_of(folder, copy.edit.function):
+        module = re.escape(own.replace("/", "."))
+        words = rf"\b(Rattle\.{folder.name}\.(?:proofs|specs\.contracts)\.{module.removesuffix(name)}){name}(?![\w-])|\b{name}(?=_spec\b)"
+        for file in (it for it in PROOF_FILES if (folder / "proofs" / own / it).is_file()):
+            text = text_of(folder / "proofs" / own / file)
+            texts[f"proofs/{own.removesuffix(name)}{copy.name}/{file}"] = re.sub(words, rf"\g<1>{copy.name}", text)
+    return texts
