@@ -2,13 +2,14 @@
 
 A copy stands below its function, with the same contract, attributes and proof files, and under another name. Nothing calls
 it: unlike a function with a wrong body, it leaves no caller without a proof, and two wrong bodies of one function can
-stand side by side. A method of a trait has no copy, since its contract is the trait's.
+stand side by side. A method of a trait has no copy, since its contract is the trait's, nor has a function in a cycle of calls,
+which has one proof with others.
 """
 
 import re
 from dataclasses import dataclass, replace
 
-from edits import OWNER, PROOF_FILES, Edit, proof_folders, text_of
+from edits import PROOF_FILES, Edit, proof_folders, text_of
 
 # How many copies one check tries, so that several checks can share the work on a crate.
 MOST_COPIES = 40
@@ -30,16 +31,23 @@ def copies_of(folder, edits):
     return [it for it in found if it]
 
 
+def right_copies_of(folder, edits):
+    """Returns a copy as it is of each function that has a copy for one of these edits."""
+    of_functions = {edit.function: edit for edit in edits}
+    return copies_of(folder, [replace(it, pairs=tuple((path, old, old) for path, old, _ in it.pairs)) for it in of_functions.values()])
+
+
 def copy_of(folder, edit, name):
     """Returns the copy of an edit's function under a name, or None if there can be none."""
     function, paths = edit.function, {path for path, _, _ in edit.pairs}
-    lines = text_of(folder / function.path).split("\n")
-    if paths != {function.path} or is_of_trait(lines, function) or len(folders_of(folder, function)) > 1:
+    if paths != {function.path} or function.is_of_trait or len(folders_of(folder, function)) > 1:
         return None
-    first = function.first - 1
+    lines, first = text_of(folder / function.path).split("\n"), function.first - 1
     while lines[first - 1].strip().startswith(("#[", "///")):
         first -= 1
     text = "\n".join(line for line in lines[first : function.last] if not line.strip().startswith("///"))
+    if "#[cycle(" in text:
+        return None
     for _, old, new in edit.pairs:
         if text.count(old) != 1:
             return None
@@ -51,15 +59,6 @@ def shares_of(copies):
     """Returns the copies in shares of about the same size, each for one check."""
     number = -(-len(copies) // MOST_COPIES)
     return [copies[first::number] for first in range(number)]
-
-
-def is_of_trait(lines, function):
-    """Returns whether a function belongs to a trait, or to a type's `impl` of one."""
-    if not function.owner:
-        return False
-    first = next(at for at in range(function.first - 1, -1, -1) if OWNER.match(lines[at]) and not lines[at].startswith(" "))
-    head = " ".join(lines[first : function.first]).partition("{")[0]
-    return " for " in head or "trait " in head
 
 
 def folders_of(folder, function):

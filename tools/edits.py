@@ -12,7 +12,7 @@ NAME = r"[A-Za-z0-9_-][A-Za-z0-9_.-]*\.edit"
 SOURCES = ("src", "specs", "proofs")
 PROOF_FILES = ("Answers.antt", "Invariants.antt", "Proof.antt")
 FUNCTION = re.compile(r"( *)(?:pub(?:\([a-z]+\))? )?(?:const |unsafe )*fn (\w+)")
-OWNER = re.compile(r" *(?:impl(?:<.*?>)?(?: .*? for)?|(?:pub )?trait) (\w+)")
+BLOCK = re.compile(r" *(?:pub(?:\([a-z]+\))? )?(?:unsafe )?(?:impl\b|trait (\w+))")
 METHOD = re.compile(r"fn \w+(?:<[^(]*>)?\(\s*(?:&(?:'\w+ )?)?(?:mut )?self\b")
 
 
@@ -23,7 +23,7 @@ class BadEdit(Exception):
 @dataclass(frozen=True)
 class Function:
     """A function in a source file: its lines, counted from 1, the type or trait that it belongs to, if any, and whether it
-    takes `self`."""
+    takes `self`, and is one of a trait."""
 
     path: str
     first: int
@@ -31,13 +31,15 @@ class Function:
     owner: str
     name: str
     is_method: bool = False
+    is_of_trait: bool = False
 
     def has_proofs_in(self, folder):
-        """Returns whether a folder below proofs/ is of this function, by its module, name and type, which a trait may follow."""
+        """Returns whether a folder below proofs/ is of this function: by its name and its type, which a trait may follow and
+        whose module is any, or by its name and module."""
         *modules, name = folder.split("/")
-        module = module_of(self.path)
-        is_of_module = not module or modules[:1] == [module]
-        return name == self.name and is_of_module and (not self.owner or any(it.startswith(self.owner) for it in modules))
+        if self.owner:
+            return name == self.name and any(it.startswith(self.owner) for it in modules)
+        return name == self.name and module_of(self.path) in ("", *modules[:1])
 
 
 @dataclass(frozen=True)
@@ -68,8 +70,9 @@ def function_at(path, text, at):
             continue
         last = end_of(lines, first, head[1])
         if last is not None and last >= line:
+            owner, is_of_trait = owner_of(lines, first, head[1])
             is_method = METHOD.search("\n".join(lines[first : last + 1])) is not None
-            return Function(path, first + 1, last + 1, owner_of(lines, first, head[1]), head[2], is_method)
+            return Function(path, first + 1, last + 1, owner, head[2], is_method, is_of_trait)
         if not head[1]:
             return None
     return None
@@ -87,10 +90,27 @@ def end_of(lines, first, indent):
 
 
 def owner_of(lines, first, indent):
-    """Returns the type or trait of a function by the nearest line above it with less indentation."""
-    above = (lines[at] for at in range(first, -1, -1))
-    found = (OWNER.match(line) for line in above if line.strip() and not line.startswith(indent or " "))
-    return next((it[1] for it in found if it), "") if indent else ""
+    """Returns the type or trait of a function, or nothing, and whether the function is one of a trait. They are in the
+    nearest block around it, whose head may have several lines."""
+    starts = (at for at in range(first, -1, -1) if indent and not lines[at].startswith(indent) and BLOCK.match(lines[at]))
+    if (start := next(starts, None)) is None:
+        return "", False
+    if trait := BLOCK.match(lines[start])[1]:
+        return trait, True
+    head = without_parameters(" ".join(lines[start:first])).partition("{")[0].partition(" where ")[0]
+    trait, _, owner = head.rpartition(" for ")
+    return re.findall(r"\w+", owner)[-1], bool(trait)
+
+
+def without_parameters(text):
+    """Returns a text without what is in angle brackets."""
+    kept, depth = [], 0
+    for character in text.replace("->", "  "):
+        depth += character == "<"
+        if not depth:
+            kept.append(character)
+        depth -= character == ">"
+    return "".join(kept)
 
 
 def read_edit(folder, path):

@@ -1,5 +1,5 @@
 #!/usr/bin/env python3
-"""Tries the must-fail edits of crates, many in one check:  python3 tools/must_fail.py [CRATE ..]
+"""Tries the must-fail edits of crates, many in one check:  python3 tools/must_fail.py [--control] [CRATE ..]
 
 An edit, crates/CRATE/must-fail/NAME.edit, puts a wrong body into a function, and the prover has to refuse it. `rt
 must-fail` checks the whole crate once for each edit. Here one check tries many wrong bodies, each in a copy of its function
@@ -16,6 +16,9 @@ for `rt must-fail`, an edit alone is refused if the crate isn't proved. All is d
 pass over the proofs of the crates. As many checks run at once as RT_JOBS says, or as there are processors; twice as many
 once there is a file of the name in MORE_JOBS. The last lines tell how many edits were refused, and the minutes of processor
 for that pass and for the edits. The exit status is 0 if all were refused.
+
+With --control, the functions are copied with their right bodies, and the prover has to accept each copy. It shows that an
+edit isn't refused for how its function is copied. Run it after a change of that; the gate doesn't.
 """
 
 import os
@@ -29,7 +32,7 @@ from concurrent.futures import FIRST_COMPLETED, ThreadPoolExecutor, wait
 from dataclasses import dataclass
 from pathlib import Path
 
-from edit_copies import copies_of, shares_of, with_copies
+from edit_copies import copies_of, right_copies_of, shares_of, with_copies
 from edits import SOURCES, BadEdit, Edit, batches_of, edited, read_edits
 
 TOP = Path(__file__).resolve().parent.parent
@@ -57,7 +60,8 @@ class Checked:
     seconds: float = 0.0
 
     def lines(self):
-        return self.text.splitlines()
+        """Returns the lines, each with the indented ones that go on with it."""
+        return re.sub(r"\n +", " ", self.text).splitlines()
 
     def verdict(self):
         """Returns whether the crate is proved, or None if the check didn't find out."""
@@ -93,8 +97,11 @@ def report_of(edit, checked):
 
 
 def reports_of(edit, checked):
-    """Returns the lines of a check that refuse an edit's function."""
-    return [line for line in checked.lines() if is_report(line, edit.function)] if checked.verdict() is False else []
+    """Returns the lines of a check that refuse an edit's function: none if it found no verdict, or something can't be read."""
+    lines = checked.lines()
+    if checked.verdict() is not False or any(map(UNREADABLE.match, lines)):
+        return []
+    return [line for line in lines if is_report(line, edit.function)]
 
 
 def is_miscopied(line, name):
@@ -183,8 +190,8 @@ def crates_below(text):
 class Run:
     """Builds libraries and tries edits in rooms below a folder."""
 
-    def __init__(self, top, folder, names=()):
-        self.top, self.folder, self.base = top, folder, folder / "base"
+    def __init__(self, top, folder, names=(), is_control=False):
+        self.top, self.folder, self.base, self.is_control = top, folder, folder / "base", is_control
         self.below = crates_below((top / "crates.txt").read_text(encoding="utf-8"))
         found = {name: read_edits(top / "crates" / name) for name in self.below if not names or name in names}
         self.edits = {name: read for name, (read, _) in found.items() if read}
@@ -218,17 +225,33 @@ class Run:
             shutil.rmtree(room, ignore_errors=True)
 
     def judge_copies(self, crate, copies):
-        """Tries edits by copies of their functions, and returns those that need a try in place, as batches."""
+        """Tries edits by copies of their functions, and returns what is to be tried next: without a verdict the copies in two
+        parts, and otherwise in place those edits that weren't refused."""
         texts, tried = with_copies(self.top / "crates" / crate, copies)
         checked, left = self.attempt(crate, texts), {it.edit.name: it.edit for it in copies}
+        if checked.verdict() is None and len(copies) > 1:
+            middle = len(copies) // 2
+            return [(self.judge_copies, crate, part) for part in (copies[:middle], copies[middle:])]
         for edit in tried:
             is_sound = not any(is_miscopied(line, edit.function.name) for line in reports_of(edit, checked))
             if is_sound and (report := report_of(edit, checked)):
                 self.say(left.pop(edit.name), report)
-        return batches_of(self.top / "crates" / crate, left.values())
+        return [(self.judge, crate, batch) for batch in batches_of(self.top / "crates" / crate, left.values())]
+
+    def judge_right(self, crate, copies):
+        """Tries copies of functions as they are, which have to be proved."""
+        texts, tried = with_copies(self.top / "crates" / crate, copies)
+        checked = self.attempt(crate, texts)
+        for edit in tried:
+            if re.search(rf"^fn \S+::{edit.function.name}: proved\b", checked.text, re.M):
+                self.say(edit, "a copy of its function is proved", how="accepted")
+            else:
+                why = report_of(edit, checked) or f"the check ended with status {checked.status}"
+                self.fail(f"{edit.label()}: NOT ACCEPTED: a copy of its function isn't proved: {why}")
+        return []
 
     def judge(self, crate, edits):
-        """Tries edits in place, and returns those that need another try, as batches."""
+        """Tries edits in place, and returns what is to be tried next."""
         checked = self.attempt(crate, edited(self.top / "crates" / crate, edits))
         if len(edits) == 1:
             self.judge_alone(edits[0], checked)
@@ -242,7 +265,8 @@ class Run:
         # A function whose callee isn't proved may have no report, so the others are tried without those that were refused.
         # If none was, one of the edits may be why.
         middle = len(left) // 2
-        return [left[:middle], left[middle:]] if len(left) == len(edits) else [left] * bool(left)
+        batches = [left[:middle], left[middle:]] if len(left) == len(edits) else [left] * bool(left)
+        return [(self.judge, crate, batch) for batch in batches]
 
     def judge_alone(self, edit, checked):
         try:
@@ -250,15 +274,20 @@ class Run:
         except BadEdit as fault:
             self.fail(f"{edit.label()}: {fault}")
 
-    def say(self, edit, report):
+    def say(self, edit, report, how="refused"):
         with self.counting:
             self.refused.append(report)
-            print(f"must-fail: {edit.label()}: refused: {report[:200]}", flush=True)
+        self.show(f"must-fail: {edit.label()}: {how}: {report[:200]}")
 
     def fail(self, line):
         with self.counting:
             self.failed += 1
-            print(f"must-fail: {line}", flush=True)
+        self.show(f"must-fail: {line}")
+
+    def show(self, line):
+        """Prints a line, whole even if others print too."""
+        with self.counting:
+            print(line, flush=True)
 
     def all(self, lanes):
         """Proves the libraries and tries all edits, as many checks at once as `lanes` returns."""
@@ -272,7 +301,7 @@ class Run:
                     running[pool.submit(self.prove, name)] = name
                 while trials and len(running) < lanes():
                     judge, crate, tried = trials.pop(0)
-                    running[pool.submit(judge, crate, tried)] = (crate,)
+                    running[pool.submit(judge, crate, tried)] = None
                 if not running:
                     break
                 for done in wait(running, timeout=SECONDS, return_when=FIRST_COMPLETED).done:
@@ -280,21 +309,23 @@ class Run:
         for name in proofs:
             self.untried(name, "a library below it isn't proved")
 
-    def ended(self, task, done, proved, trials):
-        """Notes what a task found, and what is to be tried next."""
-        if isinstance(task, tuple):
-            trials[:0] = [(self.judge, task[0], batch) for batch in done.result()]
+    def ended(self, name, done, proved, trials):
+        """Notes that a crate of this name was checked, or, with no name, what a trial leaves to be tried next."""
+        if not name:
+            trials[:0] = done.result()
         elif done.result().status == 0:
-            proved.add(task)
-            print(f"must-fail: {task}: proved, {len(self.edits.get(task, []))} edits to try", flush=True)
-            trials += self.trials_of(task)
+            proved.add(name)
+            self.show(f"must-fail: {name}: proved, {len(self.edits.get(name, []))} edits to try")
+            trials += self.trials_of(name)
         else:
-            print(done.result().text, end="", flush=True)
-            self.untried(task, "the crate isn't proved without them")
+            self.show(done.result().text.rstrip("\n"))
+            self.untried(name, "the crate isn't proved without them")
 
     def trials_of(self, name):
         """Returns what is to be tried of a proved crate: copies, and the other edits in place."""
         folder, edits = self.top / "crates" / name, self.edits.get(name, [])
+        if self.is_control:
+            return [(self.judge_right, name, share) for share in shares_of(right_copies_of(folder, edits))]
         copies = copies_of(folder, edits)
         copied = {it.edit.name for it in copies}
         in_place = batches_of(folder, [edit for edit in edits if edit.name not in copied])
@@ -321,9 +352,10 @@ def lanes():
     return min(2 * first if more and os.path.exists(more) else first, MOST_LANES)
 
 
-def main(names):
+def main(words):
+    names = [word for word in words if word != "--control"]
     with tempfile.TemporaryDirectory(prefix="must-fail-") as folder:
-        run = Run(TOP, Path(folder), names)
+        run = Run(TOP, Path(folder), names, is_control="--control" in words)
         for line in run.lines:
             print(f"must-fail: {line}")
         run.all(lanes)

@@ -97,9 +97,25 @@ class Reading(unittest.TestCase):
     def test_a_function_is_found_around_a_line(self):
         self.assertEqual(self.at("    7"), FREE)
         self.assertEqual(self.at("ensures"), edits.Function("src/lib.rt", 7, 11, "Cell", "get", is_method=True))
-        self.assertEqual(self.at("Cell(value)"), edits.Function("src/lib.rt", 19, 21, "Cell", "from"))
+        self.assertEqual(self.at("Cell(value)"), edits.Function("src/lib.rt", 19, 21, "Cell", "from", is_of_trait=True))
         self.assertIsNone(self.at("const NINE"))
         self.assertIsNone(self.at("//! A crate"))
+
+    def test_the_owner_of_a_function_is_in_the_head_of_its_block(self):
+        for head, owner, is_of_trait in [
+            ("impl Cell {", "Cell", False),
+            ("impl<T: Into<u8>> a::Cell<T> {", "Cell", False),
+            ("impl<F: Fn(u8) -> Cell<u8>> Kept<F>\nwhere\n    F: for<'a> Fn(&'a u8),\n{", "Kept", False),
+            ("impl<T> From<T> for Cell<T> {", "Cell", True),
+            ("impl<\n    'a,\n    T: Get,\n> Get<'a> for Cell<T>\nwhere\n    T: Send,\n{", "Cell", True),
+            ("impl<\n    T,\n> Cell<T>\n{", "Cell", False),
+            ("impl<T>\n    Get for Cell<T>\n{", "Cell", True),
+            ("unsafe impl Get for Cell<u8> {", "Cell", True),
+            ("pub(crate) trait Get: Clone + Drop {", "Get", True),
+        ]:
+            lines = f"impl Other {{\n    fn b() {{}}\n}}\n\n{head}\n    fn a() {{}}\n}}".split("\n")
+            self.assertEqual(edits.owner_of(lines, len(lines) - 2, "    "), (owner, is_of_trait), head)
+        self.assertEqual(edits.owner_of(["impl Cell {", "}", "fn a() {}"], 2, ""), ("", False))
 
     def test_proof_files_are_of_a_function_by_module_type_and_name(self):
         deep = edits.Function("src/state/staging.rt", 1, 2, "State", "put")
@@ -108,7 +124,7 @@ class Reading(unittest.TestCase):
             ("state/StateClone/put", True),
             ("state/State/get", False),
             ("state/Other/put", False),
-            ("other/State/put", False),
+            ("other/State/put", True),
         ]:
             self.assertEqual(deep.has_proofs_in(folder), is_own, folder)
         self.assertTrue(FREE.has_proofs_in("free"))
@@ -165,9 +181,13 @@ class Copying(unittest.TestCase):
 
     def test_a_method_of_a_trait_has_no_copy(self):
         self.assertEqual(self.copies(("        Cell(value)", "        Cell(nothing())")), [])
-        trait = "pub trait Get {\n    fn get(&self) -> u8 {\n        5\n    }\n}\n"
-        self.write("src/lib.rt", trait + "impl<T>\n    Get for Cell<T>\n{\n    fn get(&self) -> u8 {\n        4\n    }\n}\n")
-        self.assertEqual(self.copies(("        5", "        6"), ("        4", "        3")), [])
+        for head in ("trait Get", "impl<\n    T,\n> Get for Cell<T>\nwhere\n    T: Send,"):
+            self.write("src/lib.rt", f"{head}\n{{\n    fn get(&self) -> u8 {{\n        5\n    }}\n}}\n")
+            self.assertEqual(self.copies(("        5", "        6")), [])
+
+    def test_a_function_in_a_cycle_of_calls_has_no_copy(self):
+        self.write("src/lib.rt", LIB.replace("fn free", "#[cycle(all)]\nfn free"))
+        self.assertEqual(self.copies(("    7", "    6")), [])
 
     def test_a_copy_has_attributes_and_no_lines_of_documentation(self):
         self.write("src/lib.rt", LIB.replace("fn free", "/// Returns 7.\n#[tactic(auto)]\npub(crate) const fn free"))
@@ -310,6 +330,23 @@ class Planted(unittest.TestCase):
         lines, _ = self.ran(other)
         self.assertEqual((lines[-1], self.checks()), ("must-fail: 4 passed, 0 failed", 3))
 
+    def test_copies_without_a_verdict_are_tried_in_two_parts(self):
+        self.edit("get_another", "src/lib.rt", "        self.0", "        stop")
+        lines, _ = self.ran()
+        self.assertIn(f"must-fail: high/six.edit: refused: {REPORTS[3][1].replace('AT', '33')[:200]}", lines)
+        self.assertIn("must-fail: high/get_another.edit: BAD EDIT: no contract was tried: src/lib.rt:1:1: error: unknown word", lines)
+        # All three copies, one and two of them, the first in place; and the method of a trait.
+        self.assertEqual((lines[-1], self.checks()), ("must-fail: 3 passed, 1 failed", 5))
+
+    def test_a_copy_is_not_refused_if_something_cannot_be_read(self):
+        lines, _ = self.ran([*REPORTS, ("fn free_edit_3", "./specs/Words.antt:1:1: error: unknown word")])
+        self.assertEqual((lines[-1], self.checks()), ("must-fail: 4 passed, 0 failed", 3))
+
+    def test_a_report_goes_on_in_indented_lines(self):
+        gone = "./proofs/CellFrom/from/Answers.antt:3:5: error: the step\n  has no field `x`"
+        lines, _ = self.ran([("nothing()", gone), *REPORTS[1:]])
+        self.assertTrue(lines[-3].endswith(", 1 only because a proof file names what is gone"))
+
     def test_edits_without_a_report_are_tried_together_again(self):
         # Both are hidden by an unproved callee, and then by each other.
         self.write("crates/high/src/lib.rt", LIB + MAKE)
@@ -350,6 +387,14 @@ class Planted(unittest.TestCase):
         self.assertEqual((lines[-1], status), ("must-fail: 0 passed, 4 failed", 1))
         self.assertIn("must-fail: high/six.edit: NOT TRIED: a library below it isn't proved", lines)
 
+    def test_copies_of_the_right_bodies_are_accepted(self):
+        self.edit("six_again", *EDITS["six"])
+        proved = [("fn get_edit_1", "fn high::Cell::get_edit_1: proved"), ("fn free_edit_3", "fn high::free_edit_3: proved")]
+        lines, status = self.ran(proved + [("fn set_edit_2", f"note: src/lib.rt:AT:5: {NOT_PROVED}")], names=["--control", "high"])
+        self.assertEqual((lines[-1], status, self.checks()), ("must-fail: 2 passed, 1 failed", 1, 1))
+        self.assertIn("must-fail: high/get_another.edit: accepted: a copy of its function is proved", lines)
+        self.assertTrue(any(line.startswith("must-fail: high/set_nothing.edit: NOT ACCEPTED: ") for line in lines))
+
     def test_twice_as_many_checks_run_once_a_file_is_there(self):
         more = self.top.parent / "more"
         with mock.patch.dict(os.environ, {"RT_JOBS": "3", "MORE_JOBS": str(more)}):
@@ -369,8 +414,17 @@ class Planted(unittest.TestCase):
             run = must_fail.Run(must_fail.TOP, Path(folder))
         self.assertEqual(run.lines, [])
         for crate, read in run.edits.items():
-            tried = edits.batches_of(must_fail.TOP / "crates" / crate, read)
+            folder = must_fail.TOP / "crates" / crate
+            tried = edits.batches_of(folder, read)
             self.assertEqual(sorted(it.name for batch in tried for it in batch), sorted(it.name for it in read))
+            for copy in edit_copies.copies_of(folder, read):
+                function = copy.edit.function
+                named = [it for it in edits.proof_folders(folder) if it.split("/")[-1] == function.name]
+                # Types have large first letters, and modules small ones.
+                is_own = lambda it: it == function.owner or not function.owner and not it[:1].isupper()
+                own = [it for it in named if is_own(["", *it.split("/")][-2])]
+                with self.subTest(copy=copy.name, crate=crate):
+                    self.assertEqual(edit_copies.folders_of(folder, function), own)
 
 
 if __name__ == "__main__":
