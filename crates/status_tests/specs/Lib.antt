@@ -1,3 +1,4 @@
+pub mod Clean
 pub mod Lengths
 pub mod Returns
 pub mod Texts

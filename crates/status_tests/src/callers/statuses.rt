@@ -3,7 +3,9 @@
 ghost use Rattle.std.specs.Prelude.{◌≡◌, ◌<◌, ◌^◌, [], IfOk, OnErr, OnOk};
 ghost use Rattle.status_index.specs.States.{index_of, timestamp_of};
 ghost use Rattle.status_call.specs.IndexChanges.{AreInside, DifferInStats, changes_of};
+ghost use Rattle.status_call.specs.Inputs.{usual};
 ghost use Rattle.status_call.specs.Outcomes.{skipped_of};
+ghost use Rattle.status_tests.specs.Clean.{SaysClean};
 
 use gix_status::index::{Moment, State};
 use gix_status::index_as_worktree::traits::{CompareBlobs, HashEq};
@@ -15,6 +17,7 @@ use gix_status::worktree::{
     AllPaths, Find, MemoryObjects, NoFilter, NoLister, NoSubmodules, Pathspec, SubmoduleStatus,
     ToGit, Worktree,
 };
+use status_call::index_as_worktree::inputs::{Ask, Inputs};
 use std::alloc::Global;
 use std::sync::Wait;
 use std::sync::atomic::AtomicBool;
@@ -166,6 +169,49 @@ where
     index_as_worktree(
         rt, alloc, index, worktree, collector, compare, submodule, objects, context, options,
     )
+}
+
+/// A worktree, a comparer and a pathspec, with the usual interfaces.
+type Usual<'w, W, C, P> = Inputs<'w, W, C, NoSubmodules, MemoryObjects, P, NoFilter, NoLister>;
+
+/// Returns whether the status of an index against a worktree has no record.
+///
+/// # Errors
+/// Returns the status's error.
+pub fn is_clean<
+    'index,
+    'w,
+    R: AllocGlobal + Threads + Wait,
+    W: Worktree + Sync,
+    C: CompareBlobs + Send,
+    P: Pathspec + Send,
+>(
+    rt: &R,
+    index: &'index State,
+    worktree: &'w W,
+    compare: C,
+    pathspec: P,
+    options: Options,
+) -> Result<bool, Error>
+where
+    W::File: Send,
+    C::Output: Send + 'index,
+    ensures { SaysClean ⟦<Usual<'w, W, C, P> as Ask>⟧.query
+        (usual worktree.entry compare pathspec) options index.now result }
+{
+    let alloc = rt.alloc();
+    let mut recorder = Recorder::new(alloc);
+    index_as_worktree_with_defaults(
+        rt,
+        alloc,
+        index,
+        worktree,
+        &mut recorder,
+        compare,
+        pathspec,
+        options,
+    )?;
+    Ok(recorder.records.as_slice().is_empty())
 }
 
 /// Returns the changes of the index that its status asks for.

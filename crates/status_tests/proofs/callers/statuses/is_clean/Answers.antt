@@ -1,0 +1,9 @@
+use Rattle.std.proofs.Common.{◌==◌, ◌∙◌, ap, length, sym}
+use Rattle.status_tests.proofs.Clean.{nothing_found}
+use Rattle.status_tests.proofs.callers.statuses.is_clean.Goals as goal
+
+pub returns : goal.returns
+returns g c = λ modelled clean.
+    let ok = c.in_ok-index_as_worktree_with_defaults in
+    let none = sym (ap (λ rs. length rs == 0) c.as_slice.ensures.value) ∙ sym c.is_empty.ensures ∙ clean in
+    nothing_found _ _ ok.field-0 _ _ modelled ok.ensures.uninterrupted ok.ensures.all c.new-recorder.ensures none
