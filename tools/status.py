@@ -42,6 +42,7 @@ from profile_from_git import Profile
 from progress import Progress
 from repository import Repository
 from shared import Refused, end, program_of, say
+from unseen import start_changed
 
 OPTIONS = {
     "--updates": "also print files that are as staged, with another stat",
@@ -55,9 +56,11 @@ def main():
     arguments = arguments_of(sys.argv[1:], OPTIONS, __doc__)
     program = program_of(arguments.program)
     with Progress("reading the index") as progress:
-        profile = Profile(Repository(arguments.repository))
-        progress.doing = f"comparing {profile.entries}"
-        unseen, printed, fault = compared(program, profile)
+        repository = Repository(arguments.repository)
+        with start_changed(repository) as changed:
+            profile = Profile(repository)
+            progress.doing = f"comparing {profile.entries}"
+            unseen, printed, fault = compared(program, profile, changed)
     for note in unseen.notes():
         say(f"note: {note}")
     found = statuses_of(printed)

@@ -304,7 +304,7 @@ class Gate(unittest.TestCase):
             shutil.copy(path, self.top / "tools" / path.name)
         (self.top / "tools" / "must_fail.py").write_text("print('must-fail: 0 passed, 1 failed'); raise SystemExit(1)")
         status, lines = self.ran()
-        self.assertEqual((status, lines[0]), (1, f"ci {max(min(os.cpu_count(), 4) // 2, 1)} crates/low/src"))
+        self.assertEqual((status, lines[0]), (1, f"ci {max(min(len(os.sched_getaffinity(0)), 4) // 2, 1)} crates/low/src"))
         self.assertIn("must-fail: 0 passed, 1 failed", lines)
         self.assertTrue([line for line in lines if line.startswith("gate: FAILED: rt ci ended with exit status 3")])
 

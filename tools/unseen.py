@@ -16,6 +16,10 @@ from index_entries import (
 )
 from repository import printed_by, quoted, start_git
 
+# How git lists the paths whose nodes have another stat than their entries, in any part.
+ALL_COUNTS = ["-c", "core.trustctime=true", "-c", "core.checkStat=default", "-c", "core.fileMode=true"]
+CHANGED = ["diff-files", "-z", "--name-only", "--no-renames", "--ignore-submodules=all"]
+ATTRIBUTES = ["check-attr", "-z", "--all", "--stdin"]
 CONVERSIONS = {b"text", b"eol", b"crlf", b"filter", b"ident", b"working-tree-encoding"}
 # The bits of an entry with which no node is compared.
 PASSED_OVER = STAGES | UP_TO_DATE | SKIP_WORKTREE | ASSUME_VALID | FSMONITOR_VALID
@@ -56,18 +60,50 @@ def files(count):
     return f"{count} file" + "s" * (count != 1)
 
 
+def start_changed(repository):
+    """Starts git, which lists the paths of changed nodes. It runs while the tool does something else."""
+    return start_git(repository.top, *CHANGED, settings=ALL_COUNTS)
+
+
+def changed_for_git(running):
+    """Returns the set of the paths that git lists."""
+    return set(printed_by(running, CHANGED[0]).split(b"\0"))
+
+
+class NotAsked:
+    """Stands for a git that isn't started: None in a `with` block."""
+
+    def __enter__(self):
+        return None
+
+    def __exit__(self, *_):
+        pass
+
+
+def start_attributes(profile):
+    """Starts git, which lists the attributes of all paths, if these matter."""
+    if converts_lines(profile.repository):
+        return NotAsked()
+    # The paths are in order, so that git reads the attributes of a folder once.
+    return start_git(profile.repository.top, *ATTRIBUTES, stdin=profile.entries.joined)
+
+
 def unseen_of(profile):
     """Returns the counts for a profile's entries."""
-    found, repository, entries = Unseen(), profile.repository, profile.entries
-    if converts_lines(repository):
-        add_nodes(found, profile)
-        found.conversions = len(files_among(set(entries.paths), entries))
-        return found
-    # The paths are in order, so that git reads the attributes of a folder once.
-    with start_git(repository.top, "check-attr", "-z", "--all", "--stdin", stdin=entries.joined) as asked:
-        add_nodes(found, profile)
-        listed = printed_by(asked, "check-attr")
-    found.conversions = len(files_among({path for path, _, _ in conversions_in(listed)}, entries))
+    with start_attributes(profile) as attributes:
+        return unseen_by(profile, attributes)
+
+
+def unseen_by(profile, attributes, among=None):
+    """Returns the counts by git's list of attributes, which is None if all files are converted. If the set `among` is
+    passed, other paths have unchanged nodes."""
+    found, entries = Unseen(), profile.entries
+    add_nodes(found, profile, among)
+    if attributes is None:
+        converted = set(entries.paths)
+    else:
+        converted = {path for path, _, _ in conversions_in(printed_by(attributes, ATTRIBUTES[0]))}
+    found.conversions = len(files_among(converted, entries))
     return found
 
 
@@ -91,12 +127,15 @@ def conversions_in(listed):
     return [it for it in attributes if it[1] in CONVERSIONS and it[2] not in (b"unspecified", b"unset")]
 
 
-def add_nodes(found, profile):
+def add_nodes(found, profile, among):
     """Adds the files and links with differences that aren't seen."""
     top, links = os.fsencode(profile.repository.top), {}
     modes_count = profile.repository.is_set("core.filemode")
-    found.submodules, changed = changed_nodes(top, profile.entries)
-    for path, record, node in changed:
+    entries = profile.entries
+    found.submodules = sum(record[MODE] == SUBMODULE for record in entries.records)
+    # The program may read an unchanged link.
+    looked_at = entries if among is None else [it for it in entries if it[0] in among or it[1][MODE] == LINK]
+    for path, record, node in changed_nodes(top, looked_at):
         if is_behind_link(top, path, links):
             continue
         why = unreadable(top, path, record, node)
@@ -111,20 +150,18 @@ def add_nodes(found, profile):
 
 
 def changed_nodes(top, entries):
-    """Returns how many entries are submodules, and the entries whose nodes changed, with what lstat returns.
+    """Returns the entries whose nodes changed, with what lstat returns.
 
-    Missing nodes aren't returned, nor files that have only another length, or another time that the program can read.
-    The numbers of lstat are taken by their positions, since their names take longer.
+    Submodules and missing nodes aren't returned, nor files that have only another length, or another time that the program
+    can read. The numbers of lstat are taken by their positions, since their names take longer.
     """
-    submodules, changed = 0, []
+    changed = []
     lstat, folder = os.lstat, os.open(top, getattr(os, "O_PATH", os.O_RDONLY))
     try:
         for path, record in entries:
             ctime, mtime, inode, mode, _, _, bits = record
-            if bits > LENGTH or mode == SUBMODULE:
-                submodules += mode == SUBMODULE
-                if bits & PASSED_OVER or mode == SUBMODULE:
-                    continue
+            if bits & PASSED_OVER or mode == SUBMODULE:
+                continue
             try:
                 node = lstat(path, dir_fd=folder)
             except OSError:
@@ -139,7 +176,7 @@ def changed_nodes(top, entries):
             changed.append((path, record, node))
     finally:
         os.close(folder)
-    return submodules, changed
+    return changed
 
 
 def is_passed_over(record):
