@@ -43,6 +43,7 @@ PROOF_ERROR = re.compile(r"(?:\./)?proofs/(\S+)/(?:Answers|Invariants|Proof)\.an
 TAKEN_AWAY = re.compile(r"has no field|is not in scope|has no `|was not admitted")
 # Reports that show more of the contract than others: a goal that is false for some values; and less: the prover's limits.
 IS_FALSE, AT_LIMIT = "at which this goal is false", "gave up at one of its limits"
+WITHOUT_REPORT = "the crate isn't proved, and no report says what"
 ONLY_TAKEN_AWAY = "(only because a proof file names what the edit took away) "
 ONLY_AT_LIMIT = "(only at a limit of the prover) "
 # The most checks that run at once, and the seconds after which their number is looked up again.
@@ -106,8 +107,9 @@ def reports_of(edit, checked):
 
 def is_miscopied(line, name):
     """Returns whether a report on a copy's proof files may be due to how they were copied: they name what isn't there, and it
-    is none of the copy's own goals, nor a field."""
-    return bool(TAKEN_AWAY.search(line)) and "has no field" not in line and f".{name}.Goals` has no" not in line
+    is none of the copy's own goals, nor a field. What wasn't admitted depends on something else that is reported."""
+    own = rf"has no field|was not admitted|\.{name}\.Goals` has no"
+    return bool(TAKEN_AWAY.search(line)) and not re.search(own, line)
 
 
 def refused_alone(edit, checked):
@@ -119,7 +121,7 @@ def refused_alone(edit, checked):
     if verdict is None or unread:
         raise BadEdit(f"BAD EDIT: no contract was tried: {unread or ' / '.join(checked.lines()[-3:])[:300]}")
     of_any = Edit(edit.crate, edit.name, edit.pairs, None)
-    return report_of(edit, checked) or report_of(of_any, checked) or "the crate isn't proved"
+    return report_of(edit, checked) or report_of(of_any, checked) or WITHOUT_REPORT
 
 
 # Copies of the repository
@@ -339,6 +341,7 @@ class Run:
 def summary(run):
     """Returns the last lines: how many edits were refused, how, and what it took."""
     starts = [(ONLY_AT_LIMIT, "only at a limit of the prover"), (ONLY_TAKEN_AWAY, "only because a proof file names what is gone")]
+    starts += [(WITHOUT_REPORT, "without a report")]
     kinds = [f"{sum(report.startswith(start) for report in run.refused)} {words}" for start, words in starts]
     minutes = [f"{run.seconds[kind] / 60:.1f} minutes of processor for {kind}" for kind in ("proofs", "edits")]
     lines = [", ".join([f"{len(run.refused)} refused", *kinds]), ", ".join(minutes)]

@@ -270,7 +270,7 @@ class Planted(unittest.TestCase):
     def test_one_check_tries_edits_of_many_functions_and_another_those_in_place(self):
         lines, status = self.ran()
         self.assertEqual((lines[-1], status), ("must-fail: 4 passed, 0 failed", 0))
-        self.assertEqual(lines[-3], "must-fail: 4 refused, 1 only at a limit of the prover, 0 only because a proof file names what is gone")
+        self.assertEqual(lines[-3], "must-fail: 4 refused, 1 only at a limit of the prover, 0 only because a proof file names what is gone, 0 without a report")
         self.assertRegex(lines[-2], r"^must-fail: \d+\.\d minutes of processor for proofs, \d+\.\d minutes of processor for edits$")
         self.assertIn(f"must-fail: high/six.edit: refused: {REPORTS[3][1].replace('AT', '39')[:200]}", lines)
         self.assertIn(f"must-fail: high/get_another.edit: refused: (only at a limit of the prover) {REPORTS[1][1].replace('AT', '16')}", lines)
@@ -345,7 +345,7 @@ class Planted(unittest.TestCase):
     def test_a_report_goes_on_in_indented_lines(self):
         gone = "./proofs/CellFrom/from/Answers.antt:3:5: error: the step\n  has no field `x`"
         lines, _ = self.ran([("nothing()", gone), *REPORTS[1:]])
-        self.assertTrue(lines[-3].endswith(", 1 only because a proof file names what is gone"))
+        self.assertTrue(lines[-3].endswith(", 1 only because a proof file names what is gone, 0 without a report"))
 
     def test_edits_without_a_report_are_tried_together_again(self):
         # Both are hidden by an unproved callee, and then by each other.
@@ -354,12 +354,13 @@ class Planted(unittest.TestCase):
         hidden = [("anew(made)", "nothing"), ("nothing()", "nothing")]
         lines, _ = self.ran([*REPORTS[1:], *hidden])
         self.assertEqual((lines[-1], self.checks()), ("must-fail: 5 passed, 0 failed", 4))
+        self.assertTrue(lines[-3].endswith(", 2 without a report"))
 
     def test_what_a_proof_file_misses_is_said(self):
         gone = "./proofs/CellFrom/from/Answers.antt:3:5: error: record `C` has no field `x`"
         lines, status = self.ran([("nothing()", gone), *REPORTS[1:]])
         self.assertIn(f"must-fail: high/from_nothing.edit: refused: {must_fail.ONLY_TAKEN_AWAY}{gone}", lines)
-        self.assertTrue(lines[-3].endswith(", 1 only because a proof file names what is gone"))
+        self.assertTrue(lines[-3].endswith(", 1 only because a proof file names what is gone, 0 without a report"))
         self.assertEqual(status, 0)
 
     def test_an_edit_that_does_not_compile_is_bad_and_hides_no_other(self):
