@@ -44,12 +44,17 @@ class Function:
 
 @dataclass(frozen=True)
 class Edit:
-    """An edit: its crate, its file's name, its replacements as paths with old and new texts, and its one function, if any."""
+    """An edit: its crate, its file's name, its replacements as paths with old and new texts, its one function, if any, and
+    the functions that it changes, if it changes more than one, or something else besides."""
 
     crate: str
     name: str
     pairs: tuple
     function: "Function | None"
+    others: tuple = ()
+
+    def functions(self):
+        return [self.function] if self.function else [*self.others]
 
     def label(self):
         return f"{self.crate}/{self.name}"
@@ -115,7 +120,7 @@ def without_parameters(text):
 
 def read_edit(folder, path):
     """Reads an edit of the crate in a folder."""
-    at, old, pairs, functions, texts = "", None, [], set(), {}
+    at, old, pairs, functions, texts = "", None, [], {}, {}
     for line in path.read_text(encoding="utf-8").split("\n"):
         word, _, text = line.partition(":")
         text = text.removeprefix(" ")
@@ -128,10 +133,11 @@ def read_edit(folder, path):
                 raise BadEdit("it has a line 'new:' without a file of src/, specs/ or proofs/ and an old text")
             pairs.append((at, old, text))
             before = replace(texts, folder, *pairs[-1])
-            functions.add(function_at(at, before, before.index(old)) if at.startswith("src/") else None)
+            functions[function_at(at, before, before.index(old)) if at.startswith("src/") else None] = True
     if not pairs:
         raise BadEdit("it has no pair of an old and a new text")
-    return Edit(folder.name, path.name, tuple(pairs), functions.pop() if len(functions) == 1 else None)
+    found = tuple(it for it in functions if it)
+    return Edit(folder.name, path.name, tuple(pairs), *((found[0],) if len(functions) == len(found) == 1 else (None, found)))
 
 
 def text_of(path):

@@ -3,8 +3,8 @@
 
     python3 tools/gate.py
 
-`rt ci` would try each edit by a check of its own. The first two run side by side, each with half of the processors, or of
-the checks at once that RT_JOBS allows; once `rt ci` has ended, the edits get them all. The gate fails, and a line says why,
+`rt ci` would try each edit by a check of its own, over one more proof of the crate. tools/must_fail.py tries many in one
+check, over the libraries that `rt ci` has built in the copy. The gate fails, and a line says why,
 
 - if a command ends with another exit status than 0, or without its line 'N passed, M failed', or one with failures;
 - if a part that the tests need isn't there: the built program, git, a C compiler and so on;
@@ -12,8 +12,8 @@ the checks at once that RT_JOBS allows; once `rt ci` has ended, the edits get th
 - if there is less evidence of a kind than .ci/floors says.
 
 More evidence than that is no failure: a line says that the floor is to be raised. Other lines tell what each command took,
-and what all took as a multiple of one pass over the proofs. The last line is 'N passed, M failed' for all of it, and the
-exit status is 0 if nothing failed.
+and what all took as a multiple of one pass over the proofs, without those of the crates of tests. The last line is 'N
+passed, M failed' for all of it, and the exit status is 0 if nothing failed.
 """
 
 import os
@@ -22,8 +22,8 @@ import shutil
 import subprocess
 import sys
 import tempfile
+import threading
 import time
-from concurrent.futures import ThreadPoolExecutor
 from dataclasses import dataclass
 from pathlib import Path
 
@@ -208,51 +208,76 @@ def evidence(top, ci, edits, tools):
 # What it takes
 
 
-def costs(runs):
-    """Returns lines on the minutes that commands took, and on all of them against one pass over the proofs."""
+class Proofs(threading.Thread):
+    """Notes, while a command runs, the seconds of processor of each proof of a crate in a folder, as /proc tells them every
+    second. The proof of a crate's tests isn't one."""
+
+    def __init__(self, folder):
+        super().__init__(daemon=True)
+        self.folder, self.seconds, self.ends = folder, {}, threading.Event()
+
+    def run(self):
+        while not self.ends.wait(1):
+            self.look()
+
+    def look(self):
+        for process in Path("/proc").glob("[0-9]*"):
+            self.look_at(process)
+
+    def look_at(self, process):
+        try:
+            words = (process / "cmdline").read_bytes().decode(errors="replace").split("\0")
+            is_proof = "--crate-name" in words and not {"--test", "--crate-checked"} & {*words}
+            if is_proof and Path(words[0]).name == "rattle":
+                crate = words[words.index("--crate-name") + 1]
+                if Path(os.readlink(process / "cwd")) == self.folder / "crates" / crate:
+                    ticks = (process / "stat").read_text(encoding="utf-8").rpartition(")")[2].split()[11:13]
+                    self.seconds[crate, process.name] = sum(map(int, ticks)) / os.sysconf("SC_CLK_TCK")
+        except (OSError, ValueError):
+            # It has ended meanwhile.
+            pass
+
+    def one_pass(self):
+        """Returns the seconds for all crates but those of tests, or 0 if one of them wasn't proved."""
+        crates = {path.name for path in (self.folder / "crates").iterdir() if not path.name.endswith("_tests")}
+        proved = {crate for crate, _ in self.seconds}
+        return sum(it for (crate, _), it in self.seconds.items() if crate in crates) if crates <= proved else 0
+
+
+def costs(runs, one_pass):
+    """Returns lines on the minutes that commands took, and on all of them against one pass over the proofs, in seconds."""
     lines = [f"{it.name}: {it.processor / 60:.1f} minutes of processor, {it.clock / 60:.1f} of the clock" for it in runs]
-    passes = [re.search(r"^must-fail: ([\d.]+) minutes of processor for proofs", it.text, re.M) for it in runs]
-    minutes = next((float(it[1]) for it in passes if it), 0.0)
-    if minutes:
-        total = sum(it.processor for it in runs) / 60
-        lines.append(f"all: {total:.1f} minutes of processor, {total / minutes:.1f} times one pass over the proofs ({minutes})")
+    if one_pass:
+        total = sum(it.processor for it in runs)
+        words = f"{total / one_pass:.1f} times one pass over the proofs ({one_pass / 60:.1f})"
+        lines.append(f"all: {total / 60:.1f} minutes of processor, {words}")
     return lines
 
 
 # The gate
 
 
-def run(name, words, settings, folder=TOP, shows=True):
-    """Runs a command in a folder, and prints its output as it comes, or at its end."""
+def run(name, words, settings, folder=TOP):
+    """Runs a command in a folder, and prints its output as it comes."""
     environment = {**os.environ, **settings}
     lines, begun = [], time.monotonic()
     how = {"cwd": folder, "env": environment, "stdin": subprocess.DEVNULL, "stdout": subprocess.PIPE}
     with subprocess.Popen(words, text=True, errors="replace", **how) as it:
         for line in it.stdout:
             lines.append(line)
-            if shows:
-                print(line, end="", flush=True)
+            print(line, end="", flush=True)
         _, status, usage = os.wait4(it.pid, 0)
         it.returncode = os.waitstatus_to_exitcode(status)
-    if not shows:
-        print("".join(lines), end="", flush=True)
     return Ran(name, "".join(lines), it.returncode, usage.ru_utime + usage.ru_stime, time.monotonic() - begun)
 
 
-def verdict(top, program, ran, found=shutil.which):
+def verdict(top, program, ran, one_pass, found=shutil.which):
     """Returns how many passed and failed in all of `rt ci`, the edits and the tests, what is wrong, and notes."""
     ends = [judged(it) for it in ran]
     faults, notes = evidence(top, *(it.text for it in ran))
     wrong = [fault for _, _, faults_of_one in ends for fault in faults_of_one]
     faults = missing(program, found) + wrong + useless_edits(ran[1].text) + faults
-    return sum(it[0] for it in ends), sum(it[1] for it in ends) + len(faults), faults, notes + costs(ran)
-
-
-def lanes():
-    """Returns how many checks run at once in each of the two commands that check."""
-    number = os.environ.get("RT_JOBS", "")
-    both = int(number) if number.isdigit() and int(number) else len(os.sched_getaffinity(0))
-    return max(both // 2, 1)
+    return sum(it[0] for it in ends), sum(it[1] for it in ends) + len(faults), faults, notes + costs(ran, one_pass)
 
 
 def main():
@@ -260,18 +285,17 @@ def main():
         copy = Path(room) / "copy"
         shutil.copytree(TOP, copy, ignore=shutil.ignore_patterns(*LEFT_OUT))
         program = copy / "crates" / "status_program" / "out" / "status_program"
-        more = Path(room) / "rt-ci-has-ended"
-        settings = {"RT_JOBS": str(lanes()), "MORE_JOBS": str(more), "PYTHONDONTWRITEBYTECODE": "1"}
-        script = [sys.executable, "tools/must_fail.py"]
-        with ThreadPoolExecutor(1) as pool:
-            edits = pool.submit(run, "tools/must_fail.py", script, settings, TOP, False)
-            ci = run("rt ci", ["rt", "ci"], settings, copy)
-            more.touch()
-            edits = edits.result()
+        settings = {"PYTHONDONTWRITEBYTECODE": "1"}
+        proofs = Proofs(copy)
+        proofs.start()
+        ci = run("rt ci", ["rt", "ci"], settings, copy)
+        proofs.ends.set()
+        (copy / "rt-ci.txt").write_text(ci.text, encoding="utf-8")
+        edits = run("tools/must_fail.py", [sys.executable, "tools/must_fail.py", "--built", str(copy)], settings)
         # If no program was built, each test that needs one says that it wasn't run.
         settings["STATUS_PROGRAM"] = str(program) if program.is_file() else ""
         tools = run("tools/run_tests.py", [sys.executable, "tools/run_tests.py"], settings)
-        passed, failed, faults, notes = verdict(TOP, program, (ci, edits, tools))
+        passed, failed, faults, notes = verdict(TOP, program, (ci, edits, tools), proofs.one_pass())
     for line in [*notes, *(f"FAILED: {fault}" for fault in faults)]:
         print(f"gate: {line}")
     print(f"{passed} passed, {failed} failed")

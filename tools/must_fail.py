@@ -1,21 +1,25 @@
 #!/usr/bin/env python3
-"""Tries the must-fail edits of crates, many in one check:  python3 tools/must_fail.py [--control] [CRATE ..]
+"""Tries the must-fail edits of crates, many in one check:
+
+    python3 tools/must_fail.py [--control] [--built FOLDER] [CRATE ..]
 
 An edit, crates/CRATE/must-fail/NAME.edit, puts a wrong body into a function, and the prover has to refuse it. `rt
 must-fail` checks the whole crate once for each edit. Here one check tries many wrong bodies, each in a copy of its function
-(tools/edit_copies.py). A method of a trait has its wrong body in place, beside those of other functions: what is proved of
-a function depends on the contracts of the others, and not on their bodies; functions in a cycle of calls have one proof,
-but each goal is at a line of its own function. So an edit is refused if the check reports
+(tools/edit_copies.py). A method of a trait has its wrong body in place, beside those of other functions. The check proves
+these functions alone: it takes the contracts of the others as proved (tools/open_proofs.py), since what is proved of a
+function depends on the contracts of those that it calls, and not on their bodies. So an edit is refused if the check reports
 
 - something unproved at a line of the copy, or of the function itself, or
 - an error in the proof files of one of these.
 
-Edits without such a report are tried again in place, without those that were refused, and at last alone. So are those
-whose copy's proof files may have been copied wrongly. One that changes more than one function is tried alone at once. As
-for `rt must-fail`, an edit alone is refused if the crate isn't proved. All is done in copies of the repository, after one
-pass over the proofs of the crates. As many checks run at once as RT_JOBS says, or as there are processors; twice as many
-once there is a file of the name in MORE_JOBS. The last lines tell how many edits were refused, and the minutes of processor
-for that pass and for the edits. The exit status is 0 if all were refused.
+Edits without such a report are tried again in place, without those that were refused, and at last alone, with all proofs of
+the crate: such an edit is refused if the crate isn't proved, as for `rt must-fail`. So are those whose copy's proof files
+may have been copied wrongly. One that changes more than one function is tried alone at once.
+
+The libraries are those that `rt ci` built in FOLDER, a copy of the repository, which also has its output, in rt-ci.txt: that
+tells which functions it proved. Without FOLDER, each crate is proved first. All is done in copies of the repository. As many
+checks run at once as RT_JOBS says, or as there are processors. The last lines tell how many edits were refused, and the
+minutes of processor. The exit status is 0 if all were refused.
 
 With --control, the functions are copied with their right bodies, and the prover has to accept each copy. It shows that an
 edit isn't refused for how its function is copied. Run it after a change of that; the gate doesn't.
@@ -34,6 +38,7 @@ from pathlib import Path
 
 from edit_copies import copies_of, right_copies_of, shares_of, with_copies
 from edits import SOURCES, BadEdit, Edit, batches_of, edited, read_edits
+from open_proofs import belongs, can_be_open, functions_in, leave_open
 
 TOP = Path(__file__).resolve().parent.parent
 # How a check reports what isn't proved: in the source, and in a function's proof files.
@@ -46,8 +51,8 @@ IS_FALSE, AT_LIMIT = "at which this goal is false", "gave up at one of its limit
 WITHOUT_REPORT = "the crate isn't proved, and no report says what"
 ONLY_TAKEN_AWAY = "(only because a proof file names what the edit took away) "
 ONLY_AT_LIMIT = "(only at a limit of the prover) "
-# The most checks that run at once, and the seconds after which their number is looked up again.
-MOST_LANES, SECONDS = 64, 5
+# How a check tells that it took a right function's contract: it is proved, or stands only on proofs that were left open.
+ACCEPTED = r"(?:proved|no holes|depends on a hole in `\S+\.Proof\.\S+`|not proved; it calls .*)$"
 # A definition that can't be read: an edit of it shows nothing.
 UNREADABLE = re.compile(r"(?:\./)?(?:src|specs)/\S+:\d+:\d+: error: .*")
 
@@ -66,10 +71,10 @@ class Checked:
 
     def verdict(self):
         """Returns whether the crate is proved, or None if the check didn't find out."""
-        last = [line for line in self.lines() if line.startswith("logic=")][-1:]
-        if self.status == 0 and last and last[0].startswith("logic=proved"):
+        last = next((line for line in reversed(self.lines()) if line.startswith(("logic=", "only="))), "")
+        if self.status == 0 and last.startswith(("logic=proved", "only=")):
             return True
-        return False if self.status == 1 and last == ["logic=not-proved"] else None
+        return False if self.status == 1 and (last == "logic=not-proved" or last.startswith("only=")) else None
 
 
 # What a check says of an edit
@@ -135,7 +140,7 @@ def copy_crate(crate, to, parts, copy=shutil.copy2):
 
 
 def make_room(top, to, names):
-    """Copies what a check of these crates needs, without what was built."""
+    """Copies what proofs of these crates need, without what was built."""
     to.mkdir(parents=True, exist_ok=True)
     shutil.copy2(top / "HANDLES", to / "HANDLES")
     lines = (top / "crates.txt").read_text(encoding="utf-8").splitlines(keepends=True)
@@ -144,22 +149,36 @@ def make_room(top, to, names):
         copy_crate(top / "crates" / name, to / "crates" / name, SOURCES)
 
 
-def make_copy(base, to, crate, below):
-    """Copies a room with its built libraries and the kept proofs of one crate. Built files are shared, and never changed."""
-    make_room(base, to, [crate, *below])
-    for name in below:
-        copy_crate(base / "crates" / name, to / "crates" / name, ["out/rlib"], os.link)
-    copy_crate(base / "crates" / crate, to / "crates" / crate, ["out/incremental"], os.link)
+# Commands of the toolchain
 
 
-def check(folder, *words):
-    """Runs a command of `rt` in a crate's folder."""
+def run(words, folder):
+    """Runs a command in a folder."""
     how = {"cwd": folder, "stdin": subprocess.DEVNULL, "stdout": subprocess.PIPE, "stderr": subprocess.STDOUT}
-    with subprocess.Popen(["rt", *words, "--jobs", "1"], text=True, errors="replace", **how) as it:
+    with subprocess.Popen(words, text=True, errors="replace", **how) as it:
         text = it.stdout.read()
         _, status, usage = os.wait4(it.pid, 0)
         it.returncode = os.waitstatus_to_exitcode(status)
     return Checked(text, it.returncode, usage.ru_utime + usage.ru_stime)
+
+
+def toolchain():
+    """Returns the folder of the toolchain, in which `rt doc` names the page to read first."""
+    return Path(run(["rt", "doc"], TOP).text.strip()).parent
+
+
+def check_words(kit, crate, libraries, built, below):
+    """Returns the words that check a crate over these libraries of its own list, its own repository's as they are built in
+    a folder. `rt check` would build those again that `rt ci` has built."""
+    own = {name: built / "crates" / name / "out" / "rlib" / f"{name}.rlib" for name in below}
+    paths = {name: own.get(name, kit / "rlibs" / f"{name}.rlib") for name in ["std", *libraries]}
+    words = [str(kit / "bin" / "rattle"), "check", "--crate-name", crate, "src/lib.rt", "--jobs", "1", "--links", f"{crate}="]
+    words += ["--antt-project", str(kit / "rattle/logic/antt-project.json"), "--logic-built", str(kit / "logic_built")]
+    for name, path in paths.items():
+        words += ["--extern", f"{name}={path}"]
+    for folder in [kit / "rlibs", *(path.parent for path in own.values())]:
+        words += ["-L", f"dependency={folder}"]
+    return words
 
 
 # The run
@@ -171,11 +190,15 @@ def name_in(line):
     return head.split()[0] if colon else ""
 
 
+def libraries_of(text):
+    """Returns the libraries that each crate of crates.txt lists."""
+    lines = [line for line in text.splitlines() if name_in(line)]
+    return {name_in(line): line.partition("#")[0].partition(":")[2].split() for line in lines}
+
+
 def crates_below(text):
     """Returns each crate of crates.txt with the crates of the repository below it, lowest first."""
-    lines = [line for line in text.splitlines() if name_in(line)]
-    own = {name_in(line): line.partition("#")[0].partition(":")[2].split() for line in lines}
-    below = {}
+    own, below = libraries_of(text), {}
 
     def add(name):
         if name not in below:
@@ -190,47 +213,68 @@ def crates_below(text):
 
 
 class Run:
-    """Builds libraries and tries edits in rooms below a folder."""
+    """Tries edits in rooms below a folder, over libraries that are built in another, or in one of its own."""
 
-    def __init__(self, top, folder, names=(), is_control=False):
-        self.top, self.folder, self.base, self.is_control = top, folder, folder / "base", is_control
-        self.below = crates_below((top / "crates.txt").read_text(encoding="utf-8"))
+    def __init__(self, top, folder, names=(), is_control=False, built=None):
+        self.top, self.folder, self.is_control = top, folder, is_control
+        self.is_built, self.built = built is not None, built or folder / "base"
+        text = (top / "crates.txt").read_text(encoding="utf-8")
+        self.below, self.uses = crates_below(text), libraries_of(text)
         found = {name: read_edits(top / "crates" / name) for name in self.below if not names or name in names}
         self.edits = {name: read for name, (read, _) in found.items() if read}
         self.lines = [line for _, bad in found.values() for line in bad]
         self.refused, self.failed = [], len(self.lines)
+        self.proved, self.kit = {}, None
         self.seconds, self.counting = {"proofs": 0.0, "edits": 0.0}, threading.Lock()
 
     def libraries(self):
-        """Returns the crates to prove first."""
+        """Returns the crates that have to be proved."""
         return [name for name in self.below if any(name in [it, *self.below[it]] for it in self.edits)]
 
     def prove(self, name):
-        """Proves a crate, and keeps its proofs."""
-        return self.timed("proofs", check(self.base / "crates" / name, "lib"))
+        """Proves a crate."""
+        return self.timed("proofs", run(["rt", "lib", "--jobs", "1"], self.built / "crates" / name))
 
     def timed(self, kind, checked):
         with self.counting:
             self.seconds[kind] += checked.seconds
         return checked
 
-    def attempt(self, crate, texts):
-        """Checks a copy of a crate with these texts of files."""
-        room = Path(tempfile.mkdtemp(prefix="room-", dir=self.folder))
-        try:
-            make_copy(self.base, room, crate, self.below[crate])
+    def attempt(self, crate, texts, only=()):
+        """Checks a crate with these texts of files: all of it, or only the functions of these folders, with the proofs of all
+        others open. What was checked before in a first check of the crate is kept for others."""
+        kept = self.folder / "kept" / crate
+        with tempfile.TemporaryDirectory(prefix="room-", dir=self.folder) as room:
+            folder, work = Path(room) / crate, Path(room) / "kept"
+            copy_crate(self.top / "crates" / crate, folder, SOURCES)
+            if only:
+                others = [it for it in self.proved[crate] if not any(f"{it}/".startswith(f"{own}/") for own in only)]
+                leave_open(folder, can_be_open(folder, others))
             for path, text in texts.items():
-                (room / "crates" / crate / path).parent.mkdir(parents=True, exist_ok=True)
-                (room / "crates" / crate / path).write_text(text, encoding="utf-8")
-            return self.timed("edits", check(room / "crates" / crate, "check"))
-        finally:
-            shutil.rmtree(room, ignore_errors=True)
+                (folder / path).parent.mkdir(parents=True, exist_ok=True)
+                (folder / path).write_text(text, encoding="utf-8")
+            if kept.is_dir():
+                shutil.copytree(kept, work, copy_function=os.link)
+            words = check_words(self.kit, crate, self.uses[crate], self.built, self.below[crate])
+            words += ["--incremental", str(work), *(["--allow-holes"] if only else [])]
+            checked = self.timed("edits", run([*words, *(word for it in only for word in ("--only", it.replace("/", "::")))], folder))
+            if not kept.is_dir() and work.is_dir():
+                kept.parent.mkdir(exist_ok=True)
+                work.rename(kept)
+            return checked
+
+    def begin(self, crate):
+        """Tries the first edits of a crate alone, and returns what is to be tried then: that begins with what it checked."""
+        trials = self.trials_of(crate)
+        for judge, name, tried in trials[:1]:
+            return judge(name, tried) + trials[1:]
+        return []
 
     def judge_copies(self, crate, copies):
         """Tries edits by copies of their functions, and returns what is to be tried next: without a verdict the copies in two
         parts, and otherwise in place those edits that weren't refused."""
         texts, tried = with_copies(self.top / "crates" / crate, copies)
-        checked, left = self.attempt(crate, texts), {it.edit.name: it.edit for it in copies}
+        checked, left = self.attempt(crate, texts, [it.name for it in copies]), {it.edit.name: it.edit for it in copies}
         if checked.verdict() is None and len(copies) > 1:
             middle = len(copies) // 2
             return [(self.judge_copies, crate, part) for part in (copies[:middle], copies[middle:])]
@@ -243,38 +287,46 @@ class Run:
     def judge_right(self, crate, copies):
         """Tries copies of functions as they are, which have to be proved."""
         texts, tried = with_copies(self.top / "crates" / crate, copies)
-        checked = self.attempt(crate, texts)
+        checked = self.attempt(crate, texts, [it.name for it in copies])
         for edit in tried:
-            if re.search(rf"^fn \S+::{edit.function.name}: proved\b", checked.text, re.M):
+            report = report_of(edit, checked)
+            if not report and re.search(rf"^fn \S+::{edit.function.name}: {ACCEPTED}", checked.text, re.M):
                 self.say(edit, "a copy of its function is proved", how="accepted")
             else:
-                why = report_of(edit, checked) or f"the check ended with status {checked.status}"
+                why = report or f"the check ended with status {checked.status}"
                 self.fail(f"{edit.label()}: NOT ACCEPTED: a copy of its function isn't proved: {why}")
         return []
 
     def judge(self, crate, edits):
         """Tries edits in place, and returns what is to be tried next."""
-        checked = self.attempt(crate, edited(self.top / "crates" / crate, edits))
-        if len(edits) == 1:
-            self.judge_alone(edits[0], checked)
-            return []
+        changed = [function for edit in edits for function in edit.functions()]
+        found = [[it for it in self.proved[crate] if belongs(it, function)] for function in changed]
+        only = sorted({path for paths in found for path in paths}) if found and all(found) else []
+        if len(edits) == 1 and not only:
+            return self.judge_alone(crate, edits)
+        checked = self.attempt(crate, edited(self.top / "crates" / crate, edits), only)
         left = []
         for edit in edits:
             if report := report_of(edit, checked):
                 self.say(edit, report)
             else:
                 left.append(edit)
+        if len(edits) == 1:
+            return [(self.judge_alone, crate, left)] * bool(left)
         # A function whose callee isn't proved may have no report, so the others are tried without those that were refused.
         # If none was, one of the edits may be why.
         middle = len(left) // 2
         batches = [left[:middle], left[middle:]] if len(left) == len(edits) else [left] * bool(left)
         return [(self.judge, crate, batch) for batch in batches]
 
-    def judge_alone(self, edit, checked):
+    def judge_alone(self, crate, edits):
+        """Tries one edit with all proofs of its crate."""
+        (edit,) = edits
         try:
-            self.say(edit, refused_alone(edit, checked))
+            self.say(edit, refused_alone(edit, self.attempt(crate, edited(self.top / "crates" / crate, edits))))
         except BadEdit as fault:
             self.fail(f"{edit.label()}: {fault}")
+        return []
 
     def say(self, edit, report, how="refused"):
         with self.counting:
@@ -292,33 +344,53 @@ class Run:
             print(line, flush=True)
 
     def all(self, lanes):
-        """Proves the libraries and tries all edits, as many checks at once as `lanes` returns."""
-        make_room(self.top, self.base, self.libraries())
+        """Tries all edits, so many checks at once, after the proofs of the libraries if they aren't built."""
+        self.kit = toolchain()
         proofs, trials, running, proved = self.libraries(), [], {}, set()
-        with ThreadPoolExecutor(MOST_LANES) as pool:
+        if self.is_built:
+            self.take_built(trials)
+            proofs = []
+        else:
+            make_room(self.top, self.built, proofs)
+        with ThreadPoolExecutor(lanes) as pool:
             while proofs or trials or running:
-                free = lanes() - len(running)
-                for name in [name for name in proofs if proved.issuperset(self.below[name])][: max(free, 0)]:
+                for name in [name for name in proofs if proved.issuperset(self.below[name])][: max(lanes - len(running), 0)]:
                     proofs.remove(name)
                     running[pool.submit(self.prove, name)] = name
-                while trials and len(running) < lanes():
-                    judge, crate, tried = trials.pop(0)
-                    running[pool.submit(judge, crate, tried)] = None
+                while trials and len(running) < lanes:
+                    judge, *tried = trials.pop(0)
+                    running[pool.submit(judge, *tried)] = None
                 if not running:
                     break
-                for done in wait(running, timeout=SECONDS, return_when=FIRST_COMPLETED).done:
+                for done in wait(running, return_when=FIRST_COMPLETED).done:
                     self.ended(running.pop(done), done, proved, trials)
         for name in proofs:
             self.untried(name, "a library below it isn't proved")
 
+    def take_built(self, trials):
+        """Adds the trials of the crates that are built, with those that take longest first."""
+        log = self.built / "rt-ci.txt"
+        text = log.read_text(encoding="utf-8") if log.is_file() else ""
+        for name in sorted(self.edits, key=lambda it: -len(self.edits[it])):
+            lacking = [it for it in [*self.below[name], name] if not self.library(it).is_dir()]
+            if lacking:
+                self.untried(name, f"{lacking[0]} isn't built in {self.built}")
+            else:
+                self.proved[name] = functions_in(name, text)
+                trials.append((self.begin, name))
+
+    def library(self, name):
+        return self.built / "crates" / name / "out" / "rlib" / f"{name}.rlib"
+
     def ended(self, name, done, proved, trials):
-        """Notes that a crate of this name was checked, or, with no name, what a trial leaves to be tried next."""
+        """Notes that a proof of a crate has ended, or what a trial leaves to be tried next."""
         if not name:
             trials[:0] = done.result()
         elif done.result().status == 0:
             proved.add(name)
+            self.proved[name] = functions_in(name, done.result().text)
             self.show(f"must-fail: {name}: proved, {len(self.edits.get(name, []))} edits to try")
-            trials += self.trials_of(name)
+            trials += [(self.begin, name)] * (name in self.edits)
         else:
             self.show(done.result().text.rstrip("\n"))
             self.untried(name, "the crate isn't proved without them")
@@ -350,21 +422,23 @@ def summary(run):
 
 def lanes():
     """Returns how many checks run at once."""
-    number, more = os.environ.get("RT_JOBS", ""), os.environ.get("MORE_JOBS")
-    first = int(number) if number.isdigit() and int(number) else len(os.sched_getaffinity(0))
-    return min(2 * first if more and os.path.exists(more) else first, MOST_LANES)
+    number = os.environ.get("RT_JOBS", "")
+    return int(number) if number.isdigit() and int(number) else len(os.sched_getaffinity(0))
 
 
 def main(words):
-    names = [word for word in words if word != "--control"]
+    names, built = [word for word in words if word != "--control"], None
+    if "--built" in names:
+        at = names.index("--built")
+        names, built = names[:at] + names[at + 2 :], Path(names[at + 1]).resolve()
     with tempfile.TemporaryDirectory(prefix="must-fail-") as folder:
-        run = Run(TOP, Path(folder), names, is_control="--control" in words)
-        for line in run.lines:
+        tries = Run(TOP, Path(folder), names, "--control" in words, built)
+        for line in tries.lines:
             print(f"must-fail: {line}")
-        run.all(lanes)
-    for line in summary(run):
+        tries.all(lanes())
+    for line in summary(tries):
         print(f"must-fail: {line}")
-    return int(run.failed > 0 or not run.refused)
+    return int(tries.failed > 0 or not tries.refused)
 
 
 if __name__ == "__main__":

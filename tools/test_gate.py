@@ -8,6 +8,7 @@ import shutil
 import subprocess
 import sys
 import tempfile
+import time
 import unittest
 from pathlib import Path
 
@@ -44,7 +45,7 @@ EDITS = """must-fail: low: proved, 1 edits to try
 must-fail: low/one.edit: refused: note: src/lib.rt:1:1: it is not proved that it holds
 must-fail: high/two.edit: refused: (only at a limit of the prover) note: src/lib.rt:1:1: it is not proved that it holds
 must-fail: 2 refused, 1 only at a limit of the prover, 0 only because a proof file names what is gone
-must-fail: 20.0 minutes of processor for proofs, 10.0 minutes of processor for edits
+must-fail: 0.0 minutes of processor for proofs, 29.0 minutes of processor for edits
 must-fail: 2 passed, 0 failed
 """
 TOOLS = """tools: 3 Python tests passed
@@ -73,7 +74,7 @@ class Planted(unittest.TestCase):
         path.parent.mkdir(parents=True, exist_ok=True)
         path.write_text(text, encoding="utf-8")
 
-    def verdict(self, ci=CI, ci_status=0, edits=EDITS, edits_status=0, tools=TOOLS, tools_status=0, lacking=()):
+    def verdict(self, ci=CI, ci_status=0, edits=EDITS, edits_status=0, tools=TOOLS, tools_status=0, lacking=(), one_pass=1200.0):
         """Returns the gate's verdict if these commands aren't there."""
         ran = (
             gate.Ran("rt ci", ci, ci_status, 1800.0, 900.0),
@@ -81,7 +82,7 @@ class Planted(unittest.TestCase):
             gate.Ran("tools/run_tests.py", tools, tools_status, 60.0, 90.0),
         )
         found = lambda name: None if name in lacking else f"/bin/{name}"
-        return gate.verdict(self.top, str(self.program), ran, found)
+        return gate.verdict(self.top, str(self.program), ran, one_pass, found)
 
     def assert_fails(self, *words, counted=0, **planted):
         """Asserts that the gate fails for one reason with each of these words, besides failures counted by commands."""
@@ -97,6 +98,7 @@ class Planted(unittest.TestCase):
         self.assertIn("rt ci: 30.0 minutes of processor, 15.0 of the clock", notes)
         self.assertIn("all: 60.0 minutes of processor, 3.0 times one pass over the proofs (20.0)", notes)
         self.assertFalse([note for note in notes if "raise the floor" in note])
+        self.assertFalse([note for note in self.verdict(one_pass=0)[3] if note.startswith("all: ")])
 
     def test_a_missing_part_is_a_failure(self):
         self.assert_fails("missing: git: nothing is compared", lacking=["git"])
@@ -209,6 +211,30 @@ class Commands(unittest.TestCase):
         self.assertEqual(gate.judged(ran)[:2], (3, 0))
         self.assertEqual(len(gate.judged(ran)[2]), 1)
 
+    def test_the_seconds_of_proofs_are_noted(self):
+        with tempfile.TemporaryDirectory() as room:
+            top = Path(room).resolve()
+            for name in ("low", "high", "low_tests"):
+                (top / "crates" / name).mkdir(parents=True)
+            (top / "rattle").symlink_to(sys.executable)
+            proofs, busy = gate.Proofs(top), "import time\nwhile time.process_time() < 0.3: pass\ntime.sleep(30)"
+            of = lambda crate, *more: [top / "rattle", "-c", busy, "build", "--crate-name", crate, *more]
+            started = [subprocess.Popen(of(it), cwd=top / "crates" / it) for it in ("low", "low_tests")]
+            started += [subprocess.Popen(of("high", "--test"), cwd=top / "crates" / "high"), subprocess.Popen(of("high"), cwd=top)]
+            self.addCleanup(lambda: [(it.kill(), it.wait()) for it in started])
+            self.until(lambda: proofs.look() or {crate for crate, _ in proofs.seconds} == {"low", "low_tests"} and min(proofs.seconds.values()) > 0.2)
+            self.assertEqual(proofs.one_pass(), 0)
+            started.append(subprocess.Popen(of("high"), cwd=top / "crates" / "high"))
+            self.until(lambda: proofs.look() or 0.4 < proofs.one_pass() < 1)
+
+    def until(self, holds):
+        """Waits until something holds."""
+        for _ in range(100):
+            if holds():
+                return
+            time.sleep(0.1)
+        self.fail("it didn't hold in ten seconds")
+
     def test_the_floors_of_this_repository_are_read(self):
         gate.floors_of((gate.TOP / ".ci" / "floors").read_text(encoding="utf-8"))
 
@@ -302,9 +328,13 @@ class Gate(unittest.TestCase):
         self.stand_in("python3", f'exec {sys.executable} "$@"')
         for path in (gate.TOP / "tools").glob("[!t]*.py"):
             shutil.copy(path, self.top / "tools" / path.name)
-        (self.top / "tools" / "must_fail.py").write_text("print('must-fail: 0 passed, 1 failed'); raise SystemExit(1)")
+        (self.top / "tools" / "must_fail.py").write_text(
+            "import sys; print(*sys.argv[1:2], open(sys.argv[2] + '/rt-ci.txt').read()); print('must-fail: 0 passed, 1 failed'); sys.exit(1)"
+        )
         status, lines = self.ran()
-        self.assertEqual((status, lines[0]), (1, f"ci {max(min(len(os.sched_getaffinity(0)), 4) // 2, 1)} crates/low/src"))
+        self.assertEqual((status, lines[0]), (1, f"ci {min(len(os.sched_getaffinity(0)), 4)} crates/low/src"))
+        # The tool gets what `rt ci` printed, and says how it ends.
+        self.assertIn(f"--built {lines[0]}", lines)
         self.assertIn("must-fail: 0 passed, 1 failed", lines)
         self.assertTrue([line for line in lines if line.startswith("gate: FAILED: rt ci ended with exit status 3")])
 

@@ -9,11 +9,11 @@ import shutil
 import tempfile
 import unittest
 from pathlib import Path
-from unittest import mock
 
 import edit_copies
 import edits
 import must_fail
+import open_proofs
 
 LIB = """//! A crate.
 
@@ -51,13 +51,20 @@ EDITS = {
     "six": ("src/lib.rt", "    7", "    6"),
 }
 FREE = edits.Function("src/lib.rt", 24, 26, "", "free")
-# What stands for `rt`: it knows the wrong bodies that are refused, by the words in them, and where these stand.
+# What stands for `rt` and `rattle`: it knows the wrong bodies that are refused, by the words in them, and where these stand.
 RT = """#!{python}
-import os, sys
-text = open("src/lib.rt").read()
-assert sys.argv[-2:] == ["--jobs", "1"], sys.argv
-open({log!r}, "a").write(sys.argv[1] + " " + " ".join(sorted(os.listdir("../..")) + sorted(os.listdir(".."))) + "\\n")
-found = 0
+import os, pathlib, re, sys
+words = sys.argv[1:]
+if words == ["doc"]:
+    print({kit!r} + "/START-HERE.md")
+    sys.exit()
+assert "--jobs 1" in " ".join(words), words
+text, crate, found = open("src/lib.rt").read(), os.path.basename(os.getcwd()), 0
+only = [words[at + 1] for at, it in enumerate(words) if it == "--only"]
+own = sorted(str(it.parent) for it in pathlib.Path("proofs").rglob("*.antt"))
+libraries = sorted(it.partition("=")[0] for at, it in enumerate(words) if words[at - 1] == "--extern")
+is_more = "--incremental" in words and os.path.isdir(words[words.index("--incremental") + 1])
+open({log!r}, "a").write(" ".join([words[0], crate, *libraries, *only, *own, *["again"] * is_more]) + "\\n")
 for word, line in {reports!r}:
     for at in (at for at, it in enumerate(text.split("\\n"), 1) if word in it):
         print(line.replace("AT", str(at)))
@@ -65,12 +72,17 @@ for word, line in {reports!r}:
 if "stop" in text:
     print("src/lib.rt:1:1: error: unknown word")
     sys.exit(1)
-if sys.argv[1] == "lib":
-    os.makedirs("out/rlib", exist_ok=True), os.makedirs("out/incremental", exist_ok=True)
-print("logic=not-proved" if found else "logic=proved functions=4")
+if words[0] == "lib":
+    os.makedirs("out/rlib/" + crate + ".rlib")
+    for name in {functions!r} if not found else ():
+        print("fn " + crate + "::" + name + ": proved")
+else:
+    os.makedirs(words[words.index("--incremental") + 1], exist_ok=True)
+print("only=1 holes=0" if only else "logic=not-proved" if found else "logic=proved functions=4")
 print("rt: rt lemma finds a lemma")
 sys.exit(found > 0)
 """
+FUNCTIONS = ("free", "Cell::get", "Cell::set", "CellFrom::from", "CellMake::make")
 NOT_PROVED = "it is not proved that what the function ensures holds when it returns (`returns`)"
 REPORTS = [
     ("nothing()", "./proofs/CellFrom/from/Answers.antt:3:5: error: the two types differ"),
@@ -222,6 +234,42 @@ class Copying(unittest.TestCase):
         self.assertEqual(edit_copies.shares_of([]), [])
 
 
+class Opening(unittest.TestCase):
+    """Leaves proofs open."""
+
+    def test_functions_are_listed_by_what_a_check_printed(self):
+        text = "fn high::a::f: proved\nfn high::B::g: not proved\nfn low::h: proved\nfn high::c+D::i: proved\nfn high::c::j: no proof: x\n"
+        self.assertEqual(open_proofs.functions_in("high", text), ["a/f", "c+D/i"])
+
+    def test_a_closure_belongs_to_its_function(self):
+        get, free = edits.Function("src/a.rt", 1, 2, "Cell", "get"), edits.Function("src/a.rt", 1, 2, "", "free")
+        for path, of_get, of_free in [
+            ("a/Cell/get", True, False),
+            ("a/fn/CellGet/get/map", True, False),
+            ("a/free", False, True),
+            ("a/fn/free/map", False, True),
+            ("b/free", False, False),
+            ("a/Cell/get_all", False, False),
+        ]:
+            self.assertEqual([open_proofs.belongs(path, it) for it in (get, free)], [of_get, of_free], path)
+
+    def test_a_hole_stands_in_place_of_a_proof(self):
+        with tempfile.TemporaryDirectory() as room:
+            folder = Path(room) / "high"
+            (folder / "src").mkdir(parents=True)
+            (folder / "src" / "lib.rt").write_text("#[cycle(all)]\n/// Words.\n#[inline]\npub fn f() {}\n\nfn g() {}\n", encoding="utf-8")
+            self.assertEqual(open_proofs.can_be_open(folder, ["a/f", "a/g", "a/B+C/g"]), ["a/g"])
+            (folder / "proofs" / "a" / "g").mkdir(parents=True)
+            (folder / "proofs" / "a" / "g" / "Answers.antt").write_text("", encoding="utf-8")
+            open_proofs.leave_open(folder, ["a/g"])
+            own = folder / "proofs" / "a" / "g"
+            self.assertEqual([it.name for it in own.iterdir()], ["Proof.antt"])
+            self.assertEqual(
+                (own / "Proof.antt").read_text(encoding="utf-8"),
+                "use Rattle.high.proofs.a.g.Statement.{statement}\n\npub g_spec : {M : Type 1} → statement M\ng_spec = ?\n",
+            )
+
+
 class Planted(unittest.TestCase):
     """Makes a repository of two crates, and runs the tool on it."""
 
@@ -247,14 +295,15 @@ class Planted(unittest.TestCase):
         self.write(f"crates/high/must-fail/{name}.edit", f"file: {path}\n{pairs}")
 
     def ran(self, reports=REPORTS, names=(), lanes=2):
-        """Returns the tool's lines and its exit status, if `rt` reports so."""
-        bin = self.top.parent / "bin"
-        bin.mkdir(exist_ok=True)
-        script = RT.format(python=shutil.which("python3"), log=str(self.log), reports=reports)
-        (bin / "rt").write_text(script, encoding="utf-8")
-        (bin / "rt").chmod(0o755)
+        """Returns the tool's lines and its exit status, if `rt` and `rattle` report so."""
+        kit = self.top.parent / "kit"
+        (kit / "bin").mkdir(parents=True, exist_ok=True)
+        how = {"kit": str(kit), "log": str(self.log), "reports": reports, "functions": FUNCTIONS}
+        for name in ("rt", "rattle"):
+            (kit / "bin" / name).write_text(RT.format(python=shutil.which("python3"), **how), encoding="utf-8")
+            (kit / "bin" / name).chmod(0o755)
         path, top = os.environ["PATH"], must_fail.TOP
-        os.environ["PATH"], os.environ["RT_JOBS"], must_fail.TOP = f"{bin}:{path}", str(lanes), self.top
+        os.environ["PATH"], os.environ["RT_JOBS"], must_fail.TOP = f"{kit}/bin:{path}", str(lanes), self.top
         try:
             with contextlib.redirect_stdout(io.StringIO()) as printed:
                 status = must_fail.main(list(names))
@@ -274,11 +323,14 @@ class Planted(unittest.TestCase):
         self.assertRegex(lines[-2], r"^must-fail: \d+\.\d minutes of processor for proofs, \d+\.\d minutes of processor for edits$")
         self.assertIn(f"must-fail: high/six.edit: refused: {REPORTS[3][1].replace('AT', '39')[:200]}", lines)
         self.assertIn(f"must-fail: high/get_another.edit: refused: (only at a limit of the prover) {REPORTS[1][1].replace('AT', '16')}", lines)
-        self.assertEqual(self.checks(), 2)
-        # The crates below are proved first; one that has no edit above it isn't. A check sees the crates that it needs.
+        # The crates below are proved first; one that has no edit above it isn't. A check proves the functions of its edits: the
+        # proofs of the others are open. The second one begins with what the first one checked.
+        copies = "get_edit_1 set_edit_2 free_edit_3 proofs/Cell/get proofs/Cell/set proofs/CellFrom/from"
+        in_place = "CellFrom::from proofs/Cell/get proofs/Cell/set"
+        others = "proofs/CellMake/make proofs/free"
         self.assertEqual(
             self.log.read_text().splitlines(),
-            ["lib HANDLES crates crates.txt high low"] * 2 + ["check HANDLES crates crates.txt high low"] * 2,
+            ["lib low", "lib high", f"check high low std {copies} {others}", f"check high low std {in_place} {others} again"],
         )
 
     def test_methods_whose_proof_files_may_be_mistaken_are_tried_apart(self):
@@ -328,15 +380,15 @@ class Planted(unittest.TestCase):
     def test_a_report_of_another_function_counts_only_for_an_edit_alone(self):
         other = [*REPORTS[:3], ("    6", f"note: src/lib.rt:4:5: {NOT_PROVED}")]
         lines, _ = self.ran(other)
-        self.assertEqual((lines[-1], self.checks()), ("must-fail: 4 passed, 0 failed", 3))
+        self.assertEqual((lines[-1], self.checks()), ("must-fail: 4 passed, 0 failed", 4))
 
     def test_copies_without_a_verdict_are_tried_in_two_parts(self):
         self.edit("get_another", "src/lib.rt", "        self.0", "        stop")
         lines, _ = self.ran()
         self.assertIn(f"must-fail: high/six.edit: refused: {REPORTS[3][1].replace('AT', '33')[:200]}", lines)
         self.assertIn("must-fail: high/get_another.edit: BAD EDIT: no contract was tried: src/lib.rt:1:1: error: unknown word", lines)
-        # All three copies, one and two of them, the first in place; and the method of a trait.
-        self.assertEqual((lines[-1], self.checks()), ("must-fail: 3 passed, 1 failed", 5))
+        # All three copies, one and two of them, the first in place and alone; and the method of a trait.
+        self.assertEqual((lines[-1], self.checks()), ("must-fail: 3 passed, 1 failed", 6))
 
     def test_a_copy_is_not_refused_if_something_cannot_be_read(self):
         lines, _ = self.ran([*REPORTS, ("fn free_edit_3", "./specs/Words.antt:1:1: error: unknown word")])
@@ -353,7 +405,8 @@ class Planted(unittest.TestCase):
         self.edit("made", *MADE)
         hidden = [("anew(made)", "nothing"), ("nothing()", "nothing")]
         lines, _ = self.ran([*REPORTS[1:], *hidden])
-        self.assertEqual((lines[-1], self.checks()), ("must-fail: 5 passed, 0 failed", 4))
+        # The copies, the two methods together, each in place, and each alone.
+        self.assertEqual((lines[-1], self.checks()), ("must-fail: 5 passed, 0 failed", 6))
         self.assertTrue(lines[-3].endswith(", 2 without a report"))
 
     def test_what_a_proof_file_misses_is_said(self):
@@ -396,14 +449,33 @@ class Planted(unittest.TestCase):
         self.assertIn("must-fail: high/get_another.edit: accepted: a copy of its function is proved", lines)
         self.assertTrue(any(line.startswith("must-fail: high/set_nothing.edit: NOT ACCEPTED: ") for line in lines))
 
-    def test_twice_as_many_checks_run_once_a_file_is_there(self):
-        more = self.top.parent / "more"
-        with mock.patch.dict(os.environ, {"RT_JOBS": "3", "MORE_JOBS": str(more)}):
-            self.assertEqual(must_fail.lanes(), 3)
-            more.touch()
-            self.assertEqual(must_fail.lanes(), 6)
-            os.environ["RT_JOBS"] = "40"
-            self.assertEqual(must_fail.lanes(), must_fail.MOST_LANES)
+    def built(self, log):
+        """Makes the libraries that `rt ci` has built, with what it printed, and returns their folder."""
+        folder = self.top.parent / "copy"
+        for name in ("low", "high"):
+            (folder / "crates" / name / "out" / "rlib" / f"{name}.rlib").mkdir(parents=True)
+        (folder / "rt-ci.txt").write_text(log, encoding="utf-8")
+        return folder
+
+    def test_libraries_that_are_built_are_not_proved_again(self):
+        folder = self.built("== low\nfn low::set: proved\n== high\nfn high::free: proved\nfn high::CellFrom::from: proved\n")
+        lines, _ = self.ran(names=["--built", str(folder)])
+        log = self.log.read_text().splitlines()
+        self.assertEqual((lines[-1], [it.split()[0] for it in log]), ("must-fail: 4 passed, 0 failed", ["check"] * 2))
+        self.assertTrue(log[0].endswith(" proofs/CellFrom/from proofs/free"), log[0])
+        self.assertEqual(log[1], "check high low std CellFrom::from proofs/free again")
+
+    def test_without_a_list_of_proved_functions_all_are_proved_again(self):
+        lines, _ = self.ran(names=["--built", str(self.built(""))])
+        log = self.log.read_text().splitlines()
+        self.assertEqual((lines[-1], log[1]), ("must-fail: 4 passed, 0 failed", "check high low std again"))
+
+    def test_edits_of_a_crate_that_is_not_built_are_not_tried(self):
+        folder = self.built("")
+        shutil.rmtree(folder / "crates" / "low")
+        lines, status = self.ran(names=["--built", str(folder)])
+        self.assertEqual((lines[-1], status), ("must-fail: 0 passed, 4 failed", 1))
+        self.assertIn(f"must-fail: high/six.edit: NOT TRIED: low isn't built in {folder}", lines)
 
     def test_named_crates_alone_are_tried(self):
         self.write("crates/low/must-fail/six.edit", "file: src/lib.rt\nold:     7\nnew:     6\n")
