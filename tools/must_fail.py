@@ -52,7 +52,7 @@ WITHOUT_REPORT = "the crate isn't proved, and no report says what"
 ONLY_TAKEN_AWAY = "(only because a proof file names what the edit took away) "
 ONLY_AT_LIMIT = "(only at a limit of the prover) "
 # How a check tells that it took a right function's contract: it is proved, or stands only on proofs that were left open.
-ACCEPTED = r"(?:proved|no holes|depends on a hole in `\S+\.Proof\.\S+`|not proved; it calls .*)$"
+ACCEPTED = r"(?:(?:proved|no holes)\b.*|depends on a hole in `\S+\.Proof\.\S+`|not proved; it calls .*)$"
 # A definition that can't be read: an edit of it shows nothing.
 UNREADABLE = re.compile(r"(?:\./)?(?:src|specs)/\S+:\d+:\d+: error: .*")
 
@@ -107,7 +107,7 @@ def reports_of(edit, checked):
     lines = checked.lines()
     if checked.verdict() is not False or any(map(UNREADABLE.match, lines)):
         return []
-    return [line for line in lines if is_report(line, edit.function)]
+    return [line for line in lines if any(is_report(line, function) for function in edit.functions() or [None])]
 
 
 def is_miscopied(line, name):
@@ -137,6 +137,11 @@ def copy_crate(crate, to, parts, copy=shutil.copy2):
     for part in parts:
         if (crate / part).is_dir():
             shutil.copytree(crate / part, to / part, copy_function=copy)
+
+
+def link_or_copy(one, other):
+    """Gives a file of kept work, which a check replaces and doesn't change, a second name, and copies any other."""
+    return os.link(one, other) if one.endswith(".oantt") else shutil.copy2(one, other)
 
 
 def make_room(top, to, names):
@@ -254,7 +259,7 @@ class Run:
                 (folder / path).parent.mkdir(parents=True, exist_ok=True)
                 (folder / path).write_text(text, encoding="utf-8")
             if kept.is_dir():
-                shutil.copytree(kept, work, copy_function=os.link)
+                shutil.copytree(kept, work, copy_function=link_or_copy)
             words = check_words(self.kit, crate, self.uses[crate], self.built, self.below[crate])
             words += ["--incremental", str(work), *(["--allow-holes"] if only else [])]
             checked = self.timed("edits", run([*words, *(word for it in only for word in ("--only", it.replace("/", "::")))], folder))

@@ -13,7 +13,7 @@ CYCLE = re.compile(r"#\[cycle\(\w+\)\]\s*(?:#\[.*\n\s*|///.*\n\s*)*(?:pub(?:\([a
 
 def functions_in(crate, text):
     """Returns the functions of a crate that are proved by what a check printed, each as its folder below proofs/."""
-    return sorted({path.replace("::", "/") for path in re.findall(rf"^fn {crate}::(\S+): proved$", text, re.M)})
+    return sorted({path.replace("::", "/") for path in re.findall(rf"^fn {crate}::(\S+): proved\b", text, re.M)})
 
 
 def can_be_open(folder, functions):
