@@ -1,5 +1,5 @@
 -- A call that returns whether a status finds nothing.
-use Rattle.std.specs.Prelude.{◌≡◌, Bool, true, IsTrue, All, None, Result, Ok, IfOk}
+use Rattle.std.specs.Prelude.{◌≡◌, ◌↔◌, Bool, true, IsTrue, All, None, Result, Ok, IfOk}
 use Rattle.status_index.specs.declared.state.State.{State}
 use Rattle.status_compare.specs.declared.error.Error.{Error}
 use Rattle.status_call.specs.declared.index_as_worktree.inputs.Settings.{Settings}
@@ -13,9 +13,9 @@ use Rattle.status_call.specs.StatusTheorem.{considered_entries}
 abbrev pub IsClean : {T U : Type 0} → Query T U → State → Type 0
 IsClean q index = All (λ e. verdict q (considered_entries q index) e ≡ Ok None) (considered_entries q index)
 
--- true only if that holds, with modelled interfaces
+-- true exactly if that holds, with modelled interfaces
 abbrev pub SaysClean : {I T U : Type 0} → (I → Settings → Query T U) → I → Options → State
     → Result Bool Error → Type 0
 SaysClean query inputs options index result =
     IsTrue (query inputs (settings options index)).modelled
-    → IfOk result (λ clean. clean ≡ true → IsClean (query inputs (settings options index)) index)
+    → IfOk result (λ clean. (clean ≡ true) ↔ IsClean (query inputs (settings options index)) index)
