@@ -8,6 +8,15 @@ import re
 
 from edits import PROOF_FILES
 
+# The hole is of any type. At a hole for the statement a check would compute all of it, to print it.
+OPEN_PROOF = """use {module}.Statement.{{statement}}
+
+hole : {{A : Type 2}} → A
+hole = ?
+
+pub {name}_spec : {{M : Type 1}} → statement M
+{name}_spec = hole
+"""
 CYCLE = re.compile(r"#\[cycle\(\w+\)\]\s*(?:#\[.*\n\s*|///.*\n\s*)*(?:pub(?:\([a-z]+\))? )?(?:const |unsafe )*fn (\w+)")
 
 
@@ -38,7 +47,4 @@ def leave_open(folder, functions):
         for file in PROOF_FILES:
             (own / file).unlink(missing_ok=True)
         module, name = f"Rattle.{folder.name}.proofs.{path.replace('/', '.')}", own.name
-        (own / "Proof.antt").write_text(
-            f"use {module}.Statement.{{statement}}\n\npub {name}_spec : {{M : Type 1}} → statement M\n{name}_spec = ?\n",
-            encoding="utf-8",
-        )
+        (own / "Proof.antt").write_text(OPEN_PROOF.format(module=module, name=name), encoding="utf-8")

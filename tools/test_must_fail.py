@@ -266,7 +266,8 @@ class Opening(unittest.TestCase):
             self.assertEqual([it.name for it in own.iterdir()], ["Proof.antt"])
             self.assertEqual(
                 (own / "Proof.antt").read_text(encoding="utf-8"),
-                "use Rattle.high.proofs.a.g.Statement.{statement}\n\npub g_spec : {M : Type 1} → statement M\ng_spec = ?\n",
+                "use Rattle.high.proofs.a.g.Statement.{statement}\n\nhole : {A : Type 2} → A\nhole = ?\n\n"
+                "pub g_spec : {M : Type 1} → statement M\ng_spec = hole\n",
             )
 
 
