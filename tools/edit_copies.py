@@ -11,8 +11,8 @@ from dataclasses import dataclass, replace
 
 from edits import PROOF_FILES, Edit, proof_folders, text_of
 
-# How many copies one check tries, so that several checks can share the work on a crate.
-MOST_COPIES = 40
+# How many copies one check tries: what it reads first takes up to a minute, and with more copies it takes more memory.
+MOST_COPIES = 60
 HEAD = r"(?:pub(?:\([a-z]+\))? )?((?:const |unsafe )*)fn {}\b"
 
 

@@ -237,8 +237,12 @@ class Run:
         return [name for name in self.below if any(name in [it, *self.below[it]] for it in self.edits)]
 
     def prove(self, name):
-        """Proves a crate."""
-        return self.timed("proofs", run(["rt", "lib", "--jobs", "1"], self.built / "crates" / name))
+        """Proves a crate, and returns how that ended. A library that `rt` takes from elsewhere has no list of functions."""
+        folder = self.built / "crates" / name
+        checked = self.timed("proofs", run(["rt", "lib", "--jobs", "1"], folder))
+        if checked.status == 0 and name in self.edits and not functions_in(name, checked.text):
+            return self.timed("proofs", run(["rt", "check", "--jobs", "1"], folder))
+        return checked
 
     def timed(self, kind, checked):
         with self.counting:

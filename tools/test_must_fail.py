@@ -9,6 +9,7 @@ import shutil
 import tempfile
 import unittest
 from pathlib import Path
+from unittest import mock
 
 import edit_copies
 import edits
@@ -74,10 +75,11 @@ if "stop" in text:
     sys.exit(1)
 if words[0] == "lib":
     os.makedirs("out/rlib/" + crate + ".rlib")
-    for name in {functions!r} if not found else ():
-        print("fn " + crate + "::" + name + ": proved")
-else:
+if "--incremental" in words:
     os.makedirs(words[words.index("--incremental") + 1], exist_ok=True)
+elif not found and (words[0] == "check" or "TAKEN" not in os.environ):
+    for name in {functions!r}:
+        print("fn " + crate + "::" + name + ": proved")
 print("only=1 holes=0" if only else "logic=not-proved" if found else "logic=proved functions=4")
 print("rt: rt lemma finds a lemma")
 sys.exit(found > 0)
@@ -229,7 +231,7 @@ class Copying(unittest.TestCase):
     def test_checks_share_many_copies(self):
         copies = list(range(2 * edit_copies.MOST_COPIES + 1))
         shares = edit_copies.shares_of(copies)
-        self.assertEqual(sorted(len(it) for it in shares), [27, 27, 27])
+        self.assertEqual(sorted(len(it) for it in shares), [40, 40, 41])
         self.assertEqual(sorted(it for share in shares for it in share), copies)
         self.assertEqual(edit_copies.shares_of([]), [])
 
@@ -333,6 +335,14 @@ class Planted(unittest.TestCase):
             self.log.read_text().splitlines(),
             ["lib low", "lib high", f"check high low std {copies} {others}", f"check high low std {in_place} {others} again"],
         )
+
+    def test_the_functions_of_a_library_that_was_taken_are_listed_by_a_check(self):
+        taken = self.top.parent / "taken"
+        with mock.patch.dict(os.environ, {"TAKEN": str(taken)}):
+            self.assertEqual(self.ran()[0][-1], "must-fail: 4 passed, 0 failed")
+        log = self.log.read_text().splitlines()
+        self.assertEqual([it.split()[:2] for it in log[:3]], [["lib", "low"], ["lib", "high"], ["check", "high"]])
+        self.assertTrue(log[-1].endswith(" proofs/free again"), log[-1])
 
     def test_methods_whose_proof_files_may_be_mistaken_are_tried_apart(self):
         self.write("crates/high/src/lib.rt", LIB + MAKE.replace("fn make", "fn from"))
