@@ -85,11 +85,12 @@ def function_at(path, text, at):
 
 def end_of(lines, first, indent):
     """Returns the last line of the function that begins at a line with this indentation, or None if it has no body."""
-    for at in range(first, len(lines)):
-        ends = lines[at].rstrip() == f"{indent}}}" or lines[at].startswith(f"{indent}{{}}")
-        if ends or at == first and lines[at].rstrip().endswith("}"):
+    is_open = False
+    for at, line in enumerate(map(str.rstrip, lines[first:]), first):
+        if line == f"{indent}}}" or line.startswith(f"{indent}{{}}") or at == first and line.endswith("}"):
             return at
-        if lines[at].rstrip().endswith(";") and at == first:
+        is_open = is_open or line.endswith("{")
+        if line.endswith(";") and not is_open:
             return None
     return None
 

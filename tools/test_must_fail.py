@@ -115,6 +115,11 @@ class Reading(unittest.TestCase):
         self.assertIsNone(self.at("const NINE"))
         self.assertIsNone(self.at("//! A crate"))
 
+    def test_a_function_without_a_body_holds_no_line_below_it(self):
+        text = "trait Get {\n    fn get(\n        &self,\n    ) -> u8\n        ensures { x };\n}\n\nimpl<T> Cell<T> {\n    fn f() {\n        g();\n    }\n}\n"
+        self.assertIsNone(edits.function_at("src/lib.rt", text, text.index("impl")))
+        self.assertEqual(edits.function_at("src/lib.rt", text, text.index("g()")).name, "f")
+
     def test_the_owner_of_a_function_is_in_the_head_of_its_block(self):
         for head, owner, is_of_trait in [
             ("impl Cell {", "Cell", False),
