@@ -9,6 +9,7 @@ check, over the libraries that `rt ci` has built in the copy. The gate fails, an
 - if a command ends with another exit status than 0, or without its line 'N passed, M failed', or one with failures;
 - if a part that the tests need isn't there: the built program, git, a C compiler and so on;
 - if a test wasn't run, or a must-fail edit wasn't refused by the prover, as a bad edit;
+- if a file of the repository changed while the gate ran, so that its parts may not be of one text;
 - if there is less evidence of a kind than .ci/floors says.
 
 More evidence than that is no failure: a line says that the floor is to be raised. Other lines tell what each command took,
@@ -16,6 +17,7 @@ and what all took as a multiple of one pass over the proofs, without those of th
 passed, M failed' for all of it, and the exit status is 0 if nothing failed.
 """
 
+import hashlib
 import os
 import re
 import shutil
@@ -24,6 +26,7 @@ import sys
 import tempfile
 import threading
 import time
+from collections import Counter
 from dataclasses import dataclass
 from pathlib import Path
 
@@ -36,7 +39,9 @@ KINDS = ("must-fail-edits", "proved-tests", "rows-of-proved-tests", "python-test
 # The words for an edit that shows nothing.
 USELESS = ("BAD EDIT", "NOT TRIED", "NOT REFUSED")
 # What the copy for `rt ci` is without: edits, and what was built.
-LEFT_OUT = (".git", "must-fail", "out", "__pycache__")
+LEFT_OUT = re.compile(r"(?:\.git|crates/[^/]*/(?:must-fail|out)|(?:.*/)?__pycache__)$")
+# What isn't of the repository.
+NOT_OURS = re.compile(r"(?:\.git|crates/[^/]*/out|(?:.*/)?__pycache__)$")
 TEST = r"^ *#\[test\]\n *fn (\w+)"
 
 
@@ -62,6 +67,32 @@ class Count:
     kind: str
     how: str
     number: int
+
+
+# The files of the repository
+
+
+def left_out(top, pattern):
+    """Returns what tells shutil.copytree which names in a folder below the top are left out."""
+    within = lambda folder, name: os.path.relpath(os.path.join(folder, name), top)
+    return lambda folder, names: {name for name in names if pattern.match(within(folder, name))}
+
+
+def sums_of(top):
+    """Returns a sum of each file of the repository, by its path."""
+    sums, ignored = {}, left_out(top, NOT_OURS)
+    for folder, folders, names in os.walk(top):
+        folders[:] = sorted(set(folders) - ignored(folder, folders))
+        for path in (Path(folder) / name for name in names):
+            content = os.readlink(path).encode() if path.is_symlink() else path.read_bytes() if path.is_file() else b""
+            sums[path.relative_to(top).as_posix()] = hashlib.sha256(content).hexdigest()
+    return sums
+
+
+def changed(before, after):
+    """Returns a line if files differ."""
+    names = sorted(name for name in before.keys() | after.keys() if before.get(name) != after.get(name))
+    return [f"changed while the gate ran: {', '.join(names)[:300]}"] * bool(names)
 
 
 # Missing parts
@@ -117,14 +148,14 @@ def edits_refused(text):
 
 
 def tests_there(top):
-    """Returns the names of the tests of the crates, without those of their modules."""
+    """Returns the names of the tests of the crates, without those of their modules, and how many have each."""
     paths = top.glob("crates/*/src/**/*.rt")
-    return {name for path in paths for name in re.findall(TEST, path.read_text(encoding="utf-8"), re.M)}
+    return Counter(name for path in paths for name in re.findall(TEST, path.read_text(encoding="utf-8"), re.M))
 
 
 def tests_passed(text):
-    """Returns the names of the proved tests that passed, by the output of `rt ci`, without those of their modules."""
-    return {name.split("::")[-1] for name in re.findall(r"^test (\S+) \.\.\. ok$", text, re.M)}
+    """Returns the same of the proved tests that passed, by the output of `rt ci`."""
+    return Counter(name.split("::")[-1] for name in re.findall(r"^test (\S+) \.\.\. ok$", text, re.M))
 
 
 def rows_there(top):
@@ -148,8 +179,8 @@ def counted(top, ci, edits, tools):
     return [
         Count("must-fail-edits", "in crates/*/must-fail", len(edits_there(top))),
         Count("must-fail-edits", "refused by the prover", len(edits_refused(edits) & edits_there(top))),
-        Count("proved-tests", "in crates/*/src", len(tests_there(top))),
-        Count("proved-tests", "passed", len(tests_passed(ci) & tests_there(top))),
+        Count("proved-tests", "in crates/*/src", sum(tests_there(top).values())),
+        Count("proved-tests", "passed", sum((tests_passed(ci) & tests_there(top)).values())),
         Count("rows-of-proved-tests", "in crates/*_tests/src", rows_of_tests(top)),
         Count("python-tests", "passed", tools_passed(tools, "Python tests")),
         Count("rows", "in tools/rows", rows_there(top)),
@@ -271,19 +302,21 @@ def run(name, words, settings, folder=TOP):
     return Ran(name, "".join(lines), it.returncode, usage.ru_utime + usage.ru_stime, time.monotonic() - begun)
 
 
-def verdict(top, program, ran, one_pass, found=shutil.which):
-    """Returns how many passed and failed in all of `rt ci`, the edits and the tests, what is wrong, and notes."""
+def verdict(top, program, ran, before, one_pass, found=shutil.which):
+    """Returns how many passed and failed in all of `rt ci`, the edits and the tests, what is wrong, and notes. The sums of the
+    repository's files were taken before."""
     ends = [judged(it) for it in ran]
     faults, notes = evidence(top, *(it.text for it in ran))
     wrong = [fault for _, _, faults_of_one in ends for fault in faults_of_one]
-    faults = missing(program, found) + wrong + useless_edits(ran[1].text) + faults
+    faults = missing(program, found) + wrong + useless_edits(ran[1].text) + changed(before, sums_of(top)) + faults
     return sum(it[0] for it in ends), sum(it[1] for it in ends) + len(faults), faults, notes + costs(ran, one_pass)
 
 
 def main():
     with tempfile.TemporaryDirectory(prefix="gate-") as room:
         copy = Path(room) / "copy"
-        shutil.copytree(TOP, copy, ignore=shutil.ignore_patterns(*LEFT_OUT))
+        before = sums_of(TOP)
+        shutil.copytree(TOP, copy, symlinks=True, ignore=left_out(TOP, LEFT_OUT))
         program = copy / "crates" / "status_program" / "out" / "status_program"
         settings = {"PYTHONDONTWRITEBYTECODE": "1"}
         proofs = Proofs(copy)
@@ -295,7 +328,7 @@ def main():
         # If no program was built, each test that needs one says that it wasn't run.
         settings["STATUS_PROGRAM"] = str(program) if program.is_file() else ""
         tools = run("tools/run_tests.py", [sys.executable, "tools/run_tests.py"], settings)
-        passed, failed, faults, notes = verdict(TOP, program, (ci, edits, tools), proofs.one_pass())
+        passed, failed, faults, notes = verdict(TOP, program, (ci, edits, tools), before, proofs.one_pass())
     for line in [*notes, *(f"FAILED: {fault}" for fault in faults)]:
         print(f"gate: {line}")
     print(f"{passed} passed, {failed} failed")

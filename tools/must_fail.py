@@ -13,16 +13,17 @@ function depends on the contracts of those that it calls, and not on their bodie
 - an error in the proof files of one of these.
 
 Edits without such a report are tried again in place, without those that were refused, and at last alone, with all proofs of
-the crate: such an edit is refused if the crate isn't proved, as for `rt must-fail`. So are those whose copy's proof files
-may have been copied wrongly. One that changes more than one function is tried alone at once.
+the crate: then something reported unproved anywhere in the crate refuses it. So are those whose copy's proof files may have
+been copied wrongly. One that changes several functions is tried in place, apart from others.
 
 The libraries are those that `rt ci` built in FOLDER, a copy of the repository, which also has its output, in rt-ci.txt: that
-tells which functions it proved. Without FOLDER, each crate is proved first. All is done in copies of the repository. As many
-checks run at once as RT_JOBS says, or as there are processors. The last lines tell how many edits were refused, and the
-minutes of processor. The exit status is 0 if all were refused.
+tells which functions it proved. If it doesn't, since `rt ci` kept the proofs of an earlier run, the crate is checked first.
+Without FOLDER, each crate is proved first. All is done in copies of the repository. As many checks run at once as RT_JOBS
+says, or as there are processors. The last lines tell how many edits were refused, and the minutes of processor. The exit
+status is 0 if all were refused.
 
-With --control, the functions are copied with their right bodies, and the prover has to accept each copy. It shows that an
-edit isn't refused for how its function is copied. Run it after a change of that; the gate doesn't.
+With --control, the right functions are copied, or tried in place, and the prover has to accept each. It shows that an edit
+isn't refused for how it is tried. Run it after a change of that; the gate doesn't.
 """
 
 import os
@@ -48,11 +49,10 @@ PROOF_ERROR = re.compile(r"(?:\./)?proofs/(\S+)/(?:Answers|Invariants|Proof)\.an
 TAKEN_AWAY = re.compile(r"has no field|is not in scope|has no `|was not admitted")
 # Reports that show more of the contract than others: a goal that is false for some values; and less: the prover's limits.
 IS_FALSE, AT_LIMIT = "at which this goal is false", "gave up at one of its limits"
-WITHOUT_REPORT = "the crate isn't proved, and no report says what"
 ONLY_TAKEN_AWAY = "(only because a proof file names what the edit took away) "
 ONLY_AT_LIMIT = "(only at a limit of the prover) "
-# How a check tells that it took a right function's contract: it is proved, or stands only on proofs that were left open.
-ACCEPTED = r"(?:(?:proved|no holes)\b.*|depends on a hole in `\S+\.Proof\.\S+`|not proved; it calls .*)$"
+# How a check tells that a function is right: it is proved, or stands only on the holes of proofs that were left open.
+ACCEPTED = r"(?:(?:proved|no holes)\b.*|depends on a hole in (?:`\S+\.Proof\.hole`(?:, )?)+(?: and .*)?)$"
 # A definition that can't be read: an edit of it shows nothing.
 UNREADABLE = re.compile(r"(?:\./)?(?:src|specs)/\S+:\d+:\d+: error: .*")
 
@@ -126,7 +126,9 @@ def refused_alone(edit, checked):
     if verdict is None or unread:
         raise BadEdit(f"BAD EDIT: no contract was tried: {unread or ' / '.join(checked.lines()[-3:])[:300]}")
     of_any = Edit(edit.crate, edit.name, edit.pairs, None)
-    return report_of(edit, checked) or report_of(of_any, checked) or WITHOUT_REPORT
+    if not (report := report_of(edit, checked) or report_of(of_any, checked)):
+        raise BadEdit("NOT REFUSED: the crate isn't proved, but no report says what")
+    return report
 
 
 # Copies of the repository
@@ -228,6 +230,7 @@ class Run:
         found = {name: read_edits(top / "crates" / name) for name in self.below if not names or name in names}
         self.edits = {name: read for name, (read, _) in found.items() if read}
         self.lines = [line for _, bad in found.values() for line in bad]
+        self.lines += [f"{name}: NOT TRIED: crates.txt lists no such crate" for name in names if name not in self.below]
         self.refused, self.failed = [], len(self.lines)
         self.proved, self.kit = {}, None
         self.seconds, self.counting = {"proofs": 0.0, "edits": 0.0}, threading.Lock()
@@ -267,13 +270,22 @@ class Run:
             words = check_words(self.kit, crate, self.uses[crate], self.built, self.below[crate])
             words += ["--incremental", str(work), *(["--allow-holes"] if only else [])]
             checked = self.timed("edits", run([*words, *(word for it in only for word in ("--only", it.replace("/", "::")))], folder))
-            if not kept.is_dir() and work.is_dir():
-                kept.parent.mkdir(exist_ok=True)
-                work.rename(kept)
+            if checked.verdict() is not None:
+                self.keep(work, kept)
             return checked
 
+    def keep(self, work, kept):
+        """Keeps what the first check of a crate that found a verdict has checked."""
+        with self.counting:
+            if work.is_dir() and not kept.is_dir():
+                kept.parent.mkdir(exist_ok=True)
+                work.rename(kept)
+
     def begin(self, crate):
-        """Tries the first edits of a crate alone, and returns what is to be tried then: that begins with what it checked."""
+        """Tries the first edits of a crate alone, and returns what is to be tried then: that begins with what it checked. If no
+        list tells which functions are proved, the crate is checked as it is."""
+        if not self.proved[crate]:
+            self.proved[crate] = functions_in(crate, self.attempt(crate, {}).text)
         trials = self.trials_of(crate)
         for judge, name, tried in trials[:1]:
             return judge(name, tried) + trials[1:]
@@ -298,19 +310,34 @@ class Run:
         texts, tried = with_copies(self.top / "crates" / crate, copies)
         checked = self.attempt(crate, texts, [it.name for it in copies])
         for edit in tried:
-            report = report_of(edit, checked)
-            if not report and re.search(rf"^fn \S+::{edit.function.name}: {ACCEPTED}", checked.text, re.M):
-                self.say(edit, "a copy of its function is proved", how="accepted")
-            else:
-                why = report or f"the check ended with status {checked.status}"
-                self.fail(f"{edit.label()}: NOT ACCEPTED: a copy of its function isn't proved: {why}")
+            self.say_right(edit, checked, rf"\S+::{edit.function.name}")
         return []
+
+    def judge_right_in_place(self, crate, edits):
+        """Tries functions in place as they are, which have to be proved."""
+        paths = {edit: self.paths_of(crate, edit) for edit in edits}
+        checked = self.attempt(crate, {}, sorted({it for found in paths.values() for it in found}))
+        for edit, found in paths.items():
+            for path in found:
+                self.say_right(edit, checked, f"{crate}::{re.escape(path.replace('/', '::'))}")
+        return []
+
+    def say_right(self, edit, checked, name):
+        report = report_of(edit, checked)
+        if not report and re.search(rf"^fn {name}: {ACCEPTED}", checked.text, re.M):
+            self.say(edit, "its right function is proved", how="accepted")
+        else:
+            self.fail(f"{edit.label()}: NOT ACCEPTED: {report or f'the check ended with status {checked.status}'}")
+
+    def paths_of(self, crate, edit):
+        """Returns the folders of an edit's functions and of closures in them, or none if one of the functions isn't listed."""
+        found = [[it for it in self.proved[crate] if belongs(it, function)] for function in edit.functions()]
+        return sorted({it for paths in found for it in paths}) if all(found) else []
 
     def judge(self, crate, edits):
         """Tries edits in place, and returns what is to be tried next."""
-        changed = [function for edit in edits for function in edit.functions()]
-        found = [[it for it in self.proved[crate] if belongs(it, function)] for function in changed]
-        only = sorted({path for paths in found for path in paths}) if found and all(found) else []
+        found = [self.paths_of(crate, edit) for edit in edits]
+        only = sorted({path for paths in found for path in paths}) if all(found) else []
         if len(edits) == 1 and not only:
             return self.judge_alone(crate, edits)
         checked = self.attempt(crate, edited(self.top / "crates" / crate, edits), only)
@@ -407,11 +434,14 @@ class Run:
     def trials_of(self, name):
         """Returns what is to be tried of a proved crate: copies, and the other edits in place."""
         folder, edits = self.top / "crates" / name, self.edits.get(name, [])
-        if self.is_control:
-            return [(self.judge_right, name, share) for share in shares_of(right_copies_of(folder, edits))]
         copies = copies_of(folder, edits)
         copied = {it.edit.name for it in copies}
-        in_place = batches_of(folder, [edit for edit in edits if edit.name not in copied])
+        others = [edit for edit in edits if edit.name not in copied]
+        if self.is_control:
+            listed = [edit for edit in others if self.paths_of(name, edit)]
+            shares = shares_of(right_copies_of(folder, edits))
+            return [(self.judge_right, name, it) for it in shares] + [(self.judge_right_in_place, name, listed)] * bool(listed)
+        in_place = batches_of(folder, others)
         return [(self.judge_copies, name, share) for share in shares_of(copies)] + [(self.judge, name, batch) for batch in in_place]
 
     def untried(self, name, why):
@@ -422,7 +452,6 @@ class Run:
 def summary(run):
     """Returns the last lines: how many edits were refused, how, and what it took."""
     starts = [(ONLY_AT_LIMIT, "only at a limit of the prover"), (ONLY_TAKEN_AWAY, "only because a proof file names what is gone")]
-    starts += [(WITHOUT_REPORT, "without a report")]
     kinds = [f"{sum(report.startswith(start) for report in run.refused)} {words}" for start, words in starts]
     minutes = [f"{run.seconds[kind] / 60:.1f} minutes of processor for {kind}" for kind in ("proofs", "edits")]
     lines = [", ".join([f"{len(run.refused)} refused", *kinds]), ", ".join(minutes)]

@@ -74,7 +74,7 @@ class Planted(unittest.TestCase):
         path.parent.mkdir(parents=True, exist_ok=True)
         path.write_text(text, encoding="utf-8")
 
-    def verdict(self, ci=CI, ci_status=0, edits=EDITS, edits_status=0, tools=TOOLS, tools_status=0, lacking=(), one_pass=1200.0):
+    def verdict(self, ci=CI, ci_status=0, edits=EDITS, edits_status=0, tools=TOOLS, tools_status=0, lacking=(), one_pass=1200.0, before=None):
         """Returns the gate's verdict if these commands aren't there."""
         ran = (
             gate.Ran("rt ci", ci, ci_status, 1800.0, 900.0),
@@ -82,7 +82,7 @@ class Planted(unittest.TestCase):
             gate.Ran("tools/run_tests.py", tools, tools_status, 60.0, 90.0),
         )
         found = lambda name: None if name in lacking else f"/bin/{name}"
-        return gate.verdict(self.top, str(self.program), ran, one_pass, found)
+        return gate.verdict(self.top, str(self.program), ran, before or gate.sums_of(self.top), one_pass, found)
 
     def assert_fails(self, *words, counted=0, **planted):
         """Asserts that the gate fails for one reason with each of these words, besides failures counted by commands."""
@@ -129,6 +129,21 @@ class Planted(unittest.TestCase):
             self.assert_fails("rt ci ended without a line 'N passed, M failed'", ci=ci)
         self.assert_fails("tools/must_fail.py ended without a line", edits=EDITS + "x\n")
         self.assert_fails("tools/run_tests.py ended without a line", tools=TOOLS + "x\n")
+
+    def test_a_file_that_changed_meanwhile_is_a_failure(self):
+        before = gate.sums_of(self.top)
+        self.write("crates/low/out/built", "")
+        self.write("tools/__pycache__/x.pyc", "")
+        self.write(".git/index", "")
+        self.assert_fails(before=before)
+        self.write("crates/high/must-fail/two.edit", "file: x")
+        (self.top / "program.txt").symlink_to("program")
+        self.assert_fails("changed while the gate ran: crates/high/must-fail/two.edit, program.txt", before=before)
+
+    def test_one_test_less_of_two_with_one_name_is_a_failure(self):
+        self.write("crates/low_tests/src/c.rt", "#[test]\nfn first(rt: HostRuntime) {\n}\n")
+        self.assert_fails("tests of crates that didn't pass: first")
+        self.assert_fails(ci=CI + "test c::first ... ok\n4 passed, 0 failed\n")
 
     def test_one_edit_less_is_a_failure(self):
         (self.top / "crates/low/must-fail/one.edit").unlink()

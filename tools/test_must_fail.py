@@ -77,7 +77,7 @@ if words[0] == "lib":
     os.makedirs("out/rlib/" + crate + ".rlib")
 if "--incremental" in words:
     os.makedirs(words[words.index("--incremental") + 1], exist_ok=True)
-elif not found and (words[0] == "check" or "TAKEN" not in os.environ):
+if not only and not found and (words[0] == "check" or "TAKEN" not in os.environ):
     for name in {functions!r}:
         print("fn " + crate + "::" + name + ": proved")
 print("only=1 holes=0" if only else "logic=not-proved" if found else "logic=proved functions=4")
@@ -327,7 +327,7 @@ class Planted(unittest.TestCase):
     def test_one_check_tries_edits_of_many_functions_and_another_those_in_place(self):
         lines, status = self.ran()
         self.assertEqual((lines[-1], status), ("must-fail: 4 passed, 0 failed", 0))
-        self.assertEqual(lines[-3], "must-fail: 4 refused, 1 only at a limit of the prover, 0 only because a proof file names what is gone, 0 without a report")
+        self.assertEqual(lines[-3], "must-fail: 4 refused, 1 only at a limit of the prover, 0 only because a proof file names what is gone")
         self.assertRegex(lines[-2], r"^must-fail: \d+\.\d minutes of processor for proofs, \d+\.\d minutes of processor for edits$")
         self.assertIn(f"must-fail: high/six.edit: refused: {REPORTS[3][1].replace('AT', '39')[:200]}", lines)
         self.assertIn(f"must-fail: high/get_another.edit: refused: (only at a limit of the prover) {REPORTS[1][1].replace('AT', '16')}", lines)
@@ -387,6 +387,8 @@ class Planted(unittest.TestCase):
         self.edit("both", "src/lib.rt", "    7", "    6", ("        self.store(value);", "        let _ = value;"))
         lines, _ = self.ran([*REPORTS, ("= 8;", f"note: src/lib.rt:13:5: {NOT_PROVED}")])
         self.assertEqual((lines[-1], self.checks()), ("must-fail: 6 passed, 0 failed", 4))
+        others = "proofs/Cell/get proofs/CellFrom/from proofs/CellMake/make again"
+        self.assertIn(f"check high low std Cell::set free {others}", self.log.read_text().splitlines())
 
     def test_an_edit_that_is_proved_is_a_failure(self):
         lines, status = self.ran(REPORTS[:3])
@@ -413,7 +415,7 @@ class Planted(unittest.TestCase):
     def test_a_report_goes_on_in_indented_lines(self):
         gone = "./proofs/CellFrom/from/Answers.antt:3:5: error: the step\n  has no field `x`"
         lines, _ = self.ran([("nothing()", gone), *REPORTS[1:]])
-        self.assertTrue(lines[-3].endswith(", 1 only because a proof file names what is gone, 0 without a report"))
+        self.assertTrue(lines[-3].endswith(", 1 only because a proof file names what is gone"))
 
     def test_edits_without_a_report_are_tried_together_again(self):
         # Both are hidden by an unproved callee, and then by each other.
@@ -421,15 +423,15 @@ class Planted(unittest.TestCase):
         self.edit("made", *MADE)
         hidden = [("anew(made)", "nothing"), ("nothing()", "nothing")]
         lines, _ = self.ran([*REPORTS[1:], *hidden])
-        # The copies, the two methods together, each in place, and each alone.
-        self.assertEqual((lines[-1], self.checks()), ("must-fail: 5 passed, 0 failed", 6))
-        self.assertTrue(lines[-3].endswith(", 2 without a report"))
+        # The copies, the two methods together, each in place, and each alone. That no report says what isn't proved shows nothing.
+        self.assertEqual((lines[-1], self.checks()), ("must-fail: 3 passed, 2 failed", 6))
+        self.assertIn("must-fail: high/made.edit: NOT REFUSED: the crate isn't proved, but no report says what", lines)
 
     def test_what_a_proof_file_misses_is_said(self):
         gone = "./proofs/CellFrom/from/Answers.antt:3:5: error: record `C` has no field `x`"
         lines, status = self.ran([("nothing()", gone), *REPORTS[1:]])
         self.assertIn(f"must-fail: high/from_nothing.edit: refused: {must_fail.ONLY_TAKEN_AWAY}{gone}", lines)
-        self.assertTrue(lines[-3].endswith(", 1 only because a proof file names what is gone, 0 without a report"))
+        self.assertTrue(lines[-3].endswith(", 1 only because a proof file names what is gone"))
         self.assertEqual(status, 0)
 
     def test_an_edit_that_does_not_compile_is_bad_and_hides_no_other(self):
@@ -459,10 +461,20 @@ class Planted(unittest.TestCase):
 
     def test_copies_of_the_right_bodies_are_accepted(self):
         self.edit("six_again", *EDITS["six"])
-        proved = [("fn get_edit_1", "fn high::Cell::get_edit_1: proved"), ("fn free_edit_3", "fn high::free_edit_3: proved")]
-        lines, status = self.ran(proved + [("fn set_edit_2", f"note: src/lib.rt:AT:5: {NOT_PROVED}")], names=["--control", "high"])
-        self.assertEqual((lines[-1], status, self.checks()), ("must-fail: 2 passed, 1 failed", 1, 1))
-        self.assertIn("must-fail: high/get_another.edit: accepted: a copy of its function is proved", lines)
+        of_others = "depends on a hole in `Rattle.high.proofs.a.Proof.hole`, `Rattle.high.proofs.b.Proof.hole`"
+        for how in ("proved", "proved, may wait", "no holes", of_others):
+            proved = [("fn get_edit_1", f"fn high::Cell::get_edit_1: {how}"), ("fn free_edit_3", f"fn high::free_edit_3: {how}")]
+            lines, status = self.ran(proved + [("fn set_edit_2", f"note: src/lib.rt:AT:5: {NOT_PROVED}")], names=["--control", "high"])
+            self.assertEqual((lines[-1], status, self.checks()), ("must-fail: 2 passed, 2 failed", 1, 2))
+            self.log.unlink()
+        for how in ("not proved", "no proof: x", of_others + ", `Rattle.high.proofs.get_edit_1.Answers.returns`"):
+            lines, _ = self.ran([("fn get_edit_1", f"fn high::Cell::get_edit_1: {how}")], names=["--control", "high"])
+            self.assertEqual(lines[-1], "must-fail: 0 passed, 4 failed")
+        # A method of a trait is tried in place.
+        proved += [("fn from(", "fn high::CellFrom::from: no holes"), ("fn set_edit_2", f"note: src/lib.rt:AT:5: {NOT_PROVED}")]
+        lines, _ = self.ran(proved, names=["--control", "--built", str(self.built("fn high::CellFrom::from: proved\n")), "high"])
+        self.assertEqual(lines[-1], "must-fail: 3 passed, 1 failed")
+        self.assertIn("must-fail: high/get_another.edit: accepted: its right function is proved", lines)
         self.assertTrue(any(line.startswith("must-fail: high/set_nothing.edit: NOT ACCEPTED: ") for line in lines))
 
     def built(self, log):
@@ -481,10 +493,11 @@ class Planted(unittest.TestCase):
         self.assertTrue(log[0].endswith(" proofs/CellFrom/from proofs/free"), log[0])
         self.assertEqual(log[1], "check high low std CellFrom::from proofs/free again")
 
-    def test_without_a_list_of_proved_functions_all_are_proved_again(self):
+    def test_without_a_list_of_proved_functions_the_crate_is_checked_first(self):
         lines, _ = self.ran(names=["--built", str(self.built(""))])
         log = self.log.read_text().splitlines()
-        self.assertEqual((lines[-1], log[1]), ("must-fail: 4 passed, 0 failed", "check high low std again"))
+        self.assertEqual((lines[-1], log[0], len(log)), ("must-fail: 4 passed, 0 failed", "check high low std", 3))
+        self.assertTrue(log[1].endswith(" proofs/free again"), log[1])
 
     def test_edits_of_a_crate_that_is_not_built_are_not_tried(self):
         folder = self.built("")
@@ -497,6 +510,8 @@ class Planted(unittest.TestCase):
         self.write("crates/low/must-fail/six.edit", "file: src/lib.rt\nold:     7\nnew:     6\n")
         self.assertEqual(self.ran(names=["low"])[0][-1], "must-fail: 1 passed, 0 failed")
         self.assertEqual(self.ran(names=["other"])[1], 1)
+        lines, status = self.ran(names=["low", "lower"])
+        self.assertEqual((lines[0], lines[-1], status), ("must-fail: lower: NOT TRIED: crates.txt lists no such crate", "must-fail: 1 passed, 1 failed", 1))
 
     def test_the_edits_of_this_repository_can_be_applied(self):
         with tempfile.TemporaryDirectory() as folder:
