@@ -9,7 +9,7 @@ check, over the libraries that `rt ci` has built in the copy. The gate fails, an
 - if a command ends with another exit status than 0, or without its line 'N passed, M failed', or one with failures;
 - if a part that the tests need isn't there: the built program, git, a C compiler and so on;
 - if a test wasn't run, or a must-fail edit wasn't refused by the prover, as a bad edit;
-- if a file of the repository changed while the gate ran, so that its parts may not be of one text;
+- if a file that its parts read changed while it ran, so that they may not be of one text;
 - if there is less evidence of a kind than .ci/floors says.
 
 More evidence than that is no failure: a line says that the floor is to be raised. Other lines tell what each command took,
@@ -40,8 +40,9 @@ KINDS = ("must-fail-edits", "proved-tests", "rows-of-proved-tests", "python-test
 USELESS = ("BAD EDIT", "NOT TRIED", "NOT REFUSED")
 # What the copy for `rt ci` is without: edits, and what was built.
 LEFT_OUT = re.compile(r"(?:\.git|crates/[^/]*/(?:must-fail|out)|(?:.*/)?__pycache__)$")
-# What isn't of the repository.
-NOT_OURS = re.compile(r"(?:\.git|crates/[^/]*/out|(?:.*/)?__pycache__)$")
+# What the gate's parts read, one after the other, and what is made there meanwhile.
+READ = (".ci", "crates", "tools", "crates.txt", "HANDLES")
+MADE = re.compile(r"(?:crates/[^/]*/out|(?:.*/)?__pycache__)$")
 TEST = r"^ *#\[test\]\n *fn (\w+)"
 
 
@@ -79,13 +80,15 @@ def left_out(top, pattern):
 
 
 def sums_of(top):
-    """Returns a sum of each file of the repository, by its path."""
-    sums, ignored = {}, left_out(top, NOT_OURS)
-    for folder, folders, names in os.walk(top):
-        folders[:] = sorted(set(folders) - ignored(folder, folders))
-        for path in (Path(folder) / name for name in names):
-            content = os.readlink(path).encode() if path.is_symlink() else path.read_bytes() if path.is_file() else b""
-            sums[path.relative_to(top).as_posix()] = hashlib.sha256(content).hexdigest()
+    """Returns a sum of each file that the gate's parts read, by its path."""
+    sums, made = {}, left_out(top, MADE)
+    paths = [top / name for name in READ if (top / name).is_file()]
+    for folder, folders, names in (it for name in READ for it in os.walk(top / name)):
+        folders[:] = sorted(set(folders) - made(folder, folders))
+        paths += [Path(folder) / name for name in names]
+    for path in paths:
+        content = os.readlink(path).encode() if path.is_symlink() else path.read_bytes() if path.is_file() else b""
+        sums[path.relative_to(top).as_posix()] = hashlib.sha256(content).hexdigest()
     return sums
 
 

@@ -135,10 +135,12 @@ class Planted(unittest.TestCase):
         self.write("crates/low/out/built", "")
         self.write("tools/__pycache__/x.pyc", "")
         self.write(".git/index", "")
+        self.write("log.txt", "")
         self.assert_fails(before=before)
         self.write("crates/high/must-fail/two.edit", "file: x")
-        (self.top / "program.txt").symlink_to("program")
-        self.assert_fails("changed while the gate ran: crates/high/must-fail/two.edit, program.txt", before=before)
+        self.write("HANDLES", "")
+        (self.top / "tools" / "link").symlink_to("program")
+        self.assert_fails("changed while the gate ran: HANDLES, crates/high/must-fail/two.edit, tools/link", before=before)
 
     def test_one_test_less_of_two_with_one_name_is_a_failure(self):
         self.write("crates/low_tests/src/c.rt", "#[test]\nfn first(rt: HostRuntime) {\n}\n")
