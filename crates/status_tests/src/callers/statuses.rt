@@ -5,7 +5,7 @@ ghost use Rattle.status_index.specs.States.{index_of, timestamp_of};
 ghost use Rattle.status_call.specs.IndexChanges.{AreInside, DifferInStats, changes_of};
 ghost use Rattle.status_call.specs.Inputs.{usual};
 ghost use Rattle.status_call.specs.Outcomes.{skipped_of};
-ghost use Rattle.status_tests.specs.Clean.{SaysClean};
+ghost use Rattle.status_tests.specs.Clean.{FailsAtFirstFault, SaysClean};
 
 use gix_status::index::{Moment, State};
 use gix_status::index_as_worktree::traits::{CompareBlobs, HashEq};
@@ -196,7 +196,9 @@ pub fn is_clean<
 where
     W::File: Send,
     C::Output: Send + 'index,
-    ensures { SaysClean ⟦<Usual<'w, W, C, P> as Ask>⟧.query
+    ensures clean { SaysClean ⟦<Usual<'w, W, C, P> as Ask>⟧.query
+        (usual worktree.entry compare pathspec) options index.now result }
+    ensures fault { FailsAtFirstFault ⟦<Usual<'w, W, C, P> as Ask>⟧.query
         (usual worktree.entry compare pathspec) options index.now result }
 {
     let alloc = rt.alloc();

@@ -2,8 +2,8 @@ use Rattle.std.proofs.Common.{◌==◌, ◌∙◌, ap, length, sym}
 use Rattle.status_tests.proofs.Clean.{nothing_found, nothing_recorded}
 use Rattle.status_tests.proofs.callers.statuses.is_clean.Goals as goal
 
-pub returns : goal.returns
-returns g c = λ modelled.
+pub returns-clause-clean : goal.returns-clause-clean
+returns-clause-clean g c = λ modelled.
     let ok = c.in_ok-index_as_worktree_with_defaults in
     let value = sym (ap (λ rs. length rs == 0) c.as_slice.ensures.value) ∙ sym c.is_empty.ensures in (
       λ clean. nothing_found _ _ ok.field-0 _ _ modelled ok.ensures.uninterrupted ok.ensures.all c.new-recorder.ensures (value ∙ clean),
