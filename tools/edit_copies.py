@@ -9,7 +9,7 @@ which has one proof with others.
 import re
 from dataclasses import dataclass, replace
 
-from edits import PROOF_FILES, Edit, proof_folders, text_of
+from edits import PROOF_FILES, Edit, calls, edited, proof_folders, text_of
 
 # How many copies one check tries: what it reads first takes up to a minute, and with more copies it takes more memory.
 MOST_COPIES = 60
@@ -56,10 +56,19 @@ def copy_of(folder, edit, name):
     return Copy(edit, name, tuple(re.sub(HEAD.format(function.name), rf"\1fn {name}", text, count=1).split("\n")))
 
 
-def shares_of(copies):
-    """Returns the copies in shares of about the same size, each for one check."""
-    number = -(-len(copies) // MOST_COPIES)
-    return [copies[first::number] for first in range(number)]
+def rounds_of(copies, batches):
+    """Returns pairs of copies and of edits that are tried in place, each for one check: a list of such edits goes with copies of
+    functions that call none of theirs, and the copies are spread evenly."""
+    number = max(len(batches), -(-len(copies) // MOST_COPIES))
+    rounds = [([], [*batch]) for batch in [*batches, *[[]] * (number - len(batches))]]
+    for copy in copies:
+        code = "\n".join(copy.lines[1:])
+        fitting = [it for it in rounds if len(it[0]) < MOST_COPIES and not any(calls(code, edit.function) for edit in it[1])]
+        if not fitting:
+            fitting = [([], [])]
+            rounds += fitting
+        min(fitting, key=lambda it: len(it[0]))[0].append(copy)
+    return rounds
 
 
 def folders_of(folder, function):
@@ -70,22 +79,30 @@ def folders_of(folder, function):
     return [it for it in sorted(proof_folders(folder)) if is_own(it)]
 
 
-def with_copies(folder, copies):
-    """Returns the texts of the files that have these copies, by their paths, and the edits with the copies for their
-    functions."""
-    texts, tried = {}, []
-    for path in sorted({it.edit.function.path for it in copies}):
-        lines, own = [], [it for it in copies if it.edit.function.path == path]
-        for number, line in enumerate(text_of(folder / path).split("\n"), 1):
+def with_copies(folder, copies, in_place=()):
+    """Returns the texts of the files that have these copies, and other edits in place, by their paths; the edits of the copies,
+    with the copies for their functions; and the others, with their functions where they then are."""
+    texts, tried = edited(folder, in_place), []
+    own = {path: [it for it in copies if it.edit.function.path == path] for path in {it.edit.function.path for it in copies}}
+    for path, here in sorted(own.items()):
+        lines = []
+        for number, line in enumerate((texts.get(path) or text_of(folder / path)).split("\n"), 1):
             lines.append(line)
-            for copy in (it for it in own if it.edit.function.last == number):
+            for copy in (it for it in here if it.edit.function.last == number):
                 placed = replace(copy.edit.function, name=copy.name, first=len(lines) + 2, last=len(lines) + 1 + len(copy.lines))
                 lines += ["", *copy.lines]
                 tried.append(replace(copy.edit, function=placed))
         texts[path] = "\n".join(lines)
     for copy in copies:
         texts.update(proofs_of(folder, copy))
-    return texts, tried
+    return texts, tried, [moved(it, own.get(it.function.path, [])) for it in in_place]
+
+
+def moved(edit, copies):
+    """Returns an edit with its function below the copies that stand above it in its file."""
+    function = edit.function
+    lines = sum(1 + len(it.lines) for it in copies if it.edit.function.last < function.first)
+    return replace(edit, function=replace(function, first=function.first + lines, last=function.last + lines))
 
 
 def proofs_of(folder, copy):

@@ -37,7 +37,7 @@ from concurrent.futures import FIRST_COMPLETED, ThreadPoolExecutor, wait
 from dataclasses import dataclass
 from pathlib import Path
 
-from edit_copies import copies_of, right_copies_of, shares_of, with_copies
+from edit_copies import copies_of, right_copies_of, rounds_of, with_copies
 from edits import SOURCES, BadEdit, Edit, batches_of, edited, read_edits
 from open_proofs import belongs, can_be_open, functions_in, leave_open
 
@@ -129,6 +129,19 @@ def refused_alone(edit, checked):
     if not (report := report_of(edit, checked) or report_of(of_any, checked)):
         raise BadEdit("NOT REFUSED: the crate isn't proved, but no report says what")
     return report
+
+
+# What an edit of definitions is about
+
+
+def files_with(folder, edit):
+    """Returns the source files of the crate in a folder that name the modules of definitions which an edit changes, as the
+    folders of their functions below proofs/; none if it changes something else."""
+    if not all(path.startswith("specs/") for path, _, _ in edit.pairs):
+        return []
+    names = [f"Rattle.{folder.name}.{path.removesuffix('.antt').replace('/', '.')}." for path, _, _ in edit.pairs]
+    files = [path for path in sorted((folder / "src").rglob("*.rt")) if any(it in path.read_text(encoding="utf-8") for it in names)]
+    return [path.relative_to(folder / "src").with_suffix("").as_posix() for path in files]
 
 
 # Copies of the repository
@@ -259,12 +272,12 @@ class Run:
         with tempfile.TemporaryDirectory(prefix="room-", dir=self.folder) as room:
             folder, work = Path(room) / crate, Path(room) / "kept"
             copy_crate(self.top / "crates" / crate, folder, SOURCES)
-            if only:
-                others = [it for it in self.proved[crate] if not any(f"{it}/".startswith(f"{own}/") for own in only)]
-                leave_open(folder, can_be_open(folder, others))
             for path, text in texts.items():
                 (folder / path).parent.mkdir(parents=True, exist_ok=True)
                 (folder / path).write_text(text, encoding="utf-8")
+            if only:
+                others = [it for it in self.proved[crate] if not any(f"{it}/".startswith(f"{own}/") for own in only)]
+                leave_open(folder, can_be_open(folder, others), only)
             if kept.is_dir():
                 shutil.copytree(kept, work, copy_function=link_or_copy)
             words = check_words(self.kit, crate, self.uses[crate], self.built, self.below[crate])
@@ -287,38 +300,39 @@ class Run:
         if not self.proved[crate]:
             self.proved[crate] = functions_in(crate, self.attempt(crate, {}).text)
         trials = self.trials_of(crate)
-        for judge, name, tried in trials[:1]:
-            return judge(name, tried) + trials[1:]
+        for judge, *tried in trials[:1]:
+            return judge(*tried) + trials[1:]
         return []
 
-    def judge_copies(self, crate, copies):
-        """Tries edits by copies of their functions, and returns what is to be tried next: without a verdict the copies in two
-        parts, and otherwise in place those edits that weren't refused."""
-        texts, tried = with_copies(self.top / "crates" / crate, copies)
-        checked, left = self.attempt(crate, texts, [it.name for it in copies]), {it.edit.name: it.edit for it in copies}
-        if checked.verdict() is None and len(copies) > 1:
-            middle = len(copies) // 2
-            return [(self.judge_copies, crate, part) for part in (copies[:middle], copies[middle:])]
-        for edit in tried:
-            is_sound = not any(is_miscopied(line, edit.function.name) for line in reports_of(edit, checked))
+    def judge_round(self, crate, copies, in_place):
+        """Tries edits by copies of their functions, and others in place beside them, and returns what is to be tried next: without
+        a verdict both in two parts, and otherwise in place the edits that weren't refused."""
+        texts, tried, beside = with_copies(self.top / "crates" / crate, copies, in_place)
+        checked = self.attempt(crate, texts, self.asked_for(crate, copies, in_place))
+        if checked.verdict() is None and len(copies) + len(in_place) > 1:
+            one, other = len(copies) // 2, (len(in_place) + 1) // 2
+            parts = [(copies[:one], in_place[:other]), (copies[one:], in_place[other:])]
+            return [(self.judge_round, crate, *part) for part in parts if any(part)]
+        left = {it.name: it for it in [*(copy.edit for copy in copies), *in_place]}
+        for edit in tried + beside:
+            is_copy = edit in tried
+            is_sound = not is_copy or not any(is_miscopied(line, edit.function.name) for line in reports_of(edit, checked))
             if is_sound and (report := report_of(edit, checked)):
                 self.say(left.pop(edit.name), report)
         return [(self.judge, crate, batch) for batch in batches_of(self.top / "crates" / crate, left.values())]
 
-    def judge_right(self, crate, copies):
-        """Tries copies of functions as they are, which have to be proved."""
-        texts, tried = with_copies(self.top / "crates" / crate, copies)
-        checked = self.attempt(crate, texts, [it.name for it in copies])
+    def asked_for(self, crate, copies, in_place):
+        """Returns what a check of copies and of edits in place proves: the copies' names, and the functions' folders."""
+        return [*(it.name for it in copies), *sorted({path for edit in in_place for path in self.paths_of(crate, edit)})]
+
+    def judge_right(self, crate, copies, in_place):
+        """Tries copies of functions as they are, and functions in place, which have to be proved."""
+        texts, tried, _ = with_copies(self.top / "crates" / crate, copies)
+        checked = self.attempt(crate, texts, self.asked_for(crate, copies, in_place))
         for edit in tried:
             self.say_right(edit, checked, rf"\S+::{edit.function.name}")
-        return []
-
-    def judge_right_in_place(self, crate, edits):
-        """Tries functions in place as they are, which have to be proved."""
-        paths = {edit: self.paths_of(crate, edit) for edit in edits}
-        checked = self.attempt(crate, {}, sorted({it for found in paths.values() for it in found}))
-        for edit, found in paths.items():
-            for path in found:
+        for edit in in_place:
+            for path in self.paths_of(crate, edit):
                 self.say_right(edit, checked, f"{crate}::{re.escape(path.replace('/', '::'))}")
         return []
 
@@ -330,7 +344,11 @@ class Run:
             self.fail(f"{edit.label()}: NOT ACCEPTED: {report or f'the check ended with status {checked.status}'}")
 
     def paths_of(self, crate, edit):
-        """Returns the folders of an edit's functions and of closures in them, or none if one of the functions isn't listed."""
+        """Returns the folders of an edit's functions and of closures in them, or none if one of the functions isn't listed; of an
+        edit of definitions, the folders of the functions in files that name their modules."""
+        if not edit.functions():
+            files = files_with(self.top / "crates" / crate, edit)
+            return [it for it in self.proved[crate] if it.startswith(tuple(f"{file}/" for file in files))]
         found = [[it for it in self.proved[crate] if belongs(it, function)] for function in edit.functions()]
         return sorted({it for paths in found for it in paths}) if all(found) else []
 
@@ -437,12 +455,13 @@ class Run:
         copies = copies_of(folder, edits)
         copied = {it.edit.name for it in copies}
         others = [edit for edit in edits if edit.name not in copied]
+        listed = [edit for edit in others if self.paths_of(name, edit)]
         if self.is_control:
-            listed = [edit for edit in others if self.paths_of(name, edit)]
-            shares = shares_of(right_copies_of(folder, edits))
-            return [(self.judge_right, name, it) for it in shares] + [(self.judge_right_in_place, name, listed)] * bool(listed)
-        in_place = batches_of(folder, others)
-        return [(self.judge_copies, name, share) for share in shares_of(copies)] + [(self.judge, name, batch) for batch in in_place]
+            return [(self.judge_right, name, *it) for it in rounds_of(right_copies_of(folder, edits), [listed])]
+        beside = [edit for edit in listed if edit.function]
+        rounds = rounds_of(copies, batches_of(folder, beside))
+        apart = batches_of(folder, [edit for edit in others if edit not in beside])
+        return [(self.judge_round, name, *it) for it in rounds] + [(self.judge, name, batch) for batch in apart]
 
     def untried(self, name, why):
         for edit in self.edits.get(name, []):

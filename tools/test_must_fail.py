@@ -6,6 +6,7 @@ import dataclasses
 import io
 import os
 import shutil
+import sys
 import tempfile
 import unittest
 from pathlib import Path
@@ -60,7 +61,8 @@ if words == ["doc"]:
     print({kit!r} + "/START-HERE.md")
     sys.exit()
 assert "--jobs 1" in " ".join(words), words
-text, crate, found = open("src/lib.rt").read(), os.path.basename(os.getcwd()), 0
+sources = [pathlib.Path("src/lib.rt"), *pathlib.Path("specs").rglob("*.antt")]
+text, crate, found = "\\n".join(it.read_text() for it in sources), os.path.basename(os.getcwd()), 0
 only = [words[at + 1] for at, it in enumerate(words) if it == "--only"]
 own = sorted(str(it.parent) for it in pathlib.Path("proofs").rglob("*.antt"))
 libraries = sorted(it.partition("=")[0] for at, it in enumerate(words) if words[at - 1] == "--extern")
@@ -188,7 +190,7 @@ class Copying(unittest.TestCase):
 
     def test_a_copy_stands_below_its_function_and_has_its_contract(self):
         copies = self.copies(("        self.0", "        other(self.0)"), ("    7", "    6"))
-        texts, tried = edit_copies.with_copies(self.folder, copies)
+        texts, tried, _ = edit_copies.with_copies(self.folder, copies)
         lines = texts["src/lib.rt"].split("\n")
         self.assertEqual([it.function.name for it in tried], ["get_edit_0", "free_edit_1"])
         self.assertEqual([lines[it.function.first - 1 : it.function.last] for it in tried], [
@@ -218,7 +220,7 @@ class Copying(unittest.TestCase):
         self.write("proofs/Cell/get/Lemmas.antt", "")
         self.write("proofs/Cell/get_all/Answers.antt", "")
         self.write("proofs/more/free/Answers.antt", "")
-        texts, _ = edit_copies.with_copies(self.folder, self.copies(("        self.0", "        other(self.0)"), ("    7", "    6")))
+        texts, _, _ = edit_copies.with_copies(self.folder, self.copies(("        self.0", "        other(self.0)"), ("    7", "    6")))
         copied = "use Rattle.high.proofs.Cell.get_edit_0.Goals as goal\nuse Rattle.high.proofs.Cell.get_all.{x}\nget_edit_0_spec = get\n"
         del texts["src/lib.rt"]
         self.assertEqual(texts, {"proofs/Cell/get_edit_0/Answers.antt": copied})
@@ -233,12 +235,30 @@ class Copying(unittest.TestCase):
             self.write(f"proofs/{module}/Cell/get/Answers.antt", "")
         self.assertEqual(self.copies(("        self.0", "        other(self.0)")), [])
 
-    def test_checks_share_many_copies(self):
-        copies = list(range(2 * edit_copies.MOST_COPIES + 1))
-        shares = edit_copies.shares_of(copies)
-        self.assertEqual(sorted(len(it) for it in shares), [40, 40, 41])
-        self.assertEqual(sorted(it for share in shares for it in share), copies)
-        self.assertEqual(edit_copies.shares_of([]), [])
+    def test_edits_in_place_move_below_the_copies_above_them(self):
+        copies = self.copies(("        self.0", "        other(self.0)"), ("    7", "    6"))
+        self.write("must-fail/from.edit", "file: src/lib.rt\nold:         Cell(value)\nnew:         Cell(nothing())\n")
+        (in_place,) = [it for it in edits.read_edits(self.folder)[0] if it.name == "from.edit"]
+        texts, _, (moved,) = edit_copies.with_copies(self.folder, copies, [in_place])
+        lines = texts["src/lib.rt"].split("\n")
+        self.assertEqual(
+            lines[moved.function.first - 1 : moved.function.last],
+            ["    fn from(value: T) -> Cell<T> {", "        Cell(nothing())", "    }"],
+        )
+        self.assertIn("fn free_edit_1() -> u8 {", lines[moved.function.last :])
+        self.assertIn("    fn get_edit_0(&self) -> T", lines[: moved.function.first])
+
+    def test_rounds_share_many_copies_and_the_edits_in_place(self):
+        copy = edit_copies.Copy(edits.Edit("high", "a.edit", (), FREE), "free_edit_0", ("fn free_edit_0() {", "    get();", "}"))
+        get, put = (edits.Edit("high", f"{it}.edit", (), dataclasses.replace(FREE, name=it)) for it in ("get", "put"))
+        many = [copy] * (2 * edit_copies.MOST_COPIES + 1)
+        sizes = lambda rounds: [(len(copies), len(in_place)) for copies, in_place in rounds]
+        self.assertEqual(sizes(edit_copies.rounds_of(many, [])), [(41, 0), (40, 0), (40, 0)])
+        self.assertEqual(sizes(edit_copies.rounds_of([copy] * 4, [[put], [put, put]])), [(2, 1), (2, 2)])
+        # A copy of a function that calls another isn't tried with an edit of that one.
+        self.assertEqual(sizes(edit_copies.rounds_of([copy] * 4, [[put], [put, get]])), [(4, 1), (0, 2)])
+        self.assertEqual(sizes(edit_copies.rounds_of([copy] * 4, [[get]])), [(0, 1), (4, 0)])
+        self.assertEqual(edit_copies.rounds_of([], []), [])
 
 
 class Opening(unittest.TestCase):
@@ -260,22 +280,41 @@ class Opening(unittest.TestCase):
         ]:
             self.assertEqual([open_proofs.belongs(path, it) for it in (get, free)], [of_get, of_free], path)
 
-    def test_a_hole_stands_in_place_of_a_proof(self):
+    def opened(self, source, functions, kept=(), **proofs):
+        """Returns the source file of a crate's module `a`, and the texts of its proof files, after these were left open."""
         with tempfile.TemporaryDirectory() as room:
             folder = Path(room) / "high"
-            (folder / "src").mkdir(parents=True)
-            (folder / "src" / "lib.rt").write_text("#[cycle(all)]\n/// Words.\n#[inline]\npub fn f() {}\n\nfn g() {}\n", encoding="utf-8")
-            self.assertEqual(open_proofs.can_be_open(folder, ["a/f", "a/g", "a/B+C/g"]), ["a/g"])
-            (folder / "proofs" / "a" / "g").mkdir(parents=True)
-            (folder / "proofs" / "a" / "g" / "Answers.antt").write_text("", encoding="utf-8")
-            open_proofs.leave_open(folder, ["a/g"])
-            own = folder / "proofs" / "a" / "g"
-            self.assertEqual([it.name for it in own.iterdir()], ["Proof.antt"])
-            self.assertEqual(
-                (own / "Proof.antt").read_text(encoding="utf-8"),
-                "use Rattle.high.proofs.a.g.Statement.{statement}\n\nhole : {A : Type 2} → A\nhole = ?\n\n"
-                "pub g_spec : {M : Type 1} → statement M\ng_spec = hole\n",
-            )
+            for path, text in [("src/a.rt", source), *((f"proofs/{it.replace('__', '/')}/Answers.antt", "") for it in proofs)]:
+                (folder / path).parent.mkdir(parents=True, exist_ok=True)
+                (folder / path).write_text(text, encoding="utf-8")
+            can_be = open_proofs.can_be_open(folder, functions)
+            open_proofs.leave_open(folder, can_be, kept)
+            files = sorted((folder / "proofs").rglob("*.antt"))
+            found = {it.relative_to(folder / "proofs").as_posix(): it.read_text(encoding="utf-8") for it in files}
+            return (folder / "src" / "a.rt").read_text(encoding="utf-8"), found
+
+    def test_a_hole_stands_in_place_of_a_proof(self):
+        source = "#[cycle(all)]\n/// Words.\n#[inline]\npub fn f() {\n    f();\n}\n\nfn g() {}\n"
+        text, files = self.opened(source, ["a/f", "a/g", "a/B+C/g"], a__g=True, a__f=True)
+        self.assertEqual((text, sorted(files)), (source, ["a/f/Answers.antt", "a/g/Proof.antt"]))
+        self.assertEqual(
+            files["a/g/Proof.antt"],
+            "use Rattle.high.proofs.a.g.Statement.{statement}\n\nhole : {A : Type 2} → A\nhole = ?\n\n"
+            "pub g_spec : {M : Type 1} → statement M\ng_spec = hole\n",
+        )
+
+    def test_a_function_that_is_left_open_has_no_body_and_as_many_lines(self):
+        source = "fn f(\n    n: u8,\n) -> u8 {\n    let g = |m| m;\n    g(n)\n}\n\nimpl B {\n    fn g(&self) -> u8\n        ensures { x }\n    {\n        self.h()\n    }\n}\n"
+        without = source.replace("    let g = |m| m;\n    g(n)", "    loop {}\n").replace("        self.h()", "        loop {}")
+        text, files = self.opened(source, ["a/f", "a/fn/f/g", "a/B/g"], a__fn__f__g=True)
+        self.assertEqual(text, without)
+        # A closure goes with the function.
+        self.assertEqual(sorted(files), ["a/B/g/Proof.antt", "a/f/Proof.antt"])
+
+    def test_a_function_that_is_tried_or_is_no_function_of_the_list_keeps_its_body(self):
+        source = "fn f() {\n    g();\n}\n\nconst fn g() {\n    h();\n}\n\nfn h() {\n    f();\n}\n"
+        self.assertEqual(self.opened(source, ["a/g"], ["a/f"])[0], source)
+        self.assertEqual(self.opened(source, ["a/f", "a/g", "a/h"], ["a/f"])[0], source.replace("    f();", "    loop {}"))
 
 
 class Planted(unittest.TestCase):
@@ -324,7 +363,7 @@ class Planted(unittest.TestCase):
         """Returns how many checks of edits ran."""
         return self.log.read_text().count("check")
 
-    def test_one_check_tries_edits_of_many_functions_and_another_those_in_place(self):
+    def test_one_check_tries_edits_of_many_functions_by_copies_and_in_place(self):
         lines, status = self.ran()
         self.assertEqual((lines[-1], status), ("must-fail: 4 passed, 0 failed", 0))
         self.assertEqual(lines[-3], "must-fail: 4 refused, 1 only at a limit of the prover, 0 only because a proof file names what is gone")
@@ -332,14 +371,15 @@ class Planted(unittest.TestCase):
         self.assertIn(f"must-fail: high/six.edit: refused: {REPORTS[3][1].replace('AT', '39')[:200]}", lines)
         self.assertIn(f"must-fail: high/get_another.edit: refused: (only at a limit of the prover) {REPORTS[1][1].replace('AT', '16')}", lines)
         # The crates below are proved first; one that has no edit above it isn't. A check proves the functions of its edits: the
-        # proofs of the others are open. The second one begins with what the first one checked.
-        copies = "get_edit_1 set_edit_2 free_edit_3 proofs/Cell/get proofs/Cell/set proofs/CellFrom/from"
-        in_place = "CellFrom::from proofs/Cell/get proofs/Cell/set"
-        others = "proofs/CellMake/make proofs/free"
-        self.assertEqual(
-            self.log.read_text().splitlines(),
-            ["lib low", "lib high", f"check high low std {copies} {others}", f"check high low std {in_place} {others} again"],
-        )
+        # proofs of the others are open. A second one begins with what the first one checked.
+        tried, others = "get_edit_1 set_edit_2 free_edit_3 CellFrom::from", "proofs/Cell/get proofs/Cell/set proofs/CellMake/make proofs/free"
+        self.assertEqual(self.log.read_text().splitlines(), ["lib low", "lib high", f"check high low std {tried} {others}"])
+        self.log.unlink()
+        self.edit("from_again", *EDITS["from_nothing"])
+        self.ran()
+        first, second = self.log.read_text().splitlines()[2:]
+        self.assertIn(" CellFrom::from ", first)
+        self.assertTrue(" CellFrom::from " in second and second.endswith(" again"), second)
 
     def test_the_functions_of_a_library_that_was_taken_are_listed_by_a_check(self):
         taken = self.top.parent / "taken"
@@ -347,27 +387,27 @@ class Planted(unittest.TestCase):
             self.assertEqual(self.ran()[0][-1], "must-fail: 4 passed, 0 failed")
         log = self.log.read_text().splitlines()
         self.assertEqual([it.split()[:2] for it in log[:3]], [["lib", "low"], ["lib", "high"], ["check", "high"]])
-        self.assertTrue(log[-1].endswith(" proofs/free again"), log[-1])
+        self.assertTrue(log[-1].endswith(" proofs/free"), log[-1])
 
     def test_methods_whose_proof_files_may_be_mistaken_are_tried_apart(self):
         self.write("crates/high/src/lib.rt", LIB + MAKE.replace("fn make", "fn from"))
         self.edit("made", *MADE)
-        self.assertEqual((self.ran([*REPORTS, REPORT_OF_MADE])[0][-1], self.checks()), ("must-fail: 5 passed, 0 failed", 2))
+        self.assertEqual((self.ran([*REPORTS, REPORT_OF_MADE])[0][-1], self.checks()), ("must-fail: 5 passed, 0 failed", 1))
         self.log.unlink()
         self.write("crates/high/proofs/Cell/from/Answers.antt", "")
-        self.assertEqual((self.ran([*REPORTS, REPORT_OF_MADE])[0][-1], self.checks()), ("must-fail: 5 passed, 0 failed", 3))
+        self.assertEqual((self.ran([*REPORTS, REPORT_OF_MADE])[0][-1], self.checks()), ("must-fail: 5 passed, 0 failed", 2))
 
     def test_a_method_and_one_that_it_calls_are_tried_apart(self):
         self.write("crates/high/src/lib.rt", LIB + MAKE.replace("Cell(made)", "Cell::from(made)"))
         self.edit("made", "src/lib.rt", "        Cell::from(made)", "        Cell::from(anew(made))")
-        self.assertEqual((self.ran([*REPORTS, REPORT_OF_MADE])[0][-1], self.checks()), ("must-fail: 5 passed, 0 failed", 3))
+        self.assertEqual((self.ran([*REPORTS, REPORT_OF_MADE])[0][-1], self.checks()), ("must-fail: 5 passed, 0 failed", 2))
 
     def test_two_edits_of_a_function_are_tried_side_by_side_and_of_a_method_apart(self):
         self.edit("six_again", *EDITS["six"])
-        self.assertEqual((self.ran()[0][-1], self.checks()), ("must-fail: 5 passed, 0 failed", 2))
+        self.assertEqual((self.ran()[0][-1], self.checks()), ("must-fail: 5 passed, 0 failed", 1))
         self.log.unlink()
         self.edit("from_again", *EDITS["from_nothing"])
-        self.assertEqual((self.ran()[0][-1], self.checks()), ("must-fail: 6 passed, 0 failed", 3))
+        self.assertEqual((self.ran()[0][-1], self.checks()), ("must-fail: 6 passed, 0 failed", 2))
 
     def test_a_copy_whose_proof_files_name_what_is_not_there_is_tried_in_place(self):
         for gone, is_own in [
@@ -379,16 +419,27 @@ class Planted(unittest.TestCase):
             lines, _ = self.ran([*REPORTS, ("fn free_edit_3", f"./proofs/free_edit_3/Answers.antt:3:5: error: {gone}")])
             at = "39" if is_own else "25"
             self.assertIn(f"must-fail: high/six.edit: refused: {REPORTS[3][1].replace('AT', at)[:200]}", lines)
-            self.assertEqual((lines[-1], self.checks()), ("must-fail: 4 passed, 0 failed", 2 if is_own else 3))
+            self.assertEqual((lines[-1], self.checks()), ("must-fail: 4 passed, 0 failed", 1 if is_own else 2))
             self.log.unlink()
 
     def test_an_edit_outside_of_functions_or_of_several_is_tried_alone(self):
         self.edit("eight", "src/lib.rt", "const NINE: u8 = 9;", "const NINE: u8 = 8;")
         self.edit("both", "src/lib.rt", "    7", "    6", ("        self.store(value);", "        let _ = value;"))
         lines, _ = self.ran([*REPORTS, ("= 8;", f"note: src/lib.rt:13:5: {NOT_PROVED}")])
-        self.assertEqual((lines[-1], self.checks()), ("must-fail: 6 passed, 0 failed", 4))
+        self.assertEqual((lines[-1], self.checks()), ("must-fail: 6 passed, 0 failed", 3))
         others = "proofs/Cell/get proofs/CellFrom/from proofs/CellMake/make again"
         self.assertIn(f"check high low std Cell::set free {others}", self.log.read_text().splitlines())
+
+    def test_an_edit_of_definitions_is_tried_on_the_functions_in_files_that_name_them(self):
+        self.write("crates/high/specs/Looks.antt", "looks = 1\n")
+        self.write("crates/high/src/laws.rt", "ghost use Rattle.high.specs.Looks.{looks};\n")
+        self.edit("two_looks", "specs/Looks.antt", "looks = 1", "looks = 2")
+        reports = [*REPORTS, ("looks = 2", f"note: src/laws.rt:4:5: {NOT_PROVED}")]
+        with mock.patch.object(sys.modules[__name__], "FUNCTIONS", (*FUNCTIONS, "laws::few", "more::all")):
+            self.assertEqual((self.ran(reports)[0][-1], self.checks()), ("must-fail: 5 passed, 0 failed", 2))
+            check = next(it for it in self.log.read_text().splitlines() if " std laws::few proofs/" in it)
+            self.assertIn(" proofs/more/all", check)
+            self.assertNotIn("proofs/laws/few", check)
 
     def test_an_edit_that_is_proved_is_a_failure(self):
         lines, status = self.ran(REPORTS[:3])
@@ -398,19 +449,19 @@ class Planted(unittest.TestCase):
     def test_a_report_of_another_function_counts_only_for_an_edit_alone(self):
         other = [*REPORTS[:3], ("    6", f"note: src/lib.rt:4:5: {NOT_PROVED}")]
         lines, _ = self.ran(other)
-        self.assertEqual((lines[-1], self.checks()), ("must-fail: 4 passed, 0 failed", 4))
+        self.assertEqual((lines[-1], self.checks()), ("must-fail: 4 passed, 0 failed", 3))
 
     def test_copies_without_a_verdict_are_tried_in_two_parts(self):
         self.edit("get_another", "src/lib.rt", "        self.0", "        stop")
         lines, _ = self.ran()
         self.assertIn(f"must-fail: high/six.edit: refused: {REPORTS[3][1].replace('AT', '33')[:200]}", lines)
         self.assertIn("must-fail: high/get_another.edit: BAD EDIT: no contract was tried: src/lib.rt:1:1: error: unknown word", lines)
-        # All three copies, one and two of them, the first in place and alone; and the method of a trait.
-        self.assertEqual((lines[-1], self.checks()), ("must-fail: 3 passed, 1 failed", 6))
+        # All four edits; one copy and the method of a trait, then each of these, and the former in place and alone; two copies.
+        self.assertEqual((lines[-1], self.checks()), ("must-fail: 3 passed, 1 failed", 7))
 
     def test_a_copy_is_not_refused_if_something_cannot_be_read(self):
         lines, _ = self.ran([*REPORTS, ("fn free_edit_3", "./specs/Words.antt:1:1: error: unknown word")])
-        self.assertEqual((lines[-1], self.checks()), ("must-fail: 4 passed, 0 failed", 3))
+        self.assertEqual((lines[-1], self.checks()), ("must-fail: 4 passed, 0 failed", 2))
 
     def test_a_report_goes_on_in_indented_lines(self):
         gone = "./proofs/CellFrom/from/Answers.antt:3:5: error: the step\n  has no field `x`"
@@ -465,7 +516,7 @@ class Planted(unittest.TestCase):
         for how in ("proved", "proved, may wait", "no holes", of_others):
             proved = [("fn get_edit_1", f"fn high::Cell::get_edit_1: {how}"), ("fn free_edit_3", f"fn high::free_edit_3: {how}")]
             lines, status = self.ran(proved + [("fn set_edit_2", f"note: src/lib.rt:AT:5: {NOT_PROVED}")], names=["--control", "high"])
-            self.assertEqual((lines[-1], status, self.checks()), ("must-fail: 2 passed, 2 failed", 1, 2))
+            self.assertEqual((lines[-1], status, self.checks()), ("must-fail: 2 passed, 2 failed", 1, 1))
             self.log.unlink()
         for how in ("not proved", "no proof: x", of_others + ", `Rattle.high.proofs.get_edit_1.Answers.returns`"):
             lines, _ = self.ran([("fn get_edit_1", f"fn high::Cell::get_edit_1: {how}")], names=["--control", "high"])
@@ -489,14 +540,13 @@ class Planted(unittest.TestCase):
         folder = self.built("== low\nfn low::set: proved\n== high\nfn high::free: proved\nfn high::CellFrom::from: proved\n")
         lines, _ = self.ran(names=["--built", str(folder)])
         log = self.log.read_text().splitlines()
-        self.assertEqual((lines[-1], [it.split()[0] for it in log]), ("must-fail: 4 passed, 0 failed", ["check"] * 2))
-        self.assertTrue(log[0].endswith(" proofs/CellFrom/from proofs/free"), log[0])
-        self.assertEqual(log[1], "check high low std CellFrom::from proofs/free again")
+        self.assertEqual((lines[-1], [it.split()[0] for it in log]), ("must-fail: 4 passed, 0 failed", ["check"]))
+        self.assertTrue(log[0].endswith(" CellFrom::from proofs/free"), log[0])
 
     def test_without_a_list_of_proved_functions_the_crate_is_checked_first(self):
         lines, _ = self.ran(names=["--built", str(self.built(""))])
         log = self.log.read_text().splitlines()
-        self.assertEqual((lines[-1], log[0], len(log)), ("must-fail: 4 passed, 0 failed", "check high low std", 3))
+        self.assertEqual((lines[-1], log[0], len(log)), ("must-fail: 4 passed, 0 failed", "check high low std", 2))
         self.assertTrue(log[1].endswith(" proofs/free again"), log[1])
 
     def test_edits_of_a_crate_that_is_not_built_are_not_tried(self):
