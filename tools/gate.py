@@ -13,8 +13,8 @@ check, over the libraries that `rt ci` has built in the copy. The gate fails, an
 - if there is less evidence of a kind than .ci/floors says.
 
 More evidence than that is no failure: a line says that the floor is to be raised. Other lines tell what each command took,
-and what all took as a multiple of one pass over the proofs, without those of the crates of tests. The last line is 'N
-passed, M failed' for all of it, and the exit status is 0 if nothing failed.
+and what all of it and the proofs of tests took as multiples of one pass over the other proofs. The last line is 'N passed, M
+failed' for all of it, and the exit status is 0 if nothing failed.
 """
 
 import hashlib
@@ -243,8 +243,8 @@ def evidence(top, ci, edits, tools):
 
 
 class Proofs(threading.Thread):
-    """Notes, while a command runs, the seconds of processor of each proof of a crate in a folder, as /proc tells them every
-    second. The proof of a crate's tests isn't one."""
+    """Notes, while a command runs, the seconds of processor of each proof of a crate in a folder, and of one of tests, as /proc
+    tells them every second."""
 
     def __init__(self, folder):
         super().__init__(daemon=True)
@@ -261,12 +261,12 @@ class Proofs(threading.Thread):
     def look_at(self, process):
         try:
             words = (process / "cmdline").read_bytes().decode(errors="replace").split("\0")
-            is_proof = "--crate-name" in words and not {"--test", "--crate-checked"} & {*words}
-            if is_proof and Path(words[0]).name == "rattle":
+            if "--crate-name" in words and "--crate-checked" not in words and Path(words[0]).name == "rattle":
                 crate = words[words.index("--crate-name") + 1]
                 if Path(os.readlink(process / "cwd")) == self.folder / "crates" / crate:
                     ticks = (process / "stat").read_text(encoding="utf-8").rpartition(")")[2].split()[11:13]
-                    self.seconds[crate, process.name] = sum(map(int, ticks)) / os.sysconf("SC_CLK_TCK")
+                    is_of_tests = "--test" in words or crate.endswith("_tests")
+                    self.seconds[crate, process.name, is_of_tests] = sum(map(int, ticks)) / os.sysconf("SC_CLK_TCK")
         except (OSError, ValueError):
             # It has ended meanwhile.
             pass
@@ -274,17 +274,22 @@ class Proofs(threading.Thread):
     def one_pass(self):
         """Returns the seconds for all crates but those of tests, or 0 if one of them wasn't proved."""
         crates = {path.name for path in (self.folder / "crates").iterdir() if not path.name.endswith("_tests")}
-        proved = {crate for crate, _ in self.seconds}
-        return sum(it for (crate, _), it in self.seconds.items() if crate in crates) if crates <= proved else 0
+        proved = {crate for crate, _, is_of_tests in self.seconds if not is_of_tests}
+        return self.all(False) if crates <= proved else 0
+
+    def all(self, of_tests):
+        """Returns the seconds for all proofs of tests, or for all others."""
+        return sum(it for (_, _, is_of_tests), it in self.seconds.items() if is_of_tests == of_tests)
 
 
-def costs(runs, one_pass):
-    """Returns lines on the minutes that commands took, and on all of them against one pass over the proofs, in seconds."""
+def costs(runs, one_pass, of_tests):
+    """Returns lines on the minutes that commands took, and on all of them and the proofs of tests against one pass over the
+    other proofs, in seconds."""
     lines = [f"{it.name}: {it.processor / 60:.1f} minutes of processor, {it.clock / 60:.1f} of the clock" for it in runs]
     if one_pass:
-        total = sum(it.processor for it in runs)
-        words = f"{total / one_pass:.1f} times one pass over the proofs ({one_pass / 60:.1f})"
-        lines.append(f"all: {total / 60:.1f} minutes of processor, {words}")
+        takes = [("all", sum(it.processor for it in runs)), ("proofs of tests, compiled too", of_tests)]
+        times = lambda it: f"{it / one_pass:.2f} times one pass over the other proofs ({one_pass / 60:.1f})"
+        lines += [f"{name}: {seconds / 60:.1f} minutes of processor, {times(seconds)}" for name, seconds in takes]
     return lines
 
 
@@ -305,14 +310,14 @@ def run(name, words, settings, folder=TOP):
     return Ran(name, "".join(lines), it.returncode, usage.ru_utime + usage.ru_stime, time.monotonic() - begun)
 
 
-def verdict(top, program, ran, before, one_pass, found=shutil.which):
+def verdict(top, program, ran, before, seconds, found=shutil.which):
     """Returns how many passed and failed in all of `rt ci`, the edits and the tests, what is wrong, and notes. The sums of the
-    repository's files were taken before."""
+    repository's files were taken before; the seconds are of one pass over the proofs, and of those of tests."""
     ends = [judged(it) for it in ran]
     faults, notes = evidence(top, *(it.text for it in ran))
     wrong = [fault for _, _, faults_of_one in ends for fault in faults_of_one]
     faults = missing(program, found) + wrong + useless_edits(ran[1].text) + changed(before, sums_of(top)) + faults
-    return sum(it[0] for it in ends), sum(it[1] for it in ends) + len(faults), faults, notes + costs(ran, one_pass)
+    return sum(it[0] for it in ends), sum(it[1] for it in ends) + len(faults), faults, notes + costs(ran, *seconds)
 
 
 def main():
@@ -331,7 +336,7 @@ def main():
         # If no program was built, each test that needs one says that it wasn't run.
         settings["STATUS_PROGRAM"] = str(program) if program.is_file() else ""
         tools = run("tools/run_tests.py", [sys.executable, "tools/run_tests.py"], settings)
-        passed, failed, faults, notes = verdict(TOP, program, (ci, edits, tools), before, proofs.one_pass())
+        passed, failed, faults, notes = verdict(TOP, program, (ci, edits, tools), before, (proofs.one_pass(), proofs.all(True)))
     for line in [*notes, *(f"FAILED: {fault}" for fault in faults)]:
         print(f"gate: {line}")
     print(f"{passed} passed, {failed} failed")

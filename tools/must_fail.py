@@ -5,8 +5,8 @@
 
 An edit, crates/CRATE/must-fail/NAME.edit, puts a wrong body into a function, and the prover has to refuse it. `rt
 must-fail` checks the whole crate once for each edit. Here one check tries many wrong bodies, each in a copy of its function
-(tools/edit_copies.py). A method of a trait has its wrong body in place, beside those of other functions. The check proves
-these functions alone: it takes the contracts of the others as proved (tools/open_proofs.py), since what is proved of a
+(tools/edit_copies.py). A method of a trait has its wrong body in place, in the same check. The check proves these functions
+alone: it takes the contracts of the others as proved, without their bodies (tools/open_proofs.py), since what is proved of a
 function depends on the contracts of those that it calls, and not on their bodies. So an edit is refused if the check reports
 
 - something unproved at a line of the copy, or of the function itself, or
@@ -14,7 +14,8 @@ function depends on the contracts of those that it calls, and not on their bodie
 
 Edits without such a report are tried again in place, without those that were refused, and at last alone, with all proofs of
 the crate: then something reported unproved anywhere in the crate refuses it. So are those whose copy's proof files may have
-been copied wrongly. One that changes several functions is tried in place, apart from others.
+been copied wrongly. One that changes several functions is tried in place, apart from others, and one of definitions by the
+functions in files that name their modules.
 
 The libraries are those that `rt ci` built in FOLDER, a copy of the repository, which also has its output, in rt-ci.txt: that
 tells which functions it proved. If it doesn't, since `rt ci` kept the proofs of an earlier run, the crate is checked first.

@@ -82,7 +82,7 @@ class Planted(unittest.TestCase):
             gate.Ran("tools/run_tests.py", tools, tools_status, 60.0, 90.0),
         )
         found = lambda name: None if name in lacking else f"/bin/{name}"
-        return gate.verdict(self.top, str(self.program), ran, before or gate.sums_of(self.top), one_pass, found)
+        return gate.verdict(self.top, str(self.program), ran, before or gate.sums_of(self.top), (one_pass, 600.0), found)
 
     def assert_fails(self, *words, counted=0, **planted):
         """Asserts that the gate fails for one reason with each of these words, besides failures counted by commands."""
@@ -96,7 +96,8 @@ class Planted(unittest.TestCase):
         self.assertEqual((passed, failed, faults), (11, 0, []))
         self.assertIn("must-fail-edits refused by the prover: 2", notes)
         self.assertIn("rt ci: 30.0 minutes of processor, 15.0 of the clock", notes)
-        self.assertIn("all: 60.0 minutes of processor, 3.0 times one pass over the proofs (20.0)", notes)
+        self.assertIn("all: 60.0 minutes of processor, 3.00 times one pass over the other proofs (20.0)", notes)
+        self.assertIn("proofs of tests, compiled too: 10.0 minutes of processor, 0.50 times one pass over the other proofs (20.0)", notes)
         self.assertFalse([note for note in notes if "raise the floor" in note])
         self.assertFalse([note for note in self.verdict(one_pass=0)[3] if note.startswith("all: ")])
 
@@ -239,10 +240,13 @@ class Commands(unittest.TestCase):
             started = [subprocess.Popen(of(it), cwd=top / "crates" / it) for it in ("low", "low_tests")]
             started += [subprocess.Popen(of("high", "--test"), cwd=top / "crates" / "high"), subprocess.Popen(of("high"), cwd=top)]
             self.addCleanup(lambda: [(it.kill(), it.wait()) for it in started])
-            self.until(lambda: proofs.look() or {crate for crate, _ in proofs.seconds} == {"low", "low_tests"} and min(proofs.seconds.values()) > 0.2)
+            noted = lambda: {(crate, is_of_tests) for crate, _, is_of_tests in proofs.seconds}
+            planted = {("low", False), ("low_tests", True), ("high", True)}
+            self.until(lambda: proofs.look() or noted() == planted and min(proofs.seconds.values()) > 0.2)
             self.assertEqual(proofs.one_pass(), 0)
             started.append(subprocess.Popen(of("high"), cwd=top / "crates" / "high"))
             self.until(lambda: proofs.look() or 0.4 < proofs.one_pass() < 1)
+            self.assertTrue(0.4 < proofs.all(True) < 1)
 
     def until(self, holds):
         """Waits until something holds."""
