@@ -41,14 +41,12 @@ def right_copies_of(folder, edits):
 def copy_of(folder, edit, name):
     """Returns the copy of an edit's function under a name, or None if there can be none."""
     function, paths = edit.function, {path for path, _, _ in edit.pairs}
-    if paths != {function.path} or function.is_of_trait or len(folders_of(folder, function)) > 1:
+    if paths != {function.path} or function.is_of_trait or function.cycle or len(folders_of(folder, function)) > 1:
         return None
     lines, first = text_of(folder / function.path).split("\n"), function.first - 1
     while lines[first - 1].strip().startswith(("#[", "///")):
         first -= 1
     text = "\n".join(line for line in lines[first : function.last] if not line.strip().startswith("///"))
-    if "#[cycle(" in text:
-        return None
     for _, old, new in edit.pairs:
         if text.count(old) != 1:
             return None

@@ -22,8 +22,8 @@ class BadEdit(Exception):
 
 @dataclass(frozen=True)
 class Function:
-    """A function in a source file: its lines, counted from 1, the type or trait that it belongs to, if any, and whether it
-    takes `self`, and is one of a trait."""
+    """A function in a source file: its lines, counted from 1, the type or trait that it belongs to, if any, whether it takes
+    `self`, and is one of a trait, and the cycle of calls that it is in, if any."""
 
     path: str
     first: int
@@ -32,11 +32,14 @@ class Function:
     name: str
     is_method: bool = False
     is_of_trait: bool = False
+    cycle: str = ""
 
     def has_proofs_in(self, folder):
         """Returns whether a folder below proofs/ is of this function: by its name and its type, which a trait may follow and
-        whose module is any, or by its name and module."""
+        whose module is any, or by its name and module, or by those of its cycle of calls."""
         *modules, name = folder.split("/")
+        if self.cycle and name == f"+{self.cycle}":
+            return module_of(self.path) in ("", *modules[:1])
         if self.owner:
             return name == self.name and any(it.startswith(self.owner) for it in modules)
         return name == self.name and module_of(self.path) in ("", *modules[:1])
@@ -77,10 +80,19 @@ def function_at(path, text, at):
         if last is not None and last >= line:
             owner, is_of_trait = owner_of(lines, first, head[1])
             is_method = METHOD.search("\n".join(lines[first : last + 1])) is not None
-            return Function(path, first + 1, last + 1, owner, head[2], is_method, is_of_trait)
+            return Function(path, first + 1, last + 1, owner, head[2], is_method, is_of_trait, cycle_of(lines, first))
         if not head[1]:
             return None
     return None
+
+
+def cycle_of(lines, first):
+    """Returns the cycle of calls that an attribute above a function's first line names, or nothing."""
+    while first and lines[first - 1].strip().startswith(("#[", "///")):
+        first -= 1
+        if named := re.match(r" *#\[cycle\((\w+)\)\]", lines[first]):
+            return named[1]
+    return ""
 
 
 def end_of(lines, first, indent):

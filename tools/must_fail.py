@@ -46,6 +46,7 @@ TOP = Path(__file__).resolve().parent.parent
 # How a check reports what isn't proved: in the source, and in a function's proof files.
 UNPROVED = re.compile(r"note: (src/\S+\.rt):(\d+):\d+: (it is not proved that|`search` found no proof).*")
 PROOF_ERROR = re.compile(r"(?:\./)?proofs/(\S+)/(?:Answers|Invariants|Proof)\.antt:\d+:\d+: error: .*")
+LEMMA_ERROR = re.compile(r"(?:\./)?proofs/\S+\.antt:\d+:\d+: error: .*")
 # A proof file that names what the edit took away.
 TAKEN_AWAY = re.compile(r"has no field|is not in scope|has no `|was not admitted")
 # Reports that show more of the contract than others: a goal that is false for some values; and less: the prover's limits.
@@ -82,11 +83,14 @@ class Checked:
 
 
 def is_report(line, function=None):
-    """Returns whether a line of a check tells that something isn't proved, of this function if there is one."""
+    """Returns whether a line of a check tells that something isn't proved: of this function, or without one anything, lemmas
+    too."""
     if at := UNPROVED.match(line):
         return not function or at[1] == function.path and function.first <= int(at[2]) <= function.last
+    if not function:
+        return LEMMA_ERROR.match(line) is not None
     at = PROOF_ERROR.match(line)
-    return bool(at) and (not function or function.has_proofs_in(at[1]))
+    return bool(at) and function.has_proofs_in(at[1])
 
 
 def weight(line):

@@ -151,6 +151,14 @@ class Reading(unittest.TestCase):
         self.assertTrue(FREE.has_proofs_in("free"))
         self.assertFalse(FREE.has_proofs_in("free/more"))
 
+    def test_a_function_in_a_cycle_of_calls_has_its_proof_files_by_the_cycles_name(self):
+        text = LIB.replace("fn free", "/// Words.\n#[cycle(all)]\n#[inline]\nfn free")
+        function = edits.function_at("src/a/b.rt", text, text.index("    7"))
+        self.assertEqual(function.cycle, "all")
+        for folder, is_own in [("a/b/+all", True), ("a/b/free", True), ("c/+all", False), ("a/b/+any", False), ("a/b/all", False)]:
+            self.assertEqual(function.has_proofs_in(folder), is_own, folder)
+        self.assertEqual(edits.function_at("src/a.rt", text, text.index("Cell(value)")).cycle, "")
+
     def test_a_call_is_known_by_its_words(self):
         free = edits.Function("src/a.rt", 1, 2, "", "put")
         made = edits.Function("src/a.rt", 1, 2, "State", "put")
@@ -434,7 +442,7 @@ class Planted(unittest.TestCase):
         self.write("crates/high/specs/Looks.antt", "looks = 1\n")
         self.write("crates/high/src/laws.rt", "ghost use Rattle.high.specs.Looks.{looks};\n")
         self.edit("two_looks", "specs/Looks.antt", "looks = 1", "looks = 2")
-        reports = [*REPORTS, ("looks = 2", f"note: src/laws.rt:4:5: {NOT_PROVED}")]
+        reports = [*REPORTS, ("looks = 2", "./proofs/Looks.antt:3:5: error: the two types differ")]
         with mock.patch.object(sys.modules[__name__], "FUNCTIONS", (*FUNCTIONS, "laws::few", "more::all")):
             self.assertEqual((self.ran(reports)[0][-1], self.checks()), ("must-fail: 5 passed, 0 failed", 2))
             check = next(it for it in self.log.read_text().splitlines() if " std laws::few proofs/" in it)
