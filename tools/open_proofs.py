@@ -35,9 +35,10 @@ def can_be_open(folder, functions):
 
 
 def belongs(path, function):
-    """Returns whether a function, by its folder, is this one, or a closure in it."""
+    """Returns whether a function, by its folder, is this one, or a closure in it, whose folder has a part `fn`."""
     parts = path.split("/")
-    return any(function.has_proofs_in("/".join(parts[:number])) for number in range(1, len(parts) + 1))
+    fronts = ("/".join(parts[:number]) for number in range(1, len(parts)) if "fn" in parts)
+    return function.has_proofs_in(path) or any(map(function.has_proofs_in, fronts))
 
 
 def leave_open(folder, functions, kept):
@@ -50,7 +51,7 @@ def leave_open(folder, functions, kept):
         file.write_text(changed, encoding="utf-8")
         emptied |= out
     is_closure = lambda path: any(belongs(path, it) and not it.has_proofs_in(path) for it in emptied)
-    gone = {*functions, *(path for path in proof_folders(folder) if any(belongs(path, it) for it in emptied))}
+    gone = {*functions, *filter(is_closure, proof_folders(folder))}
     for path, file in itertools.product(gone, PROOF_FILES):
         (folder / "proofs" / path / file).unlink(missing_ok=True)
     for path in (it for it in functions if not is_closure(it)):

@@ -284,6 +284,7 @@ class Opening(unittest.TestCase):
             ("a/free", False, True),
             ("a/fn/free/map", False, True),
             ("b/free", False, False),
+            ("a/free/other", False, False),
             ("a/Cell/get_all", False, False),
         ]:
             self.assertEqual([open_proofs.belongs(path, it) for it in (get, free)], [of_get, of_free], path)
@@ -318,6 +319,10 @@ class Opening(unittest.TestCase):
         self.assertEqual(text, without)
         # A closure goes with the function.
         self.assertEqual(sorted(files), ["a/B/g/Proof.antt", "a/f/Proof.antt"])
+
+    def test_a_function_in_a_module_of_another_functions_name_is_no_closure(self):
+        _, files = self.opened("fn a() {\n    g();\n}\n\nfn g() {\n    h();\n}\n", ["a/a", "a/g", "a/fn/a/map"], a__a__g=True)
+        self.assertEqual(sorted(files), ["a/a/Proof.antt", "a/a/g/Answers.antt", "a/g/Proof.antt"])
 
     def test_a_function_that_is_tried_or_is_no_function_of_the_list_keeps_its_body(self):
         source = "fn f() {\n    g();\n}\n\nconst fn g() {\n    h();\n}\n\nfn h() {\n    f();\n}\n"
