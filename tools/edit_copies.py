@@ -1,8 +1,8 @@
 """Copies of functions with the wrong bodies of must-fail edits, so that one check can try edits of any functions.
 
-A copy stands below its function, with the same contract, attributes and proof files, and under another name. Nothing calls
+A copy is below its function, with the same contract, attributes and proof files, and under another name. Nothing calls
 it: unlike a function with a wrong body, it leaves no caller without a proof, and two wrong bodies of one function can
-stand side by side. A method of a trait has no copy, since its contract is the trait's, nor has a function in a cycle of calls,
+be side by side. A method of a trait has no copy, since its contract is the trait's, nor has a function in a cycle of calls,
 which has one proof with others.
 """
 
@@ -26,7 +26,7 @@ class Copy:
 
 
 def copies_of(folder, edits):
-    """Returns a copy for each of these edits of the crate in a folder, where there can be one."""
+    """Returns a copy for each of these edits of the crate in a folder, if there can be one."""
     found = (copy_of(folder, edit, f"{edit.function.name}_edit_{number}") for number, edit in enumerate(edits) if edit.function)
     return [it for it in found if it]
 
@@ -79,7 +79,7 @@ def folders_of(folder, function):
 
 def with_copies(folder, copies, in_place=()):
     """Returns the texts of the files that have these copies, and other edits in place, by their paths; the edits of the copies,
-    with the copies for their functions; and the others, with their functions where they then are."""
+    with the copies for their functions; and the others, with the new lines of their functions."""
     texts, tried = edited(folder, in_place), []
     own = {path: [it for it in copies if it.edit.function.path == path] for path in {it.edit.function.path for it in copies}}
     for path, here in sorted(own.items()):

@@ -185,7 +185,7 @@ def read_edits(folder):
         if path.is_dir() or path.suffix == ".md":
             continue
         if path.parent.name != "must-fail" or not re.fullmatch(NAME, path.name):
-            bad.append(f"{label}: BAD EDIT: an edit stands right in must-fail/, and its name ends in .edit")
+            bad.append(f"{label}: BAD EDIT: an edit is a file of must-fail/ itself, and its name ends in .edit")
             continue
         try:
             edits.append(read_edit(folder, path))
@@ -248,7 +248,7 @@ def fits(folder, batch, edit):
 
 
 def calls(code, other):
-    """Returns whether a function's code calls another function, as far as the call's words tell."""
+    """Returns whether a function's code calls another function, by the words of the call."""
     if other.is_method:
         words = rf"[.:]{other.name}\("
     elif other.owner:

@@ -12,8 +12,8 @@ check, over the libraries that `rt ci` has built in the copy. The gate fails, an
 - if a file that its parts read changed while it ran, so that they may not be of one text;
 - if there is less evidence of a kind than .ci/floors says.
 
-More evidence than that is no failure: a line says that the floor is to be raised. Other lines tell what each command took,
-and what all of it and the proofs of tests took as multiples of one pass over the other proofs. The last line is 'N passed, M
+More evidence than that is no failure: a line says that the floor is to be raised. Other lines give the time of each command,
+and that of all of it and of the proofs of tests as multiples of one pass over the other proofs. The last line is 'N passed, M
 failed' for all of it, and the exit status is 0 if nothing failed.
 """
 
@@ -74,7 +74,7 @@ class Count:
 
 
 def left_out(top, pattern):
-    """Returns what tells shutil.copytree which names in a folder below the top are left out."""
+    """Returns a function for shutil.copytree, which returns the names in a folder below the top that are left out."""
     within = lambda folder, name: os.path.relpath(os.path.join(folder, name), top)
     return lambda folder, names: {name for name in names if pattern.match(within(folder, name))}
 
@@ -125,9 +125,9 @@ def judged(ran):
     passed, failed = (int(line[1]), int(line[2])) if line else (0, 0)
     faults = [] if line else [f"{ran.name} ended without a line 'N passed, M failed'"]
     if ran.status != 0 and failed == 0:
-        faults.append(f"{ran.name} ended with exit status {ran.status}, and its last line tells of no failure")
+        faults.append(f"{ran.name} ended with exit status {ran.status}, and its last line reports no failure")
     if ran.status == 0 and failed > 0:
-        faults.append(f"{ran.name} ended with exit status 0, and its last line tells of failures")
+        faults.append(f"{ran.name} ended with exit status 0, and its last line reports failures")
     return passed, failed, faults
 
 
@@ -243,8 +243,8 @@ def evidence(top, ci, edits, tools):
 
 
 class Proofs(threading.Thread):
-    """Notes, while a command runs, the seconds of processor of each proof of a crate in a folder, and of one of tests, as /proc
-    tells them every second."""
+    """Notes, while a command runs, the seconds of processor of each proof of a crate in a folder, and of one of tests. It reads
+    them in /proc every second."""
 
     def __init__(self, folder):
         super().__init__(daemon=True)

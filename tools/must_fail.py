@@ -17,10 +17,10 @@ the crate: then something reported unproved anywhere in the crate refuses it. So
 been copied wrongly. One that changes several functions is tried in place, apart from others, and one of definitions by the
 functions in files that name their modules.
 
-The libraries are those that `rt ci` built in FOLDER, a copy of the repository, which also has its output, in rt-ci.txt: that
-tells which functions it proved. If it doesn't, since `rt ci` kept the proofs of an earlier run, the crate is checked first.
+The libraries are those that `rt ci` built in FOLDER, a copy of the repository, which also has its output, in rt-ci.txt, with
+the functions that it proved. If they aren't there, since `rt ci` kept the proofs of an earlier run, the crate is checked first.
 Without FOLDER, each crate is proved first. All is done in copies of the repository. As many checks run at once as RT_JOBS
-says, or as there are processors. The last lines tell how many edits were refused, and the minutes of processor. The exit
+says, or as there are processors. The last lines have the numbers of refused edits, and the minutes of processor. The exit
 status is 0 if all were refused.
 
 With --control, the right functions are copied, or tried in place, and the prover has to accept each. It shows that an edit
@@ -53,7 +53,7 @@ TAKEN_AWAY = re.compile(r"has no field|is not in scope|has no `|was not admitted
 IS_FALSE, AT_LIMIT = "at which this goal is false", "gave up at one of its limits"
 ONLY_TAKEN_AWAY = "(only because a proof file names what the edit took away) "
 ONLY_AT_LIMIT = "(only at a limit of the prover) "
-# How a check tells that a function is right: it is proved, or stands only on the holes of proofs that were left open.
+# How a check reports that a function is right: it is proved, or depends only on the holes of proofs that were left open.
 ACCEPTED = r"(?:(?:proved|no holes)\b.*|depends on a hole in (?:`\S+\.Proof\.hole`(?:, )?)+(?: and .*)?)$"
 # A definition that can't be read: an edit of it shows nothing.
 UNREADABLE = re.compile(r"(?:\./)?(?:src|specs)/\S+:\d+:\d+: error: .*")
@@ -79,11 +79,11 @@ class Checked:
         return False if self.status == 1 and (last == "logic=not-proved" or last.startswith("only=")) else None
 
 
-# What a check says of an edit
+# What a check reports of an edit
 
 
 def is_report(line, function=None):
-    """Returns whether a line of a check tells that something isn't proved: of this function, or without one anything, lemmas
+    """Returns whether a line of a check reports something unproved: of this function, or without one of anything, lemmas
     too."""
     if at := UNPROVED.match(line):
         return not function or at[1] == function.path and function.first <= int(at[2]) <= function.last
@@ -301,7 +301,7 @@ class Run:
 
     def begin(self, crate):
         """Tries the first edits of a crate alone, and returns what is to be tried then: that begins with what it checked. If no
-        list tells which functions are proved, the crate is checked as it is."""
+        list has the proved functions, the crate is checked as it is."""
         if not self.proved[crate]:
             self.proved[crate] = functions_in(crate, self.attempt(crate, {}).text)
         trials = self.trials_of(crate)
@@ -310,19 +310,18 @@ class Run:
         return []
 
     def judge_round(self, crate, copies, in_place):
-        """Tries edits by copies of their functions, and others in place beside them, and returns what is to be tried next: without
-        a verdict both in two parts, and otherwise in place the edits that weren't refused."""
-        texts, tried, beside = with_copies(self.top / "crates" / crate, copies, in_place)
+        """Tries edits by copies of their functions, with others in place, and returns what is to be tried next: without a verdict
+        both in two parts, and otherwise in place the edits that weren't refused."""
+        texts, tried, others = with_copies(self.top / "crates" / crate, copies, in_place)
         checked = self.attempt(crate, texts, self.asked_for(crate, copies, in_place))
         if checked.verdict() is None and len(copies) + len(in_place) > 1:
             one, other = len(copies) // 2, (len(in_place) + 1) // 2
             parts = [(copies[:one], in_place[:other]), (copies[one:], in_place[other:])]
             return [(self.judge_round, crate, *part) for part in parts if any(part)]
         left = {it.name: it for it in [*(copy.edit for copy in copies), *in_place]}
-        for edit in tried + beside:
-            is_copy = edit in tried
-            is_sound = not is_copy or not any(is_miscopied(line, edit.function.name) for line in reports_of(edit, checked))
-            if is_sound and (report := report_of(edit, checked)):
+        sound = [it for it in tried if not any(is_miscopied(line, it.function.name) for line in reports_of(it, checked))]
+        for edit in sound + others:
+            if report := report_of(edit, checked):
                 self.say(left.pop(edit.name), report)
         return [(self.judge, crate, batch) for batch in batches_of(self.top / "crates" / crate, left.values())]
 
@@ -463,9 +462,9 @@ class Run:
         listed = [edit for edit in others if self.paths_of(name, edit)]
         if self.is_control:
             return [(self.judge_right, name, *it) for it in rounds_of(right_copies_of(folder, edits), [listed])]
-        beside = [edit for edit in listed if edit.function]
-        rounds = rounds_of(copies, batches_of(folder, beside))
-        apart = batches_of(folder, [edit for edit in others if edit not in beside])
+        in_place = [edit for edit in listed if edit.function]
+        rounds = rounds_of(copies, batches_of(folder, in_place))
+        apart = batches_of(folder, [edit for edit in others if edit not in in_place])
         return [(self.judge_round, name, *it) for it in rounds] + [(self.judge, name, batch) for batch in apart]
 
     def untried(self, name, why):

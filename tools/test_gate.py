@@ -113,14 +113,14 @@ class Planted(unittest.TestCase):
         self.assert_fails("missing: the built program, ", "missing: git: ", lacking=["git"])
 
     def test_a_failing_exit_status_is_a_failure_whatever_was_printed(self):
-        self.assert_fails("rt ci ended with exit status 1, and its last line tells of no failure", ci_status=1)
+        self.assert_fails("rt ci ended with exit status 1, and its last line reports no failure", ci_status=1)
         self.assert_fails("tools/must_fail.py ended with exit status 1, and", edits_status=1)
         self.assert_fails("tools/run_tests.py ended with exit status -11, and", tools_status=-11)
 
     def test_failures_that_a_command_counts_are_failures(self):
         one = CI.replace("4 passed, 0 failed", "3 passed, 1 failed")
         self.assert_fails(ci=one, ci_status=1, counted=1)
-        self.assert_fails("rt ci ended with exit status 0, and its last line tells of failures", ci=one, counted=1)
+        self.assert_fails("rt ci ended with exit status 0, and its last line reports failures", ci=one, counted=1)
         two = TOOLS.replace("5 passed, 0 failed", "5 passed, 2 failed")
         self.assert_fails(tools=two, tools_status=1, counted=2)
 
@@ -162,7 +162,7 @@ class Planted(unittest.TestCase):
             self.assert_fails(f"an edit shows nothing: low/one.edit: {said}", *words, edits=bad)
 
     def test_a_bad_edit_among_enough_others_is_a_failure(self):
-        bad = "must-fail: low/x/y.edit: BAD EDIT: an edit stands right in must-fail/\n"
+        bad = "must-fail: low/x/y.edit: BAD EDIT: an edit is a file of must-fail/ itself\n"
         self.assert_fails("an edit shows nothing: low/x/y.edit: BAD EDIT", edits=bad + EDITS)
         self.write("crates/low/must-fail/three.edit", "")
         said = "low/three.edit: BAD EDIT: an old text is in src/lib.rt 0 times, and not once"
