@@ -2,14 +2,15 @@
 
 A copy is below its function, with the same contract, attributes and proof files, and under another name. Nothing calls
 it: unlike a function with a wrong body, it leaves no caller without a proof, and two wrong bodies of one function can
-be side by side. A method of a trait has no copy, since its contract is the trait's, nor has a function in a cycle of calls,
-which has one proof with others.
+be side by side. These have no copy: a method of a trait, since its contract is the trait's; a function in a cycle of calls, or
+that calls itself, since its copy wouldn't be in it; and one whose closures have proof files.
 """
 
 import re
 from dataclasses import dataclass, replace
 
 from edits import PROOF_FILES, Edit, calls, edited, proof_folders, text_of
+from open_proofs import is_closure_in
 
 # How many copies one check tries: what it reads first takes up to a minute, and with more copies it takes more memory.
 MOST_COPIES = 60
@@ -33,9 +34,13 @@ def copies_of(folder, edits):
 
 def right_copies_of(folder, edits):
     """Returns a copy as it is of each function that has a copy for one of these edits."""
-    right = [replace(it, pairs=tuple((path, old, old) for path, old, _ in it.pairs)) for it in edits]
-    of_functions = {it.edit.function: it for it in reversed(copies_of(folder, right))}
+    of_functions = {it.edit.function: it for it in reversed(copies_of(folder, map(right, edits)))}
     return list(of_functions.values())
+
+
+def right(edit):
+    """Returns an edit that changes nothing."""
+    return replace(edit, pairs=tuple((path, old, old) for path, old, _ in edit.pairs))
 
 
 def copy_of(folder, edit, name):
@@ -43,10 +48,15 @@ def copy_of(folder, edit, name):
     function, paths = edit.function, {path for path, _, _ in edit.pairs}
     if paths != {function.path} or function.is_of_trait or function.cycle or len(folders_of(folder, function)) > 1:
         return None
+    if any(is_closure_in(it, [function]) for it in proof_folders(folder)):
+        return None
     lines, first = text_of(folder / function.path).split("\n"), function.first - 1
     while lines[first - 1].strip().startswith(("#[", "///")):
         first -= 1
     text = "\n".join(line for line in lines[first : function.last] if not line.strip().startswith("///"))
+    itself = rf"\b(?:self\.|Self::){function.name}\(" if function.owner else rf"(?<!fn )(?<![.:\w]){function.name}\("
+    if re.search(itself, text):
+        return None
     for _, old, new in edit.pairs:
         if text.count(old) != 1:
             return None
@@ -61,7 +71,8 @@ def rounds_of(copies, batches):
     rounds = [([], [*batch]) for batch in [*batches, *[[]] * (number - len(batches))]]
     for copy in copies:
         code = "\n".join(copy.lines[1:])
-        fitting = [it for it in rounds if len(it[0]) < MOST_COPIES and not any(calls(code, edit.function) for edit in it[1])]
+        is_apart = lambda in_place: any(calls(code, function) for edit in in_place for function in edit.functions())
+        fitting = [it for it in rounds if len(it[0]) < MOST_COPIES and not is_apart(it[1])]
         if not fitting:
             fitting = [([], [])]
             rounds += fitting
@@ -70,11 +81,8 @@ def rounds_of(copies, batches):
 
 
 def folders_of(folder, function):
-    """Returns the folders below a crate's proofs/ that have the proof files of a function of no trait."""
-    within = re.sub(r"(^|/)(lib|main|mod)$", "", function.path.removeprefix("src/").removesuffix(".rt"))
-    whole = f"{within}/{function.name}".removeprefix("/")
-    is_own = lambda it: f"/{it}".endswith(f"/{function.owner}/{function.name}") if function.owner else it == whole
-    return [it for it in sorted(proof_folders(folder)) if is_own(it)]
+    """Returns the folders below a crate's proofs/ that have the proof files of a function."""
+    return [it for it in sorted(proof_folders(folder)) if function.has_proofs_in(it)]
 
 
 def with_copies(folder, copies, in_place=()):
@@ -93,14 +101,14 @@ def with_copies(folder, copies, in_place=()):
         texts[path] = "\n".join(lines)
     for copy in copies:
         texts.update(proofs_of(folder, copy))
-    return texts, tried, [moved(it, own.get(it.function.path, [])) for it in in_place]
+    move = lambda it: it and moved(it, own.get(it.path, []))
+    return texts, tried, [replace(it, function=move(it.function), others=tuple(map(move, it.others))) for it in in_place]
 
 
-def moved(edit, copies):
-    """Returns an edit with its function below the copies that stand above it in its file."""
-    function = edit.function
+def moved(function, copies):
+    """Returns a function with its lines after these copies are above it in its file."""
     lines = sum(1 + len(it.lines) for it in copies if it.edit.function.last < function.first)
-    return replace(edit, function=replace(function, first=function.first + lines, last=function.last + lines))
+    return replace(function, first=function.first + lines, last=function.last + lines)
 
 
 def proofs_of(folder, copy):

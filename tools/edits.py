@@ -22,8 +22,12 @@ class BadEdit(Exception):
 
 @dataclass(frozen=True)
 class Function:
-    """A function in a source file: its lines, counted from 1, the type or trait that it belongs to, if any, whether it takes
-    `self`, and is one of a trait, and the cycle of calls that it is in, if any."""
+    """A function in a source file, with its first and last line, counted from 1.
+
+    - `owner` is the type or trait that it belongs to, if any; `is_of_trait`, whether it is declared or implemented for a trait.
+    - `is_method`: it takes `self`.
+    - `cycle` is the name of the cycle of calls that it is in, if any.
+    """
 
     path: str
     first: int
@@ -35,14 +39,20 @@ class Function:
     cycle: str = ""
 
     def has_proofs_in(self, folder):
-        """Returns whether a folder below proofs/ is of this function: by its name and its type, which a trait may follow and
-        whose module is any, or by its name and module, or by those of its cycle of calls."""
-        *modules, name = folder.split("/")
+        """Returns whether a folder below proofs/ is of this function: by its modules and its name, or that of its cycle. A
+        function of a type may be in any module, and a trait's name follows that of the type."""
+        *modules, name = (it for it in folder.split("/") if it != "fn")
         if self.cycle and name == f"+{self.cycle}":
-            return module_of(self.path) in ("", *modules[:1])
-        if self.owner:
-            return name == self.name and any(it.startswith(self.owner) for it in modules)
-        return name == self.name and module_of(self.path) in ("", *modules[:1])
+            return modules == self.modules()
+        if not self.owner:
+            return name == self.name and modules == self.modules()
+        owner = modules[-1] if modules else ""
+        return name == self.name and (owner.startswith(self.owner) if self.is_of_trait else owner == self.owner)
+
+    def modules(self):
+        """Returns the modules of its file, below the crate."""
+        names = self.path.removeprefix("src/").removesuffix(".rt").split("/")
+        return names[:-1] if names[-1] in ("lib", "main", "mod") else names
 
 
 @dataclass(frozen=True)
@@ -63,12 +73,6 @@ class Edit:
         return f"{self.crate}/{self.name}"
 
 
-def module_of(path):
-    """Returns the first module of a source file, or nothing for the crate's own."""
-    module = path.split("/")[1].removesuffix(".rt")
-    return "" if module in ("lib", "main") else module
-
-
 def function_at(path, text, at):
     """Returns the function around a position of a file that is laid out by `rt fmt`, or None."""
     lines = text.split("\n")
@@ -76,14 +80,29 @@ def function_at(path, text, at):
     for first in range(line, -1, -1):
         if not (head := FUNCTION.match(lines[first])):
             continue
-        last = end_of(lines, first, head[1])
-        if last is not None and last >= line:
-            owner, is_of_trait = owner_of(lines, first, head[1])
-            is_method = METHOD.search("\n".join(lines[first : last + 1])) is not None
-            return Function(path, first + 1, last + 1, owner, head[2], is_method, is_of_trait, cycle_of(lines, first))
+        function = function_from(path, lines, first)
+        if function and function.last > line:
+            return function
         if not head[1]:
             return None
     return None
+
+
+def functions_of(path, text):
+    """Returns the functions of such a file that have a body."""
+    lines = text.split("\n")
+    found = (function_from(path, lines, first) for first, line in enumerate(lines) if FUNCTION.match(line))
+    return [it for it in found if it]
+
+
+def function_from(path, lines, first):
+    """Returns the function that begins at a line of a file, or None if it has no body."""
+    indent, name = FUNCTION.match(lines[first]).groups()
+    if (last := end_of(lines, first, indent)) is None:
+        return None
+    owner, is_of_trait = owner_of(lines, first, indent)
+    is_method = METHOD.search("\n".join(lines[first : last + 1])) is not None
+    return Function(path, first + 1, last + 1, owner, name, is_method, is_of_trait, cycle_of(lines, first))
 
 
 def cycle_of(lines, first):

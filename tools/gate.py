@@ -37,7 +37,7 @@ import run_tests
 TOP = Path(__file__).resolve().parent.parent
 KINDS = ("must-fail-edits", "proved-tests", "rows-of-proved-tests", "python-tests", "rows")
 # The words for an edit that shows nothing.
-USELESS = ("BAD EDIT", "NOT TRIED", "NOT REFUSED")
+USELESS = ("BAD EDIT", "NOT TRIED", "NOT REFUSED", "NOT ACCEPTED")
 # What the copy for `rt ci` is without: edits, and what was built.
 LEFT_OUT = re.compile(r"(?:\.git|crates/[^/]*/(?:must-fail|out)|(?:.*/)?__pycache__)$")
 # What the gate's parts read, one after the other, and what is made there meanwhile.

@@ -12,10 +12,11 @@ function depends on the contracts of those that it calls, and not on their bodie
 - something unproved at a line of the copy, or of the function itself, or
 - an error in the proof files of one of these.
 
-Edits without such a report are tried again in place, without those that were refused, and at last alone, with all proofs of
-the crate: then something reported unproved anywhere in the crate refuses it. So are those whose copy's proof files may have
-been copied wrongly. One that changes several functions is tried in place, apart from others, and one of definitions by the
-functions in files that name their modules.
+Edits without such a report, or whose copy's proof files may have been copied wrongly, are tried again in place, without those
+that were refused, and at last alone, with all proofs of the crate: then something reported unproved anywhere in the crate
+refuses it. One that changes several functions is tried in place, apart from others. One of definitions is tried on the
+functions in files that name its modules: there, an error in a lemma refuses it too. A report on something that no edit of the
+check changes is a failure.
 
 The libraries are those that `rt ci` built in FOLDER, a copy of the repository, which also has its output, in rt-ci.txt, with
 the functions that it proved. If they aren't there, since `rt ci` kept the proofs of an earlier run, the crate is checked first.
@@ -23,10 +24,12 @@ Without FOLDER, each crate is proved first. All is done in copies of the reposit
 says, or as there are processors. The last lines have the numbers of refused edits, and the minutes of processor. The exit
 status is 0 if all were refused.
 
-With --control, the right functions are copied, or tried in place, and the prover has to accept each. It shows that an edit
-isn't refused for how it is tried. Run it after a change of that; the gate doesn't.
+With --control, the right functions are copied, or tried in place, and the prover has to accept each. So an edit isn't refused
+for how its function is copied, or for what others are without. Run it after a change of that; the gate doesn't.
 """
 
+import argparse
+import functools
 import os
 import re
 import shutil
@@ -38,9 +41,9 @@ from concurrent.futures import FIRST_COMPLETED, ThreadPoolExecutor, wait
 from dataclasses import dataclass
 from pathlib import Path
 
-from edit_copies import copies_of, right_copies_of, rounds_of, with_copies
-from edits import SOURCES, BadEdit, Edit, batches_of, edited, read_edits
-from open_proofs import belongs, can_be_open, functions_in, leave_open
+from edit_copies import copies_of, right, right_copies_of, rounds_of, with_copies
+from edits import SOURCES, BadEdit, Edit, batches_of, edited, functions_of, read_edits
+from open_proofs import belongs, can_be_open, functions_in, leave_open, sources_of
 
 TOP = Path(__file__).resolve().parent.parent
 # How a check reports what isn't proved: in the source, and in a function's proof files.
@@ -67,13 +70,14 @@ class Checked:
     status: int
     seconds: float = 0.0
 
+    @functools.cached_property
     def lines(self):
-        """Returns the lines, each with the indented ones that go on with it."""
+        """The lines, each with the indented ones that go on with it."""
         return re.sub(r"\n +", " ", self.text).splitlines()
 
     def verdict(self):
         """Returns whether the crate is proved, or None if the check didn't find out."""
-        last = next((line for line in reversed(self.lines()) if line.startswith(("logic=", "only="))), "")
+        last = next((line for line in reversed(self.lines) if line.startswith(("logic=", "only="))), "")
         if self.status == 0 and last.startswith(("logic=proved", "only=")):
             return True
         return False if self.status == 1 and (last == "logic=not-proved" or last.startswith("only=")) else None
@@ -83,14 +87,20 @@ class Checked:
 
 
 def is_report(line, function=None):
-    """Returns whether a line of a check reports something unproved: of this function, or without one of anything, lemmas
-    too."""
+    """Returns whether a line of a check reports something unproved: of this function, or without one of anything, lemmas too
+    unless they only name what is gone."""
     if at := UNPROVED.match(line):
         return not function or at[1] == function.path and function.first <= int(at[2]) <= function.last
-    if not function:
-        return LEMMA_ERROR.match(line) is not None
-    at = PROOF_ERROR.match(line)
-    return bool(at) and function.has_proofs_in(at[1])
+    if at := PROOF_ERROR.match(line):
+        return not function or belongs(at[1], function)
+    return not function and bool(LEMMA_ERROR.match(line)) and not TAKEN_AWAY.search(line)
+
+
+def strays(edits, checked):
+    """Returns the lines of a check that report something unproved outside of the functions of these edits."""
+    functions = [function for edit in edits for function in edit.functions()]
+    of_any = [line for line in checked.lines if UNPROVED.match(line) or PROOF_ERROR.match(line)]
+    return [line for line in of_any if not any(is_report(line, function) for function in functions)]
 
 
 def weight(line):
@@ -109,7 +119,7 @@ def report_of(edit, checked):
 
 def reports_of(edit, checked):
     """Returns the lines of a check that refuse an edit's function: none if it found no verdict, or something can't be read."""
-    lines = checked.lines()
+    lines = checked.lines
     if checked.verdict() is not False or any(map(UNREADABLE.match, lines)):
         return []
     return [line for line in lines if any(is_report(line, function) for function in edit.functions() or [None])]
@@ -127,9 +137,9 @@ def refused_alone(edit, checked):
     verdict = checked.verdict()
     if verdict:
         raise BadEdit("NOT REFUSED: the crate is still proved with this edit")
-    unread = next(filter(UNREADABLE.match, checked.lines()), None)
+    unread = next(filter(UNREADABLE.match, checked.lines), None)
     if verdict is None or unread:
-        raise BadEdit(f"BAD EDIT: no contract was tried: {unread or ' / '.join(checked.lines()[-3:])[:300]}")
+        raise BadEdit(f"BAD EDIT: no contract was tried: {unread or ' / '.join(checked.lines[-3:])[:300]}")
     of_any = Edit(edit.crate, edit.name, edit.pairs, None)
     if not (report := report_of(edit, checked) or report_of(of_any, checked)):
         raise BadEdit("NOT REFUSED: the crate isn't proved, but no report says what")
@@ -139,14 +149,14 @@ def refused_alone(edit, checked):
 # What an edit of definitions is about
 
 
-def files_with(folder, edit):
-    """Returns the source files of the crate in a folder that name the modules of definitions which an edit changes, as the
-    folders of their functions below proofs/; none if it changes something else."""
+def functions_with(folder, edit):
+    """Returns the functions in source files of the crate in a folder that name the modules of definitions which an edit
+    changes; none if it changes something else."""
     if not all(path.startswith("specs/") for path, _, _ in edit.pairs):
         return []
     names = [f"Rattle.{folder.name}.{path.removesuffix('.antt').replace('/', '.')}." for path, _, _ in edit.pairs]
-    files = [path for path in sorted((folder / "src").rglob("*.rt")) if any(it in path.read_text(encoding="utf-8") for it in names)]
-    return [path.relative_to(folder / "src").with_suffix("").as_posix() for path in files]
+    files = [(path, text) for _, text, path in sources_of(folder) if any(name in text for name in names)]
+    return [function for path, text in files for function in functions_of(path, text)]
 
 
 # Copies of the repository
@@ -276,13 +286,7 @@ class Run:
         kept = self.folder / "kept" / crate
         with tempfile.TemporaryDirectory(prefix="room-", dir=self.folder) as room:
             folder, work = Path(room) / crate, Path(room) / "kept"
-            copy_crate(self.top / "crates" / crate, folder, SOURCES)
-            for path, text in texts.items():
-                (folder / path).parent.mkdir(parents=True, exist_ok=True)
-                (folder / path).write_text(text, encoding="utf-8")
-            if only:
-                others = [it for it in self.proved[crate] if not any(f"{it}/".startswith(f"{own}/") for own in only)]
-                leave_open(folder, can_be_open(folder, others), only)
+            self.put_crate(crate, folder, texts, only)
             if kept.is_dir():
                 shutil.copytree(kept, work, copy_function=link_or_copy)
             words = check_words(self.kit, crate, self.uses[crate], self.built, self.below[crate])
@@ -291,6 +295,16 @@ class Run:
             if checked.verdict() is not None:
                 self.keep(work, kept)
             return checked
+
+    def put_crate(self, crate, folder, texts, only):
+        """Makes a copy of a crate with these texts of files, and if it is for some functions only, with the others open."""
+        copy_crate(self.top / "crates" / crate, folder, SOURCES)
+        for path, text in texts.items():
+            (folder / path).parent.mkdir(parents=True, exist_ok=True)
+            (folder / path).write_text(text, encoding="utf-8")
+        if only:
+            others = [it for it in self.proved[crate] if not any(f"{it}/".startswith(f"{own}/") for own in only)]
+            leave_open(folder, can_be_open(folder, others), only)
 
     def keep(self, work, kept):
         """Keeps what the first check of a crate that found a verdict has checked."""
@@ -323,7 +337,13 @@ class Run:
         for edit in sound + others:
             if report := report_of(edit, checked):
                 self.say(left.pop(edit.name), report)
+        self.fail_for_strays(crate, tried + others, checked)
         return [(self.judge, crate, batch) for batch in batches_of(self.top / "crates" / crate, left.values())]
+
+    def fail_for_strays(self, crate, edits, checked):
+        """Fails for each report of a check on something that none of these edits changes: what it shows isn't known then."""
+        for line in strays(edits, checked) if checked.verdict() is False else []:
+            self.fail(f"{crate}: NOT ACCEPTED: {line}")
 
     def asked_for(self, crate, copies, in_place):
         """Returns what a check of copies and of edits in place proves: the copies' names, and the functions' folders."""
@@ -331,11 +351,11 @@ class Run:
 
     def judge_right(self, crate, copies, in_place):
         """Tries copies of functions as they are, and functions in place, which have to be proved."""
-        texts, tried, _ = with_copies(self.top / "crates" / crate, copies)
+        texts, tried, others = with_copies(self.top / "crates" / crate, copies, [*map(right, in_place)])
         checked = self.attempt(crate, texts, self.asked_for(crate, copies, in_place))
         for edit in tried:
             self.say_right(edit, checked, rf"\S+::{edit.function.name}")
-        for edit in in_place:
+        for edit in others:
             for path in self.paths_of(crate, edit):
                 self.say_right(edit, checked, f"{crate}::{re.escape(path.replace('/', '::'))}")
         return []
@@ -349,12 +369,11 @@ class Run:
 
     def paths_of(self, crate, edit):
         """Returns the folders of an edit's functions and of closures in them, or none if one of the functions isn't listed; of an
-        edit of definitions, the folders of the functions in files that name their modules."""
-        if not edit.functions():
-            files = files_with(self.top / "crates" / crate, edit)
-            return [it for it in self.proved[crate] if it.startswith(tuple(f"{file}/" for file in files))]
-        found = [[it for it in self.proved[crate] if belongs(it, function)] for function in edit.functions()]
-        return sorted({it for paths in found for it in paths}) if all(found) else []
+        edit of definitions, the folders of the functions that are tried."""
+        own = edit.functions()
+        functions = own or functions_with(self.top / "crates" / crate, edit)
+        found = [[it for it in self.proved[crate] if belongs(it, function)] for function in functions]
+        return sorted({it for paths in found for it in paths}) if all(found) or not own else []
 
     def judge(self, crate, edits):
         """Tries edits in place, and returns what is to be tried next."""
@@ -369,6 +388,8 @@ class Run:
                 self.say(edit, report)
             else:
                 left.append(edit)
+        if only and all(edit.functions() for edit in edits):
+            self.fail_for_strays(crate, edits, checked)
         if len(edits) == 1:
             return [(self.judge_alone, crate, left)] * bool(left)
         # A function whose callee isn't proved may have no report, so the others are tried without those that were refused.
@@ -488,12 +509,13 @@ def lanes():
 
 
 def main(words):
-    names, built = [word for word in words if word != "--control"], None
-    if "--built" in names:
-        at = names.index("--built")
-        names, built = names[:at] + names[at + 2 :], Path(names[at + 1]).resolve()
+    parser = argparse.ArgumentParser(description=__doc__, formatter_class=argparse.RawDescriptionHelpFormatter)
+    parser.add_argument("--control", action="store_true", help="try the right functions, which have to be accepted")
+    parser.add_argument("--built", metavar="FOLDER", type=lambda it: Path(it).resolve(), help="where `rt ci` built the libraries")
+    parser.add_argument("crates", metavar="CRATE", nargs="*", help="try the edits of these crates only")
+    words = parser.parse_args(words)
     with tempfile.TemporaryDirectory(prefix="must-fail-") as folder:
-        tries = Run(TOP, Path(folder), names, "--control" in words, built)
+        tries = Run(TOP, Path(folder), words.crates, words.control, words.built)
         for line in tries.lines:
             print(f"must-fail: {line}")
         tries.all(lanes())

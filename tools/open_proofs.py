@@ -7,7 +7,7 @@ proved of a function depends on the contracts of those that it calls, and not on
 import itertools
 import re
 
-from edits import FUNCTION, PROOF_FILES, end_of, function_at, proof_folders
+from edits import PROOF_FILES, functions_of, proof_folders
 
 # The hole is of any type. At a hole for the statement a check would compute all of it, to print it.
 OPEN_PROOF = """use {module}.Statement.{{statement}}
@@ -18,7 +18,7 @@ hole = ?
 pub {name}_spec : {{M : Type 1}} → statement M
 {name}_spec = hole
 """
-CYCLE = re.compile(r"#\[cycle\(\w+\)\]\s*(?:#\[.*\n\s*|///.*\n\s*)*(?:pub(?:\([a-z]+\))? )?(?:const |unsafe )*fn (\w+)")
+CONSTANT = re.compile(r" *(?:pub(?:\([a-z]+\))? )?(?:unsafe )?const ")
 
 
 def functions_in(crate, text):
@@ -29,56 +29,65 @@ def functions_in(crate, text):
 def can_be_open(folder, functions):
     """Returns those of a crate's functions whose proof is a file of their own: none in a cycle of calls, whose members have
     one, and none that is made for a type of another crate, whose folder has a sign + in its name."""
-    texts = [path.read_text(encoding="utf-8") for path in sorted((folder / "src").rglob("*.rt"))]
-    in_cycles = {name for text in texts for name in CYCLE.findall(text)}
-    return [it for it in functions if "+" not in it and it.rpartition("/")[2] not in in_cycles]
+    in_cycles = [function for _, text, path in sources_of(folder) for function in functions_of(path, text) if function.cycle]
+    return [it for it in functions if "+" not in it and not any(function.has_proofs_in(it) for function in in_cycles)]
+
+
+def sources_of(folder):
+    """Returns the source files of the crate in a folder, with their texts and their paths within it."""
+    files = sorted((folder / "src").rglob("*.rt"))
+    return [(file, file.read_text(encoding="utf-8"), file.relative_to(folder).as_posix()) for file in files]
 
 
 def belongs(path, function):
-    """Returns whether a function, by its folder, is this one, or a closure in it, whose folder has a part `fn`."""
+    """Returns whether a function, by its folder, is this one, or a closure in it. The folder of a closure has the function's
+    name after a part `fn`."""
     parts = path.split("/")
-    fronts = ("/".join(parts[:number]) for number in range(1, len(parts)) if "fn" in parts)
-    return function.has_proofs_in(path) or any(map(function.has_proofs_in, fronts))
+    fronts = ["/".join(parts[:number]) for number in range(parts.index("fn") + 2, len(parts))] if "fn" in parts else []
+    return any(map(function.has_proofs_in, [path, *fronts]))
 
 
 def leave_open(folder, functions, kept):
     """Puts a hole in place of the proofs of these functions of the crate in a folder, and takes their bodies out, with the
     closures in them, but of those that have one of the kept folders."""
     emptied = set()
-    for file in sorted((folder / "src").rglob("*.rt")):
-        path, text = file.relative_to(folder).as_posix(), file.read_text(encoding="utf-8")
+    for file, text, path in sources_of(folder):
         changed, out = without_bodies(path, text, functions, kept)
         file.write_text(changed, encoding="utf-8")
         emptied |= out
-    is_closure = lambda path: any(belongs(path, it) and not it.has_proofs_in(path) for it in emptied)
-    gone = {*functions, *filter(is_closure, proof_folders(folder))}
-    for path, file in itertools.product(gone, PROOF_FILES):
+    closures = {it for it in [*functions, *proof_folders(folder)] if is_closure_in(it, emptied)}
+    for path, file in itertools.product({*functions, *closures}, PROOF_FILES):
         (folder / "proofs" / path / file).unlink(missing_ok=True)
-    for path in (it for it in functions if not is_closure(it)):
+    for path in (it for it in functions if it not in closures):
         own = folder / "proofs" / path
         own.mkdir(parents=True, exist_ok=True)
         module, name = f"Rattle.{folder.name}.proofs.{path.replace('/', '.')}", own.name
         (own / "Proof.antt").write_text(OPEN_PROOF.format(module=module, name=name), encoding="utf-8")
 
 
-def without_bodies(path, text, functions, kept):
-    """Returns the text of a source file, of as many lines, without the bodies of functions that have one of these folders,
-    unless they have a kept one; and those functions. A constant function keeps its body, since its value may be needed."""
+def is_closure_in(path, functions):
+    """Returns whether a folder is of a closure in one of these functions."""
+    return any(belongs(path, it) and not it.has_proofs_in(path) for it in functions)
+
+
+def without_bodies(path, text, listed, kept):
+    """Returns the text of a source file, of as many lines, without the bodies of functions that have a listed folder, unless
+    they have a kept one; and those functions. A constant function keeps its body, since its value may be needed."""
     lines, out = text.split("\n"), set()
-    for first, line in enumerate(lines):
-        head = FUNCTION.match(line)
-        last = end_of(lines, first, head[1]) if head and " const " not in f" {line}" else None
-        opening = opening_of(lines, first, last, head[1]) if last else None
-        if opening is None or opening + 1 >= last:
+    for function in functions_of(path, text):
+        first, last = function.first - 1, function.last - 1
+        opening = opening_of(lines, first, last)
+        if opening is None or opening + 1 >= last or CONSTANT.match(lines[first]):
             continue
-        function = function_at(path, text, sum(len(it) + 1 for it in text.split("\n")[:first]))
-        if any(map(function.has_proofs_in, functions)) and not any(belongs(it, function) for it in kept):
-            lines[opening + 1 : last] = [f"{head[1]}    loop {{}}", *[""] * (last - opening - 2)]
+        if any(map(function.has_proofs_in, listed)) and not any(belongs(it, function) for it in kept):
+            indent = lines[last].removesuffix("}")
+            lines[opening + 1 : last] = [f"{indent}    loop {{}}", *[""] * (last - opening - 2)]
             out.add(function)
     return "\n".join(lines), out
 
 
-def opening_of(lines, first, last, indent):
+def opening_of(lines, first, last):
     """Returns the line whose brace opens the body of a function of these lines, or None."""
+    indent = lines[last].removesuffix("}")
     is_opening = lambda line: line == f"{indent}{{" or line.startswith(f"{indent})") and line.endswith("{")
     return first if lines[first].endswith("{") else next((at for at in range(first + 1, last) if is_opening(lines[at])), None)

@@ -140,16 +140,20 @@ class Reading(unittest.TestCase):
 
     def test_proof_files_are_of_a_function_by_module_type_and_name(self):
         deep = edits.Function("src/state/staging.rt", 1, 2, "State", "put")
-        for folder, is_own in [
-            ("state/State/put", True),
-            ("state/StateClone/put", True),
-            ("state/State/get", False),
-            ("state/Other/put", False),
-            ("other/State/put", True),
+        for folder, is_own, is_of_trait in [
+            ("state/State/put", True, True),
+            ("state/StateClone/put", False, True),
+            ("state/State/get", False, False),
+            ("state/Other/put", False, False),
+            ("other/State/put", True, True),
+            ("put", False, False),
         ]:
             self.assertEqual(deep.has_proofs_in(folder), is_own, folder)
-        self.assertTrue(FREE.has_proofs_in("free"))
-        self.assertFalse(FREE.has_proofs_in("free/more"))
+            self.assertEqual(dataclasses.replace(deep, is_of_trait=True).has_proofs_in(folder), is_of_trait, folder)
+        for path, own in [("src/lib.rt", "free"), ("src/a.rt", "a/free"), ("src/a/mod.rt", "a/free"), ("src/a/b.rt", "a/b/free")]:
+            free = dataclasses.replace(FREE, path=path)
+            folders = ["free", "a/free", "a/b/free", "free/more", "a/Cell/free"]
+            self.assertEqual([it for it in folders if free.has_proofs_in(it)], [own], path)
 
     def test_a_function_in_a_cycle_of_calls_has_its_proof_files_by_the_cycles_name(self):
         text = LIB.replace("fn free", "/// Words.\n#[cycle(all)]\n#[inline]\nfn free")
@@ -238,6 +242,16 @@ class Copying(unittest.TestCase):
             self.write(f"proofs/{within}/Answers.antt", "")
             self.assertEqual(edit_copies.folders_of(self.folder, dataclasses.replace(FREE, path=path)), [within])
 
+    def test_a_function_that_calls_itself_has_no_copy(self):
+        self.write("src/lib.rt", LIB.replace("    7", "    free();\n    7").replace("self.store(value)", "self.set(value)"))
+        self.assertEqual(self.copies(("    7", "    6"), ("        self.set(value);", "        other(self.set(value));")), [])
+        self.write("src/lib.rt", LIB.replace("    7", "    it.free();\n    7"))
+        self.assertEqual(len(self.copies(("    7", "    6"))), 1)
+
+    def test_a_function_whose_closures_have_proof_files_has_no_copy(self):
+        self.write("proofs/fn/free/map/Answers.antt", "")
+        self.assertEqual(self.copies(("    7", "    6")), [])
+
     def test_a_function_whose_proof_files_are_not_known_has_no_copy(self):
         for module in ("a", "b"):
             self.write(f"proofs/{module}/Cell/get/Answers.antt", "")
@@ -280,7 +294,9 @@ class Opening(unittest.TestCase):
         get, free = edits.Function("src/a.rt", 1, 2, "Cell", "get"), edits.Function("src/a.rt", 1, 2, "", "free")
         for path, of_get, of_free in [
             ("a/Cell/get", True, False),
-            ("a/fn/CellGet/get/map", True, False),
+            ("a/fn/Cell/get/map", True, False),
+            ("a/fn/CellGet/get/map", False, False),
+            ("a/free/fn/other/map", False, False),
             ("a/free", False, True),
             ("a/fn/free/map", False, True),
             ("b/free", False, False),
@@ -445,7 +461,7 @@ class Planted(unittest.TestCase):
 
     def test_an_edit_of_definitions_is_tried_on_the_functions_in_files_that_name_them(self):
         self.write("crates/high/specs/Looks.antt", "looks = 1\n")
-        self.write("crates/high/src/laws.rt", "ghost use Rattle.high.specs.Looks.{looks};\n")
+        self.write("crates/high/src/laws.rt", "ghost use Rattle.high.specs.Looks.{looks};\n\nfn few() {\n    all();\n}\n")
         self.edit("two_looks", "specs/Looks.antt", "looks = 1", "looks = 2")
         reports = [*REPORTS, ("looks = 2", "./proofs/Looks.antt:3:5: error: the two types differ")]
         with mock.patch.object(sys.modules[__name__], "FUNCTIONS", (*FUNCTIONS, "laws::few", "more::all")):
@@ -462,7 +478,10 @@ class Planted(unittest.TestCase):
     def test_a_report_of_another_function_counts_only_for_an_edit_alone(self):
         other = [*REPORTS[:3], ("    6", f"note: src/lib.rt:4:5: {NOT_PROVED}")]
         lines, _ = self.ran(other)
-        self.assertEqual((lines[-1], self.checks()), ("must-fail: 4 passed, 0 failed", 3))
+        self.assertTrue(any(line.startswith("must-fail: high/six.edit: refused: ") for line in lines))
+        # Next to others, and by itself with the other proofs open, it is a failure: the check isn't about the edit.
+        self.assertEqual((lines[-1], self.checks()), ("must-fail: 4 passed, 2 failed", 3))
+        self.assertEqual(lines.count(f"must-fail: high: NOT ACCEPTED: {other[3][1]}"), 2)
 
     def test_copies_without_a_verdict_are_tried_in_two_parts(self):
         self.edit("get_another", "src/lib.rt", "        self.0", "        stop")
@@ -540,6 +559,15 @@ class Planted(unittest.TestCase):
         self.assertEqual(lines[-1], "must-fail: 3 passed, 1 failed")
         self.assertIn("must-fail: high/get_another.edit: accepted: its right function is proved", lines)
         self.assertTrue(any(line.startswith("must-fail: high/set_nothing.edit: NOT ACCEPTED: ") for line in lines))
+
+    def test_functions_of_an_edit_of_several_are_accepted_in_place(self):
+        for name in EDITS:
+            (self.top / f"crates/high/must-fail/{name}.edit").unlink()
+        self.edit("both", "src/lib.rt", "    7", "    6", ("        self.store(value);", "        let _ = value;"))
+        built = self.built("fn high::free: proved\nfn high::Cell::set: proved\n")
+        accepted = [("fn free", "fn high::free: no holes"), ("fn set", "fn high::Cell::set: no holes")]
+        lines, _ = self.ran(accepted, names=["--control", "--built", str(built), "high"])
+        self.assertEqual(lines[-1], "must-fail: 2 passed, 0 failed")
 
     def built(self, log):
         """Makes the libraries that `rt ci` has built, with what it printed, and returns their folder."""
