@@ -34,13 +34,9 @@ def copies_of(folder, edits):
 
 def right_copies_of(folder, edits):
     """Returns a copy as it is of each function that has a copy for one of these edits."""
-    of_functions = {it.edit.function: it for it in reversed(copies_of(folder, map(right, edits)))}
+    right = [replace(it, pairs=tuple((path, old, old) for path, old, _ in it.pairs)) for it in edits]
+    of_functions = {it.edit.function: it for it in reversed(copies_of(folder, right))}
     return list(of_functions.values())
-
-
-def right(edit):
-    """Returns an edit that changes nothing."""
-    return replace(edit, pairs=tuple((path, old, old) for path, old, _ in edit.pairs))
 
 
 def copy_of(folder, edit, name):

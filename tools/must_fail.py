@@ -38,10 +38,10 @@ import sys
 import tempfile
 import threading
 from concurrent.futures import FIRST_COMPLETED, ThreadPoolExecutor, wait
-from dataclasses import dataclass
+from dataclasses import dataclass, replace
 from pathlib import Path
 
-from edit_copies import copies_of, right, right_copies_of, rounds_of, with_copies
+from edit_copies import copies_of, right_copies_of, rounds_of, with_copies
 from edits import SOURCES, BadEdit, Edit, batches_of, edited, functions_of, read_edits
 from open_proofs import belongs, can_be_open, functions_in, leave_open, sources_of
 
@@ -351,12 +351,13 @@ class Run:
 
     def judge_right(self, crate, copies, in_place):
         """Tries copies of functions as they are, and functions in place, which have to be proved."""
-        texts, tried, others = with_copies(self.top / "crates" / crate, copies, [*map(right, in_place)])
+        unchanged = [replace(edit, pairs=()) for edit in in_place]
+        texts, tried, others = with_copies(self.top / "crates" / crate, copies, unchanged)
         checked = self.attempt(crate, texts, self.asked_for(crate, copies, in_place))
         for edit in tried:
             self.say_right(edit, checked, rf"\S+::{edit.function.name}")
-        for edit in others:
-            for path in self.paths_of(crate, edit):
+        for edit, given in zip(others, in_place):
+            for path in self.paths_of(crate, given):
                 self.say_right(edit, checked, f"{crate}::{re.escape(path.replace('/', '::'))}")
         return []
 
