@@ -21,7 +21,7 @@ SaysClean query inputs options index result =
     IsTrue (query inputs (settings options index)).modelled
     → IfOk result (λ clean. (clean ≡ true) ↔ IsClean (query inputs (settings options index)) index)
 
--- an error other than out of memory or a refused thread is the first fault
+-- an error other than out of memory or a refused thread is the first fault, with modelled interfaces
 abbrev pub FailsAtFirstFault : {I T U : Type 0} → (I → Settings → Query T U) → I → Options → State
     → Result Bool Error → Type 0
 FailsAtFirstFault query inputs options index result =

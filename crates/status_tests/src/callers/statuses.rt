@@ -202,18 +202,11 @@ where
         (usual worktree.entry compare pathspec) options index.now result }
 {
     let alloc = rt.alloc();
-    let mut recorder = Recorder::new(alloc);
+    let mut found = Recorder::new(alloc);
     index_as_worktree_with_defaults(
-        rt,
-        alloc,
-        index,
-        worktree,
-        &mut recorder,
-        compare,
-        pathspec,
-        options,
+        rt, alloc, index, worktree, &mut found, compare, pathspec, options,
     )?;
-    Ok(recorder.records.as_slice().is_empty())
+    Ok(found.records.as_slice().is_empty())
 }
 
 /// Returns the changes of the index that its status asks for.

@@ -1,0 +1,121 @@
+//! A filter that refuses an untracked file whose id is computed.
+
+ghost use Rattle.std.specs.Prelude.{◌≡◌};
+ghost use Rattle.status_base.specs.Conversions.{refused};
+
+use crate::joined::entries::{RowEntry, RowNode, index, worktree};
+use bstr::BStr;
+use status_base::index::State;
+use status_base::worktree::{
+    Fault, NoLister, NoSubmodules, ReadBytes, ToGit, ToGitOutcome, Worktree,
+};
+use status_joined::index_as_worktree_with_renames::{Error, Recorder};
+use status_rewrites::{IdentityTracker, Tracker};
+use status_tests::callers::joined::broken::Broken;
+use status_tests::callers::joined::statuses::{JoinedReport, JoinedRequest, report_to};
+use status_tests::callers::joined::walks::{B, C, Found, Passes};
+use status_walk::{Kind, Walk};
+use std::alloc::AllocError;
+use std::sync::Wait;
+use std::test::Fail;
+use std::thread::Threads;
+
+// Refuses each file by the same fault.
+#[derive(Debug, Drop)]
+struct Refuses(Fault);
+
+impl Clone for Refuses {
+    ghost is_clone = { λ x y. y ≡ x };
+
+    fn clone(&self) -> Result<Refuses, AllocError> {
+        Ok(Refuses(self.0))
+    }
+}
+
+impl ToGit for Refuses {
+    ghost use Rattle.std.proofs.Common.{ap};
+
+    ghost conversion = { λ filter _ _. refused filter.0 };
+
+    ghost clone_keeps_conversion = { λ _ _ same. ap (λ filter _ _. refused filter.0) same };
+
+    fn convert<'a, F: ReadBytes>(
+        &self,
+        _file: F,
+        _path: BStr<'_>,
+        _buffer: &'a mut Vec<u8>,
+    ) -> Result<ToGitOutcome<'a, F>, Fault> {
+        Err(self.0)
+    }
+}
+
+// Makes the joined call over any worktree, with a filter that refuses each file.
+fn report_by<
+    'index,
+    R: AllocGlobal + Threads + Wait,
+    W: Worktree + Sync,
+    K: Walk<W> + Send + Drop,
+    X: Tracker + Drop,
+>(
+    rt: &R,
+    index: &'index State,
+    worktree: &W,
+    fault: Fault,
+    request: JoinedRequest<'_, K, X>,
+) -> JoinedReport<'index>
+where
+    W::File: Send,
+{
+    let alloc = rt.alloc();
+    let mut recorder = Recorder::new(alloc);
+    let filter = Refuses(fault);
+    let answer = report_to(
+        rt,
+        alloc,
+        index,
+        worktree,
+        &mut recorder,
+        NoSubmodules,
+        filter,
+        NoLister,
+        request,
+    );
+    JoinedReport {
+        records: recorder.records,
+        answer,
+    }
+}
+
+// Returns whether a status ends by the fault of its filter, without records. `b` is a link, which isn't passed to a
+// filter.
+fn is_refused<R: AllocGlobal + Threads + Wait>(rt: &R, fault: Fault) -> Result<bool, Fail> {
+    let alloc = rt.alloc();
+    let index = index(alloc, &[("a", RowEntry::Foo)])?;
+    let nodes = [("b", RowNode::Link("foo")), ("c", RowNode::File("foo"))];
+    let worktree = Broken {
+        worktree: worktree(alloc, &nodes)?,
+        faults: &[],
+    };
+    let link = Found {
+        disk_kind: Some(Kind::Symlink),
+        ..B
+    };
+    let walk = Passes {
+        alloc,
+        nodes: &[link, C],
+        fault: None,
+    };
+    let request = JoinedRequest::rewritten(walk, IdentityTracker::new(alloc));
+    let report = report_by(rt, &index, &worktree, fault, request);
+    let is_fault = match report.answer {
+        Err(Error::ConvertToGit(found)) => found == fault,
+        _ => false,
+    };
+    Ok(is_fault && report.records.is_empty())
+}
+
+#[test]
+fn a_filter_that_refuses_a_file_ends_the_status(rt: HostRuntime) -> Result<(), Fail> {
+    assert!(rt; is_refused(&rt, Fault::Other(7))?);
+    Ok(())
+}
