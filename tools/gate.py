@@ -287,7 +287,7 @@ def costs(runs, one_pass, of_tests):
     other proofs, in seconds."""
     lines = [f"{it.name}: {it.processor / 60:.1f} minutes of processor, {it.clock / 60:.1f} of the clock" for it in runs]
     if one_pass:
-        takes = [("all", sum(it.processor for it in runs)), ("proofs of tests, compiled too", of_tests)]
+        takes = [("all", sum(it.processor for it in runs)), ("proofs of tests", of_tests)]
         times = lambda it: f"{it / one_pass:.2f} times one pass over the other proofs ({one_pass / 60:.1f})"
         lines += [f"{name}: {seconds / 60:.1f} minutes of processor, {times(seconds)}" for name, seconds in takes]
     return lines

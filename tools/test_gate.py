@@ -97,7 +97,7 @@ class Planted(unittest.TestCase):
         self.assertIn("must-fail-edits refused by the prover: 2", notes)
         self.assertIn("rt ci: 30.0 minutes of processor, 15.0 of the clock", notes)
         self.assertIn("all: 60.0 minutes of processor, 3.00 times one pass over the other proofs (20.0)", notes)
-        self.assertIn("proofs of tests, compiled too: 10.0 minutes of processor, 0.50 times one pass over the other proofs (20.0)", notes)
+        self.assertIn("proofs of tests: 10.0 minutes of processor, 0.50 times one pass over the other proofs (20.0)", notes)
         self.assertFalse([note for note in notes if "raise the floor" in note])
         self.assertFalse([note for note in self.verdict(one_pass=0)[3] if note.startswith("all: ")])
 

@@ -16,7 +16,7 @@ def found(pattern, *path):
 
 class Readme(unittest.TestCase):
     def test_the_example_is_the_one_that_is_tested(self):
-        tested = found(r"^// The example begins\.\n(.*?)^// The example ends\.$", "crates/status_library_tests/src/example.rt")
+        tested = found(r"^// The example begins\.\n(.*?)^// The example ends\.$", "crates/status_all_tests/src/example.rt")
         shown = found(r"^```rust\n(.*?)^```$", "README.md")
         self.assertEqual(len(tested), 1)
         self.assertEqual(shown, tested)
