@@ -2,7 +2,7 @@
 //!
 //! Begin at `example`. `parts` tests what is below the status call, and walks, renames and copies; `call` the status,
 //! `joined` the joined call, `world` histories and the stored index, and `cli` the program's commands. Each has an order
-//! to read it in. `contents`, `stats`, `nodes`, `folders` and `texts` have what several of them use.
+//! to read it in. `contents`, `stats`, `nodes`, `faults`, `folders` and `texts` have what several of them use.
 #![tactic(auto)]
 
 #[cfg(test)]
@@ -13,6 +13,8 @@ mod cli;
 mod contents;
 #[cfg(test)]
 mod example;
+#[cfg(test)]
+mod faults;
 #[cfg(test)]
 mod folders;
 #[cfg(test)]

@@ -1,13 +1,13 @@
 //! Files that a filter converts or refuses.
 
-ghost use Rattle.std.specs.Prelude.{◌≡◌, refl};
-ghost use Rattle.status_base.specs.Conversions.{refused};
+ghost use Rattle.std.specs.Prelude.{refl};
 ghost use Rattle.status_tests.specs.Returns.{without_returns};
 
 use crate::call::entries::{EntryRow, foo_entry, index};
 use crate::call::nodes::{NodeRow, later_file, worktree};
 use crate::call::reports::{Says, Wanted, are_records, is_failed_by, is_taken, read};
 use crate::contents::Content;
+use crate::faults::Refuses;
 use bstr::BStr;
 use gix_status::index::Mode;
 use gix_status::index_as_worktree::Outcome;
@@ -17,40 +17,10 @@ use gix_status::worktree::{
 };
 use status_tests::callers::WithoutReturns;
 use status_tests::callers::statuses::{StatusRequest, options, status_of};
-use std::alloc::AllocError;
 use std::sync::Wait;
 use std::sync::atomic::{AtomicUsize, Ordering};
 use std::test::Fail;
 use std::thread::Threads;
-
-/// A filter that refuses each file by the same fault.
-#[derive(Debug, Drop)]
-struct Refuses(Fault);
-
-impl Clone for Refuses {
-    ghost is_clone = { λ x y. y ≡ x };
-
-    fn clone(&self) -> Result<Refuses, AllocError> {
-        Ok(Refuses(self.0))
-    }
-}
-
-impl ToGit for Refuses {
-    ghost use Rattle.std.proofs.Common.{ap};
-
-    ghost conversion = { λ filter _ _. refused filter.0 };
-
-    ghost clone_keeps_conversion = { λ _ _ same. ap (λ filter _ _. refused filter.0) same };
-
-    fn convert<'a, F: ReadBytes>(
-        &self,
-        _file: F,
-        _path: BStr<'_>,
-        _buffer: &'a mut Vec<u8>,
-    ) -> Result<ToGitOutcome<'a, F>, Fault> {
-        Err(self.0)
-    }
-}
 
 /// A filter that removes carriage returns. It counts the files for which its buffer isn't empty at first.
 #[derive(Clone, Copy)]

@@ -4,6 +4,7 @@ use crate::call::entries::{foo_entry, index};
 use crate::call::nodes::{NodeRow, later_file, worktree};
 use crate::call::reports::{Says, Wanted, are_records, is_failed_by, status_by_pieces};
 use crate::contents::Content;
+use crate::faults::FAULTS;
 use crate::stats::STAGED;
 use bstr::BStr;
 use gix_status::index::{IndexError, Mode, State};
@@ -12,19 +13,6 @@ use std::alloc::{AllocError, Global};
 use std::sync::Wait;
 use std::test::Fail;
 use std::thread::Threads;
-
-/// Every fault.
-const FAULTS: [Fault; 9] = [
-    Fault::NotFound,
-    Fault::NotADirectory,
-    Fault::PermissionDenied,
-    Fault::Interrupted,
-    Fault::IllformedUtf8,
-    Fault::UnexpectedEnd,
-    Fault::NotNormal,
-    Fault::Memory,
-    Fault::Other(5),
-];
 
 /// Sizes of pieces and numbers of workers.
 const WAYS: [(usize, usize); 4] = [(1, 1), (1, 3), (2, 1), (2, 3)];

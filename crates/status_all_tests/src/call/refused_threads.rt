@@ -46,14 +46,16 @@ struct Row {
     end: End,
 }
 
+const THREE: [EntryRow<'static>; 3] = [
+    ("a", 0, Mode::File, Content::Foo),
+    ("b", 0, Mode::File, Content::Foo),
+    ("c", 0, Mode::File, Content::Foo),
+];
+
 static ROWS: [Row; 5] = [
     Row {
         name: "a refused thread ends the status",
-        entries: &[
-            ("a", 0, Mode::File, Content::Foo),
-            ("b", 0, Mode::File, Content::Foo),
-            ("c", 0, Mode::File, Content::Foo),
-        ],
+        entries: &THREE,
         most: 2,
         too_large: true,
         is_set: false,
@@ -61,11 +63,7 @@ static ROWS: [Row; 5] = [
     },
     Row {
         name: "the caller alone starts no thread",
-        entries: &[
-            ("a", 0, Mode::File, Content::Foo),
-            ("b", 0, Mode::File, Content::Foo),
-            ("c", 0, Mode::File, Content::Foo),
-        ],
+        entries: &THREE,
         most: 1,
         too_large: true,
         is_set: false,
@@ -82,11 +80,7 @@ static ROWS: [Row; 5] = [
     },
     Row {
         name: "with the usual stacks no thread is refused",
-        entries: &[
-            ("a", 0, Mode::File, Content::Foo),
-            ("b", 0, Mode::File, Content::Foo),
-            ("c", 0, Mode::File, Content::Foo),
-        ],
+        entries: &THREE,
         most: 2,
         too_large: false,
         is_set: false,
@@ -94,11 +88,7 @@ static ROWS: [Row; 5] = [
     },
     Row {
         name: "a flag that is set before a round starts no thread",
-        entries: &[
-            ("a", 0, Mode::File, Content::Foo),
-            ("b", 0, Mode::File, Content::Foo),
-            ("c", 0, Mode::File, Content::Foo),
-        ],
+        entries: &THREE,
         most: 2,
         too_large: true,
         is_set: true,

@@ -1,6 +1,7 @@
 //! Each fault of the worktree and of the walk, at each point at which a status meets one, and which of several is
 //! returned.
 
+use crate::faults::FAULTS;
 use crate::joined::endings::Ending;
 use crate::joined::entries::{RowEntry, RowNode};
 use crate::joined::exits::Exit;
@@ -16,19 +17,6 @@ use std::process::Abort;
 use std::sync::Wait;
 use std::test::Fail;
 use std::thread::Threads;
-
-/// All faults.
-const FAULTS: [Fault; 9] = [
-    Fault::NotFound,
-    Fault::NotADirectory,
-    Fault::PermissionDenied,
-    Fault::Interrupted,
-    Fault::IllformedUtf8,
-    Fault::UnexpectedEnd,
-    Fault::NotNormal,
-    Fault::Memory,
-    Fault::Other(7),
-];
 
 /// The nodes that the walk passes, the last path first.
 const NODES: [Found<'static>; 3] = [

@@ -1,53 +1,18 @@
 //! A filter that refuses an untracked file whose id is computed.
 
-ghost use Rattle.std.specs.Prelude.{◌≡◌};
-ghost use Rattle.status_base.specs.Conversions.{refused};
-
+use crate::faults::Refuses;
 use crate::joined::entries::{RowEntry, RowNode, index, worktree};
-use bstr::BStr;
 use status_base::index::State;
-use status_base::worktree::{
-    Fault, NoLister, NoSubmodules, ReadBytes, ToGit, ToGitOutcome, Worktree,
-};
+use status_base::worktree::{Fault, NoLister, NoSubmodules, Worktree};
 use status_joined::index_as_worktree_with_renames::{Error, Recorder};
 use status_rewrites::{IdentityTracker, Tracker};
 use status_tests::callers::joined::broken::Broken;
 use status_tests::callers::joined::statuses::{JoinedReport, JoinedRequest, report_to};
 use status_tests::callers::joined::walks::{B, C, Found, Passes};
 use status_walk::{Kind, Walk};
-use std::alloc::AllocError;
 use std::sync::Wait;
 use std::test::Fail;
 use std::thread::Threads;
-
-// Refuses each file by the same fault.
-#[derive(Debug, Drop)]
-struct Refuses(Fault);
-
-impl Clone for Refuses {
-    ghost is_clone = { λ x y. y ≡ x };
-
-    fn clone(&self) -> Result<Refuses, AllocError> {
-        Ok(Refuses(self.0))
-    }
-}
-
-impl ToGit for Refuses {
-    ghost use Rattle.std.proofs.Common.{ap};
-
-    ghost conversion = { λ filter _ _. refused filter.0 };
-
-    ghost clone_keeps_conversion = { λ _ _ same. ap (λ filter _ _. refused filter.0) same };
-
-    fn convert<'a, F: ReadBytes>(
-        &self,
-        _file: F,
-        _path: BStr<'_>,
-        _buffer: &'a mut Vec<u8>,
-    ) -> Result<ToGitOutcome<'a, F>, Fault> {
-        Err(self.0)
-    }
-}
 
 // Makes the joined call over any worktree, with a filter that refuses each file.
 fn report_by<

@@ -3,8 +3,9 @@
 ghost use Rattle.std.specs.Prelude.{map, true, false};
 ghost use Rattle.status_walk.specs.WalkedNodes.{walked_of};
 
+use crate::nodes::new_node;
 use bstr::{BStr, BString};
-use status_base::worktree::{AllPaths, MemoryWorktree, Node, NodeKind};
+use status_base::worktree::{AllPaths, MemoryWorktree, NodeKind};
 use status_index::{Flags, HashKind, IndexError, Mode, Moment, NewEntry, ObjectId, Stat, State};
 use status_walk::{Action, Delegate, DirEntry, Kind, Outcome, Status, UntrackedWalk, Walk};
 use std::alloc::{AllocError, Global};
@@ -39,19 +40,7 @@ impl Delegate for Keeper {
 fn worktree(alloc: Global, nodes: &[(&str, NodeKind)]) -> Result<MemoryWorktree, Fail> {
     let mut worktree = MemoryWorktree::new(alloc);
     for (path, kind) in nodes {
-        let node = Node {
-            kind: *kind,
-            bytes: Vec::new(alloc),
-            len: 0,
-            executable: false,
-            mtime: None,
-            ctime: None,
-            dev: 0,
-            ino: 0,
-            uid: 0,
-            gid: 0,
-        };
-        worktree.put(BStr::from(*path), node)?;
+        worktree.put(BStr::from(*path), new_node(alloc, *kind, b"", 0, None)?)?;
     }
     Ok(worktree)
 }
