@@ -2,7 +2,7 @@
 
 // The example begins.
 use bstr::BStr;
-use gix_status::index::{Flags, HashKind, Mode, Moment, ObjectId, Stat, State, Time, compute_hash};
+use gix_status::index::{Flags, HashKind, Mode, Moment, Stat, State, Time, compute_hash};
 use gix_status::index_as_worktree::traits::HashEq;
 use gix_status::index_as_worktree::{
     Change, EntryStatus, Options, Recorder, index_as_worktree_with_defaults,

@@ -7,16 +7,17 @@ use std::rt::{Env, Files};
 use std::time::{Duration, UNIX_EPOCH};
 use std::{env, fs, io, process};
 
-/// Makes a new folder of temporary files for a test. A folder that an earlier run with the same number left is removed.
+/// Makes a new folder of temporary files, named by a test and a process. One that an earlier process with this id left is
+/// removed.
 fn new_folder<R: Env + Files + AllocGlobal>(rt: &R, test: &str, id: u32) -> io::Result<String> {
     let parent = env::temp_dir(rt)?;
-    let folder = format!(in rt.alloc(); "{}/{test}_{id}", parent.as_path().as_str())?;
+    let folder = format!(in rt.alloc(); "{}/gix_status_{test}_{id}", parent.as_path().as_str())?;
     let _ = fs::remove_dir_all(rt, folder.as_str());
     fs::create_dir(rt, folder.as_str())?;
     Ok(folder)
 }
 
-/// Makes such a folder, with the number of this process.
+/// Makes such a folder for this process.
 pub fn own_folder(rt: &HostRuntime, test: &str) -> io::Result<String> {
     new_folder(rt, test, process::id(rt.process()))
 }
@@ -33,7 +34,7 @@ pub fn writer<R: Files>(rt: &R, path: &str) -> io::Result<R::File> {
 
 /// What `fill` does at a path in a folder.
 #[derive(Clone, Copy)]
-pub enum Node<'a> {
+pub enum FolderNode<'a> {
     /// A file with this text.
     File(&'a str),
     /// The same, as old as the entries of an index.
@@ -58,20 +59,20 @@ where
     writer(rt, path)?.set_times(fs::FileTimes::new().set_modified(time))
 }
 
-fn put<R: Files>(rt: &R, path: &str, node: Node<'_>) -> io::Result<()>
+fn put<R: Files>(rt: &R, path: &str, node: FolderNode<'_>) -> io::Result<()>
 where
     R::File: Drop,
 {
     match node {
-        Node::File(text) => fs::write(rt, path, text),
-        Node::Staged(text) => {
+        FolderNode::File(text) => fs::write(rt, path, text),
+        FolderNode::Staged(text) => {
             fs::write(rt, path, text)?;
             set_time(rt, path, Duration::from_secs(u64::from(STAGED)))
         }
-        Node::Link(target) => symlink(rt, target, path),
-        Node::Folder => fs::create_dir(rt, path),
-        Node::Changed(time) => set_time(rt, path, time),
-        Node::Mode(mode) => fs::set_permissions(rt, path, Permissions::from_mode(mode)),
+        FolderNode::Link(target) => symlink(rt, target, path),
+        FolderNode::Folder => fs::create_dir(rt, path),
+        FolderNode::Changed(time) => set_time(rt, path, time),
+        FolderNode::Mode(mode) => fs::set_permissions(rt, path, Permissions::from_mode(mode)),
     }
 }
 
@@ -79,7 +80,7 @@ where
 pub fn fill<R: Files + AllocGlobal>(
     rt: &R,
     folder: &str,
-    nodes: &[(&str, Node<'_>)],
+    nodes: &[(&str, FolderNode<'_>)],
 ) -> io::Result<()>
 where
     R::File: Drop,

@@ -1,8 +1,9 @@
-//! Tests: what no clause states. README's example.
+//! Tests of what no clause states, and README's example.
 //!
 //! Begin at `example`. `parts` tests what is below the status call, and walks, renames and copies; `call` the status,
-//! `joined` the joined call, `world` histories and the stored index, and `cli` the program's commands. Each has an order
-//! to read it in. `contents`, `stats`, `nodes`, `faults`, `folders` and `texts` have what several of them use.
+//! `joined` the joined call, `world` histories and the stored index, and `cli` the program's commands. Each folder's
+//! `mod.rt` says where to begin. What several of them use is in `contents`, `stats`, `nodes`, `faults`, `folders`,
+//! `texts` and `turns`.
 #![tactic(auto)]
 
 #[cfg(test)]
@@ -27,5 +28,7 @@ mod parts;
 mod stats;
 #[cfg(test)]
 mod texts;
+#[cfg(test)]
+mod turns;
 #[cfg(test)]
 mod world;

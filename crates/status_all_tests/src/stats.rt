@@ -1,5 +1,6 @@
 //! The seconds in which entries and files change, and stats.
 
+use gix_status::fscache;
 use gix_status::index::{Moment, Stat, Time};
 
 /// The second in which every entry was staged.
@@ -25,3 +26,14 @@ pub fn stat(mtime: u32) -> Stat {
         ..Stat::default()
     }
 }
+
+/// A listed file of three bytes that is as old as the entries.
+pub const LISTED_FILE: fscache::Stat = fscache::Stat {
+    is_dir: false,
+    is_symlink: false,
+    size: 3,
+    mtime_secs: STAGED,
+    mtime_nsecs: 0,
+    ctime_secs: STAGED,
+    ctime_nsecs: 0,
+};

@@ -6,6 +6,7 @@ ghost use Rattle.status_index.specs.declared.fault.Fault.TheVariants.{NotFound};
 use crate::call::entries::{foo_entry, index};
 use crate::call::reports::{Says, are_records, is_failed_by, is_taken, read, status_by_pieces};
 use crate::contents::Content;
+use crate::nodes::metadata;
 use crate::stats::{LATER, STAGED, time};
 use bstr::BStr;
 use gix_status::index::ObjectId;
@@ -60,15 +61,10 @@ impl<'a> Worktree for Everywhere<'a> {
 
     fn lstat(&self, _path: BStr<'_>) -> Result<Metadata, Fault> {
         Ok(Metadata {
-            kind: NodeKind::File,
             len: self.len,
-            executable: false,
             mtime: Some(time(LATER)),
             ctime: Some(time(STAGED)),
-            dev: 0,
-            ino: 0,
-            uid: 0,
-            gid: 0,
+            ..metadata(NodeKind::File)
         })
     }
 

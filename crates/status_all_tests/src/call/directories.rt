@@ -1,12 +1,11 @@
 //! How often a status calls `lstat` on the directory above its entries, and lists it.
 
 use crate::call::entries::{EntryRow, index};
-use crate::call::listings::FILE;
 use crate::call::nodes::{NodeRow, worktree};
 use crate::call::statuses::listed_status;
 use crate::call::watched::CountingLister;
 use crate::contents::Content;
-use crate::stats::STAGED;
+use crate::stats::{LISTED_FILE, STAGED};
 use bstr::BStr;
 use gix_status::index::{Mode, ObjectId};
 use gix_status::index_as_worktree::{Error, Options};
@@ -20,7 +19,10 @@ use std::test::Fail;
 use std::thread::Threads;
 
 /// The directory `d` lists two files.
-const DIRECTORIES: [Directory<'static>; 1] = [("d", Some(&[("x", FILE), ("y", FILE)]))];
+const DIRECTORIES: [Directory<'static>; 1] = [(
+    "d",
+    Some(&[("x", LISTED_FILE), ("y", LISTED_FILE)]),
+)];
 
 /// Three entries in the directory `d`.
 const ENTRIES: [EntryRow<'static>; 3] = [

@@ -4,7 +4,7 @@ use crate::call::entries::{EntryRow, index};
 use crate::call::reports::{Says, Wanted, are_records, is_taken, read};
 use crate::call::statuses::listed_status;
 use crate::contents::Content;
-use crate::folders::{Node, fill, own_folder};
+use crate::folders::{FolderNode, fill, own_folder};
 use gix_status::index::Mode;
 use gix_status::index_as_worktree::{Options, Outcome};
 use gix_status::worktree::DiskWorktree;
@@ -17,10 +17,10 @@ use std::test::Fail;
 use std::thread::Threads;
 
 /// Two files, one of them in a directory.
-const NODES: [(&str, Node<'static>); 3] = [
-    ("test.txt", Node::Staged("foo")),
-    ("subdir", Node::Folder),
-    ("subdir/nested.txt", Node::Staged("bars")),
+const NODES: [(&str, FolderNode<'static>); 3] = [
+    ("test.txt", FolderNode::Staged("foo")),
+    ("subdir", FolderNode::Folder),
+    ("subdir/nested.txt", FolderNode::Staged("bars")),
 ];
 
 /// Nothing is at the first two paths. At the others are a directory, a file with other content, and an unchanged file.

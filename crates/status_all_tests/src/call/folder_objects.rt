@@ -4,7 +4,7 @@ use crate::call::entries::{EntryRow, index};
 use crate::call::nodes::{later_file, worktree};
 use crate::call::reports::{found, is_at, is_changed};
 use crate::contents::Content;
-use crate::folders::{Node, fill, own_folder};
+use crate::folders::{FolderNode, fill, own_folder};
 use crate::stats::{LATER, stat};
 use gix_status::index::{Mode, State};
 use gix_status::index_as_worktree::{EntryStatus, Error, Outcome, Record};
@@ -45,7 +45,7 @@ enum Verdict {
 struct Row {
     name: &'static str,
     /// The nodes that are put into the folder first.
-    adds: &'static [(&'static str, Node<'static>)],
+    adds: &'static [(&'static str, FolderNode<'static>)],
     /// The folder of the blobs, if it isn't the test's own.
     elsewhere: Option<&'static str>,
     /// The content of the file `a`.
@@ -66,7 +66,7 @@ static ROWS: [Row; 5] = [
     },
     Row {
         name: "a longer file",
-        adds: &[(FOO_DIGITS, Node::Staged("foo"))],
+        adds: &[(FOO_DIGITS, FolderNode::Staged("foo"))],
         elsewhere: None,
         text: b"bars",
         reported: Verdict::Changed(4),
@@ -91,7 +91,7 @@ static ROWS: [Row; 5] = [
     // The directory can't be read as a blob. The interface has no other error for that.
     Row {
         name: "a directory by the name of the second blob",
-        adds: &[(BAR_DIGITS, Node::Folder)],
+        adds: &[(BAR_DIGITS, FolderNode::Folder)],
         elsewhere: None,
         text: b"bars",
         reported: Verdict::Changed(4),

@@ -1,6 +1,6 @@
 //! Reads of a file of the disk that are interrupted.
 
-use crate::folders::{Node, fill, own_folder};
+use crate::folders::{FolderNode, fill, own_folder};
 use bstr::BStr;
 use gix_status::worktree::{DiskWorktree, Fault, ReadBytes, Worktree};
 use std::alloc::Allocator;
@@ -143,7 +143,7 @@ fn is_read_by_one_call_each<W: Worktree>(worktree: &W, reads: &Cell<u32>) -> boo
 #[test]
 fn a_read_that_is_interrupted_is_not_made_again(rt: HostRuntime) -> Result<(), Fail> {
     let folder = own_folder(&rt, "a_read_is_interrupted")?;
-    fill(&rt, folder.as_str(), &[("a", Node::Staged("foo"))])?;
+    fill(&rt, folder.as_str(), &[("a", FolderNode::Staged("foo"))])?;
     let reads = Cell::new(0);
     let interrupting = Interrupting {
         rt: &rt,

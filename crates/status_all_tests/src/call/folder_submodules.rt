@@ -3,7 +3,7 @@
 use crate::call::entries::{EntryRow, index};
 use crate::call::reports::{found, is_taken};
 use crate::contents::Content;
-use crate::folders::{Node, fill, own_folder};
+use crate::folders::{FolderNode, fill, own_folder};
 use gix_status::index::{Mode, ObjectId, State};
 use gix_status::index_as_worktree::traits::HashEq;
 use gix_status::index_as_worktree::{Change, EntryStatus, Error, Options};
@@ -38,7 +38,7 @@ enum Verdict {
 struct Row {
     name: &'static str,
     /// The nodes that are put into the folder first.
-    adds: &'static [(&'static str, Node<'static>)],
+    adds: &'static [(&'static str, FolderNode<'static>)],
     submodules: &'static [EntryRow<'static>],
     /// The entries of each submodule's own index.
     entries: &'static [EntryRow<'static>],
@@ -49,7 +49,10 @@ struct Row {
 static ROWS: [Row; 5] = [
     Row {
         name: "a submodule with an unchanged file",
-        adds: &[("sub", Node::Folder), ("sub/a", Node::Staged("foo"))],
+        adds: &[
+            ("sub", FolderNode::Folder),
+            ("sub/a", FolderNode::Staged("foo")),
+        ],
         submodules: &[("sub", 0, Mode::Commit, Content::Foo)],
         entries: &[("a", 0, Mode::File, Content::Foo)],
         workers: 1,
@@ -57,7 +60,7 @@ static ROWS: [Row; 5] = [
     },
     Row {
         name: "a submodule with a changed file",
-        adds: &[("sub/a", Node::Staged("bars"))],
+        adds: &[("sub/a", FolderNode::Staged("bars"))],
         submodules: &[("sub", 0, Mode::Commit, Content::Foo)],
         entries: &[("a", 0, Mode::File, Content::Foo)],
         workers: 1,
@@ -75,11 +78,11 @@ static ROWS: [Row; 5] = [
     Row {
         name: "two submodules, with one worker",
         adds: &[
-            ("one", Node::Folder),
-            ("one/a", Node::Staged("foo")),
-            ("one/b", Node::Staged("foo")),
-            ("two", Node::Folder),
-            ("two/a", Node::Staged("bars")),
+            ("one", FolderNode::Folder),
+            ("one/a", FolderNode::Staged("foo")),
+            ("one/b", FolderNode::Staged("foo")),
+            ("two", FolderNode::Folder),
+            ("two/a", FolderNode::Staged("bars")),
         ],
         submodules: &[
             ("one", 0, Mode::Commit, Content::Foo),

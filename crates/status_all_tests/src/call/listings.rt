@@ -5,7 +5,7 @@ use crate::call::nodes::{NodeRow, worktree};
 use crate::call::reports::{is_removed, is_taken, read};
 use crate::call::statuses::listed_status;
 use crate::contents::Content;
-use crate::stats::{LATER, STAGED};
+use crate::stats::{LATER, LISTED_FILE, STAGED};
 use bstr::BStr;
 use gix_status::fscache::Stat;
 use gix_status::index::{Mode, ObjectId};
@@ -20,25 +20,9 @@ use std::sync::atomic::{AtomicUsize, Ordering};
 use std::test::Fail;
 use std::thread::Threads;
 
-/// A listed file of three bytes that is as old as the entries.
-pub const FILE: Stat = Stat {
-    is_dir: false,
-    is_symlink: false,
-    size: 3,
-    mtime_secs: STAGED,
-    mtime_nsecs: 0,
-    ctime_secs: STAGED,
-    ctime_nsecs: 0,
-};
-
-const DIRECTORY: Stat = Stat {
+const LISTED_DIRECTORY: Stat = Stat {
     is_dir: true,
-    is_symlink: false,
-    size: 3,
-    mtime_secs: STAGED,
-    mtime_nsecs: 0,
-    ctime_secs: STAGED,
-    ctime_nsecs: 0,
+    ..LISTED_FILE
 };
 
 /// The root lists two files and a directory; `d` can't be listed; `l` lists a file.
@@ -46,13 +30,13 @@ const DIRECTORIES: [Directory<'static>; 3] = [
     (
         "",
         Some(&[
-            ("clean", FILE),
-            ("directory", DIRECTORY),
-            ("executable", FILE),
+            ("clean", LISTED_FILE),
+            ("directory", LISTED_DIRECTORY),
+            ("executable", LISTED_FILE),
         ]),
     ),
     ("d", None),
-    ("l", Some(&[("x", FILE)])),
+    ("l", Some(&[("x", LISTED_FILE)])),
 ];
 
 /// The report of each entry.

@@ -14,8 +14,7 @@ use std::thread::Threads;
 /// How many files a status reads, how many records it has, and the size of the first entry.
 type Counts = (usize, usize, u32);
 
-/// The name of a row, when the index was written, the file, and the counts before a refresh and after
-/// it.
+/// The name of a row, when the index was written, the file, and the counts before a refresh and after it.
 type Row = (&'static str, Moment, NodeRow<'static>, Counts, Counts);
 
 const ROWS: [Row; 2] = [

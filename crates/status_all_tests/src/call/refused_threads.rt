@@ -46,6 +46,7 @@ struct Row {
     end: End,
 }
 
+/// Three entries of files, none of which is there.
 const THREE: [EntryRow<'static>; 3] = [
     ("a", 0, Mode::File, Content::Foo),
     ("b", 0, Mode::File, Content::Foo),

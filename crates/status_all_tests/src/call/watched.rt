@@ -3,13 +3,13 @@
 ghost use Rattle.std.specs.Prelude.{None, false, Err, refl};
 ghost use Rattle.status_index.specs.declared.fault.Fault.TheVariants.{NotFound};
 
+use crate::turns::{MANY_TURNS, comes};
 use bstr::BStr;
 use gix_status::worktree::{
     Fault, Lister, Listing, MemoryFile, MemoryWorktree, Metadata, NodeKind, Worktree,
 };
 use std::alloc::AllocError;
 use std::sync::atomic::{AtomicBool, AtomicUsize, Ordering};
-use std::thread;
 
 /// The side effect of a call of `lstat`, if there is a node.
 #[derive(Clone, Copy)]
@@ -34,17 +34,6 @@ pub struct WatchedWorktree<'a> {
 }
 
 impl<'a> WatchedWorktree<'a> {
-    // Returns whether the other call comes before the turns run out.
-    fn meets(&self) -> bool {
-        for _ in 0..100_000_000u64 {
-            if self.called.load(Ordering::SeqCst) {
-                return true;
-            }
-            thread::yield_now();
-        }
-        false
-    }
-
     // Does the side effect of a call on a path, and returns the result in place of the node that was found.
     fn effect(&self, path: BStr<'_>, found: Metadata) -> Result<Metadata, Fault> {
         match self.on_lstat {
@@ -58,7 +47,7 @@ impl<'a> WatchedWorktree<'a> {
                 if path.as_bytes() == second.as_bytes() {
                     self.called.store(true, Ordering::SeqCst);
                 }
-                if path.as_bytes() == first.as_bytes() && !self.meets() {
+                if path.as_bytes() == first.as_bytes() && !comes(&self.called, MANY_TURNS) {
                     return Err(Fault::Other(1));
                 }
             }

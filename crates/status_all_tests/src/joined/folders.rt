@@ -1,6 +1,6 @@
 //! The joined call over a folder of the disk.
 
-use crate::folders::{Node, fill, own_folder};
+use crate::folders::{FolderNode, fill, own_folder};
 use crate::joined::entries::{RowEntry, index};
 use crate::joined::lines::lines_of;
 use status_base::worktree::DiskWorktree;
@@ -16,11 +16,11 @@ use std::test::Fail;
 use std::thread::Threads;
 
 /// An empty file, and a directory with a file and a link.
-const NODES: [(&str, Node<'static>); 4] = [
-    ("c", Node::Staged("")),
-    ("d", Node::Folder),
-    ("d/b", Node::Staged("foo")),
-    ("d/l", Node::Link("c")),
+const NODES: [(&str, FolderNode<'static>); 4] = [
+    ("c", FolderNode::File("")),
+    ("d", FolderNode::Folder),
+    ("d/b", FolderNode::File("foo")),
+    ("d/l", FolderNode::Link("c")),
 ];
 
 // Asserts the report of a folder, with an index that has a file `a` of the content `foo`.

@@ -1,8 +1,9 @@
 //! Tests of the joined call.
 //!
-//! Begin at `rows`: a row has a small index, a worktree, the arguments of the call, and its report. `walked`,
-//! `rewrites`, `asked`, `ids`, `refusals`, `faults` and `interrupts` are tables of such rows. `threads`, `filters` and
-//! `folders` have their own. `copies` and `words` are about the call's types.
+//! Begin at `rows`: a row has a small index, a worktree, the arguments of the call, and its report. `entries`,
+//! `interfaces`, `details`, `endings`, `exits` and `lines` are parts of a row. `walked`, `rewrites`, `asked`, `ids`,
+//! `refusals`, `faults` and `interrupts` are tables of such rows. `threads`, `filters` and `folders` call the status
+//! themselves. `copies` and `words` are about the call's types.
 
 mod asked;
 mod copies;

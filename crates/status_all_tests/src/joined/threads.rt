@@ -7,6 +7,7 @@ use crate::joined::endings::{Ending, is_ending};
 use crate::joined::entries::{RowEntry, RowNode, index, worktree};
 use crate::joined::lines::lines_of;
 use crate::joined::rows::RENAMES;
+use crate::turns::{MANY_TURNS, comes};
 use bstr::{BStr, BString};
 use status_base::index::State;
 use status_base::worktree::{Fault, MemoryFile, MemoryWorktree, Metadata, Pathspec, Worktree};
@@ -20,7 +21,6 @@ use std::alloc::Global;
 use std::sync::Wait;
 use std::sync::atomic::{AtomicBool, Ordering};
 use std::test::Fail;
-use std::thread;
 use std::thread::Threads;
 
 /// Signals between the threads of a status.
@@ -53,17 +53,6 @@ impl Signals {
     fn passed(&self, is_passed: bool) -> Option<&AtomicBool> {
         if is_passed { Some(&self.flag) } else { None }
     }
-}
-
-// Returns whether a flag is set within so many turns.
-fn comes(flag: &AtomicBool, turns: u64) -> bool {
-    for _ in 0..turns {
-        if flag.load(Ordering::SeqCst) {
-            return true;
-        }
-        thread::yield_now();
-    }
-    false
 }
 
 /// The event that a call of `lstat` waits for.
@@ -121,9 +110,6 @@ impl<'a> Worktree for Watched<'a> {
     }
 }
 
-/// How many turns a call of `lstat` or a walk waits for an event that has to come.
-const MANY: u64 = 100_000_000;
-
 /// Passes `b`, sets the flag after a call of `lstat` began, and then passes `c` and `d`.
 #[derive(Clone, Copy)]
 struct SetsFlag<'a> {
@@ -150,7 +136,7 @@ impl<'a, W: Worktree> Walk<W> for SetsFlag<'a> {
         if first.cancelled {
             return Ok(first);
         }
-        if !comes(&self.signals.looked, MANY) {
+        if !comes(&self.signals.looked, MANY_TURNS) {
             return Err(WalkError::Fault {
                 rela_path: BString::from_slice(self.alloc, "")?,
                 fault: Fault::Other(1),
@@ -190,7 +176,7 @@ const HALVES: Row<'static> = Row {
     name: "the walk and the status run at the same time",
     entries: &[("a", RowEntry::Foo), ("e", RowEntry::Foo)],
     awaits: Awaits::Flag,
-    turns: MANY,
+    turns: MANY_TURNS,
     is_interruptible: false,
     rewrites: None,
     workers: None,

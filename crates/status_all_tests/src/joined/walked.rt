@@ -5,8 +5,7 @@ use crate::joined::endings::Ending;
 use crate::joined::entries::{RowEntry, RowNode};
 use crate::joined::interfaces::WalkKind;
 use crate::joined::rows::{PLAIN, REWRITTEN, Row, is_right};
-use crate::stats::STAGED;
-use status_base::fscache::Stat;
+use crate::stats::LISTED_FILE;
 use status_base::index::Mode;
 use status_tests::callers::joined::walks::{B, C, Found, UNTRACKED};
 use status_tests::callers::listers::Directory;
@@ -61,21 +60,7 @@ const COLLAPSED: Found<'static> = Found {
 };
 
 /// A listing of the root with the file `a`, as it was staged with the content `foo`.
-const LISTED: &[Directory<'static>] = &[(
-    "",
-    Some(&[(
-        "a",
-        Stat {
-            is_dir: false,
-            is_symlink: false,
-            size: 3,
-            mtime_secs: STAGED,
-            mtime_nsecs: 0,
-            ctime_secs: STAGED,
-            ctime_nsecs: 0,
-        },
-    )]),
-)];
+const LISTED: &[Directory<'static>] = &[("", Some(&[("a", LISTED_FILE)]))];
 
 static ROWS: [Row; 10] = [
     // A node that can't be tracked is passed by the walk, and not reported.

@@ -1,6 +1,6 @@
 //! Folders of the disk.
 
-use crate::folders::{Node, fill, own_folder, within, writer};
+use crate::folders::{FolderNode, fill, own_folder, within, writer};
 use bstr::BStr;
 use status_base::worktree::disk::{fault_of, metadata_of};
 use status_base::worktree::{DiskWorktree, Fault, Metadata, NodeKind, ReadBytes, Worktree};
@@ -141,7 +141,7 @@ fn assert_looks<R: Files + AllocGlobal + Abort>(
 fn assert_found<R: Files + AllocGlobal + Abort>(
     rt: &R,
     folder: &str,
-    nodes: &[(&str, Node<'_>)],
+    nodes: &[(&str, FolderNode<'_>)],
     looks: &[(&[u8], Look<'_>)],
 ) -> Result<(), Fail>
 where
@@ -175,12 +175,12 @@ fn stamps_are_reported(rt: HostRuntime) -> Result<(), Fail> {
         nsecs: 0,
     });
     let nodes = [
-        ("a", Node::File("foo")),
-        ("a", Node::Changed(early)),
-        ("late", Node::File("")),
-        ("late", Node::Changed(last)),
-        ("later", Node::File("")),
-        ("later", Node::Changed(last + Duration::from_secs(1))),
+        ("a", FolderNode::File("foo")),
+        ("a", FolderNode::Changed(early)),
+        ("late", FolderNode::File("")),
+        ("late", FolderNode::Changed(last)),
+        ("later", FolderNode::File("")),
+        ("later", FolderNode::Changed(last + Duration::from_secs(1))),
     ];
     let looks = [
         (b"a".as_slice(), Look::Stamp(early_stamp)),
@@ -208,12 +208,12 @@ const FILE: Metadata = Metadata {
 fn nodes_are_reported(rt: HostRuntime) -> Result<(), Fail> {
     let name = "control\n\x01 é";
     let nodes = [
-        ("a", Node::File("foo")),
-        ("a", Node::Changed(Duration::from_secs(5))),
-        ("a", Node::Mode(0o755)),
-        ("l", Node::Link("a")),
-        ("d", Node::Folder),
-        (name, Node::File("x")),
+        ("a", FolderNode::File("foo")),
+        ("a", FolderNode::Changed(Duration::from_secs(5))),
+        ("a", FolderNode::Mode(0o755)),
+        ("l", FolderNode::Link("a")),
+        ("d", FolderNode::Folder),
+        (name, FolderNode::File("x")),
     ];
     let looks = [
         (b"a".as_slice(), Look::Whole(FILE)),
@@ -238,7 +238,7 @@ fn long_paths_lead_below_the_folder(rt: HostRuntime) -> Result<(), Fail> {
     // The path is longer than one for which no memory is taken.
     let path = within(&rt, name, name)?;
     let path = path.as_str();
-    let nodes = [(name, Node::Folder), (path, Node::File("foo"))];
+    let nodes = [(name, FolderNode::Folder), (path, FolderNode::File("foo"))];
     let looks = [
         (path.as_bytes(), Look::Lstat(Ok((NodeKind::File, 3)))),
         (path.as_bytes(), Look::Open(None)),
@@ -250,10 +250,10 @@ fn long_paths_lead_below_the_folder(rt: HostRuntime) -> Result<(), Fail> {
 #[test]
 fn faults_are_named(rt: HostRuntime) -> Result<(), Fail> {
     let nodes = [
-        ("a", Node::File("foo")),
-        ("loop", Node::Link("loop")),
-        ("dangling", Node::Link("gone")),
-        ("d", Node::Folder),
+        ("a", FolderNode::File("foo")),
+        ("loop", FolderNode::Link("loop")),
+        ("dangling", FolderNode::Link("gone")),
+        ("d", FolderNode::Folder),
     ];
     let looks = [
         (b"x".as_slice(), Look::Nothing(Fault::NotFound)),
@@ -304,11 +304,11 @@ where
     R::File: Drop,
 {
     let nodes = [
-        ("a", Node::File("foo")),
-        ("d", Node::Folder),
-        ("d/b", Node::File("bar")),
-        ("a", Node::Mode(0)),
-        ("d", Node::Mode(0)),
+        ("a", FolderNode::File("foo")),
+        ("d", FolderNode::Folder),
+        ("d/b", FolderNode::File("bar")),
+        ("a", FolderNode::Mode(0)),
+        ("d", FolderNode::Mode(0)),
     ];
     fill(rt, folder, &nodes)?;
     let locked = found_when_locked(rt, folder)?;
@@ -326,7 +326,7 @@ fn unreadable_nodes_are_refused(rt: HostRuntime) -> Result<(), Fail> {
     let folder = own_folder(&rt, "unreadable")?;
     assert_locked(&rt, folder.as_str())?;
     // A folder that may not be read can't be removed.
-    fill(&rt, folder.as_str(), &[("d", Node::Mode(0o700))])?;
+    fill(&rt, folder.as_str(), &[("d", FolderNode::Mode(0o700))])?;
     fs::remove_dir_all(&rt, folder.as_str())?;
     Ok(())
 }

@@ -2,7 +2,8 @@
 
 ghost use Rattle.std.specs.Prelude.{◌≡◌, [], false};
 
-use crate::folders::{Node, fill, own_folder, within};
+use crate::folders::{FolderNode, fill, own_folder, within};
+use crate::nodes::metadata;
 use crate::parts::walks::index;
 use bstr::BStr;
 use status_base::worktree::{
@@ -135,36 +136,36 @@ fn assert_folder<R: Files + AllocGlobal + Abort>(
     assert_walks(rt, root, &worktree, entries, cases)
 }
 
-static NODES: [(&str, Node); 29] = [
-    ("a", Node::Folder),
-    ("a/c", Node::Folder),
-    (".git", Node::Folder),
-    (".git/refs", Node::Folder),
-    ("n", Node::Folder),
-    ("n/.git", Node::Folder),
-    ("sub", Node::Folder),
-    ("sub/y", Node::Folder),
-    ("empty", Node::Folder),
-    ("empty/e", Node::Folder),
-    ("a-", Node::File("")),
-    ("a/b", Node::File("")),
-    ("a/c/d", Node::File("")),
-    ("a0", Node::File("")),
-    ("t", Node::File("")),
-    ("t.x", Node::File("")),
-    ("a/t", Node::File("")),
-    (".git/config", Node::File("")),
-    (".git/refs/head", Node::File("")),
-    (".gitignore", Node::File("")),
-    ("n/.git/config", Node::File("")),
-    ("n/f", Node::File("")),
-    ("sub/x", Node::File("")),
-    ("sub/y/z", Node::File("")),
-    ("sub.x", Node::File("")),
-    ("é\n\x01", Node::File("")),
-    ("l", Node::Link("a")),
-    ("sub-", Node::Link("gone")),
-    ("s", Node::Link("x")),
+static NODES: [(&str, FolderNode); 29] = [
+    ("a", FolderNode::Folder),
+    ("a/c", FolderNode::Folder),
+    (".git", FolderNode::Folder),
+    (".git/refs", FolderNode::Folder),
+    ("n", FolderNode::Folder),
+    ("n/.git", FolderNode::Folder),
+    ("sub", FolderNode::Folder),
+    ("sub/y", FolderNode::Folder),
+    ("empty", FolderNode::Folder),
+    ("empty/e", FolderNode::Folder),
+    ("a-", FolderNode::File("")),
+    ("a/b", FolderNode::File("")),
+    ("a/c/d", FolderNode::File("")),
+    ("a0", FolderNode::File("")),
+    ("t", FolderNode::File("")),
+    ("t.x", FolderNode::File("")),
+    ("a/t", FolderNode::File("")),
+    (".git/config", FolderNode::File("")),
+    (".git/refs/head", FolderNode::File("")),
+    (".gitignore", FolderNode::File("")),
+    ("n/.git/config", FolderNode::File("")),
+    ("n/f", FolderNode::File("")),
+    ("sub/x", FolderNode::File("")),
+    ("sub/y/z", FolderNode::File("")),
+    ("sub.x", FolderNode::File("")),
+    ("é\n\x01", FolderNode::File("")),
+    ("l", FolderNode::Link("a")),
+    ("sub-", FolderNode::Link("gone")),
+    ("s", FolderNode::Link("x")),
 ];
 
 static ENTRIES: [(&str, Mode); 5] = [
@@ -209,7 +210,7 @@ fn a_folder_that_is_not_there_has_nothing(rt: HostRuntime) -> Result<(), Fail> {
         within(&rt, folder.as_str(), "x")?,
         within(&rt, folder.as_str(), "f")?,
     );
-    fill(&rt, folder.as_str(), &[("f", Node::File(""))])?;
+    fill(&rt, folder.as_str(), &[("f", FolderNode::File(""))])?;
     assert_folder(&rt, missing.as_str(), &[], &[all("all 0\n")])?;
     assert_folder(&rt, file.as_str(), &[], &[all(": not a directory\n")])?;
     fs::remove_dir_all(&rt, folder.as_str())?;
@@ -222,7 +223,7 @@ fn reads_all<R: Files + AllocGlobal>(rt: &R, root: &str) -> io::Result<bool>
 where
     R::File: Drop,
 {
-    fill(rt, root, &[("d", Node::Mode(0))])?;
+    fill(rt, root, &[("d", FolderNode::Mode(0))])?;
     let path = within(rt, root, "d/b")?;
     Ok(fs::symlink_metadata(rt, path.as_str()).is_ok())
 }
@@ -243,7 +244,7 @@ where
     } else {
         refused
     };
-    fill(rt, root, &[("d", Node::Mode(mode))])?;
+    fill(rt, root, &[("d", FolderNode::Mode(mode))])?;
     assert_folder(rt, root, &[], &[all(found)])
 }
 
@@ -251,11 +252,15 @@ where
 fn directories_that_may_not_be_read_are_faults(rt: HostRuntime) -> Result<(), Fail> {
     let folder = own_folder(&rt, "disk_walk_locked")?;
     let root = folder.as_str();
-    fill(&rt, root, &[("d", Node::Folder), ("d/b", Node::File(""))])?;
+    fill(
+        &rt,
+        root,
+        &[("d", FolderNode::Folder), ("d/b", FolderNode::File(""))],
+    )?;
     // Without the permission to list, and then with only that permission.
     assert_locked(&rt, root, 0o300, "d: permission denied\n")?;
     assert_locked(&rt, root, 0o400, "d/b: permission denied\n")?;
-    fill(&rt, root, &[("d", Node::Mode(0o700))])?;
+    fill(&rt, root, &[("d", FolderNode::Mode(0o700))])?;
     fs::remove_dir_all(&rt, root)?;
     Ok(())
 }
@@ -285,17 +290,7 @@ impl Worktree for ByLetter {
             [.., b'd'] => NodeKind::Directory,
             _ => NodeKind::File,
         };
-        Ok(Metadata {
-            kind,
-            len: 0,
-            executable: false,
-            mtime: None,
-            ctime: None,
-            dev: 0,
-            ino: 0,
-            uid: 0,
-            gid: 0,
-        })
+        Ok(metadata(kind))
     }
 
     fn open(&self, _path: BStr<'_>) -> Result<MemoryFile, Fault> {
@@ -308,16 +303,16 @@ impl Worktree for ByLetter {
     }
 }
 
-static BY_LETTER: [(&str, Node); 9] = [
-    ("d", Node::Folder),
-    ("gd", Node::Folder),
-    ("g", Node::Folder),
-    ("p", Node::Folder),
-    ("d/f", Node::File("")),
-    ("d/p", Node::File("")),
-    ("d/g", Node::File("")),
-    ("g/f", Node::File("")),
-    ("p/f", Node::File("")),
+static BY_LETTER: [(&str, FolderNode); 9] = [
+    ("d", FolderNode::Folder),
+    ("gd", FolderNode::Folder),
+    ("g", FolderNode::Folder),
+    ("p", FolderNode::Folder),
+    ("d/f", FolderNode::File("")),
+    ("d/p", FolderNode::File("")),
+    ("d/g", FolderNode::File("")),
+    ("g/f", FolderNode::File("")),
+    ("p/f", FolderNode::File("")),
 ];
 
 #[test]
@@ -333,7 +328,7 @@ fn nodes_are_what_lstat_says(rt: HostRuntime) -> Result<(), Fail> {
         &[],
         &[all("d/f file\nd/p other\np other\nall 3\n")],
     )?;
-    fill(&rt, root, &[("d/r", Node::File(""))])?;
+    fill(&rt, root, &[("d/r", FolderNode::File(""))])?;
     assert_walks(
         &rt,
         root,
@@ -342,7 +337,7 @@ fn nodes_are_what_lstat_says(rt: HostRuntime) -> Result<(), Fail> {
         &[all("d/r: permission denied\n")],
     )?;
     // A walk that ends before the fault doesn't return it.
-    fill(&rt, root, &[("c", Node::File(""))])?;
+    fill(&rt, root, &[("c", FolderNode::File(""))])?;
     let first = Case {
         room: 1,
         ..all("c file\ncancelled at 1\n")

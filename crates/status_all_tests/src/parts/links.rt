@@ -1,5 +1,6 @@
 //! The check of paths that lead through links: each form of result, and that the counted calls of `lstat` are made.
 
+use crate::nodes::metadata;
 use bstr::{BStr, BString};
 use status_base::stack::SymlinkCheck;
 use status_base::worktree::{Fault, Metadata, NodeKind, ReadBytes, Worktree};
@@ -58,7 +59,7 @@ impl<'a> Worktree for Counted<'a> {
         self.looks.fetch_add(1, Ordering::SeqCst);
         for (name, answer) in self.answers {
             if name.as_bytes() == path.as_bytes() {
-                return answer.map(node);
+                return answer.map(metadata);
             }
         }
         Err(Fault::NotFound)
@@ -70,20 +71,6 @@ impl<'a> Worktree for Counted<'a> {
 
     fn read_link(&self, _path: BStr<'_>, _target: &mut Vec<u8>) -> Result<(), Fault> {
         Err(Fault::NotFound)
-    }
-}
-
-fn node(kind: NodeKind) -> Metadata {
-    Metadata {
-        kind,
-        len: 0,
-        executable: false,
-        mtime: None,
-        ctime: None,
-        dev: 0,
-        ino: 0,
-        uid: 0,
-        gid: 0,
     }
 }
 

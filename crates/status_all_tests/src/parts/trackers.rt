@@ -1,7 +1,5 @@
 //! Trackers: a long list of deleted and added files, and drawn changes compared with a plain count.
 
-ghost use Rattle.status_rewrites.specs.TrackedChanges.{Changed};
-
 use crate::parts::draws::Draws;
 use ChangeKind::{Addition, Deletion, Modification};
 use EntryKind::{Blob, BlobExecutable, Commit, Link};

@@ -3,7 +3,7 @@
 use crate::contents::{BAR, EMPTY};
 use crate::world::reports::{Counts, RACY, READ, STAT, Said, Wanted, are_reports};
 use bstr::{BStr, BString};
-use gix_status::index::{Moment, ObjectId, stat};
+use gix_status::index::{Moment, stat};
 use gix_status::stack::{StackError, SymlinkCheck};
 use gix_status::world::{Comparer, Refusal, World};
 use status_tests::callers::histories::{Run, Setting, Step, history_at};

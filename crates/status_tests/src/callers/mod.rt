@@ -1,5 +1,5 @@
 //! Interfaces and calls of the library as a caller writes them: a comparer, a filter, walks and others. All are proved
-//! to meet their contracts. docs/GUIDE.md quotes some, and other crates of tests use them.
+//! to meet their contracts. docs/GUIDE.md quotes some, and `status_all_tests` uses them.
 
 pub mod collectors;
 pub mod comparers;
