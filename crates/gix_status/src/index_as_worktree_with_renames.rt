@@ -5,3 +5,4 @@ pub use status_joined::index_as_worktree_with_renames::{
     Outcome, Recorder, RewriteSource, Sorting, Summary, VisitEntry, index_as_worktree_with_renames,
     rewrites,
 };
+pub use status_rewrites::Rewrites;

@@ -7,6 +7,7 @@ pub mod index_as_worktree;
 pub mod index_as_worktree_with_renames;
 pub mod tracker;
 pub mod walk;
+pub mod worktree;
 
-pub use status_base::{board, fscache, index, stack, worktree};
+pub use status_base::{board, fscache, index, stack};
 pub use status_world::world;

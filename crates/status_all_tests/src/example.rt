@@ -7,7 +7,7 @@ use gix_status::index_as_worktree::traits::HashEq;
 use gix_status::index_as_worktree::{
     Change, EntryStatus, Options, Recorder, index_as_worktree_with_defaults,
 };
-use gix_status::worktree::{AllPaths, MemoryWorktree, Node, NodeKind};
+use gix_status::worktree::{AllPaths, MemoryWorktree, Node};
 use std::test::Fail;
 
 #[test]
@@ -20,21 +20,10 @@ fn a_change_and_a_removal(rt: HostRuntime) -> Result<(), Fail> {
         index.push_entry(stat, id, Flags::from_stage(0), Mode::File, BStr::from(path))?;
     }
     // The worktree: `a` was written since, and `b` is gone.
-    let time = Some(Time { secs: 7, nsecs: 0 });
-    let node = Node {
-        kind: NodeKind::File,
-        bytes: Vec::from_slice(alloc, b"bar")?,
-        len: 3,
-        executable: false,
-        mtime: time,
-        ctime: time,
-        dev: 0,
-        ino: 0,
-        uid: 0,
-        gid: 0,
-    };
+    let time = Time { secs: 7, nsecs: 0 };
+    let file = Node::file(Vec::from_slice(alloc, b"bar")?, time);
     let mut worktree = MemoryWorktree::new(alloc);
-    worktree.put(BStr::from("a"), node)?;
+    worktree.put(BStr::from("a"), file)?;
     // What comes back: a record for each entry that differs, in content or stat, in the order of the index, and counts.
     let mut collector = Recorder::new(alloc);
     let outcome = index_as_worktree_with_defaults(

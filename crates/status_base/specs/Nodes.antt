@@ -3,6 +3,7 @@ use Rattle.std.specs.Prelude.{◌≡◌, ◌⊎◌, ℕ, Bool, false, ◌==◌, 
 use Rattle.std.specs.FinMap as paths
 use Rattle.std.specs.Global.{Vec}
 use Rattle.status_index.specs.declared.metadata.NodeKind.{NodeKind}
+use Rattle.status_index.specs.declared.stat.Time.{Time}
 use Rattle.status_base.specs.Paths.{abnormal_component}
 use Rattle.status_base.specs.MemoryTree.{Placed, Planted, PathMap, Tree, has_below, has_file_above, is_no_directory_kind}
 use Rattle.status_base.specs.PathTables.{map_of}
@@ -25,6 +26,23 @@ placed_of node = record {
     gid = node.gid;
   };
   bytes = node.bytes.items;
+}
+
+-- A node of these bytes, whose length is their number. Both its times are this one, and everything else is false or 0.
+abbrev pub plain_node : NodeKind → List ℕ → Time → Placed
+plain_node kind bytes time = record {
+  metadata = record {
+    kind = kind;
+    len = length bytes;
+    executable = false;
+    mtime = Some time;
+    ctime = Some time;
+    dev = 0;
+    ino = 0;
+    uid = 0;
+    gid = 0;
+  };
+  bytes = bytes;
 }
 
 -- The paths with the metadata and bytes of their nodes.

@@ -1,5 +1,5 @@
 -- Each failure but a failed output has a line. Each fault is a failure of its own, except that out of memory is one.
-use Rattle.std.specs.Prelude.{ℕ, Bool, true, false, List, [], ◌∷◌, ◌++◌, codes, decimal, string_bytes}
+use Rattle.std.specs.Prelude.{ℕ, Bool, true, false, List, [], ◌∷◌, ◌++◌, codes, decimal}
 use Rattle.status_index.specs.declared.fault.Fault.{Fault}
 use Rattle.status_index.specs.declared.fault.Fault.TheVariants as faults
 use Rattle.status_index.specs.declared.state.IndexError.{IndexError}
@@ -122,7 +122,4 @@ failure_line name (failures.Start refusal) = line (codes "refused start: " ∷ r
 failure_line name (failures.Event refusal at) = line (codes "refused " ∷ decimal at ∷ codes ": " ∷ refusal_text refusal ∷ [])
 failure_line name failures.Output = []
 failure_line name failures.Unwritable = line (codes "cannot write " ∷ name ∷ [])
-failure_line name (failures.Locked lock) = line (codes "cannot write " ∷ name ∷ codes ": " ∷ string_bytes lock ∷ codes " exists; remove it if no other run is writing" ∷ [])
-failure_line name failures.NotRegular = line (codes "cannot write " ∷ name ∷ codes ": not a regular file" ∷ [])
-failure_line name failures.DanglingLink = line (codes "cannot write " ∷ name ∷ codes ": a symbolic link that leads nowhere" ∷ [])
 failure_line name failures.Memory = line (codes "out of memory" ∷ [])

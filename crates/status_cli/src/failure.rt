@@ -46,15 +46,6 @@ pub enum Failure {
     Output,
     /// The file of a refreshed profile can't be written.
     Unwritable,
-    /// The file of a refreshed profile can't be written, since its lock file is there.
-    Locked {
-        /// The path of the lock file.
-        lock: String,
-    },
-    /// The path of a refreshed profile is no regular file's.
-    NotRegular,
-    /// The path of a refreshed profile is that of a symbolic link that leads nowhere.
-    DanglingLink,
     /// Memory ran out.
     Memory,
 }

@@ -69,18 +69,6 @@ impl Failure {
             }
             Failure::Output => Ok(()),
             Failure::Unwritable => print_parts(&["cannot write ", name, "\n"], faults),
-            Failure::Locked { lock } => {
-                let end = " exists; remove it if no other run is writing\n";
-                print_parts(&["cannot write ", name, ": ", lock.as_str(), end], faults)
-            }
-            Failure::NotRegular => print_parts(
-                &["cannot write ", name, ": not a regular file\n"],
-                faults,
-            ),
-            Failure::DanglingLink => {
-                let end = ": a symbolic link that leads nowhere\n";
-                print_parts(&["cannot write ", name, end], faults)
-            }
             Failure::Memory => print_parts(&["out of memory\n"], faults),
         }
     }

@@ -25,8 +25,11 @@ struct Target {
 /// replaces it.
 ///
 /// The new file has the permissions of the one that it replaces. If `name` is a symbolic link, the file that it leads to
-/// is replaced. A node that is no regular file is refused, and so is a link that leads nowhere. If the file with `.lock` is there
-/// already, the error is `Failure::Locked`.
+/// is replaced. A node that is no regular file is refused, and so is a link that leads nowhere. If the file with `.lock`
+/// is there already, nothing is written either.
+///
+/// # Errors
+/// `Failure::Memory` if memory runs out, and `Failure::Unwritable` for everything else.
 pub fn write_whole<R: AllocGlobal + Files>(
     rt: &R,
     name: &str,
@@ -34,13 +37,7 @@ pub fn write_whole<R: AllocGlobal + Files>(
 ) -> Result<(), Failure> {
     let Target { path, mode } = target_of(rt, name)?;
     let lock = format!(in rt.alloc(); "{path}.lock")?;
-    let mut file = match create_lock(rt, lock.as_str(), mode) {
-        Ok(file) => file,
-        Err(error) if error.kind() == io::ErrorKind::AlreadyExists => {
-            return Err(Failure::Locked { lock });
-        }
-        Err(error) => return Err(Failure::of_writing(error)),
-    };
+    let mut file = create_lock(rt, lock.as_str(), mode).map_err(Failure::of_writing)?;
     let filled = fill(&mut file, mode, bytes);
     drop(file);
     match filled.and_then(|()| fs::rename(rt, lock.as_str(), path.as_str())) {
@@ -71,25 +68,18 @@ fn target_of<R: AllocGlobal + Files>(rt: &R, name: &str) -> Result<Target, Failu
 
 /// Returns the file that a symbolic link leads to.
 fn target_of_link<R: AllocGlobal + Files>(rt: &R, name: &str) -> Result<Target, Failure> {
-    let found = match fs::metadata(rt, name) {
-        Ok(found) => found,
-        Err(error) if error.kind() == io::ErrorKind::NotFound => return Err(Failure::DanglingLink),
-        Err(error) => return Err(Failure::of_writing(error)),
-    };
-    let mode = Some(mode_of_file(&found)?);
-    match fs::canonicalize(rt, name) {
-        Ok(path) => Ok(Target {
-            mode,
-            path: path.into_string(),
-        }),
-        Err(error) => Err(Failure::of_writing(error)),
-    }
+    let found = fs::metadata(rt, name).map_err(Failure::of_writing)?;
+    let path = fs::canonicalize(rt, name).map_err(Failure::of_writing)?;
+    Ok(Target {
+        mode: Some(mode_of_file(&found)?),
+        path: path.into_string(),
+    })
 }
 
 /// Returns the permission bits of a regular file.
 fn mode_of_file(found: &Metadata) -> Result<u32, Failure> {
     if !found.is_file() {
-        return Err(Failure::NotRegular);
+        return Err(Failure::Unwritable);
     }
     Ok(found.mode() & PERMISSION_BITS)
 }

@@ -34,8 +34,8 @@ racy_by_seconds Less early = true
 racy_by_seconds Equal early = early
 racy_by_seconds Greater early = false
 
--- The index's timestamp isn't later than the stat's mtime.
--- So a write at the timestamp or after it may leave the stat equal. Nanoseconds are compared only if they count.
+-- The index's timestamp isn't later than the stat's mtime; if nanoseconds don't count, a time in the same second isn't
+-- later. So a write at the timestamp or after it may leave the stat equal.
 abbrev pub is_racy : Options → Moment → Stat → Bool
 is_racy o timestamp a =
     racy_by_seconds (nat_cmp timestamp.secs a.mtime.secs) (not (counts_nsecs o) || nat_le timestamp.nsecs a.mtime.nsecs)

@@ -1,6 +1,7 @@
 //! Owned bytes that are text by convention.
 
 ghost use Rattle.std.specs.Prelude.{◌≡◌, IfOk};
+ghost use Rattle.bstr.specs.BStr.{bstr_bytes};
 
 use bstr::BStr;
 use std::alloc::{AllocError, Global};
@@ -47,18 +48,25 @@ impl ByteText {
     {
         self.bytes.as_slice()
     }
+
+    /// Returns the bytes as a borrowed byte string, the form in which paths are passed.
+    pub fn as_bstr(&self) -> BStr<'_>
+        ensures { bstr_bytes result ≡ self.now }
+    {
+        BStr::new(self.bytes.as_slice())
+    }
 }
 
 impl fmt::Display for ByteText {
     fn fmt<W: fmt::Write>(&self, f: &mut fmt::Formatter<W>) -> fmt::Result {
-        let text = BStr::new(self.as_bytes());
+        let text = self.as_bstr();
         write!(f, "{text}")
     }
 }
 
 impl fmt::Debug for ByteText {
     fn fmt<W: fmt::Write>(&self, f: &mut fmt::Formatter<W>) -> fmt::Result {
-        let text = BStr::new(self.as_bytes());
+        let text = self.as_bstr();
         write!(f, "{text:?}")
     }
 }

@@ -100,7 +100,8 @@ impl State {
         ensures ok { IfOk result (λ s. IsIndex (map new_entry entries.items) × ((index_of s) ≡ map new_entry entries.items) × (timestamp_of s ≡ timestamp)) }
         ensures refused { IfErr result (IsRefusal (map new_entry entries.items)) }
     {
-        let mut state = State::with_room(alloc, &entries, timestamp)?;
+        let path_bytes = path_bytes(&entries);
+        let mut state = State::with_capacity(alloc, entries.len(), path_bytes, timestamp)?;
         for entry in entries {
             state.append(entry)?;
         }
@@ -121,17 +122,21 @@ impl State {
         }
     }
 
-    /// Returns an index without entries, with room for these.
-    fn with_room(
+    /// Returns an index without entries, with room for this many entries whose paths have this many bytes together.
+    ///
+    /// # Errors
+    /// Returns an error if an allocation fails.
+    pub fn with_capacity(
         alloc: Global,
-        entries: &[NewEntry],
+        entries: usize,
+        path_bytes: usize,
         timestamp: Moment,
     ) -> Result<State, AllocError>
         ensures index { IfOk result (λ s. (index_of s) ≡ []) }
         ensures timestamp { IfOk result (λ s. timestamp_of s ≡ timestamp) }
     {
-        let bytes = Vec::with_capacity(alloc, path_bytes(entries))?;
-        let entries = Vec::with_capacity(alloc, entries.len())?;
+        let bytes = Vec::with_capacity(alloc, path_bytes)?;
+        let entries = Vec::with_capacity(alloc, entries)?;
         Ok(State {
             entries,
             backing: PathStorage { bytes },
@@ -251,6 +256,8 @@ impl State {
 
     /// Returns the same range, and how many paths were compared with the prefix. These are none for an empty prefix,
     /// and otherwise at most twice as many as the number of entries has binary digits.
+    ///
+    /// The clauses bound only the returned number. They don't say that each comparison is counted.
     pub fn prefixed_entries_range_counted(&self, prefix: BStr<'_>) -> (Option<Range<usize>>, u32)
         ensures range { IsPrefixed (index_of self.now) (bstr_bytes prefix.entry) result.0 }
         ensures few { (digits : ℕ) → length (entries_of self.now) < 2 ^ digits → result.1 ≤ 2 * digits }

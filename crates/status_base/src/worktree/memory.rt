@@ -7,7 +7,7 @@ ghost use Rattle.std.specs.Option.{option_map};
 ghost use Rattle.std.specs.FinMap as paths;
 ghost use Rattle.bstr.specs.BStr.{bstr_bytes};
 ghost use Rattle.status_base.specs.MemoryTree.{is_no_directory, has_below, has_file_above, absence, bare_directory, planted_or_none, planted_at, planted_content, fault_without_node};
-ghost use Rattle.status_base.specs.Nodes.{placed_of, placed_entries, is_bad_path, put_fault, IsLookedBelow, IsPut};
+ghost use Rattle.status_base.specs.Nodes.{placed_of, placed_entries, plain_node, is_bad_path, put_fault, IsLookedBelow, IsPut};
 ghost use Rattle.status_base.specs.Points.{IsPlanted};
 ghost use Rattle.status_base.specs.declared.worktree.memory.Node.{Node as NodeValue};
 ghost use Rattle.status_base.specs.Trees.{empty_tree};
@@ -51,6 +51,48 @@ pub struct Node {
 }
 
 impl Node {
+    /// Returns a regular file of this content, which isn't executable. Both times are the given one. Device, inode and
+    /// owners are 0.
+    pub fn file(content: Vec<u8>, time: Time) -> Node
+        ensures { placed_of result ≡ plain_node NodeKind.File content.items time }
+    {
+        Node::plain(NodeKind::File, content, time)
+    }
+
+    /// Returns a symbolic link to this target. Both times are the given one. Device, inode and owners are 0.
+    pub fn link(target: Vec<u8>, time: Time) -> Node
+        ensures { placed_of result ≡ plain_node NodeKind.Link target.items time }
+    {
+        Node::plain(NodeKind::Link, target, time)
+    }
+
+    /// Returns a directory. Its times are 1970, and everything else is 0. A directory needs to be put only if no node
+    /// is below it.
+    pub fn directory(alloc: Global) -> Node
+        ensures { placed_of result ≡ plain_node NodeKind.Directory [] (record { secs = 0; nsecs = 0 }) }
+    {
+        let never = Time { secs: 0, nsecs: 0 };
+        Node::plain(NodeKind::Directory, Vec::new(alloc), never)
+    }
+
+    /// Returns a node of these bytes, whose length is their number.
+    fn plain(kind: NodeKind, bytes: Vec<u8>, time: Time) -> Node
+        ensures { placed_of result ≡ plain_node kind bytes.items time }
+    {
+        Node {
+            kind,
+            len: bytes.len() as u64,
+            bytes,
+            executable: false,
+            mtime: Some(time),
+            ctime: Some(time),
+            dev: 0,
+            ino: 0,
+            uid: 0,
+            gid: 0,
+        }
+    }
+
     /// Returns the metadata that `lstat` reports of the node.
     pub fn metadata(&self) -> Metadata
         ensures { result ≡ (placed_of self.now).metadata }

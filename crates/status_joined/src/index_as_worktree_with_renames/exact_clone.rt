@@ -5,8 +5,8 @@ use status_base::index::ObjectId;
 /// A value whose clones equal it. If an entry is copied, its status is reported twice: for the entry and for the copy.
 /// So the values that a comparer and a submodule report have to be such.
 ///
-/// Implement it for a type of your own that has an exact clone. Numbers, `bool`, `()`, `ObjectId` and options of such
-/// values have it.
+/// Implement it for a type of your own that has an exact clone. `u8`, `u16`, `u32`, `u64`, `usize`, `bool`, `()`,
+/// `ObjectId` and options of such values have it.
 pub trait ExactClone: Clone {
     ghost use Rattle.std.specs.Prelude.{◌≡◌};
 

@@ -8,6 +8,7 @@ ghost use Rattle.status_call.specs.Outcomes.{skipped_of};
 ghost use Rattle.status_tests.specs.Clean.{FailsAtFirstFault, SaysClean};
 
 use gix_status::index::{Moment, State};
+use gix_status::index_as_worktree::inputs::{Ask, Inputs};
 use gix_status::index_as_worktree::traits::{CompareBlobs, HashEq};
 use gix_status::index_as_worktree::{
     ApplyChange, Capabilities, Context, Error, Options, Outcome, Record, Recorder, VisitEntry,
@@ -17,7 +18,6 @@ use gix_status::worktree::{
     AllPaths, Find, MemoryObjects, NoFilter, NoLister, NoSubmodules, Pathspec, SubmoduleStatus,
     ToGit, Worktree,
 };
-use status_call::index_as_worktree::inputs::{Ask, Inputs};
 use std::alloc::Global;
 use std::sync::Wait;
 use std::sync::atomic::AtomicBool;

@@ -4,7 +4,7 @@ ghost use Rattle.std.specs.Prelude.{false, Err};
 ghost use Rattle.status_index.specs.declared.fault.Fault.TheVariants.{NotFound};
 
 use bstr::BStr;
-use status_base::worktree::{Fault, MemoryFile, MemoryWorktree, Metadata, ReadBytes, Worktree};
+use gix_status::worktree::{Fault, MemoryFile, MemoryWorktree, Metadata, ReadBytes, Worktree};
 
 /// The call of a worktree that fails.
 #[derive(Clone, Copy, PartialEq, Eq)]

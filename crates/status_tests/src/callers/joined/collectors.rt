@@ -1,6 +1,6 @@
 //! A collector that runs out of memory.
 
-use status_joined::index_as_worktree_with_renames::{Entry, VisitEntry};
+use gix_status::index_as_worktree_with_renames::{Entry, VisitEntry};
 use std::alloc::AllocError;
 
 /// Passes `room` entries on to `collector`, and returns out of memory for the next.

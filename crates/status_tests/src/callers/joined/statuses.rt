@@ -3,19 +3,19 @@
 //! Other options or an interrupt flag are set as fields: `JoinedRequest { options: .., ..request }`. `report.answer` is
 //! the result of the call, and `report.records` are the reported entries.
 
-use status_base::index::{ObjectId, State};
-use status_base::worktree::{
-    AllPaths, Lister, MemoryObjects, NoFilter, NoLister, NoSubmodules, SubmoduleStatus, ToGit,
-    Worktree,
-};
-use status_call::index_as_worktree::{self, Capabilities};
-use status_compare::HashEq;
-use status_joined::index_as_worktree_with_renames::{
+use gix_status::index::{ObjectId, State};
+use gix_status::index_as_worktree::traits::HashEq;
+use gix_status::index_as_worktree::{self, Capabilities};
+use gix_status::index_as_worktree_with_renames::{
     Context, DirwalkContext, Entry, Error, ExactClone, Options, Outcome, Recorder, Sorting,
     VisitEntry, index_as_worktree_with_renames,
 };
-use status_rewrites::{Rewrites, Tracker};
-use status_walk::Walk;
+use gix_status::tracker::{Rewrites, Tracker};
+use gix_status::walk::Walk;
+use gix_status::worktree::{
+    AllPaths, Lister, MemoryObjects, NoFilter, NoLister, NoSubmodules, SubmoduleStatus, ToGit,
+    Worktree,
+};
 use std::alloc::Global;
 use std::sync::Wait;
 use std::sync::atomic::AtomicBool;

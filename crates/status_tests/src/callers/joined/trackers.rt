@@ -2,7 +2,7 @@
 
 ghost use Rattle.std.specs.Prelude.{⊤};
 
-use status_rewrites::{Change, Pair, Rewrites, Tracker, TrackerError};
+use gix_status::tracker::{Change, Pair, Rewrites, Tracker, TrackerError};
 use std::alloc::Global;
 
 /// A pair: the list positions of its source and its destination.

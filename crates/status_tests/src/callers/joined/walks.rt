@@ -3,9 +3,9 @@
 ghost use Rattle.std.specs.Prelude.{◌≡◌, false, None, IfOk};
 
 use bstr::{BStr, BString};
-use status_base::index::State;
-use status_base::worktree::{Fault, Pathspec, Worktree};
-use status_walk::{Action, Delegate, DirEntry, Kind, Outcome, Status, Walk, WalkError};
+use gix_status::index::State;
+use gix_status::walk::{Action, Delegate, DirEntry, Kind, Outcome, Status, Walk, WalkError};
+use gix_status::worktree::{Fault, Pathspec, Worktree};
 use std::alloc::{AllocError, Global};
 
 /// A node that a walk passes to its delegate.

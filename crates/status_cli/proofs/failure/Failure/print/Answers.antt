@@ -5,9 +5,3 @@ returns-in-Worktree g c other = rw c.in-Worktree.is (rw (c.tree_error_words-word
 
 pub returns-in-Start : goal.returns-in-Start
 returns-in-Start g c other = rw c.in-Start.is (rw c.refusal_words.ensures at c.print_parts-in-Start.ensures)
-
-pub returns-in-Locked : goal.returns-in-Locked
-returns-in-Locked g c other = rw c.in-Locked.is (rw c.as_str.ensures.value at c.print_parts-in-Locked.ensures)
-
-pub returns-in-NotRegular : goal.returns-in-NotRegular
-returns-in-NotRegular g c other = rw c.in-NotRegular.is c.print_parts-in-NotRegular.ensures
