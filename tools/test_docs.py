@@ -93,11 +93,6 @@ def places(words, texts):
     return [place for place, text in texts.items() for _ in re.findall(words, text)]
 
 
-def count_words(text):
-    """Returns how many words a page has: parts between blanks and bars of tables, with a letter or a digit."""
-    return len(re.findall(r"[^\s|]*\w[^\s|]*", text))
-
-
 class Docs(unittest.TestCase):
     def test_links_lead_to_files_and_headings(self):
         for name, page in pages().items():
@@ -154,7 +149,7 @@ class Docs(unittest.TestCase):
 
     def test_the_definitions_are_in_the_files_that_are_named(self):
         page = text_of("docs", "PROOFS.md")
-        parts = re.findall(r"^### (status_\w+)\n(.*?)(?=^##|\Z)", page, re.M | re.S)
+        parts = re.findall(r"^### (\w+)\n(.*?)(?=^##|\Z)", page, re.M | re.S)
         there = {path.split(os.sep)[-2] for path in glob.glob(os.path.join(TOP, "crates", "*", "specs"))}
         self.assertEqual({crate for crate, _ in parts}, there - {"status_tests"})
         for crate, part in parts:
@@ -168,7 +163,7 @@ class Docs(unittest.TestCase):
     def test_the_definitions_have_the_same_sentences_in_specs(self):
         page = text_of("docs", "PROOFS.md")
         rows = 0
-        for crate, part in re.findall(r"^### (status_\w+)\n(.*?)(?=^##|\Z)", page, re.M | re.S):
+        for crate, part in re.findall(r"^### (\w+)\n(.*?)(?=^##|\Z)", page, re.M | re.S):
             for files, sentence in re.findall(r"^\| (`[^|]*?) \| [^|]* \| ([^|]*?) \|", part, re.M):
                 names = re.findall(r"`(\w+)`", files)
                 texts = [text_of("crates", crate, "specs", name + ".antt") for name in names]
@@ -187,19 +182,12 @@ class Words(unittest.TestCase):
     def test_words_to_avoid_are_written_no_more_often(self):
         texts = written()
         for most, words, instead in ceilings():
-            if words == "(any word)":
-                continue
             there = places(words, texts)
             with self.subTest(words=words):
                 message = f"at {len(there)} places, and at most {most}; write: {instead}; see --list"
                 self.assertLessEqual(len(there), most, message)
             if len(there) < most:
                 print(f"tools/words.txt: lower {most} to {len(there)}: {words}")
-
-    def test_the_pages_have_no_more_words(self):
-        most = next(most for most, words, _ in ceilings() if words == "(any word)")
-        counts = {path: count_words(page) for path, page in pages().items()}
-        self.assertLessEqual(sum(counts.values()), most, counts)
 
     def test_comments_are_found(self):
         text = "//! One\nfn f() {} // two\n    /// three\nlet url = \"https://four\";\n//\n"
@@ -212,17 +200,16 @@ class Words(unittest.TestCase):
         self.assertEqual(paragraphs(enumerate(page.splitlines(), 1)), joined)
         self.assertEqual(paragraphs([(1, "one"), (3, "two"), (4, "three")]), {1: "one", 3: "two three"})
 
-    def test_words_are_counted_wherever_they_are(self):
+    def test_words_to_avoid_are_found_wherever_they_are(self):
         texts = {"a:1": "Just where it stands, stands it.", "b:2": "It understands."}
         self.assertEqual(places(r"\bstands\b", texts), ["a:1", "a:1"])
-        self.assertEqual(count_words("| a | `b` and|c |\n|---|---|\n- d's, 1.\n"), 6)
 
 
 if __name__ == "__main__":
     if sys.argv[1:] == ["--list"]:
         everything = written()
         for limit, expression, _ in ceilings():
-            for place in places(expression, everything) if limit and expression != "(any word)" else []:
+            for place in places(expression, everything) if limit else []:
                 print(f"{expression}: {place}")
     else:
         unittest.main()

@@ -1,0 +1,16 @@
+pub mod Bits
+pub mod Fields
+pub mod EntryFields
+pub mod Flags
+pub mod Header
+pub mod Widths
+pub mod Names
+pub mod Views
+pub mod Whole
+pub mod Listing
+pub mod EntriesRead
+pub mod OneFile
+pub mod Common
+pub mod Written
+pub mod Rewritten
+pub mod FileRead

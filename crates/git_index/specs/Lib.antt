@@ -1,0 +1,11 @@
+pub mod Numbers
+pub mod RawEntry
+pub mod EntryViews
+pub mod Paths
+pub mod Views
+pub mod File
+pub mod Reading
+pub mod Refusals
+pub mod Counting
+pub mod Writing
+pub mod WholeFile

@@ -1,0 +1,23 @@
+//! Git's index file: its entries read and written, versions 2, 3 and 4, with SHA-1 and SHA-256.
+//!
+//! Read `index_file` first, the file in memory, and `read`: a file is a header, entries, extensions and a checksum.
+//! `entry` reads the bytes of one entry, with `number`, and `paths` makes its path. `extensions` and `checksum` read the
+//! file's end, and `write` writes a file. `fault` has the errors.
+#![tactic(auto)]
+
+mod checksum;
+mod entry;
+mod extensions;
+pub mod fault;
+pub mod index_file;
+mod number;
+mod paths;
+mod read;
+#[cfg(test)]
+mod tests;
+mod write;
+
+pub use fault::{Fault, IndexFileError};
+pub use index_file::IndexFile;
+pub use read::read_index;
+pub use write::write_index;

@@ -1,0 +1,169 @@
+//! Reads a file.
+
+ghost use Rattle.std.specs.Prelude.{◌≡◌, ◌↔◌, ◌≤◌, [], List, length, IfOk, IfErr, MatchResult, false, replicate};
+ghost use Rattle.status_index.specs.Entries.{IndexEntry, IsIndex};
+ghost use Rattle.status_index.specs.States.{index_of, timestamp_of};
+ghost use Rattle.git_index.specs.RawEntry.{RawEntry as FileEntry, id_len};
+ghost use Rattle.git_index.specs.Reading.{Reads, header_at};
+ghost use Rattle.git_index.specs.File.{IsFileOf, IsIndexFile};
+ghost use Rattle.git_index.specs.WholeFile.{IsWholeFile};
+ghost use Rattle.git_index.specs.Refusals.{IsFileRefusal, sum_of};
+ghost use Rattle.git_index.specs.Counting.{IsEntriesError, IsExtensionError, AreEntries};
+
+use crate::checksum::{id_len_of, is_checksum};
+use crate::entry::{PREFIXED, raw_of};
+use crate::extensions::{NoExtension, check_extensions};
+use crate::fault::{Fault, IndexFileError};
+use crate::index_file::IndexFile;
+use crate::number::u32_of;
+use crate::paths::push_unless_refused;
+use status_index::{HashKind, Moment, ObjectId, State};
+use std::alloc::{AllocError, Global};
+
+/// The bytes of `DIRC`, as a number.
+const SIGNATURE: u32 = 0x4449_5243;
+
+/// The least number of bytes of an entry: 62 before its name, and a name of two bytes with what is around it.
+const MIN_ENTRY: usize = 64;
+
+/// The index of a file's entries, or why they are none, and the bytes after the entries.
+#[derive(Drop)]
+struct Entries<'a> {
+    state: State,
+    refused: Option<IndexFileError>,
+    rest: &'a [u8],
+}
+
+/// Reads the signature, the version, and the number of entries.
+#[tactic(auto, unfolding(crate::specs::Reading::header_at))]
+fn header_of(bytes: &[u8]) -> Result<((u32, (u32, u32)), &[u8]), Fault>
+    ensures { Reads (λ x. (x.0, x.1.now)) result (header_at bytes.now) }
+{
+    let (signature, rest) = u32_of(bytes)?;
+    if signature != SIGNATURE {
+        return Err(Fault::BadSignature);
+    }
+    let (version, rest) = u32_of(rest)?;
+    if version != 2 && (version != 3 && version != PREFIXED) {
+        return Err(Fault::UnknownVersion);
+    }
+    let (count, rest) = u32_of(rest)?;
+    Ok(((signature, (version, count)), rest))
+}
+
+/// Returns an empty index with room for so many entries, as far as these bytes can have them.
+fn with_room(
+    alloc: Global,
+    count: u32,
+    bytes: &[u8],
+    timestamp: Moment,
+) -> Result<State, AllocError>
+    ensures index { IfOk result (λ s. index_of s ≡ []) }
+    ensures timestamp { IfOk result (λ s. timestamp_of s ≡ timestamp) }
+{
+    let entries = (count as usize).min(bytes.len() / MIN_ENTRY);
+    let path_bytes = bytes.len() - entries * MIN_ENTRY;
+    State::with_capacity(alloc, entries, path_bytes, timestamp)
+}
+
+/// Reads so many entries. If one can't be in the index, the bytes of the others are still read.
+fn entries_of(
+    alloc: Global,
+    kind: HashKind,
+    version: u32,
+    count: u32,
+    bytes: &[u8],
+    timestamp: Moment,
+) -> Result<Entries<'_>, IndexFileError>
+    ensures found { IfOk result (λ r. AreEntries kind version count bytes.now (index_of r.state) r.refused r.rest.now) }
+    ensures timestamp { IfOk result (λ r. timestamp_of r.state ≡ timestamp) }
+    ensures refused { IfErr result (IsEntriesError kind version count bytes.now) }
+{
+    let mut state = with_room(alloc, count, bytes, timestamp)?;
+    let mut last = Vec::new(alloc);
+    let mut refused = None;
+    let mut rest = bytes;
+    'entries: for at in 0..count {
+        let (entry, after) = match raw_of(kind, version, rest) {
+            Ok(found) => found,
+            Err(fault) => return Err(IndexFileError::Entry { at, fault }),
+        };
+        refused = push_unless_refused(&mut state, &mut last, version, at, &entry, refused);
+        rest = after;
+    }
+    Ok(Entries {
+        state,
+        refused,
+        rest,
+    })
+}
+
+/// Returns the error of a file whose extensions aren't read.
+fn extension_error(content: &[u8], none: NoExtension<'_>) -> IndexFileError
+    requires { length none.rest.now ≤ length content.now }
+    ensures { IsExtensionError content.now none.entry.rest.now none.entry.fault result }
+{
+    match (none.fault, none.rest) {
+        (Fault::Required, [a, b, c, d, ..]) => IndexFileError::Required {
+            name: [*a, *b, *c, *d],
+        },
+        _ => IndexFileError::Extension {
+            at: content.len() - none.rest.len(),
+        },
+    }
+}
+
+/// Reads an index file, of version 2, 3 or 4, of a repository whose ids are of this kind. `timestamp` is when the file
+/// was written.
+///
+/// # Errors
+/// The first of these that applies: the file doesn't begin with a header; its checksum is wrong (zeros replace one, as
+/// git's `index.skipHash` writes them); an entry's bytes are wrong; an extension is cut off, or has to be known and isn't;
+/// an entry strips more than the path before it has, states another length than its path's, or can't be at its position.
+/// Or memory ran out, at any time.
+pub fn read_index(
+    alloc: Global,
+    kind: HashKind,
+    bytes: &[u8],
+    timestamp: Moment,
+) -> Result<IndexFile<'_>, IndexFileError>
+    ensures found { IfOk result (λ r. IsFileOf kind bytes.now r.version (index_of r.state) r.extensions.now) }
+    ensures kind { IfOk result (λ r. r.kind ≡ kind) }
+    ensures whole { IfOk result IsWholeFile }
+    ensures sum { IfOk result (λ r. (r.has_checksum ≡ false) ↔ (sum_of kind bytes.now ≡ replicate (id_len kind) 0)) }
+    ensures timestamp { IfOk result (λ r. timestamp_of r.state ≡ timestamp) }
+    ensures only { (es : List IndexEntry) → IsIndexFile kind bytes.now es → IsIndex es
+        → MatchResult result (λ r. (index_of r.state) ≡ es) (λ e. e ≡ IndexFileError.Memory) }
+    ensures refused { IfErr result (IsFileRefusal kind bytes.now) }
+{
+    let sum_len = id_len_of(kind);
+    if bytes.len() < sum_len {
+        return Err(IndexFileError::Header(Fault::Truncated));
+    }
+    let (content, sum) = bytes.split_at(bytes.len() - sum_len);
+    let ((_, (version, count)), rest) = match header_of(content) {
+        Ok(header) => header,
+        Err(fault) => return Err(IndexFileError::Header(fault)),
+    };
+    if !is_checksum(kind, content, sum) {
+        return Err(IndexFileError::Checksum);
+    }
+    let Entries {
+        state,
+        refused,
+        rest,
+    } = entries_of(alloc, kind, version, count, rest, timestamp)?;
+    if let Err(none) = check_extensions(rest) {
+        return Err(extension_error(content, none));
+    }
+    match refused {
+        Some(error) => Err(error),
+        None => Ok(IndexFile {
+            kind,
+            version,
+            state,
+            extensions: rest,
+            has_checksum: sum != ObjectId::null(kind).as_bytes(),
+        }),
+    }
+}
