@@ -1,0 +1,180 @@
+//! The variables of git's configuration.
+
+use bstr::BStr;
+use std::alloc::{AllocError, AllocFailed, Global};
+use std::fmt;
+use thiserror::Error;
+
+/// Why a configuration file isn't read.
+#[derive(Clone, Copy, Debug, PartialEq, Eq, Error)]
+pub enum ConfigError {
+    /// Git can't read a line.
+    #[error("bad config line {line}")]
+    Line {
+        /// The line's number, counted from 1.
+        line: usize,
+    },
+    /// An allocation failed.
+    #[error("Out of memory")]
+    Memory,
+}
+
+impl From<AllocError> for ConfigError {
+    fn from(_error: AllocError) -> ConfigError {
+        ConfigError::Memory
+    }
+}
+
+impl<T: Drop> From<AllocFailed<T>> for ConfigError {
+    fn from(_refused: AllocFailed<T>) -> ConfigError {
+        ConfigError::Memory
+    }
+}
+
+/// A variable of a configuration.
+#[derive(Debug, Drop)]
+pub struct Variable {
+    /// The section in lower case. If there is a subsection, a dot and the subsection follow.
+    pub(crate) header: Vec<u8>,
+    /// The name in lower case.
+    pub(crate) name: Vec<u8>,
+    /// The value. None if the file has no `=`.
+    pub(crate) value: Option<Vec<u8>>,
+}
+
+impl Variable {
+    /// Returns the value. None if the file has no `=` after the name, which git reads as true.
+    pub fn value(&self) -> Option<&[u8]> {
+        match &self.value {
+            Some(value) => Some(value.as_slice()),
+            None => None,
+        }
+    }
+
+    /// Returns whether this is the variable of a section, subsection and name. Section and name are in lower case.
+    pub fn is_named(&self, section: &[u8], subsection: Option<&[u8]>, name: &[u8]) -> bool {
+        let is_below = match subsection {
+            Some(_) => self.subsection_of(section) == subsection,
+            None => self.header.as_slice() == section,
+        };
+        is_below && self.name.as_slice() == name
+    }
+
+    /// Returns the subsection, if the variable is in one of this section. The section is in lower case.
+    pub fn subsection_of(&self, section: &[u8]) -> Option<&[u8]> {
+        self.header
+            .as_slice()
+            .strip_prefix(section)?
+            .strip_prefix(b".")
+    }
+
+    /// Returns the name, if the variable is in this section and in no subsection. The section is in lower case.
+    pub fn name_in(&self, section: &[u8]) -> Option<&[u8]> {
+        (self.header.as_slice() == section).then_some(self.name.as_slice())
+    }
+}
+
+/// Shows the variable as `git config --list` does.
+impl fmt::Display for Variable {
+    fn fmt<W: fmt::Write>(&self, f: &mut fmt::Formatter<W>) -> fmt::Result {
+        let (header, name) = (BStr::new(&self.header), BStr::new(&self.name));
+        match &self.value {
+            Some(value) => {
+                let value = BStr::new(value);
+                write!(f, "{header}.{name}={value}")
+            }
+            None => write!(f, "{header}.{name}"),
+        }
+    }
+}
+
+/// The variables of one or more configuration files, in order. Of several with one name the last counts.
+#[derive(Debug, Drop)]
+pub struct Config {
+    pub(crate) variables: Vec<Variable>,
+}
+
+impl Config {
+    /// Returns a configuration without variables.
+    pub fn new(alloc: Global) -> Config {
+        Config {
+            variables: Vec::new(alloc),
+        }
+    }
+
+    /// Returns the variables in order.
+    pub fn variables(&self) -> &[Variable] {
+        self.variables.as_slice()
+    }
+
+    /// Returns the last variable of this section, subsection and name. Section and name are in lower case.
+    pub fn get(&self, section: &[u8], subsection: Option<&[u8]>, name: &[u8]) -> Option<&Variable> {
+        let mut found = None;
+        for variable in self.variables.iter() {
+            if variable.is_named(section, subsection, name) {
+                found = Some(variable);
+            }
+        }
+        found
+    }
+
+    /// Returns whether a variable includes another file: `include.path`, or `includeIf.CONDITION.path` whether or not the
+    /// condition holds. Such files aren't read.
+    pub fn has_include(&self) -> bool {
+        self.variables.iter().any(|variable| {
+            variable.is_named(b"include", None, b"path")
+                || variable.subsection_of(b"includeif").is_some_and(|condition| variable.is_named(
+                    b"includeif",
+                    Some(condition),
+                    b"path",
+                ))
+        })
+    }
+
+    /// Appends the variables of a file that is read later, which override the earlier ones.
+    ///
+    /// # Errors
+    /// Out of memory.
+    pub fn append(&mut self, later: Config) -> Result<(), AllocError> {
+        for variable in later.variables {
+            self.variables.push(variable)?;
+        }
+        Ok(())
+    }
+
+    /// Appends a variable by its whole name: section, subsection if any, and name with dots between. Without a value it
+    /// is true. A name without a dot is that of no variable, and nothing is appended.
+    ///
+    /// # Errors
+    /// Out of memory.
+    pub fn push(
+        &mut self,
+        alloc: Global,
+        whole: &str,
+        value: Option<&[u8]>,
+    ) -> Result<(), AllocError> {
+        let Some((front, name)) = whole.rsplit_once('.') else {
+            return Ok(());
+        };
+        let (section, subsection) = match front.split_once('.') {
+            Some((section, subsection)) => (section, Some(subsection)),
+            None => (front, None),
+        };
+        let mut header = section.as_bytes().to_ascii_lowercase(alloc)?;
+        if let Some(subsection) = subsection {
+            header.push(b'.')?;
+            header.extend_from_slice(subsection.as_bytes())?;
+        }
+        let name = name.as_bytes().to_ascii_lowercase(alloc)?;
+        let value = match value {
+            Some(value) => Some(Vec::from_slice(alloc, value)?),
+            None => None,
+        };
+        self.variables.push(Variable {
+            header,
+            name,
+            value,
+        })?;
+        Ok(())
+    }
+}

@@ -1,0 +1,131 @@
+//! Why a repository isn't read.
+
+use status_index::Fault;
+use std::alloc::{AllocError, AllocFailed};
+use thiserror::Error;
+
+/// Why a repository or its settings aren't read. The words are git's, if git has the same error.
+#[derive(Debug, Drop, Error)]
+pub enum RepositoryError {
+    /// Neither the folder nor one above it has a repository.
+    #[error("not a git repository (or any of the parent directories): .git")]
+    NotFound,
+    /// A path that has to be that of a repository isn't.
+    #[error("not a git repository: '{path}'")]
+    NotARepository {
+        /// The path.
+        path: String,
+    },
+    /// A file `.git` doesn't name a repository.
+    #[error("invalid gitfile format: {path}")]
+    BadGitFile {
+        /// The file's path.
+        path: String,
+    },
+    /// The working folder isn't there, or isn't a folder.
+    #[error("cannot change to '{path}': {fault}")]
+    NotAFolder {
+        /// The path.
+        path: String,
+        /// Why it is none.
+        fault: Fault,
+    },
+    /// The repository is bare, or the folder is in the repository's own folder.
+    #[error("this operation must be run in a work tree")]
+    NoWorktree,
+    /// Git can't read a line of a configuration file.
+    #[error("bad config line {line} in file {path}")]
+    BadConfig {
+        /// The line's number, counted from 1.
+        line: usize,
+        /// The file's path.
+        path: String,
+    },
+    /// A variable has to be a boolean and isn't.
+    #[error("bad boolean config value '{value}' for '{name}'")]
+    BadBoolean {
+        /// The variable's name.
+        name: &'static str,
+        /// The value.
+        value: String,
+    },
+    /// A variable has to be a number and isn't.
+    #[error("bad numeric config value '{value}' for '{name}'")]
+    BadNumber {
+        /// The variable's name.
+        name: &'static str,
+        /// The value.
+        value: String,
+    },
+    /// A variable has none of its known values.
+    #[error("invalid value for '{name}': '{value}'")]
+    BadValue {
+        /// The variable's name.
+        name: &'static str,
+        /// The value.
+        value: String,
+    },
+    /// The repository's format is newer than the known ones.
+    #[error("Expected git repo version <= 1, found {found}")]
+    UnknownVersion {
+        /// The format's version.
+        found: i32,
+    },
+    /// The repository has an extension that isn't known.
+    #[error("unknown repository extension found: {name}")]
+    UnknownExtension {
+        /// The extension's name.
+        name: String,
+    },
+    /// The repository has an extension that its format's version doesn't have.
+    #[error("repo version is 0, but v1-only extension found: {name}")]
+    NewExtension {
+        /// The extension's name.
+        name: String,
+    },
+    /// An environment variable states no configuration.
+    #[error("bogus configuration in the environment variable {name}")]
+    BadEnvironment {
+        /// The environment variable's name.
+        name: String,
+    },
+    /// A file or a folder can't be read.
+    #[error("unable to access '{path}': {fault}")]
+    Unreadable {
+        /// Its path.
+        path: String,
+        /// Why it can't be read.
+        fault: Fault,
+    },
+    /// A path isn't UTF-8, and the system's paths have to be.
+    #[error("the path '{path}' isn't UTF-8")]
+    IllformedPath {
+        /// The path, with a replacement character for each ill-formed part.
+        path: String,
+    },
+    /// An allocation failed.
+    #[error("Out of memory")]
+    Memory,
+}
+
+impl From<AllocError> for RepositoryError {
+    ghost use Rattle.std.specs.Prelude.{◌≡◌};
+    ghost use Rattle.git_repository.specs.declared.error.RepositoryError.TheVariants.{Memory};
+
+    ghost from_gives = { λ _ e. e ≡ Memory };
+
+    fn from(_error: AllocError) -> RepositoryError {
+        RepositoryError::Memory
+    }
+}
+
+impl<T: Drop> From<AllocFailed<T>> for RepositoryError {
+    ghost use Rattle.std.specs.Prelude.{◌≡◌};
+    ghost use Rattle.git_repository.specs.declared.error.RepositoryError.TheVariants.{Memory};
+
+    ghost from_gives = { λ _ e. e ≡ Memory };
+
+    fn from(_refused: AllocFailed<T>) -> RepositoryError {
+        RepositoryError::Memory
+    }
+}

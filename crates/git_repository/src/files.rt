@@ -1,0 +1,108 @@
+//! Small files, paths and environment variables.
+
+use crate::error::RepositoryError;
+use status_base::worktree::disk::fault_of;
+use std::alloc::{AllocError, Global};
+use std::env::VarError;
+use std::rt::{Env, Files};
+use std::{env, fs, io};
+
+/// Returns a path below a folder, or the path itself if it is absolute.
+///
+/// # Errors
+/// Out of memory.
+pub fn joined(alloc: Global, folder: &str, path: &str) -> Result<String, AllocError> {
+    if path.starts_with('/') {
+        String::from_str(alloc, path)
+    } else if folder.ends_with('/') {
+        format!(in alloc; "{folder}{path}")
+    } else {
+        format!(in alloc; "{folder}/{path}")
+    }
+}
+
+/// Returns the path without links, `.` and `..`.
+///
+/// # Errors
+/// Nothing is there, the system refuses, or out of memory.
+pub fn canonical<R: Files + AllocGlobal>(rt: &R, path: &str) -> Result<String, RepositoryError> {
+    match fs::canonicalize(rt, path) {
+        Ok(found) => Ok(found.into_string()),
+        Err(error) => Err(unreadable(rt.alloc(), path, error.kind())),
+    }
+}
+
+/// Returns the error of a path that the system doesn't read.
+pub fn unreadable(alloc: Global, path: &str, kind: io::ErrorKind) -> RepositoryError {
+    match String::from_str(alloc, path) {
+        Ok(_) if kind == io::ErrorKind::OutOfMemory => RepositoryError::Memory,
+        Ok(path) => RepositoryError::Unreadable {
+            path,
+            fault: fault_of(kind),
+        },
+        Err(_) => RepositoryError::Memory,
+    }
+}
+
+/// Returns a file's bytes. None if there is no file.
+///
+/// # Errors
+/// The file can't be read, or out of memory.
+pub fn read_if_there<R: Files + AllocGlobal>(
+    rt: &R,
+    path: &str,
+) -> Result<Option<Vec<u8>>, RepositoryError> {
+    match fs::read(rt, path) {
+        Ok(bytes) => Ok(Some(bytes)),
+        Err(error) => match error.kind() {
+            io::ErrorKind::NotFound | io::ErrorKind::NotADirectory => Ok(None),
+            kind => Err(unreadable(rt.alloc(), path, kind)),
+        },
+    }
+}
+
+/// Returns whether a folder is at a path, or at the end of links there.
+///
+/// # Errors
+/// Out of memory.
+pub fn is_folder<R: Files>(rt: &R, path: &str) -> Result<bool, RepositoryError> {
+    match fs::metadata(rt, path) {
+        Ok(found) => Ok(found.is_dir()),
+        Err(error) if error.kind() == io::ErrorKind::OutOfMemory => Err(RepositoryError::Memory),
+        Err(_) => Ok(false),
+    }
+}
+
+/// Returns the text of a path that a file has. Line ends after it are left out.
+///
+/// # Errors
+/// The path isn't UTF-8, or out of memory.
+pub fn path_of(alloc: Global, bytes: &[u8]) -> Result<String, RepositoryError> {
+    match str::from_utf8(bytes) {
+        Ok(text) => {
+            let text = text.trim_end_matches(|found| found == '\n' || found == '\r');
+            Ok(String::from_str(alloc, text)?)
+        }
+        Err(_) => Err(RepositoryError::IllformedPath {
+            path: String::from_utf8_lossy(alloc, bytes)?,
+        }),
+    }
+}
+
+/// Returns the value of an environment variable. None if it isn't set.
+///
+/// # Errors
+/// The value isn't UTF-8, or out of memory.
+pub fn variable<R: Env + AllocGlobal>(
+    rt: &R,
+    name: &str,
+) -> Result<Option<String>, RepositoryError> {
+    match env::var(rt, name) {
+        Ok(value) => Ok(Some(value)),
+        Err(VarError::NotPresent) => Ok(None),
+        Err(VarError::NotUnicode) => Err(RepositoryError::BadEnvironment {
+            name: String::from_str(rt.alloc(), name)?,
+        }),
+        Err(VarError::OutOfMemory) => Err(RepositoryError::Memory),
+    }
+}

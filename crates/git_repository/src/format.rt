@@ -1,0 +1,111 @@
+//! The format of a repository.
+
+use crate::config::Config;
+use crate::error::RepositoryError;
+use crate::values::{is_text, number_of, switch};
+use status_index::HashKind;
+use std::alloc::Global;
+
+/// The format that a repository's own configuration states.
+#[derive(Clone, Copy)]
+pub struct Format {
+    /// The digest that makes ids.
+    pub kind: HashKind,
+    /// Whether a worktree has a configuration of its own.
+    pub has_worktree_config: bool,
+}
+
+/// Reads the version of a repository's format, and its extensions.
+///
+/// # Errors
+/// The format isn't known, a value can't be read, or out of memory.
+pub fn read_format(alloc: Global, config: &Config) -> Result<Format, RepositoryError> {
+    let version = read_version(alloc, config)?;
+    if let Some(found) = version
+        && found > 1
+    {
+        return Err(RepositoryError::UnknownVersion { found });
+    }
+    for variable in config.variables() {
+        if let Some(name) = variable.name_in(b"extensions") {
+            check_extension(alloc, name, variable.value(), version)?;
+        }
+    }
+    Ok(Format {
+        kind: read_kind(alloc, config)?,
+        has_worktree_config: switch(alloc, config, "extensions.worktreeconfig")?.unwrap_or(false),
+    })
+}
+
+// Returns the version of the format. None if it isn't set.
+fn read_version(alloc: Global, config: &Config) -> Result<Option<i32>, RepositoryError> {
+    let Some(found) = config.get(b"core", None, b"repositoryformatversion") else {
+        return Ok(None);
+    };
+    let value = found.value().unwrap_or(b"");
+    match number_of(value) {
+        Some(version) => Ok(Some(version)),
+        None => Err(RepositoryError::BadNumber {
+            name: "core.repositoryformatversion",
+            value: String::from_utf8_lossy(alloc, value)?,
+        }),
+    }
+}
+
+// Checks that an extension is known, and that the version of the format has it. A format without a version may have
+// any.
+fn check_extension(
+    alloc: Global,
+    name: &[u8],
+    value: Option<&[u8]>,
+    version: Option<i32>,
+) -> Result<(), RepositoryError> {
+    let is_old = is_old_extension(name);
+    match (version, name) {
+        (Some(1), b"refstorage") if !is_text(value, b"files") => Err(RepositoryError::BadValue {
+            name: "extensions.refstorage",
+            value: String::from_utf8_lossy(alloc, value.unwrap_or(b""))?,
+        }),
+        (Some(0), _) if !is_old && is_new_extension(name) => Err(RepositoryError::NewExtension {
+            name: String::from_utf8_lossy(alloc, name)?,
+        }),
+        (Some(1), _) if !is_old && !is_new_extension(name) => {
+            Err(RepositoryError::UnknownExtension {
+                name: String::from_utf8_lossy(alloc, name)?,
+            })
+        }
+        _ => Ok(()),
+    }
+}
+
+// Returns whether formats of any version may have an extension.
+fn is_old_extension(name: &[u8]) -> bool {
+    matches!(
+        name,
+        b"noop" | b"preciousobjects" | b"partialclone" | b"worktreeconfig"
+    )
+}
+
+// Returns whether only formats of version 1 may have an extension.
+fn is_new_extension(name: &[u8]) -> bool {
+    matches!(
+        name,
+        b"noop-v1" | b"objectformat" | b"refstorage" | b"relativeworktrees"
+    )
+}
+
+// Returns the digest that makes ids.
+fn read_kind(alloc: Global, config: &Config) -> Result<HashKind, RepositoryError> {
+    let Some(found) = config.get(b"extensions", None, b"objectformat") else {
+        return Ok(HashKind::Sha1);
+    };
+    let value = found.value().unwrap_or(b"");
+    match value {
+        b"sha1" => Ok(HashKind::Sha1),
+        b"sha256" => Ok(HashKind::Sha256),
+        _ => Err(RepositoryError::BadValue {
+            name: "extensions.objectformat",
+            value: String::from_utf8_lossy(alloc, value)?,
+        }),
+    }
+}

@@ -1,0 +1,105 @@
+//! The folder of a repository, such as `.git`.
+
+use crate::error::RepositoryError;
+use crate::files::{canonical, is_folder, joined, path_of, read_if_there};
+use crate::heads::has_head;
+use std::rt::Files;
+use std::{fs, io};
+
+// The beginning of a file `.git`, before the path of a repository.
+const GIT_FILE_START: &[u8] = b"gitdir: ";
+
+/// Returns the folder of the repository whose worktree a folder is: `.git` there, or what the file `.git` names. None if
+/// neither is there.
+///
+/// # Errors
+/// A file `.git` names no repository, or out of memory.
+pub fn git_dir_in<R: Files + AllocGlobal>(
+    rt: &R,
+    folder: &str,
+) -> Result<Option<String>, RepositoryError> {
+    let path = joined(rt.alloc(), folder, ".git")?;
+    match fs::metadata(rt, path.as_str()) {
+        Ok(found) if found.is_dir() => {
+            if is_git_dir(rt, path.as_str())? {
+                Ok(Some(path))
+            } else {
+                Ok(None)
+            }
+        }
+        Ok(found) if found.is_file() => Ok(Some(named_git_dir(rt, path)?)),
+        Err(error) if error.kind() == io::ErrorKind::OutOfMemory => Err(RepositoryError::Memory),
+        _ => Ok(None),
+    }
+}
+
+/// Returns the repository's folder that a path is, or that the file there names.
+///
+/// # Errors
+/// The path is none and the file names none, or out of memory.
+pub fn named_git_dir<R: Files + AllocGlobal>(
+    rt: &R,
+    path: String,
+) -> Result<String, RepositoryError> {
+    let alloc = rt.alloc();
+    let git_dir = if is_folder(rt, path.as_str())? {
+        path
+    } else {
+        let Some(bytes) = read_if_there(rt, path.as_str())? else {
+            return Err(RepositoryError::NotARepository { path });
+        };
+        let Some(named) = bytes.as_slice().strip_prefix(GIT_FILE_START) else {
+            return Err(RepositoryError::BadGitFile { path });
+        };
+        let folder = parent_of(path.as_str()).unwrap_or("/");
+        joined(alloc, folder, path_of(alloc, named)?.as_str())?
+    };
+    if is_git_dir(rt, git_dir.as_str())? {
+        canonical(rt, git_dir.as_str())
+    } else {
+        Err(RepositoryError::NotARepository { path: git_dir })
+    }
+}
+
+/// Returns whether a folder is that of a repository: `HEAD` is one that git accepts, and folders `objects` and `refs` are
+/// there.
+///
+/// # Errors
+/// The file `commondir` can't be read, or out of memory.
+pub fn is_git_dir<R: Files + AllocGlobal>(rt: &R, folder: &str) -> Result<bool, RepositoryError> {
+    let alloc = rt.alloc();
+    if !has_head(rt, folder)? {
+        return Ok(false);
+    }
+    let common_dir = common_dir_of(rt, folder)?;
+    let objects = joined(alloc, common_dir.as_str(), "objects")?;
+    let refs = joined(alloc, common_dir.as_str(), "refs")?;
+    Ok(is_folder(rt, objects.as_str())? && is_folder(rt, refs.as_str())?)
+}
+
+/// Returns the folder of the repository whose linked worktree has this folder. That of any other is its own.
+///
+/// # Errors
+/// The file `commondir` can't be read, or out of memory.
+pub fn common_dir_of<R: Files + AllocGlobal>(
+    rt: &R,
+    git_dir: &str,
+) -> Result<String, RepositoryError> {
+    let alloc = rt.alloc();
+    match read_if_there(rt, joined(alloc, git_dir, "commondir")?.as_str())? {
+        Some(bytes) => {
+            let path = path_of(alloc, &bytes)?;
+            Ok(joined(alloc, git_dir, path.as_str())?)
+        }
+        None => Ok(String::from_str(alloc, git_dir)?),
+    }
+}
+
+/// Returns the folder above an absolute path. None above the root.
+pub fn parent_of(path: &str) -> Option<&str> {
+    match path.rsplit_once('/') {
+        Some((_, "")) | None => None,
+        Some(("", _)) => Some("/"),
+        Some((parent, _)) => Some(parent),
+    }
+}

@@ -1,0 +1,163 @@
+//! The head of a repository: which `HEAD` git accepts, and the commit that it leads to.
+
+use crate::error::RepositoryError;
+use crate::files::{joined, read_if_there};
+use crate::state::is_blank;
+use status_index::ObjectId;
+use std::alloc::Global;
+use std::rt::Files;
+use std::{fs, io};
+
+// The most references that are read on the way from `HEAD` to a commit, as in git.
+const DEPTH: u32 = 5;
+
+// How many bytes of `HEAD` git checks, from its beginning.
+const CHECKED_LEN: usize = 255;
+
+// The fewest digits of an id.
+const ID_LEN: usize = 40;
+
+// The beginning of the names of references.
+const REFERENCES: &[u8] = b"refs/";
+
+// The end of a reference: a commit, or another reference.
+#[derive(Drop)]
+enum Target {
+    Commit(ObjectId),
+    // Another reference, by its name.
+    Name(String),
+}
+
+/// Returns whether a folder has a `HEAD` that git accepts: a symbolic link to a path that begins with `refs/`, or a file
+/// that begins as `is_head` states.
+///
+/// # Errors
+/// Out of memory.
+pub fn has_head<R: Files + AllocGlobal>(rt: &R, folder: &str) -> Result<bool, RepositoryError> {
+    let path = joined(rt.alloc(), folder, "HEAD")?;
+    let path = path.as_str();
+    let found = match fs::symlink_metadata(rt, path) {
+        Ok(found) => found,
+        Err(error) if error.kind() == io::ErrorKind::OutOfMemory => {
+            return Err(RepositoryError::Memory);
+        }
+        Err(_) => return Ok(false),
+    };
+    let is_accepted = if found.is_symlink() {
+        fs::read_link(rt, path).map(|target| target
+            .as_path()
+            .as_str()
+            .as_bytes()
+            .starts_with(REFERENCES))
+    } else {
+        fs::read(rt, path).map(|bytes| is_head(&bytes))
+    };
+    match is_accepted {
+        Ok(is_accepted) => Ok(is_accepted),
+        Err(error) if error.kind() == io::ErrorKind::OutOfMemory => Err(RepositoryError::Memory),
+        Err(_) => Ok(false),
+    }
+}
+
+/// Returns whether git accepts a file `HEAD` with these bytes. It begins with `ref:`, blanks or line ends if any, and
+/// `refs/`, or with the digits of an id. What follows isn't checked.
+pub fn is_head(bytes: &[u8]) -> bool {
+    let text = bytes.get(..CHECKED_LEN).unwrap_or(bytes);
+    match text.strip_prefix(b"ref:") {
+        Some(rest) => after_blanks(rest).starts_with(REFERENCES),
+        None => match text.get(..ID_LEN) {
+            Some(digits) => digits.iter().all(|digit| digit.is_ascii_hexdigit()),
+            None => false,
+        },
+    }
+}
+
+// Returns a text without the blanks and line ends at its beginning.
+fn after_blanks(text: &[u8]) -> &[u8] {
+    match text
+        .iter()
+        .position(|byte| !is_blank(*byte) && *byte != b'\n')
+    {
+        Some(start) => text.get(start..).unwrap_or(b""),
+        None => b"",
+    }
+}
+
+/// Returns the commit that `HEAD` leads to, through loose and packed references. None if it leads to none.
+///
+/// # Errors
+/// A file can't be read, or out of memory.
+pub fn head_of<R: Files + AllocGlobal>(
+    rt: &R,
+    git_dir: &str,
+    common_dir: &str,
+) -> Result<Option<ObjectId>, RepositoryError> {
+    let mut name = String::from_str(rt.alloc(), "HEAD")?;
+    for _ in 0..DEPTH {
+        match target_of(rt, git_dir, common_dir, name.as_str())? {
+            Some(Target::Commit(id)) => return Ok((!id.is_null()).then_some(id)),
+            Some(Target::Name(next)) => name = next,
+            None => return Ok(None),
+        }
+    }
+    Ok(None)
+}
+
+// Returns what the reference of a name leads to. None if there is none.
+fn target_of<R: Files + AllocGlobal>(
+    rt: &R,
+    git_dir: &str,
+    common_dir: &str,
+    name: &str,
+) -> Result<Option<Target>, RepositoryError> {
+    if name.split('/').any(|part| part == "..") {
+        return Ok(None);
+    }
+    let alloc = rt.alloc();
+    for folder in [git_dir, common_dir] {
+        let path = joined(alloc, folder, name)?;
+        if let Some(bytes) = read_if_there(rt, path.as_str())? {
+            return target_in(alloc, &bytes);
+        }
+    }
+    let path = joined(alloc, common_dir, "packed-refs")?;
+    match read_if_there(rt, path.as_str())? {
+        Some(bytes) => Ok(packed(&bytes, name.as_bytes()).map(Target::Commit)),
+        None => Ok(None),
+    }
+}
+
+// Reads a reference's file: the id of a commit, or `ref:` and a name.
+fn target_in(alloc: Global, bytes: &[u8]) -> Result<Option<Target>, RepositoryError> {
+    let text = bytes.trim_ascii_end();
+    match text.strip_prefix(b"ref:") {
+        Some(name) => match str::from_utf8(name.trim_ascii()) {
+            Ok(name) => Ok(Some(Target::Name(String::from_str(alloc, name)?))),
+            Err(_) => Ok(None),
+        },
+        None => Ok(id_of(text).map(Target::Commit)),
+    }
+}
+
+// Returns the commit of a name in a file of packed references, whose lines are an id, a blank and a name.
+fn packed(bytes: &[u8], name: &[u8]) -> Option<ObjectId> {
+    for line in bytes.split(|byte| *byte == b'\n') {
+        if let Some(front) = line.strip_suffix(name)
+            && let Some(id) = front.strip_suffix(b" ")
+        {
+            return id_of(id);
+        }
+    }
+    None
+}
+
+// Returns the id of these hexadecimal digits, without an allocation.
+fn id_of(digits: &[u8]) -> Option<ObjectId> {
+    let mut sha1 = [0u8; 20];
+    if hex::decode_to_slice(digits, &mut sha1).is_ok() {
+        return ObjectId::from_bytes(&sha1);
+    }
+    let mut sha256 = [0u8; 32];
+    hex::decode_to_slice(digits, &mut sha256).ok()?;
+    ObjectId::from_bytes(&sha256)
+}

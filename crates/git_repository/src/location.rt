@@ -1,0 +1,187 @@
+//! The folders of a repository: its own, and that of its worktree.
+
+use crate::config::Config;
+use crate::error::RepositoryError;
+use crate::files::{canonical, is_folder, joined, variable};
+use crate::git_dir::{common_dir_of, git_dir_in, is_git_dir, named_git_dir, parent_of};
+use crate::settings::{Settings, read_settings};
+use status_base::worktree::Fault;
+use std::alloc::{AllocError, Global};
+use std::rt::{Env, Files};
+
+/// A repository with a worktree. All paths are absolute.
+#[derive(Debug, Drop)]
+pub struct Repository {
+    /// The repository's folder, usually `.git`. That of a linked worktree is its own.
+    pub git_dir: String,
+    /// The folder of the repository whose linked worktree this is, otherwise `git_dir`.
+    pub common_dir: String,
+    /// The worktree's folder.
+    pub top: String,
+    /// The working folder relative to `top`, and a slash. Empty if that is `top` or outside of it.
+    pub prefix: String,
+    /// The index file.
+    pub index: String,
+    /// The settings.
+    pub settings: Settings,
+    /// The configuration of system, user, repository and environment.
+    pub config: Config,
+}
+
+// A repository that was found.
+#[derive(Drop)]
+struct Place {
+    git_dir: String,
+    // The worktree, if neither the settings nor the environment name one. None within a repository's own folder.
+    top: Option<String>,
+}
+
+impl Repository {
+    /// Finds the repository of a working folder: the one that `GIT_DIR` names, otherwise the first that the folder or one
+    /// above it has. `GIT_WORK_TREE`, `GIT_INDEX_FILE` and `GIT_CEILING_DIRECTORIES` count as in git: a relative index
+    /// file is one of the worktree's folder. Unlike git it goes on above a mount point, and reads a repository that
+    /// another user owns.
+    ///
+    /// # Errors
+    /// The working folder isn't a folder, there is no repository, it has no worktree, its configuration can't be read, or out of memory.
+    pub fn discover<R: Files + Env + AllocGlobal>(
+        rt: &R,
+        folder: &str,
+    ) -> Result<Repository, RepositoryError> {
+        let alloc = rt.alloc();
+        let folder = working_folder(rt, folder)?;
+        let Place { git_dir, top } = find(rt, folder.as_str())?;
+        let common_dir = common_dir_of(rt, git_dir.as_str())?;
+        let (settings, config) = read_settings(rt, git_dir.as_str(), common_dir.as_str())?;
+        let top = top_of(rt, folder.as_str(), git_dir.as_str(), &settings, top)?;
+        let prefix = prefix_of(alloc, top.as_str(), folder.as_str())?;
+        let index = match variable(rt, "GIT_INDEX_FILE")? {
+            Some(path) => joined(alloc, top.as_str(), path.as_str())?,
+            None => joined(alloc, git_dir.as_str(), "index")?,
+        };
+        Ok(Repository {
+            git_dir,
+            common_dir,
+            top,
+            prefix,
+            index,
+            settings,
+            config,
+        })
+    }
+}
+
+// Returns the path of a working folder without links, `.` and `..`.
+fn working_folder<R: Files + AllocGlobal>(rt: &R, path: &str) -> Result<String, RepositoryError> {
+    let folder = match canonical(rt, path) {
+        Ok(folder) => folder,
+        Err(RepositoryError::Unreadable { fault, .. }) => {
+            return Err(not_a_folder(rt.alloc(), path, fault));
+        }
+        Err(error) => return Err(error),
+    };
+    if is_folder(rt, folder.as_str())? {
+        return Ok(folder);
+    }
+    Err(not_a_folder(rt.alloc(), path, Fault::NotADirectory))
+}
+
+// Returns the error of a path that is no working folder.
+fn not_a_folder(alloc: Global, path: &str, fault: Fault) -> RepositoryError {
+    match String::from_str(alloc, path) {
+        Ok(path) => RepositoryError::NotAFolder { path, fault },
+        Err(_) => RepositoryError::Memory,
+    }
+}
+
+fn find<R: Files + Env + AllocGlobal>(rt: &R, folder: &str) -> Result<Place, RepositoryError> {
+    let alloc = rt.alloc();
+    match variable(rt, "GIT_DIR")? {
+        Some(path) => {
+            let path = joined(alloc, folder, path.as_str())?;
+            Ok(Place {
+                git_dir: named_git_dir(rt, path)?,
+                top: Some(String::from_str(alloc, folder)?),
+            })
+        }
+        None => match variable(rt, "GIT_CEILING_DIRECTORIES")? {
+            Some(ceilings) => search(rt, folder, ceilings.as_str()),
+            None => search(rt, folder, ""),
+        },
+    }
+}
+
+// Searches a folder and those above it, below any of the ceilings. A colon is between two ceilings.
+fn search<R: Files + AllocGlobal>(
+    rt: &R,
+    folder: &str,
+    ceilings: &str,
+) -> Result<Place, RepositoryError> {
+    let alloc = rt.alloc();
+    let mut here = folder;
+    for _ in 0..usize::MAX {
+        if let Some(git_dir) = git_dir_in(rt, here)? {
+            let top = Some(String::from_str(alloc, here)?);
+            return Ok(Place { git_dir, top });
+        }
+        if is_git_dir(rt, here)? {
+            let git_dir = String::from_str(alloc, here)?;
+            return Ok(Place { git_dir, top: None });
+        }
+        match parent_of(here) {
+            Some(parent) if !is_ceiling(parent, ceilings) => here = parent,
+            _ => return Err(RepositoryError::NotFound),
+        }
+    }
+    Err(RepositoryError::NotFound)
+}
+
+fn is_ceiling(folder: &str, ceilings: &str) -> bool {
+    for ceiling in ceilings.split(':') {
+        if !ceiling.is_empty() && ceiling.trim_end_matches('/') == folder.trim_end_matches('/') {
+            return true;
+        }
+    }
+    false
+}
+
+// Returns the worktree's folder: what the environment says, otherwise the settings, otherwise the one that was found.
+fn top_of<R: Files + Env + AllocGlobal>(
+    rt: &R,
+    folder: &str,
+    git_dir: &str,
+    settings: &Settings,
+    found: Option<String>,
+) -> Result<String, RepositoryError> {
+    let alloc = rt.alloc();
+    if let Some(path) = variable(rt, "GIT_WORK_TREE")? {
+        let path = joined(alloc, folder, path.as_str())?;
+        return canonical(rt, path.as_str());
+    }
+    if settings.bare == Some(true) {
+        return Err(RepositoryError::NoWorktree);
+    }
+    match &settings.worktree {
+        Some(path) => {
+            let path = joined(alloc, git_dir, path.as_str())?;
+            canonical(rt, path.as_str())
+        }
+        None => match found {
+            Some(top) => Ok(top),
+            None => Err(RepositoryError::NoWorktree),
+        },
+    }
+}
+
+// Returns a folder relative to the worktree's, and a slash. Nothing if it is the same, or outside.
+fn prefix_of(alloc: Global, top: &str, folder: &str) -> Result<String, AllocError> {
+    let top = top.trim_end_matches('/');
+    let below = match folder.strip_prefix(top) {
+        Some(rest) => rest.strip_prefix('/'),
+        None => None,
+    };
+    match below {
+        Some(below) if !below.is_empty() => format!(in alloc; "{below}/"),
+        _ => Ok(String::new(alloc)),
+    }
+}

@@ -1,0 +1,104 @@
+//! A repository's settings, from git's configuration.
+
+use crate::config::Config;
+use crate::error::RepositoryError;
+use crate::files::{joined, path_of};
+use crate::format::read_format;
+use crate::sources::{append_environment, read_file, read_outer};
+use crate::values::{is_text, switch};
+use status_index::HashKind;
+use std::alloc::Global;
+use std::rt::{Env, Files};
+
+/// The settings of a repository that the status depends on.
+#[derive(Debug, Drop)]
+pub struct Settings {
+    /// The digest that makes ids (`extensions.objectFormat`).
+    pub kind: HashKind,
+    /// Whether the worktree knows which files are executable (`core.fileMode`).
+    pub file_mode: bool,
+    /// Whether the worktree has symbolic links (`core.symlinks`).
+    pub symlinks: bool,
+    /// Whether the time of the metadata's last change counts (`core.trustctime`).
+    pub trust_ctime: bool,
+    /// Whether `core.checkStat` is `minimal`: only size and whole seconds count.
+    pub check_stat_minimal: bool,
+    /// Whether bytes above 127 of a path are quoted (`core.quotePath`).
+    pub quote_path: bool,
+    /// Whether the repository has no worktree (`core.bare`). None if that isn't set.
+    pub bare: Option<bool>,
+    /// The worktree's folder (`core.worktree`), absolute or relative to the repository's. None if that isn't set.
+    pub worktree: Option<String>,
+    /// Whether git may convert line ends (`core.autocrlf` or `core.eol`).
+    pub converts: bool,
+    /// Whether the configuration includes files. They aren't read.
+    pub has_include: bool,
+}
+
+/// Reads the configuration of a repository, with that of the system, the user and the environment. `git_dir` is its
+/// folder and `common_dir` that of the repository whose linked worktree it is, or the same.
+///
+/// # Errors
+/// A file or a value can't be read, the format isn't known, or out of memory.
+pub fn read_settings<R: Files + Env + AllocGlobal>(
+    rt: &R,
+    git_dir: &str,
+    common_dir: &str,
+) -> Result<(Settings, Config), RepositoryError> {
+    let alloc = rt.alloc();
+    let mut own = read_file(rt, joined(alloc, common_dir, "config")?.as_str())?;
+    let format = read_format(alloc, &own)?;
+    let is_linked = git_dir != common_dir && !format.has_worktree_config;
+    if format.has_worktree_config {
+        own.append(read_file(rt, joined(alloc, git_dir, "config.worktree")?.as_str())?)?;
+    }
+    let (bare, worktree) = if is_linked {
+        (None, None)
+    } else {
+        read_place(alloc, &own)?
+    };
+    let mut config = read_outer(rt)?;
+    config.append(own)?;
+    append_environment(rt, &mut config)?;
+    let settings = Settings {
+        kind: format.kind,
+        file_mode: switch(alloc, &config, "core.filemode")?.unwrap_or(true),
+        symlinks: switch(alloc, &config, "core.symlinks")?.unwrap_or(true),
+        trust_ctime: switch(alloc, &config, "core.trustctime")?.unwrap_or(true),
+        check_stat_minimal: is_value(&config, b"checkstat", b"minimal"),
+        quote_path: switch(alloc, &config, "core.quotepath")?.unwrap_or(true),
+        bare,
+        worktree,
+        converts: may_convert(alloc, &config)?,
+        has_include: config.has_include(),
+    };
+    Ok((settings, config))
+}
+
+// Returns whether a repository has no worktree, and the worktree that it names.
+fn read_place(
+    alloc: Global,
+    config: &Config,
+) -> Result<(Option<bool>, Option<String>), RepositoryError> {
+    let bare = switch(alloc, config, "core.bare")?;
+    match config.get(b"core", None, b"worktree") {
+        Some(found) => Ok((bare, Some(path_of(alloc, found.value().unwrap_or(b""))?))),
+        None => Ok((bare, None)),
+    }
+}
+
+// Returns whether a variable of the section `core` has a value, in lower or upper case.
+fn is_value(config: &Config, name: &[u8], word: &[u8]) -> bool {
+    match config.get(b"core", None, name) {
+        Some(found) => is_text(found.value(), word),
+        None => false,
+    }
+}
+
+// Returns whether git may convert line ends.
+fn may_convert(alloc: Global, config: &Config) -> Result<bool, RepositoryError> {
+    if is_value(config, b"autocrlf", b"input") || config.get(b"core", None, b"eol").is_some() {
+        return Ok(true);
+    }
+    Ok(switch(alloc, config, "core.autocrlf")?.unwrap_or(false))
+}

@@ -1,0 +1,134 @@
+//! The files and environment variables that have git's configuration.
+
+use crate::config::{Config, ConfigError};
+use crate::error::RepositoryError;
+use crate::files::{joined, read_if_there, variable};
+use crate::parameters::append_parameters;
+use crate::reader::read_config;
+use crate::values::{bool_of, number_of};
+use std::rt::{Env, Files};
+
+// The most variables that the environment may state.
+const ENVIRONMENT_LIMIT: i32 = 1 << 16;
+
+/// Reads a configuration file. One that isn't there has no variables.
+///
+/// # Errors
+/// The file or a line of it can't be read, or out of memory.
+pub fn read_file<R: Files + AllocGlobal>(rt: &R, path: &str) -> Result<Config, RepositoryError> {
+    let Some(bytes) = read_if_there(rt, path)? else {
+        return Ok(Config::new(rt.alloc()));
+    };
+    match read_config(rt.alloc(), &bytes) {
+        Ok(config) => Ok(config),
+        Err(ConfigError::Line { line }) => Err(RepositoryError::BadConfig {
+            line,
+            path: String::from_str(rt.alloc(), path)?,
+        }),
+        Err(ConfigError::Memory) => Err(RepositoryError::Memory),
+    }
+}
+
+/// Reads the configuration of the system and of the user.
+///
+/// # Errors
+/// A file or a value can't be read, or out of memory.
+pub fn read_outer<R: Files + Env + AllocGlobal>(rt: &R) -> Result<Config, RepositoryError> {
+    let mut config = Config::new(rt.alloc());
+    if !has_no_system(rt)? {
+        match variable(rt, "GIT_CONFIG_SYSTEM")? {
+            Some(path) => config.append(read_file(rt, path.as_str())?)?,
+            None => config.append(read_file(rt, "/etc/gitconfig")?)?,
+        }
+    }
+    match variable(rt, "GIT_CONFIG_GLOBAL")? {
+        Some(path) => config.append(read_file(rt, path.as_str())?)?,
+        None => append_user(rt, &mut config)?,
+    }
+    Ok(config)
+}
+
+// Returns whether the configuration of the system isn't read.
+fn has_no_system<R: Env + AllocGlobal>(rt: &R) -> Result<bool, RepositoryError> {
+    let name = "GIT_CONFIG_NOSYSTEM";
+    let Some(value) = variable(rt, name)? else {
+        return Ok(false);
+    };
+    match bool_of(Some(value.as_bytes())) {
+        Some(is_set) => Ok(is_set),
+        None => Err(RepositoryError::BadBoolean { name, value }),
+    }
+}
+
+// Appends the configuration of the user.
+fn append_user<R: Files + Env + AllocGlobal>(
+    rt: &R,
+    config: &mut Config,
+) -> Result<(), RepositoryError> {
+    let alloc = rt.alloc();
+    let home = variable(rt, "HOME")?;
+    let folder = match (variable(rt, "XDG_CONFIG_HOME")?, &home) {
+        (Some(folder), _) if !folder.is_empty() => Some(folder),
+        (_, Some(home)) => Some(joined(alloc, home.as_str(), ".config")?),
+        (_, None) => None,
+    };
+    if let Some(folder) = folder {
+        let path = joined(alloc, folder.as_str(), "git/config")?;
+        config.append(read_file(rt, path.as_str())?)?;
+    }
+    if let Some(home) = home {
+        let path = joined(alloc, home.as_str(), ".gitconfig")?;
+        config.append(read_file(rt, path.as_str())?)?;
+    }
+    Ok(())
+}
+
+/// Appends the variables that `GIT_CONFIG_COUNT`, `GIT_CONFIG_KEY_0`, `GIT_CONFIG_VALUE_0` and so on state, and then those
+/// of `GIT_CONFIG_PARAMETERS`.
+///
+/// # Errors
+/// They state none, or out of memory.
+pub fn append_environment<R: Env + AllocGlobal>(
+    rt: &R,
+    config: &mut Config,
+) -> Result<(), RepositoryError> {
+    append_counted(rt, config)?;
+    let name = "GIT_CONFIG_PARAMETERS";
+    match variable(rt, name)? {
+        Some(text) if !append_parameters(rt.alloc(), text.as_str(), config)? => {
+            let name = String::from_str(rt.alloc(), name)?;
+            Err(RepositoryError::BadEnvironment { name })
+        }
+        _ => Ok(()),
+    }
+}
+
+// Appends the variables that `GIT_CONFIG_COUNT` counts.
+fn append_counted<R: Env + AllocGlobal>(
+    rt: &R,
+    config: &mut Config,
+) -> Result<(), RepositoryError> {
+    let alloc = rt.alloc();
+    let Some(count) = variable(rt, "GIT_CONFIG_COUNT")? else {
+        return Ok(());
+    };
+    let count = number_of(count.as_bytes()).unwrap_or(-1);
+    if count < 0 || count > ENVIRONMENT_LIMIT {
+        let name = String::from_str(alloc, "GIT_CONFIG_COUNT")?;
+        return Err(RepositoryError::BadEnvironment { name });
+    }
+    for number in 0..count {
+        let key = needed(rt, format!(in alloc; "GIT_CONFIG_KEY_{number}")?)?;
+        let value = needed(rt, format!(in alloc; "GIT_CONFIG_VALUE_{number}")?)?;
+        config.push(alloc, key.as_str(), Some(value.as_bytes()))?;
+    }
+    Ok(())
+}
+
+// Returns the value of an environment variable that has to be set.
+fn needed<R: Env + AllocGlobal>(rt: &R, name: String) -> Result<String, RepositoryError> {
+    match variable(rt, name.as_str())? {
+        Some(value) => Ok(value),
+        None => Err(RepositoryError::BadEnvironment { name }),
+    }
+}

@@ -1,0 +1,97 @@
+//! The values of variables, as git reads them.
+
+use crate::config::Config;
+use crate::error::RepositoryError;
+use std::alloc::Global;
+
+/// Returns the boolean that git reads. A value that isn't there is true, and an empty one false. Numbers are true,
+/// except for 0. None if git refuses the value.
+pub fn bool_of(value: Option<&[u8]>) -> Option<bool> {
+    let Some(text) = value else {
+        return Some(true);
+    };
+    if text.is_empty() || is_word(text, [b"false", b"no", b"off"]) {
+        return Some(false);
+    }
+    if is_word(text, [b"true", b"yes", b"on"]) {
+        return Some(true);
+    }
+    Some(number_of(text)? != 0)
+}
+
+fn is_word(text: &[u8], words: [&[u8]; 3]) -> bool {
+    words.iter().any(|word| text.eq_ignore_ascii_case(word))
+}
+
+/// Returns the number that git reads: decimal, octal after a `0` or hexadecimal after `0x`, with a sign if any, and `k`,
+/// `m` or `g` for a factor of 1024 to the power of 1, 2 or 3. None if it isn't a number, or doesn't fit.
+pub fn number_of(text: &[u8]) -> Option<i32> {
+    let text = str::from_utf8(text).ok()?;
+    let (is_negative, digits) = match text.strip_prefix('-') {
+        Some(digits) => (true, digits),
+        None => (false, text.strip_prefix('+').unwrap_or(text)),
+    };
+    let (digits, factor) = split_unit(digits);
+    let size = i32::try_from(unsigned_of(digits)?.checked_mul(factor)?).ok()?;
+    if is_negative {
+        size.checked_neg()
+    } else {
+        Some(size)
+    }
+}
+
+// Returns the text without its unit, and the unit's factor.
+fn split_unit(text: &str) -> (&str, u64) {
+    for (unit, factor) in [('k', 1 << 10), ('m', 1 << 20), ('g', 1 << 30)] {
+        if let Some(digits) = text.strip_suffix(unit) {
+            return (digits, factor);
+        }
+        if let Some(digits) = text.strip_suffix(unit.to_ascii_uppercase()) {
+            return (digits, factor);
+        }
+    }
+    (text, 1)
+}
+
+fn unsigned_of(digits: &str) -> Option<u64> {
+    if digits.starts_with('+') {
+        return None;
+    }
+    if let Some(hexadecimal) = digits.strip_prefix("0x") {
+        return u64::from_str_radix(hexadecimal, 16).ok();
+    }
+    let radix = if digits.starts_with('0') { 8 } else { 10 };
+    u64::from_str_radix(digits, radix).ok()
+}
+
+/// Returns a boolean by its whole name, section and name in lower case. None if it isn't set.
+///
+/// # Errors
+/// Git refuses the value, or out of memory.
+pub fn switch(
+    alloc: Global,
+    config: &Config,
+    name: &'static str,
+) -> Result<Option<bool>, RepositoryError> {
+    let Some((section, last)) = name.split_once('.') else {
+        return Ok(None);
+    };
+    let Some(found) = config.get(section.as_bytes(), None, last.as_bytes()) else {
+        return Ok(None);
+    };
+    match bool_of(found.value()) {
+        Some(is_on) => Ok(Some(is_on)),
+        None => Err(RepositoryError::BadBoolean {
+            name,
+            value: String::from_utf8_lossy(alloc, found.value().unwrap_or(b""))?,
+        }),
+    }
+}
+
+/// Returns whether a value is a word, in lower or upper case.
+pub fn is_text(value: Option<&[u8]>, word: &[u8]) -> bool {
+    match value {
+        Some(value) => value.eq_ignore_ascii_case(word),
+        None => false,
+    }
+}
