@@ -1,0 +1,3 @@
+pub mod Clean
+pub mod Printed
+pub mod Runs

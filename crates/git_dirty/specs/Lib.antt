@@ -1,0 +1,4 @@
+pub mod Failures
+pub mod Inputs
+pub mod Printing
+pub mod Runs

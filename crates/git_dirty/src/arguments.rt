@@ -1,0 +1,101 @@
+//! The command line.
+
+use clap::{Arg, ArgAction, ArgMatches, Command, value_parser};
+use std::alloc::{AllocError, Global};
+
+/// What `--help` shows after the options.
+const EXAMPLES: &str = "\
+Examples:
+  git dirty            list the tracked files that differ from the index
+  git dirty -q src     only set the exit status, for the files below src
+
+Exit status: 0 if nothing differs, 1 if something does, 2 after a failure.
+A line has the letters of git status --porcelain. The index isn't compared with
+a commit, so the first letter is a space, except for a conflict.";
+
+/// The arguments.
+#[derive(Drop)]
+pub struct Arguments<'a> {
+    /// The folder in which the command works. The working folder if there is none.
+    pub folder: Option<&'a str>,
+    /// Whether lines end with a zero byte, and paths aren't quoted.
+    pub zero: bool,
+    /// Whether nothing is printed, and the command stops at the first difference.
+    pub quiet: bool,
+    /// Whether the counts are printed.
+    pub stats: bool,
+    /// The greatest number of threads, or `None` for the usual number.
+    pub threads: Option<usize>,
+    /// The files and folders that are compared, from the working folder. All if there is none.
+    pub paths: Vec<&'a str>,
+}
+
+impl<'a> Arguments<'a> {
+    /// Returns the arguments that were matched.
+    ///
+    /// # Errors
+    /// Out of memory.
+    pub fn of(alloc: Global, matches: &ArgMatches<'a>) -> Result<Arguments<'a>, AllocError> {
+        let paths = match matches.get_strs("paths") {
+            Some(paths) => Vec::from_slice(alloc, paths)?,
+            None => Vec::new(alloc),
+        };
+        Ok(Arguments {
+            folder: matches.get_str("folder"),
+            zero: matches.get_flag("zero"),
+            quiet: matches.get_flag("quiet"),
+            stats: matches.get_flag("stats"),
+            threads: matches.get_one("threads"),
+            paths,
+        })
+    }
+}
+
+/// Returns the parser of the command line.
+///
+/// # Errors
+/// Out of memory.
+pub fn command_line<'a>(alloc: Global) -> Result<Command<'a>, AllocError> {
+    let folder = Arg::new(alloc, "folder")
+        .short('C')
+        .value_name("DIR")
+        .help("Work in DIR instead of the working folder")
+        .action(ArgAction::Set);
+    let threads = Arg::new(alloc, "threads")
+        .long("threads")
+        .value_name("N")
+        .help("Use at most N threads (usually 4)")
+        .value_parser(value_parser!(usize));
+    let paths = Arg::new(alloc, "paths")
+        .value_name("PATHS")
+        .help("Compare only these files, and all files below these folders")
+        .num_args(0..)
+        .action(ArgAction::Append);
+    Command::new(alloc, "git-dirty")
+        .bin_name("git dirty")?
+        .about("Lists the tracked files of a git worktree that differ from the index")
+        .after_help(EXAMPLES)
+        .arg(folder)?
+        .arg(flag(alloc, "zero", "End lines with a NUL, and don't quote paths").short('z'))?
+        .arg(
+            flag(
+                alloc,
+                "quiet",
+                "Print no line, and stop soon after the first difference",
+            )
+            .short('q')
+            .long("quiet"),
+        )?
+        .arg(threads)?
+        .arg(flag(
+            alloc,
+            "stats",
+            "Print on standard error how much was compared",
+        )
+        .long("stats"))?
+        .arg(paths)
+}
+
+fn flag<'a>(alloc: Global, id: &'static str, help: &'static str) -> Arg<'a> {
+    Arg::new(alloc, id).help(help).action(ArgAction::SetTrue)
+}

@@ -1,0 +1,258 @@
+//! The program `git dirty`: how a repository's worktree differs from its index.
+#![tactic(auto)]
+
+mod arguments;
+mod asked;
+mod dirty;
+mod failure;
+mod laws;
+mod output;
+mod refused;
+mod selection;
+mod watcher;
+
+use crate::arguments::{Arguments, command_line};
+use crate::asked::{Asked, Settings};
+use crate::dirty::run_dirty;
+use crate::output::report;
+use crate::refused::Refused;
+use crate::selection::path_from_top;
+use clap::Error;
+use clap::error::ErrorKind;
+use git_repository::lines::LineStyle;
+use git_repository::paths::Paths;
+use git_repository::worktree::metadata_of;
+use git_repository::{GitWorktree, IgnoredSubmodules, Repository, SubmoduleHeads};
+use status_call::index_as_worktree::{Capabilities, Options};
+use status_index::{Moment, stat};
+use std::alloc::Global;
+use std::io::{self, Write as _};
+use std::process::ExitCode;
+use std::rt::{Env, Files};
+use std::sync::Wait;
+use std::thread::Threads;
+use std::time::UNIX_EPOCH;
+use std::{env, fs};
+
+/// The number of entries of a piece of work if the first difference ends the command. Each thread has at most 8 pieces before
+/// the command sees that it may end: some 2,000 entries with the usual 4 threads.
+const SMALL_CHUNK: usize = 64;
+
+fn main(rt: HostRuntime) -> ExitCode {
+    ExitCode::from(run(&rt, &mut rt.stderr()))
+}
+
+/// Runs the command of the program's arguments, and returns the exit status.
+fn run<R: AllocGlobal + Env + Eprint + Files + Print + Sync + Threads + Wait, E: io::Write>(
+    rt: &R,
+    faults: &mut E,
+) -> u8
+where
+    R::File: Send,
+    R::Dir: Send,
+{
+    let words = match words_of(rt) {
+        Ok(words) => words,
+        Err(refused) => return report(rt.alloc(), refused, faults),
+    };
+    let Ok(command) = command_line(rt.alloc()) else {
+        return report(rt.alloc(), Refused::Memory, faults);
+    };
+    match command.try_get_matches_from(words.as_slice()) {
+        Ok(matches) => match Arguments::of(rt.alloc(), &matches) {
+            Ok(arguments) => run_in_folder(rt, &arguments, faults),
+            Err(_) => report(rt.alloc(), Refused::Memory, faults),
+        },
+        Err(error) => print_usage(rt, &error, faults),
+    }
+}
+
+/// Prints the help, or why the arguments aren't those of the command, and returns the exit status.
+fn print_usage<R: AllocGlobal + Eprint + Print, E: io::Write>(
+    rt: &R,
+    error: &Error,
+    faults: &mut E,
+) -> u8 {
+    if error.kind() == ErrorKind::OutOfMemory {
+        return report(rt.alloc(), Refused::Memory, faults);
+    }
+    match error.print(rt) {
+        Ok(()) if error.exit_code() == 0 => 0,
+        _ => 2,
+    }
+}
+
+/// Returns the words of the command line.
+fn words_of<R: AllocGlobal + Env>(rt: &R) -> Result<Vec<String>, Refused> {
+    let mut words = Vec::new(rt.alloc());
+    match env::args(rt) {
+        Ok(found) => {
+            for word in found {
+                words.push(word)?;
+            }
+            Ok(words)
+        }
+        Err(error) if error.kind() == io::ErrorKind::OutOfMemory => Err(Refused::Memory),
+        Err(_) => Err(Refused::Arguments),
+    }
+}
+
+/// Runs the command of these arguments, and returns the exit status.
+fn run_in_folder<R: AllocGlobal + Env + Files + Print + Sync + Threads + Wait, E: io::Write>(
+    rt: &R,
+    arguments: &Arguments<'_>,
+    faults: &mut E,
+) -> u8
+where
+    R::File: Send,
+    R::Dir: Send,
+{
+    match run_in_repository(rt, arguments, faults) {
+        Ok(status) => status,
+        Err(refused) => report(rt.alloc(), refused, faults),
+    }
+}
+
+/// Runs the command in the repository of the arguments' folder, and returns the exit status.
+///
+/// # Errors
+/// There is no repository, its index can't be read, or a path isn't in its worktree.
+fn run_in_repository<R: AllocGlobal + Env + Files + Print + Sync + Threads + Wait, E: io::Write>(
+    rt: &R,
+    arguments: &Arguments<'_>,
+    faults: &mut E,
+) -> Result<u8, Refused>
+where
+    R::File: Send,
+    R::Dir: Send,
+{
+    let alloc = rt.alloc();
+    let repository = Repository::discover(rt, arguments.folder.unwrap_or("."))?;
+    if repository.settings.has_include && !arguments.quiet {
+        note(faults, "files that the configuration includes aren't read");
+    }
+    let selected = selected_paths(alloc, &repository, &arguments.paths)?;
+    let mut tops = Vec::new(alloc);
+    for path in &selected {
+        tops.push(path.as_bytes())?;
+    }
+    let Some(file) = read_index_file(rt, &repository)? else {
+        return Ok(0);
+    };
+    let worktree = GitWorktree::new(rt, repository.top.as_str())?;
+    let ignored = IgnoredSubmodules::read(rt, repository.top.as_str(), &repository.config)?;
+    let asked = Asked {
+        settings: settings_of(&repository, arguments, file.timestamp),
+        worktree: &worktree,
+        submodules: SubmoduleHeads::new(rt, repository.top.as_str(), &ignored),
+        paths: Paths {
+            tops: tops.as_slice(),
+        },
+    };
+    let status = run_dirty(rt, &file.bytes, asked, &mut io::writer(rt), faults);
+    if status == 1 && repository.settings.converts && !arguments.quiet {
+        note(
+            faults,
+            "git may convert line ends here: a file that differs only in them is listed",
+        );
+    }
+    Ok(status)
+}
+
+/// Writes a note. If it can't be written, there is nowhere left to report that.
+fn note<E: io::Write>(faults: &mut E, words: &'static str) {
+    let _ = writeln!(faults, "git dirty: note: {words}");
+}
+
+/// Returns the paths that the arguments select, from the worktree's top. None if they select all.
+fn selected_paths(
+    alloc: Global,
+    repository: &Repository,
+    words: &[&str],
+) -> Result<Vec<String>, Refused> {
+    let mut paths = Vec::new(alloc);
+    for word in words {
+        let path = path_from_top(
+            alloc,
+            repository.top.as_str(),
+            repository.prefix.as_str(),
+            word,
+        )?;
+        if path.is_empty() {
+            return Ok(Vec::new(alloc));
+        }
+        paths.push(path)?;
+    }
+    Ok(paths)
+}
+
+/// The bytes of an index file, and when it was last changed.
+#[derive(Drop)]
+struct Written {
+    bytes: Vec<u8>,
+    timestamp: Moment,
+}
+
+/// Reads a repository's index file. None if there is none, as before the first `git add`. The time is read before the bytes:
+/// if the file is replaced in between, it is too early, and then more entries count as racy, and never fewer.
+fn read_index_file<R: AllocGlobal + Files>(
+    rt: &R,
+    repository: &Repository,
+) -> Result<Option<Written>, Refused> {
+    let path = repository.index.as_str();
+    match fs::metadata(rt, path) {
+        Err(error) if error.kind() == io::ErrorKind::NotFound => return Ok(None),
+        Err(error) => return Err(Refused::unreadable(rt.alloc(), path, error.kind())),
+        Ok(found) => match fs::read(rt, path) {
+            Ok(bytes) => Ok(Some(Written {
+                bytes,
+                timestamp: changed_at(&found),
+            })),
+            Err(error) => Err(Refused::unreadable(rt.alloc(), path, error.kind())),
+        },
+    }
+}
+
+/// Returns when a file was last changed, or 1970 if that isn't known: then every entry counts as racy.
+fn changed_at(found: &fs::Metadata) -> Moment {
+    let (secs, nsecs) = match metadata_of(found).mtime {
+        Some(time) => (time.secs, time.nsecs),
+        None => (0, 0),
+    };
+    Moment { secs, nsecs }
+}
+
+/// Returns how a repository's entries are compared and printed.
+fn settings_of(repository: &Repository, arguments: &Arguments<'_>, timestamp: Moment) -> Settings {
+    let found = &repository.settings;
+    let options = Options {
+        fs: Capabilities {
+            symlink: found.symlinks,
+            executable_bit: found.file_mode,
+        },
+        thread_limit: arguments.threads,
+        stat: stat::Options {
+            // Git compares the time of the metadata's last change only if it compares all of a stat.
+            trust_ctime: found.trust_ctime && !found.check_stat_minimal,
+            check_stat: !found.check_stat_minimal,
+            use_nsec: false,
+            use_stdev: false,
+        },
+        fscache: false,
+        chunk_size: if arguments.quiet { SMALL_CHUNK } else { 0 },
+    };
+    Settings {
+        kind: found.kind,
+        timestamp,
+        options,
+        stats: arguments.stats,
+        lines: if arguments.quiet {
+            None
+        } else {
+            Some(LineStyle {
+                zero: arguments.zero,
+                quote_all: found.quote_path,
+            })
+        },
+    }
+}

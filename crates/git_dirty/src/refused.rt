@@ -1,0 +1,85 @@
+//! Why the command can't begin.
+
+use git_repository::RepositoryError;
+use std::alloc::{AllocError, AllocFailed, Global};
+use std::{fmt, io};
+
+/// Why no index is compared with a worktree.
+#[derive(Debug, Drop)]
+pub enum Refused {
+    /// The repository can't be used.
+    Repository(RepositoryError),
+    /// The index file can't be read.
+    Unreadable {
+        /// Its path.
+        path: String,
+        /// The system's error.
+        error: io::ErrorKind,
+    },
+    /// A path isn't in the worktree.
+    Outside {
+        /// The word of the command line.
+        path: String,
+    },
+    /// A path is empty.
+    EmptyPath,
+    /// The arguments of the program can't be read.
+    Arguments,
+    /// Memory ran out.
+    Memory,
+}
+
+impl Refused {
+    /// Returns the refusal of a path that isn't in the worktree.
+    pub fn outside(alloc: Global, path: &str) -> Refused {
+        match String::from_str(alloc, path) {
+            Ok(path) => Refused::Outside { path },
+            Err(_) => Refused::Memory,
+        }
+    }
+
+    /// Returns the refusal of an index file that can't be read.
+    pub fn unreadable(alloc: Global, path: &str, error: io::ErrorKind) -> Refused {
+        if error == io::ErrorKind::OutOfMemory {
+            return Refused::Memory;
+        }
+        match String::from_str(alloc, path) {
+            Ok(path) => Refused::Unreadable { path, error },
+            Err(_) => Refused::Memory,
+        }
+    }
+}
+
+impl fmt::Display for Refused {
+    fn fmt<W: fmt::Write>(&self, f: &mut fmt::Formatter<W>) -> fmt::Result {
+        match self {
+            Refused::Repository(error) => write!(f, "{error}"),
+            Refused::Unreadable { path, error } => write!(
+                f,
+                "can't read the index {path}: {error}"
+            ),
+            Refused::Outside { path } => write!(f, "{path:?} is outside of the worktree"),
+            Refused::EmptyPath => f.write_str("an empty path: use . for the working folder"),
+            Refused::Arguments => f.write_str("the arguments aren't UTF-8"),
+            Refused::Memory => f.write_str("out of memory"),
+        }
+    }
+}
+
+impl From<AllocError> for Refused {
+    fn from(_error: AllocError) -> Refused {
+        Refused::Memory
+    }
+}
+
+impl<T: Drop> From<AllocFailed<T>> for Refused {
+    fn from(_refused: AllocFailed<T>) -> Refused {
+        Refused::Memory
+    }
+}
+
+impl From<RepositoryError> for Refused {
+    fn from(error: RepositoryError) -> Refused {
+        Refused::Repository(error)
+    }
+}
