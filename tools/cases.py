@@ -9,12 +9,16 @@ import sys
 import tempfile
 import unittest
 
+from compare_dirty import program_at
+
 HERE = os.path.dirname(os.path.abspath(__file__))
 FOO = "19102815663d23f8b75a47e7a01965dcdc96468c"
 PROGRAM = os.path.abspath(os.environ["STATUS_PROGRAM"]) if os.environ.get("STATUS_PROGRAM") else None
+# The built program git_dirty, which GIT_DIRTY names, or None if it isn't there.
+DIRTY = program_at()
 
 # Settings of the user, or of a hook that runs the tests, must not change what git does here.
-for name in [name for name in os.environ if name.startswith("GIT_")]:
+for name in [name for name in os.environ if name.startswith("GIT_") and name != "GIT_DIRTY"]:
     del os.environ[name]
 os.environ.update(GIT_CONFIG_GLOBAL=os.devnull, GIT_CONFIG_NOSYSTEM="1")
 

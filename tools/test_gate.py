@@ -9,8 +9,15 @@ import unittest
 from pathlib import Path
 
 TOP = Path(__file__).resolve().parent.parent
-# The words of a command that writes the built program, and those of one that ends well.
-BUILDS = "mkdir -p crates/status_program/out; : > $P; chmod +x $P; ".replace("$P", "crates/status_program/out/status_program")
+# The built programs, the words of a command that writes one, and those of commands that end well.
+PROGRAMS = ["crates/status_program/out/status_program", "crates/git_dirty/out/git_dirty"]
+
+
+def building(program):
+    return f"mkdir -p {os.path.dirname(program)}; : > {program}; chmod +x {program}; "
+
+
+BUILDS = "".join(map(building, PROGRAMS))
 RT_WELL = BUILDS + "echo proving; echo '12 passed, 0 failed (5 minutes)'"
 TESTS_WELL = "echo 'tools: 7 passed, 0 failed'"
 
@@ -66,21 +73,28 @@ class Gate(unittest.TestCase):
 
     def test_a_part_that_is_missing_is_a_failure(self):
         self.assert_fails(self.gate(without=("git",)), "19 passed, 1 failed", "missing: git")
-        words = "missing: the built program, crates/status_program/out/status_program"
-        self.assert_fails(self.gate(rt="echo '12 passed, 0 failed'"), "19 passed, 1 failed", words)
+        for built, missing in zip(PROGRAMS, reversed(PROGRAMS)):
+            ended = self.gate(rt=building(built) + "echo '12 passed, 0 failed'")
+            self.assert_fails(ended, "19 passed, 1 failed", f"missing: the built program, {missing}")
+
+    def test_the_tests_are_passed_the_built_programs(self):
+        _, lines = self.gate(tests="echo $STATUS_PROGRAM; echo $GIT_DIRTY; " + TESTS_WELL)
+        folder = lines[-4].removesuffix(PROGRAMS[0])
+        self.assertTrue(os.path.isabs(folder))
+        self.assertEqual(lines[-4:-2], [folder + program for program in PROGRAMS])
 
     def test_nothing_passes_without_rt(self):
         self.assert_fails(
             self.gate(without=("rt",)),
-            "7 passed, 3 failed",
+            "7 passed, 4 failed",
             "missing: rt",
             "rt ci ended with exit status 127, without a line 'N passed, M failed'",
-            "missing: the built program, crates/status_program/out/status_program",
+            *(f"missing: the built program, {program}" for program in PROGRAMS),
         )
 
     def test_it_is_short_and_leaves_nothing_out(self):
         text = (TOP / ".ci" / "run").read_text(encoding="utf-8")
-        self.assertLessEqual(text.count("\n"), 80)
+        self.assertLess(text.count("\n"), 60)
         self.assertIn('\ncount "rt ci" rt ci\n', text)
 
 
