@@ -1188,7 +1188,7 @@ class Memory(Dirty):
             return "another end, and nothing was refused"
         if ended.status != 2:
             return ended.end()
-        if not calm[1].startswith(ended.out) or ended.out[-1:] not in (b"", b"\n"):
+        if not calm[1].startswith(ended.out) or ended.out[-1:] not in (b"", b"\n", b"\0"):
             return "output that is no beginning of the lines"
         # The first word is that of the parser of the arguments while these are read.
         if re.fullmatch(rb"(git dirty|error): (?i:out of memory)\n", ended.fault) or (on and ended.fault == b""):
