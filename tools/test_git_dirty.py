@@ -900,7 +900,7 @@ class Failures(Dirty):
         front = ORDINARY if may_read_all() else []
         for threads in ("1", "4"):
             ran = self.run_in([*front, PROGRAM, "--threads", threads])
-            self.assert_fails(ran, "(?i)permission denied", b" M a\n")
+            self.assert_fails(ran, '^git dirty: can\'t read "d/b": permission denied$', b" M a\n")
         # Entries that aren't compared are no failure.
         self.assert_ends(self.run_in([*front, PROGRAM, "a", "e"]), b" M a\n")
 
@@ -909,7 +909,23 @@ class Failures(Dirty):
         os.utime(self.path("d/b"), (5, 5))
         self.write("a", "bars")
         front = ORDINARY if may_read_all() else []
-        self.assert_fails(self.run_in([*front, PROGRAM]), "(?i)permission denied", b" M a\n")
+        self.assert_fails(self.run_in([*front, PROGRAM]), '^git dirty: can\'t read "d/b": permission denied$', b" M a\n")
+
+    def test_the_first_selected_fault_is_named(self):
+        for name in ("a", "e", "f"):
+            self.write(name, "foo")
+        self.git("add", ".")
+        # The stat of `a` stays the index's, but for what doesn't count: so it isn't opened.
+        for name in ("core.trustctime", "core.fileMode"):
+            self.git("config", name, "false")
+        self.settle()
+        for name in ("a", "e", "f"):
+            os.chmod(self.path(name), 0)
+        for name in ("e", "f"):
+            os.utime(self.path(name), (5, 5))
+        front = ORDINARY if may_read_all() else []
+        self.assert_fails(self.run_in([*front, PROGRAM]), '^git dirty: can\'t read "e": ')
+        self.assert_fails(self.run_in([*front, PROGRAM, "f"]), '^git dirty: can\'t read "f": ')
 
     def test_a_required_extension_that_is_not_known_is_quoted(self):
         plain = self.index()
@@ -1135,7 +1151,7 @@ class Differences(Dirty):
         os.chmod(self.path("e"), 0)
         os.utime(self.path("e"), (5, 5))
         self.assertEqual(as_dirty(self.run_in([*front, *git_words()]).stdout), b" M e\n")
-        self.assert_fails(self.run_in([*front, PROGRAM]), "(?i)permission denied")
+        self.assert_fails(self.run_in([*front, PROGRAM]), '"e": permission denied')
         os.chmod(self.path("e"), 0o644)
         self.git("rm", "-q", "--cached", "e")
         self.put_entries(f"100644 {self.blob()} 0\t{'x' * 300}".encode())

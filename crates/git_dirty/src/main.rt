@@ -2,27 +2,18 @@
 #![tactic(auto)]
 
 mod arguments;
-mod asked;
-mod dirty;
-mod failure;
-mod laws;
-mod output;
 mod refused;
 mod selection;
-mod watcher;
 
 use crate::arguments::{Arguments, command_line};
-use crate::asked::{Asked, Settings};
-use crate::dirty::run_dirty;
-use crate::output::report;
 use crate::refused::Refused;
 use crate::selection::path_from_top;
 use clap::Error;
 use clap::error::ErrorKind;
-use git_repository::lines::LineStyle;
-use git_repository::paths::Paths;
 use git_repository::worktree::metadata_of;
 use git_repository::{GitWorktree, IgnoredSubmodules, Repository, SubmoduleHeads};
+use git_status::lines::LineStyle;
+use git_status::{Asked, Paths, Settings, report, run_dirty};
 use status_call::index_as_worktree::{Capabilities, Options};
 use status_index::{Moment, stat};
 use std::alloc::Global;

@@ -13,8 +13,6 @@ pub mod index_file;
 mod number;
 mod paths;
 mod read;
-#[cfg(test)]
-mod tests;
 mod write;
 
 pub use fault::{Fault, IndexFileError};

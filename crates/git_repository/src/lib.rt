@@ -1,12 +1,10 @@
-//! A repository on disk: where it is, its settings, its worktree with all that git records of a file, submodules' heads,
-//! and git's lines.
+//! A repository on disk: where it is, its settings, its worktree with all that git records of a file, and submodules' heads.
 //!
 //! Read `location` first, which finds the repository of a folder by `git_dir`. `settings` are those that a status depends
 //! on, with `format`, from what `sources` names and `parameters` reads. `config` has git's configuration, which `reader`
 //! reads by `state`, and `values` reads a variable's value. `worktree` is a worktree with all that git records of a file,
 //! and `path_buffer` has the paths of its calls. `submodules` compares the heads of submodules, which `heads` finds.
-//! `lines` has git's lines, with paths as `quoting` prints them, and `paths` is a pathspec. `files` reads small files, and
-//! `error` has the errors.
+//! `files` reads small files, and `error` has the errors.
 #![tactic(auto)]
 
 pub mod config;
@@ -15,12 +13,9 @@ mod files;
 mod format;
 mod git_dir;
 mod heads;
-pub mod lines;
 pub mod location;
 mod parameters;
 mod path_buffer;
-pub mod paths;
-mod quoting;
 pub mod reader;
 pub mod settings;
 mod sources;

@@ -1,9 +1,9 @@
 //! Tests of what no clause states, and README's example.
 //!
 //! Begin at `example`. `parts` tests what is below the status call, and walks, renames and copies; `call` the status,
-//! `joined` the joined call, `world` histories and the stored index, and `cli` the program's commands. Each folder's
-//! `mod.rt` says where to begin. What several of them use is in `contents`, `stats`, `nodes`, `faults`, `folders`,
-//! `texts` and `turns`.
+//! `joined` the joined call, `world` histories and the stored index, `index_file` git's index file, and `cli` the
+//! program's commands. Each folder's `mod.rt` says where to begin. What several of them use is in `contents`, `stats`,
+//! `nodes`, `faults`, `folders`, `texts` and `turns`.
 #![tactic(auto)]
 
 #[cfg(test)]
@@ -18,6 +18,8 @@ mod example;
 mod faults;
 #[cfg(test)]
 mod folders;
+#[cfg(test)]
+mod index_file;
 #[cfg(test)]
 mod joined;
 #[cfg(test)]

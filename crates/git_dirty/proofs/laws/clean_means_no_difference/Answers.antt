@@ -1,5 +1,0 @@
-use Rattle.git_dirty.proofs.Clean.{clean_law}
-use Rattle.git_dirty.proofs.laws.clean_means_no_difference.Goals as goal
-
-pub returns : goal.returns
-returns g c = clean_law

@@ -1,4 +1,0 @@
-pub mod Failures
-pub mod Inputs
-pub mod Printing
-pub mod Runs

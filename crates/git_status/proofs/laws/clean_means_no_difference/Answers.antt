@@ -1,0 +1,5 @@
+use Rattle.git_status.proofs.Clean.{clean_law}
+use Rattle.git_status.proofs.laws.clean_means_no_difference.Goals as goal
+
+pub returns : goal.returns
+returns g c = clean_law

@@ -1,0 +1,29 @@
+-- The command's failure for an error. Out of memory is one failure, wherever it happens.
+use Rattle.git_index.specs.declared.fault.IndexFileError.{IndexFileError}
+use Rattle.git_index.specs.declared.fault.IndexFileError.TheVariants as index
+use Rattle.status_compare.specs.declared.error.Error.{Error}
+use Rattle.status_compare.specs.declared.error.Error.TheVariants as errors
+use Rattle.git_status.specs.declared.failure.Failure.{Failure}
+use Rattle.git_status.specs.declared.failure.Failure.TheVariants.{Index, Status, Memory}
+
+-- The failure for bytes that aren't an index file.
+abbrev pub failure_of_index : IndexFileError → Failure
+failure_of_index index.Memory = Memory
+failure_of_index (index.Header fault) = Index (index.Header fault)
+failure_of_index index.Checksum = Index index.Checksum
+failure_of_index (index.Entry at fault) = Index (index.Entry at fault)
+failure_of_index (index.Extension at) = Index (index.Extension at)
+failure_of_index (index.Required name) = Index (index.Required name)
+failure_of_index (index.Strip at) = Index (index.Strip at)
+failure_of_index (index.NameLength at) = Index (index.NameLength at)
+failure_of_index (index.Index e) = Index (index.Index e)
+
+-- The failure for an error of the status.
+abbrev pub failure_of_status : Error → Failure
+failure_of_status errors.Memory = Memory
+failure_of_status errors.IllformedUtf8 = Status errors.IllformedUtf8
+failure_of_status errors.Time = Status errors.Time
+failure_of_status (errors.Io fault) = Status (errors.Io fault)
+failure_of_status (errors.Find e) = Status (errors.Find e)
+failure_of_status (errors.SubmoduleStatus path text) = Status (errors.SubmoduleStatus path text)
+failure_of_status errors.SpawnThread = Status errors.SpawnThread

@@ -1,0 +1,124 @@
+-- The output and the exit status of the command, over the bytes of an index file and a worktree.
+use Rattle.std.specs.Prelude.{◌≡◌, ◌⊎◌, ℕ, Bool, true, false, IsTrue, List, [], Option, Some, None, is_some, Result, Ok, Err, IfOk, All, ⊤}
+use Rattle.std.specs.List.{list_any}
+use Rattle.std.specs.Result.{IsErrAnd}
+use Rattle.std.specs.Io.KnownBytes.{Appends}
+use Rattle.git_index.specs.File.{IsFileOf, IsIndexFile}
+use Rattle.git_index.specs.Refusals.{IsFileRefusal}
+use Rattle.git_index.specs.declared.fault.IndexFileError.{IndexFileError}
+use Rattle.git_index.specs.declared.fault.IndexFileError.TheVariants as index
+use Rattle.git_status.specs.Lines.{differs, visit_lines}
+use Rattle.git_status.specs.declared.lines.LineStyle.{LineStyle}
+use Rattle.status_call.specs.Inputs.{settings}
+use Rattle.status_call.specs.Query.{Query}
+use Rattle.status_call.specs.Records.{verdict}
+use Rattle.status_call.specs.StatusOf.{IsUnspawned}
+use Rattle.status_call.specs.StatusTheorem.{IsMet, considered_entries}
+use Rattle.status_call.specs.Visits.{Visit}
+use Rattle.status_call.specs.declared.index_as_worktree.inputs.Settings.{Settings as StatusSettings}
+use Rattle.status_call.specs.declared.index_as_worktree.types.EntryStatus.{EntryStatus}
+use Rattle.status_call.specs.declared.index_as_worktree.types.Outcome.{Outcome}
+use Rattle.status_compare.specs.declared.error.Error.{Error}
+use Rattle.status_index.specs.Entries.{IndexEntry, IsIndex}
+use Rattle.status_index.specs.States.{index_of, timestamp_of}
+use Rattle.status_index.specs.declared.state.State.{State}
+use Rattle.git_status.specs.Failures.{failure_of_index, failure_of_status}
+use Rattle.git_status.specs.Printing.{IsBegun}
+use Rattle.git_status.specs.declared.asked.Settings.{Settings}
+use Rattle.git_status.specs.declared.dirty.Report.{Report}
+use Rattle.git_status.specs.declared.failure.Failure.{Failure}
+use Rattle.git_status.specs.declared.failure.Failure.TheVariants.{Interrupted, Output, Memory}
+
+-- The bytes are refused as an index file, and nothing was printed; bytes of a valid index are refused only if memory ran out.
+pub record IsRefusedFile (s : Settings) (bytes : List ℕ) (old : Option (List ℕ)) (f : Failure) (new : Option (List ℕ)) : Type 0 where
+  pub error : IndexFileError
+  pub refusal : IsFileRefusal s.kind bytes error
+  pub valid : (es : List IndexEntry) → IsIndexFile s.kind bytes es → IsIndex es → error ≡ index.Memory
+  pub failure : f ≡ failure_of_index error
+  pub unchanged : new ≡ old
+
+-- Why a status has no report: it failed, or it ended early without a difference.
+abbrev pub IsUnreported : Result Outcome Error → Failure → Type 0
+IsUnreported answer f = ((e : Error) × (answer ≡ Err e) × (f ≡ failure_of_status e)) ⊎ ((o : Outcome) × (answer ≡ Ok o) × (o.interrupted ≡ true) × (f ≡ Interrupted))
+
+module _ {T U : Type 0} where
+  -- A record of an entry that differs from the worktree.
+  abbrev pub is_difference : Visit T U → Bool
+  is_difference v = differs v.status
+
+  -- The lines of records in this style; nothing if the command is quiet.
+  abbrev pub printed_text : Option LineStyle → List (Visit T U) → List ℕ
+  printed_text (Some style) visits = visit_lines style visits
+  printed_text None visits = []
+
+  -- The command's report of a status: its outcome; it is dirty if a record is a difference, and a status that ended early has one.
+  pub record IsReport (visits : List (Visit T U)) (answer : Result Outcome Error) (r : Report) : Type 0 where
+    pub outcome : answer ≡ Ok r.outcome
+    pub dirty : r.dirty ≡ list_any is_difference visits
+    pub early : r.outcome.interrupted ≡ true → r.dirty ≡ true
+
+  abbrev pub IsFound : List (Visit T U) → Result Outcome Error → Result Report Failure → Type 0
+  IsFound visits answer (Ok r) = IsReport visits answer r
+  IsFound visits answer (Err f) = IsUnreported answer f
+
+  -- The command isn't quiet, a beginning of the lines was printed, and the output can't be written or memory ran out.
+  pub record IsPrintFailure (lines : Option LineStyle) (visits : List (Visit T U)) (old new : Option (List ℕ)) (f : Failure) : Type 0 where
+    pub loud : is_some lines ≡ true
+    pub reason : (f ≡ Output) ⊎ (f ≡ Memory)
+    pub printed : IsBegun (printed_text lines visits) old new
+
+  -- All lines were printed, and this was found; or they can't be printed.
+  abbrev pub IsEnded : Option LineStyle → List (Visit T U) → Result Outcome Error → Option (List ℕ) → Result Report Failure → Option (List ℕ) → Type 0
+  IsEnded lines visits answer old result new =
+      (Appends old new (printed_text lines visits) × IsFound visits answer result) ⊎ IsErrAnd result (IsPrintFailure lines visits old new)
+
+  -- A status of this index was computed by this query, as the status theorem has it; it ends early only if the command is quiet; with one
+  -- thread none is refused; and the command ended so.
+  pub record IsStatusRun (query : Query T U) (index : State) (s : Settings) (old : Option (List ℕ)) (result : Result Report Failure) (new : Option (List ℕ)) : Type 0 where
+    pub visits : List (Visit T U)
+    pub answer : Result Outcome Error
+    pub met : IsMet query index [] answer visits
+    pub whole : is_some s.lines ≡ true → IfOk answer (λ o. o.interrupted ≡ false)
+    pub alone : IsUnspawned query s.options.thread_limit answer
+    pub ended : IsEnded s.lines visits answer old result new
+
+  -- The bytes are an index file of this index, which has the settings' timestamp, and a status of it was printed.
+  pub record IsFileRun (query : StatusSettings → Query T U) (s : Settings) (bytes : List ℕ) (old : Option (List ℕ)) (result : Result Report Failure) (new : Option (List ℕ)) : Type 0 where
+    pub index : State
+    pub version : ℕ
+    pub extensions : List ℕ
+    pub file : IsFileOf s.kind bytes version (index_of index) extensions
+    pub time : timestamp_of index ≡ s.timestamp
+    pub run : IsStatusRun (query (settings s.options index)) index s old result new
+
+  -- The result of the command over the bytes of an index file and a worktree.
+  abbrev pub IsRun : (StatusSettings → Query T U) → Settings → List ℕ → Option (List ℕ) → Result Report Failure → Option (List ℕ) → Type 0
+  IsRun query s bytes old (Ok r) new = IsFileRun query s bytes old (Ok r) new
+  IsRun query s bytes old (Err f) new = IsFileRun query s bytes old (Err f) new ⊎ IsRefusedFile s bytes old f new
+
+  -- With exit status 0 the command found no difference, and with 1 it found one.
+  abbrev pub IsExit : (StatusSettings → Query T U) → Settings → List ℕ → Bool → Option (List ℕ) → Option (List ℕ) → Type 0
+  IsExit query s bytes dirty old new = (r : Report) × (r.dirty ≡ dirty) × IsRun query s bytes old (Ok r) new
+
+  -- With exit status 2 it failed.
+  abbrev pub IsFailedExit : (StatusSettings → Query T U) → Settings → List ℕ → Option (List ℕ) → Option (List ℕ) → Type 0
+  IsFailedExit query s bytes old new = (f : Failure) × IsRun query s bytes old (Err f) new
+
+  -- An entry has no difference: it has no record, or one that only asks for a new stat.
+  abbrev pub HasNoDifference : Result (Option (EntryStatus T U)) Error → Type 0
+  HasNoDifference (Ok (Some status)) = differs status ≡ false
+  HasNoDifference (Ok _) = ⊤
+  HasNoDifference (Err e) = ⊥
+
+  -- The bytes are an index file of an index of which no considered entry differs from the worktree.
+  pub record IsClean (query : StatusSettings → Query T U) (s : Settings) (bytes : List ℕ) : Type 0 where
+    pub index : State
+    pub version : ℕ
+    pub extensions : List ℕ
+    pub file : IsFileOf s.kind bytes version (index_of index) extensions
+    pub time : timestamp_of index ≡ s.timestamp
+    pub none : All (λ e. HasNoDifference (verdict (query (settings s.options index)) (considered_entries (query (settings s.options index)) index) e)) (considered_entries (query (settings s.options index)) index)
+
+  -- Over a modelled worktree, a command that ended with exit status 0 means this.
+  abbrev pub CleanLaw : (StatusSettings → Query T U) → Settings → List ℕ → Type 0
+  CleanLaw query s bytes = ((settings : StatusSettings) → IsTrue (query settings).modelled) → (old new : Option (List ℕ)) → IsExit query s bytes false old new → IsClean query s bytes

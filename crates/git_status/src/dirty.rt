@@ -1,0 +1,294 @@
+//! The command, over any worktree, index bytes and writers.
+
+ghost use Rattle.std.specs.Prelude.{◌≡◌, ◌≢◌, ◌⊎◌, [], true, false, IfErr, IfOk, OnOk, map};
+ghost use Rattle.std.specs.Io.KnownBytes.{Appends};
+ghost use Rattle.std.specs.List.{list_any};
+ghost use Rattle.status_call.specs.Inputs.{settings};
+ghost use Rattle.status_call.specs.RecorderVisits.{visit_of};
+ghost use Rattle.git_status.specs.Lines.{visit_lines};
+ghost use Rattle.git_status.specs.Printing.{IsFaultLine};
+ghost use Rattle.git_status.specs.Inputs.{asked_inputs};
+ghost use Rattle.git_status.specs.Runs.{IsEnded, IsExit, IsFailedExit, IsFound, IsPrintFailure, IsRun, IsStatusRun, is_difference, printed_text};
+
+use crate::asked::{Asked, Settings};
+use crate::failure::Failure;
+use crate::fault_place::Search;
+use crate::lines::{LineStyle, letters, push_line};
+use crate::output::{print, report};
+use crate::watcher::Watcher;
+use git_index::read_index;
+use status_base::worktree::{
+    MemoryObjects, NoFilter, NoLister, Pathspec, SubmoduleStatus, Worktree,
+};
+use status_call::index_as_worktree::inputs::{Ask, Inputs};
+use status_call::index_as_worktree::traits::FastEq;
+use status_call::index_as_worktree::{
+    Context, Error, Outcome, Record, Recorder, index_as_worktree,
+};
+use status_index::State;
+use std::alloc::{AllocError, Global};
+use std::io::{self, Write as _};
+use std::sync::Wait;
+use std::sync::atomic::AtomicBool;
+use std::thread::Threads;
+
+/// A worktree, submodules and paths, with comparison by sizes and ids, no filter and no listings.
+type Compared<'a, W, S, P> = Inputs<'a, W, FastEq, S, MemoryObjects, P, NoFilter, NoLister>;
+
+/// The result of a status.
+#[derive(Clone, Debug, Drop)]
+pub struct Report {
+    /// Whether an entry differs from the worktree.
+    pub dirty: bool,
+    /// The counts of the status.
+    pub outcome: Outcome,
+}
+
+/// Prints a line to `output` for each entry of an index file that differs from the worktree, in index order. A quiet
+/// command prints nothing, and ends at the first such entry.
+///
+/// Returns the exit status: 0 if no entry differs, 1 if one does, and 2 after a failure, which is one line on `faults`.
+/// Lines that were printed before it stay. With `stats` a line on `faults` has the counts.
+pub fn run_dirty<
+    'a,
+    R: AllocGlobal + Threads + Wait,
+    W: Worktree + Sync,
+    S: SubmoduleStatus + Send,
+    P: Pathspec + Send,
+    O: io::Write,
+    E: io::Write,
+>(rt: &R, bytes: &[u8], asked: Asked<'a, W, S, P>, output: &mut O, faults: &mut E) -> u8
+where
+    W::File: Send,
+    S::Output: Send,
+    ensures status { (result ≡ 0) ⊎ ((result ≡ 1) ⊎ (result ≡ 2)) }
+    ensures clean { result ≡ 0 → IsExit (⟦<Compared<'a, W, S, P> as Ask>⟧.query (asked_inputs asked.entry)) asked.entry.settings bytes.now false (O.contents output.old) (O.contents output.new) }
+    ensures dirty { result ≡ 1 → IsExit (⟦<Compared<'a, W, S, P> as Ask>⟧.query (asked_inputs asked.entry)) asked.entry.settings bytes.now true (O.contents output.old) (O.contents output.new) }
+    ensures failed { result ≡ 2 → IsFailedExit (⟦<Compared<'a, W, S, P> as Ask>⟧.query (asked_inputs asked.entry)) asked.entry.settings bytes.now (O.contents output.old) (O.contents output.new) }
+    ensures line { result ≡ 2 → IsFaultLine (E.contents faults.old) (E.contents faults.new) }
+    ensures quiet { result ≢ 2 → asked.entry.settings.stats ≡ false → E.contents faults.new ≡ E.contents faults.old }
+{
+    let stats = asked.settings.stats;
+    let search = Search::of(&asked).ok();
+    match print_file(rt, bytes, asked, output) {
+        Ok(found) => {
+            if stats {
+                print_stats(&found.outcome, faults);
+            }
+            u8::from(found.dirty)
+        }
+        Err(Failure::Status(error)) => report_error(rt, bytes, search, error, faults),
+        Err(failure) => report(rt.alloc(), failure, faults),
+    }
+}
+
+/// Writes a line that says why the status of an index file failed, with the path at which it did, and returns the exit status
+/// of a failure, 2.
+fn report_error<R: AllocGlobal + Threads + Wait, W: Worktree + Sync, P: Pathspec, E: io::Write>(
+    rt: &R,
+    bytes: &[u8],
+    search: Option<Search<'_, W, P>>,
+    error: Error,
+    faults: &mut E,
+) -> u8
+where
+    W::File: Send,
+    ensures status { result ≡ 2 }
+    ensures line { IsFaultLine (E.contents faults.old) (E.contents faults.new) }
+{
+    let alloc = rt.alloc();
+    if let (Some(search), true) = (search, is_of_an_entry(&error)) {
+        if let Ok(file) = read_index(alloc, search.kind, bytes, search.timestamp) {
+            if let Some(found) = search.first_error(rt, &file.state) {
+                return report(alloc, found, faults);
+            }
+        }
+    }
+    report(alloc, Failure::Status(error), faults)
+}
+
+/// Whether an error of a status belongs to an entry that it doesn't name.
+fn is_of_an_entry(error: &Error) -> bool {
+    matches!(error, Error::Io(_) | Error::IllformedUtf8 | Error::Time)
+}
+
+/// Writes a line with the counts of a status.
+fn print_stats<E: io::Write>(outcome: &Outcome, faults: &mut E) {
+    let Outcome {
+        entries_to_process,
+        symlink_metadata_calls,
+        worktree_files_read,
+        worktree_bytes,
+        entries_to_update,
+        racy_clean,
+        ..
+    } = outcome;
+    // If the line can't be written, there is nowhere left to report that.
+    let _ = writeln!(
+        faults,
+        "git dirty: {entries_to_process} entries, {symlink_metadata_calls} calls of lstat, {worktree_files_read} files read ({worktree_bytes} bytes), {racy_clean} racy, {entries_to_update} with an old stat"
+    );
+}
+
+/// Prints the status of an index file.
+///
+/// # Errors
+/// The bytes aren't an index file, or the failures of `print_status`.
+pub fn print_file<
+    'a,
+    R: AllocGlobal + Threads + Wait,
+    W: Worktree + Sync,
+    S: SubmoduleStatus + Send,
+    P: Pathspec + Send,
+    O: io::Write,
+>(rt: &R, bytes: &[u8], asked: Asked<'a, W, S, P>, output: &mut O) -> Result<Report, Failure>
+where
+    W::File: Send,
+    S::Output: Send,
+    ensures { IsRun (⟦<Compared<'a, W, S, P> as Ask>⟧.query (asked_inputs asked.entry)) asked.entry.settings bytes.now (O.contents output.old) result (O.contents output.new) }
+{
+    let Settings {
+        kind,
+        timestamp,
+        ..
+    } = asked.settings;
+    let file = read_index(rt.alloc(), kind, bytes, timestamp)?;
+    print_status(rt, &file.state, asked, output)
+}
+
+/// Prints the status of an index.
+///
+/// # Errors
+/// The status's error, after the lines before it were printed; or the output can't be written, or memory ran out.
+fn print_status<
+    'a,
+    R: AllocGlobal + Threads + Wait,
+    W: Worktree + Sync,
+    S: SubmoduleStatus + Send,
+    P: Pathspec + Send,
+    O: io::Write,
+>(rt: &R, index: &State, asked: Asked<'a, W, S, P>, output: &mut O) -> Result<Report, Failure>
+where
+    W::File: Send,
+    S::Output: Send,
+    ensures { IsStatusRun (⟦<Compared<'a, W, S, P> as Ask>⟧.query (asked_inputs asked.entry) (settings asked.entry.settings.options index.now)) index.now asked.entry.settings (O.contents output.old) result (O.contents output.new) }
+{
+    let alloc = rt.alloc();
+    let Settings { options, lines, .. } = asked.settings;
+    let flag = AtomicBool::new(false);
+    let stop = match lines {
+        Some(_) => None,
+        None => Some(&flag),
+    };
+    let mut watcher = Watcher {
+        recorder: Recorder::new(alloc),
+        stop,
+    };
+    let context = Context {
+        pathspec: asked.paths,
+        filter: NoFilter,
+        lister: NoLister,
+        should_interrupt: stop,
+    };
+    let answer = index_as_worktree(
+        rt,
+        alloc,
+        index,
+        asked.worktree,
+        &mut watcher,
+        FastEq,
+        asked.submodules,
+        MemoryObjects::new(alloc),
+        context,
+        options,
+    );
+    print_answer(
+        alloc,
+        lines,
+        watcher.recorder.records.as_slice(),
+        answer,
+        output,
+    )
+}
+
+/// Prints the lines of a status's records, and returns what was found.
+///
+/// # Errors
+/// The output can't be written, or memory ran out; or those of `found`, after all lines were printed.
+fn print_answer<T: Drop, U: Drop, O: io::Write>(
+    alloc: Global,
+    lines: Option<LineStyle>,
+    records: &[Record<'_, T, U>],
+    answer: Result<Outcome, Error>,
+    output: &mut O,
+) -> Result<Report, Failure>
+    ensures { IsEnded lines (map visit_of records.now) answer (O.contents output.old) result (O.contents output.new) }
+{
+    print_lines(alloc, lines, records, output)?;
+    found(records, answer)
+}
+
+/// Prints the lines of records, or nothing if the command is quiet.
+///
+/// # Errors
+/// The output can't be written, or memory ran out. Then a beginning is printed.
+fn print_lines<T: Drop, U: Drop, O: io::Write>(
+    alloc: Global,
+    lines: Option<LineStyle>,
+    records: &[Record<'_, T, U>],
+    output: &mut O,
+) -> Result<(), Failure>
+    ensures ok { OnOk result (Appends (O.contents output.old) (O.contents output.new) (printed_text lines (map visit_of records.now))) }
+    ensures err { IfErr result (IsPrintFailure lines (map visit_of records.now) (O.contents output.old) (O.contents output.new)) }
+{
+    let Some(style) = lines else {
+        return Ok(());
+    };
+    let text = lines_of(alloc, style, records)?;
+    print(&text, output)
+}
+
+/// Returns what a status found.
+///
+/// # Errors
+/// The status's error, or it ended early without a difference.
+fn found<T: Drop, U: Drop>(
+    records: &[Record<'_, T, U>],
+    answer: Result<Outcome, Error>,
+) -> Result<Report, Failure>
+    ensures { IsFound (map visit_of records.now) answer result }
+{
+    let outcome = answer?;
+    let dirty = has_difference(records);
+    if outcome.interrupted && !dirty {
+        return Err(Failure::Interrupted);
+    }
+    Ok(Report { dirty, outcome })
+}
+
+/// Returns the lines of records.
+fn lines_of<T: Drop, U: Drop>(
+    alloc: Global,
+    style: LineStyle,
+    records: &[Record<'_, T, U>],
+) -> Result<Vec<u8>, AllocError>
+    ensures { IfOk result (λ lines. lines.items ≡ visit_lines style (map visit_of records.now)) }
+{
+    let mut lines = Vec::new(alloc);
+    for record in records {
+        push_line(&mut lines, style, record.relative_path, &record.status)?;
+    }
+    Ok(lines)
+}
+
+/// Returns whether one of these records is of an entry that differs from the worktree.
+fn has_difference<T: Drop, U: Drop>(records: &[Record<'_, T, U>]) -> bool
+    ensures { result ≡ list_any is_difference (map visit_of records.now) }
+{
+    for record in records {
+        if letters(&record.status).is_some() {
+            return true;
+        }
+    }
+    false
+}

@@ -1,0 +1,92 @@
+//! Why the command fails.
+
+ghost use Rattle.std.specs.Prelude.{◌≡◌};
+
+use bstr::BStr;
+use git_index::IndexFileError;
+use status_call::index_as_worktree::Error;
+use std::alloc::AllocError;
+use std::fmt;
+
+/// Why the command fails over an index file and a worktree.
+#[derive(Debug, Drop)]
+pub enum Failure {
+    /// The bytes aren't an index file.
+    Index(IndexFileError),
+    /// The status fails.
+    Status(Error),
+    /// The status ended early, before any entry that differs.
+    Interrupted,
+    /// The output can't be written.
+    Output,
+    /// Memory ran out.
+    Memory,
+}
+
+impl fmt::Display for Failure {
+    fn fmt<W: fmt::Write>(&self, f: &mut fmt::Formatter<W>) -> fmt::Result {
+        match self {
+            Failure::Index(
+                IndexFileError::Required {
+                    name: [b'l', b'i', b'n', b'k'],
+                },
+            ) => f.write_str("the index is split: run git update-index --no-split-index"),
+            Failure::Index(
+                IndexFileError::Required {
+                    name: [b's', b'd', b'i', b'r'],
+                },
+            ) => f.write_str(
+                "the index is sparse: run git sparse-checkout reapply --no-sparse-index",
+            ),
+            Failure::Index(IndexFileError::Required { name }) => {
+                let name = BStr::new(name);
+                write!(f, "the index has an extension that isn't known: {name:?}")
+            }
+            Failure::Index(error) => write!(f, "the index can't be read: {error}"),
+            Failure::Status(Error::Io(fault)) => write!(f, "the worktree can't be read: {fault}"),
+            Failure::Status(error) => write!(f, "{error}"),
+            Failure::Interrupted => f.write_str("interrupted"),
+            Failure::Output => f.write_str("the output can't be written"),
+            Failure::Memory => f.write_str("out of memory"),
+        }
+    }
+}
+
+impl From<AllocError> for Failure {
+    ghost use Rattle.std.specs.Prelude.{◌≡◌};
+    ghost use Rattle.git_status.specs.declared.failure.Failure.TheVariants.{Memory};
+
+    ghost from_gives = { λ _ f. f ≡ Memory };
+
+    fn from(_error: AllocError) -> Failure {
+        Failure::Memory
+    }
+}
+
+impl From<IndexFileError> for Failure {
+    ghost use Rattle.std.specs.Prelude.{◌≡◌};
+    ghost use Rattle.git_status.specs.Failures.{failure_of_index};
+
+    ghost from_gives = { λ e f. f ≡ failure_of_index e };
+
+    fn from(error: IndexFileError) -> Failure {
+        match error {
+            IndexFileError::Memory => Failure::Memory,
+            error => Failure::Index(error),
+        }
+    }
+}
+
+impl From<Error> for Failure {
+    ghost use Rattle.std.specs.Prelude.{◌≡◌};
+    ghost use Rattle.git_status.specs.Failures.{failure_of_status};
+
+    ghost from_gives = { λ e f. f ≡ failure_of_status e };
+
+    fn from(error: Error) -> Failure {
+        match error {
+            Error::Memory => Failure::Memory,
+            error => Failure::Status(error),
+        }
+    }
+}

@@ -1,0 +1,24 @@
+//! The command `git dirty`, over the bytes of an index file, any worktree and any writers.
+//!
+//! Read `dirty` first, which has the command, and `asked`, what it is asked. `lines` has git's lines, with paths
+//! as `quoting` prints them; `output` writes them. `paths` is a pathspec of files and folders. `watcher` stops at the first
+//! difference. `failure` says why the command fails, `fault_place` where, and `laws` what a user relies on.
+#![tactic(auto)]
+
+mod asked;
+mod dirty;
+mod failure;
+mod fault_place;
+mod laws;
+pub mod lines;
+mod output;
+mod paths;
+mod quoting;
+mod watcher;
+
+pub use asked::{Asked, Settings};
+pub use dirty::{Report, print_file, run_dirty};
+pub use failure::Failure;
+pub use laws::clean_means_no_difference;
+pub use output::report;
+pub use paths::Paths;
