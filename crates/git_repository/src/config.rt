@@ -1,8 +1,6 @@
 //! The variables of git's configuration.
 
-use bstr::BStr;
 use std::alloc::{AllocError, AllocFailed, Global};
-use std::fmt;
 use thiserror::Error;
 
 /// Why a configuration file isn't read.
@@ -71,20 +69,6 @@ impl Variable {
     /// Returns the name, if the variable is in this section and in no subsection. The section is in lower case.
     pub fn name_in(&self, section: &[u8]) -> Option<&[u8]> {
         (self.header.as_slice() == section).then_some(self.name.as_slice())
-    }
-}
-
-/// Shows the variable as `git config --list` does.
-impl fmt::Display for Variable {
-    fn fmt<W: fmt::Write>(&self, f: &mut fmt::Formatter<W>) -> fmt::Result {
-        let (header, name) = (BStr::new(&self.header), BStr::new(&self.name));
-        match &self.value {
-            Some(value) => {
-                let value = BStr::new(value);
-                write!(f, "{header}.{name}={value}")
-            }
-            None => write!(f, "{header}.{name}"),
-        }
     }
 }
 

@@ -21,8 +21,6 @@ pub mod settings;
 mod sources;
 mod state;
 pub mod submodules;
-#[cfg(test)]
-mod tests;
 pub mod values;
 pub mod worktree;
 
