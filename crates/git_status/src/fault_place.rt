@@ -1,4 +1,4 @@
-//! Where in a worktree a status fails.
+//! The path at which a status fails.
 
 use crate::asked::Asked;
 use crate::paths::Paths;
@@ -33,7 +33,7 @@ impl fmt::Display for PlacedError<'_> {
     }
 }
 
-/// What a status was asked, kept to find out where it failed.
+/// The question of a status, kept to find out at which path it failed.
 #[derive(Drop)]
 pub struct Search<'a, W, P> {
     /// The kind of the index file's ids.

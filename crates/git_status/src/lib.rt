@@ -2,7 +2,7 @@
 //!
 //! Read `dirty` first, which has the command, and `asked`, what it is asked. `lines` has git's lines, with paths
 //! as `quoting` prints them; `output` writes them. `paths` is a pathspec of files and folders. `watcher` stops at the first
-//! difference. `failure` says why the command fails, `fault_place` where, and `laws` what a user relies on.
+//! difference. `failure` says why the command fails, `fault_place` at which path, and `laws` what a user relies on.
 #![tactic(auto)]
 
 mod asked;
