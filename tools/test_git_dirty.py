@@ -187,6 +187,39 @@ class Places(Dirty):
             self.assert_ends(self.ran("-C", self.path(folder), folder="/"), b" M d/b\n")
         self.assert_ends(self.ran("-C", "d/e"), b" M d/b\n")
 
+    def test_it_works_in_a_folder_that_may_not_be_read(self):
+        self.write("a", "bars")
+        os.mkdir(self.path("closed"))
+        self.addCleanup(os.chmod, self.path("closed"), 0o755)
+        front = ORDINARY if may_read_all() else []
+        for command in (git_words(), [PROGRAM], [PROGRAM, "-C", ""], [PROGRAM, "-C", self.top]):
+            os.chmod(self.path("closed"), 0o755)
+            words = [*front, "sh", "-c", 'cd closed && chmod 0 . && exec "$@"', "sh", *command]
+            self.assertEqual(as_dirty(self.run_in(words).stdout), b" M a\n", command)
+
+    def test_files_of_the_user_that_may_not_be_read_are_passed_over(self):
+        self.write("a", "bars")
+        home = os.path.join(self.room, "home")
+        os.makedirs(os.path.join(home, ".config/git"))
+        for name in (".gitconfig", ".config/git/config"):
+            with open(os.path.join(home, name), "w") as file:
+                file.write("[core]\nbare = x\n")
+            os.chmod(os.path.join(home, name), 0)
+        front = ORDINARY if may_read_all() else []
+        for names in ({"HOME": home}, {"HOME": home, "XDG_CONFIG_HOME": ""}, {"GIT_CONFIG_GLOBAL": os.path.join(home, ".gitconfig")}):
+            with self.subTest(names):
+                unset = [] if "GIT_CONFIG_GLOBAL" in names else ["env", "-u", "GIT_CONFIG_GLOBAL"]
+                gits, ours = (self.run_in([*front, *unset, *words], **names) for words in (git_words(), [PROGRAM]))
+                self.assertEqual((gits.returncode, as_dirty(gits.stdout)), (0, b" M a\n"))
+                self.assert_ends(ours, b" M a\n")
+
+    def test_empty_names_of_worktrees_are_refused(self):
+        self.assertEqual(self.run_in(git_words(), GIT_WORK_TREE="").returncode, 128)
+        self.assert_fails(self.ran(GIT_WORK_TREE=""), "GIT_WORK_TREE")
+        self.git("config", "core.worktree", "")
+        self.assertEqual(self.run_in(git_words()).returncode, 128)
+        self.assert_fails(self.ran(), "core.worktree")
+
     def test_git_runs_it_by_its_name(self):
         bin_folder = os.path.join(self.room, "bin")
         os.mkdir(bin_folder)
@@ -531,6 +564,15 @@ class Submodules(Dirty):
         self.git("-C", "sub", "commit", "-q", "--allow-empty", "-m", "two")
         self.assert_as_git(" M sub\n")
 
+    def test_a_head_with_more_than_an_id(self):
+        self.git("-C", "m", "commit", "-q", "--allow-empty", "-m", "two")
+        found = self.git("-C", "m", "rev-parse", "HEAD").strip()
+        for after in (b"", b"\n", b" and more\n", b"\tand more", b"\nand more", b"and more"):
+            with self.subTest(after):
+                with open(self.path("m/.git/HEAD"), "wb") as file:
+                    file.write(found + after)
+                self.assert_as_git("" if after == b"and more" else " M m\n")
+
     def test_a_linked_worktree_of_one(self):
         shutil.rmtree(self.path("n"))
         self.git("-C", "m", "worktree", "add", "-q", self.path("n"))
@@ -722,6 +764,18 @@ class Options(Dirty):
             calls = int(re.search(rb"(\d+) calls of lstat", ran.stderr)[1])
             self.assertTrue(0 < calls < 3_000, calls)
 
+    def test_quiet_goes_on_after_new_stats(self):
+        """More files than a quiet command still compares after the first difference, each with another time."""
+        for number in range(2_100):
+            self.write(f"many/{number}", "")
+        self.git("add", "-A")
+        for number in range(2_100):
+            os.utime(self.path(f"many/{number}"), (5, 5))
+        for threads in ("1", "4"):
+            ran = self.ran("-q", "--stats", "--threads", threads, "many")
+            self.assertEqual((ran.returncode, ran.stdout), (0, b""))
+            self.assertIn(b" 2100 with an old stat\n", ran.stderr)
+
     def test_threads(self):
         for number in range(600):
             self.write(f"many/{number}", "foo")
@@ -739,6 +793,21 @@ class Options(Dirty):
                 plain, ran = self.ran(*words), self.ran("--stats", *words)
                 self.assertEqual((ran.returncode, ran.stdout), (plain.returncode, plain.stdout))
                 self.assertRegex(ran.stderr, rb"\Agit dirty: [^\n]*\d[^\n]*\n\Z")
+
+    def test_stats_count_files_that_are_read(self):
+        self.write("a", "foo")
+        self.write("d/b", "bars")
+        self.git("add", ".")
+        self.settle()
+        counts = r"\Agit dirty: 2 entries, \d+ calls of lstat, {} files read \({} bytes\), {} racy, {} with an old stat\n\Z"
+        for name in ("a", "d/b"):
+            with self.subTest(name):
+                os.utime(self.path(name), (5, 5))
+                self.assertRegex(self.ran("--stats").stderr.decode(), counts.format(*((1, 3, 0, 1) if name == "a" else (2, 7, 0, 2))))
+        # An entry is racy if its file isn't older than the index. Its stat counts as old.
+        self.settle()
+        os.utime(self.path(".git/index"), (THEN, THEN))
+        self.assertRegex(self.ran("--stats").stderr.decode(), counts.format(2, 7, 2, 2))
 
     def test_help_has_an_example(self):
         ran = self.ran("--help", folder="/")
@@ -765,8 +834,7 @@ class Options(Dirty):
         for words in ([], ["-z"], ["--threads", "4"]):
             with open("/dev/full", "wb") as full:
                 ran = subprocess.run([PROGRAM, *words], cwd=self.top, stdout=full, stderr=subprocess.PIPE, timeout=60)
-            self.assertEqual(ran.returncode, 2)
-            self.assertRegex(ran.stderr, rb"^git dirty: .*\n$")
+            self.assertEqual((ran.returncode, ran.stderr), (2, b"git dirty: the output can't be written\n"))
             reader, writer = os.pipe()
             os.close(reader)
             with os.fdopen(writer, "wb") as closed:
@@ -951,6 +1019,12 @@ class Differences(Dirty):
         self.assertEqual((ran.returncode, as_dirty(ran.stdout).decode()), (0, gits))
         self.assert_fails(self.ran(), words, lines.encode())
 
+    def assert_noted(self, lines, words):
+        """Asserts that the program prints these lines, and one note with these words."""
+        ran = self.ran()
+        self.assertEqual((ran.returncode, ran.stdout), (1, lines.encode()))
+        self.assertRegex(ran.stderr.decode(), rf"\Agit dirty: note: [^\n]*{words}[^\n]*\n\Z")
+
     def plain_lines(self):
         """Returns the lines of git's status with its own way to compare submodules."""
         ran = self.run_in(["git", "--no-optional-locks", "status", "--porcelain", "-uno", "--no-renames"])
@@ -1020,6 +1094,32 @@ class Differences(Dirty):
         self.assertEqual(self.plain_lines(), " D .gitmodules\n")
         self.assert_ends(self.ran(), b" D .gitmodules\n M m\n")
 
+    def test_unread_settings_of_submodules(self):
+        """`.gitmodules` that can't be read, or has a line that can't be"""
+        self.module("m")
+        self.git("add", "m")
+        self.git("-C", "m", "commit", "-q", "--allow-empty", "-m", "two")
+        whole = '[submodule "x"]\n\tpath = m\n\turl = u\n\tignore = all\n'
+        self.write(".gitmodules", whole)
+        self.assertEqual((self.plain_lines(), self.ran().stdout), ("", b""))
+        self.write(".gitmodules", whole + "<<<<<<< ours\n")
+        self.assertIn(b"bad config line 5", self.run_in(["git", "status", "--porcelain"]).stderr)
+        self.assert_noted(" M m\n", "[.]gitmodules can't be read")
+        quiet = self.ran("-q")
+        self.assertEqual((quiet.returncode, quiet.stdout, quiet.stderr), (1, b"", b""))
+        # In a conflict git doesn't read it either.
+        blob = self.git("hash-object", "-w", ".gitmodules").strip()
+        self.put_entries(*(b"100644 %s %d\t.gitmodules" % (blob, stage) for stage in (1, 2, 3)))
+        self.assertEqual(self.plain_lines(), "UU .gitmodules\n M m\n")
+        self.assert_noted("UU .gitmodules\n M m\n", "[.]gitmodules can't be read")
+        # Git doesn't read it if there is no submodule.
+        self.git("rm", "-qf", "--cached", "m", ".gitmodules")
+        self.write("a", "bars")
+        os.remove(self.path(".gitmodules"))
+        os.mkdir(self.path(".gitmodules"))
+        self.assertEqual(self.plain_lines(), " M a\n")
+        self.assert_noted(" M a\n", "[.]gitmodules can't be read")
+
     def test_an_index_of_1970(self):
         """an index file whose time is second 0 of 1970"""
         self.git("config", "core.trustctime", "false")
@@ -1066,9 +1166,15 @@ class Differences(Dirty):
         self.assert_as_git(" M a\n")
 
     def test_a_path_that_is_no_utf_8(self):
-        """a path that isn't UTF-8"""
+        """a path that isn't UTF-8, also of a submodule's reference"""
         self.put_entries(b"100644 " + self.blob().encode() + b" 0\tx\xffy")
         self.assert_refuses(' D "x\\377y"\n', "UTF-?8")
+        self.git("rm", "-q", "--cached", b"x\xffy")
+        self.module("m")
+        self.git("add", "m")
+        self.git("-C", "m", "checkout", "-q", "-b", b"caf\xe9")
+        self.git("-C", "m", "commit", "-q", "--allow-empty", "-m", "two")
+        self.assert_refuses(" M m\n", '^git dirty: can\'t read the submodule "m": .*UTF-8')
 
     def test_a_target_that_is_no_utf_8(self):
         """a link whose target isn't UTF-8, if it has to be read"""
@@ -1156,6 +1262,20 @@ class Differences(Dirty):
         self.git("rm", "-q", "--cached", "e")
         self.put_entries(f"100644 {self.blob()} 0\t{'x' * 300}".encode())
         self.assert_refuses("", ".")
+        # Git takes a submodule that it can't read for one without a commit.
+        self.git("rm", "-q", "--cached", "x" * 300)
+        self.module("m")
+        self.git("add", "m")
+        self.git("-C", "m", "commit", "-q", "--allow-empty", "-m", "two")
+        for name in ("m/.git/HEAD", "m/.git", "m"):
+            with self.subTest(name):
+                mode = os.stat(self.path(name)).st_mode
+                os.chmod(self.path(name), 0)
+                self.addCleanup(os.chmod, self.path(name), mode)
+                self.assertEqual(self.run_in([*front, *git_words()]).stdout, b"A  a\nA  d/b\nA  m\n")
+                self.assert_fails(self.run_in([*front, PROGRAM]), '^git dirty: can\'t read (the submodule )?"m": .*permission denied')
+                os.chmod(self.path(name), mode)
+        self.git("rm", "-qf", "--cached", "m")
         # Above it nothing is there, so the path isn't asked for.
         self.put_entries(f"0 {self.blob()} 0\t{'x' * 300}".encode(), f"100644 {self.blob()} 0\tnowhere/{'x' * 300}".encode())
         self.assertEqual(self.git_lines(), self.ran().stdout)

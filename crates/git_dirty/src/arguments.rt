@@ -16,8 +16,8 @@ a commit, so the first letter is a space, except for a conflict.";
 /// The arguments.
 #[derive(Drop)]
 pub struct Arguments<'a> {
-    /// The folder in which the command works. The working folder if there is none.
-    pub folder: Option<&'a str>,
+    /// The folder in which the command works. Without one, and with an empty one, it is the working folder.
+    pub folder: &'a str,
     /// Whether lines end with a zero byte, and paths aren't quoted.
     pub zero: bool,
     /// Whether nothing is printed, and the command stops at the first difference.
@@ -41,7 +41,10 @@ impl<'a> Arguments<'a> {
             None => Vec::new(alloc),
         };
         Ok(Arguments {
-            folder: matches.get_str("folder"),
+            folder: match matches.get_str("folder") {
+                Some(folder) if !folder.is_empty() => folder,
+                _ => ".",
+            },
             zero: matches.get_flag("zero"),
             quiet: matches.get_flag("quiet"),
             stats: matches.get_flag("stats"),

@@ -11,7 +11,7 @@ use crate::selection::path_from_top;
 use clap::Error;
 use clap::error::ErrorKind;
 use git_repository::worktree::metadata_of;
-use git_repository::{GitWorktree, IgnoredSubmodules, Repository, SubmoduleHeads};
+use git_repository::{GitWorktree, IgnoredSubmodules, Repository, SubmoduleHeads, short_path};
 use git_status::lines::LineStyle;
 use git_status::{Asked, Paths, Settings, report, run_dirty};
 use status_call::index_as_worktree::{Capabilities, Options};
@@ -118,10 +118,7 @@ where
     R::Dir: Send,
 {
     let alloc = rt.alloc();
-    let repository = Repository::discover(rt, arguments.folder.unwrap_or("."))?;
-    if repository.settings.has_include && !arguments.quiet {
-        note(faults, "files that the configuration includes aren't read");
-    }
+    let repository = Repository::discover(rt, arguments.folder)?;
     let selected = selected_paths(alloc, &repository, &arguments.paths)?;
     let mut tops = Vec::new(alloc);
     for path in &selected {
@@ -130,12 +127,16 @@ where
     let Some(file) = read_index_file(rt, &repository)? else {
         return Ok(0);
     };
-    let worktree = GitWorktree::new(rt, repository.top.as_str())?;
-    let ignored = IgnoredSubmodules::read(rt, repository.top.as_str(), &repository.config)?;
+    let top = repository.top.as_str();
+    let worktree = GitWorktree::new(rt, short_path(rt, top)?.as_str())?;
+    let ignored = IgnoredSubmodules::read(rt, top, &repository.config)?;
+    if !arguments.quiet {
+        note_unread(&repository, &ignored, faults);
+    }
     let asked = Asked {
         settings: settings_of(&repository, arguments, file.timestamp),
         worktree: &worktree,
-        submodules: SubmoduleHeads::new(rt, repository.top.as_str(), &ignored),
+        submodules: SubmoduleHeads::new(rt, top, &ignored),
         paths: Paths {
             tops: tops.as_slice(),
         },
@@ -148,6 +149,19 @@ where
         );
     }
     Ok(status)
+}
+
+/// Writes notes on the configuration that isn't read.
+fn note_unread<E: io::Write>(repository: &Repository, ignored: &IgnoredSubmodules, faults: &mut E) {
+    if repository.settings.has_include {
+        note(faults, "files that the configuration includes aren't read");
+    }
+    if ignored.is_unread {
+        note(
+            faults,
+            ".gitmodules can't be read, so none of its lines counts",
+        );
+    }
 }
 
 /// Writes a note. If it can't be written, there is nowhere left to report that.

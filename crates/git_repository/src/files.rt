@@ -54,11 +54,14 @@ pub fn read_if_there<R: Files + AllocGlobal>(
 ) -> Result<Option<Vec<u8>>, RepositoryError> {
     match fs::read(rt, path) {
         Ok(bytes) => Ok(Some(bytes)),
-        Err(error) => match error.kind() {
-            io::ErrorKind::NotFound | io::ErrorKind::NotADirectory => Ok(None),
-            kind => Err(unreadable(rt.alloc(), path, kind)),
-        },
+        Err(error) if is_missing(error.kind()) => Ok(None),
+        Err(error) => Err(unreadable(rt.alloc(), path, error.kind())),
     }
+}
+
+/// Returns whether an error says that nothing is at a path.
+pub fn is_missing(kind: io::ErrorKind) -> bool {
+    matches!(kind, io::ErrorKind::NotFound | io::ErrorKind::NotADirectory)
 }
 
 /// Returns whether a folder is at a path, or at the end of links there.

@@ -1,10 +1,10 @@
 //! The folder of a repository, such as `.git`.
 
 use crate::error::RepositoryError;
-use crate::files::{canonical, is_folder, joined, path_of, read_if_there};
+use crate::files::{canonical, is_folder, is_missing, joined, path_of, read_if_there, unreadable};
 use crate::heads::has_head;
+use std::fs;
 use std::rt::Files;
-use std::{fs, io};
 
 // The beginning of a file `.git`, before the path of a repository.
 const GIT_FILE_START: &[u8] = b"gitdir: ";
@@ -13,7 +13,7 @@ const GIT_FILE_START: &[u8] = b"gitdir: ";
 /// neither is there.
 ///
 /// # Errors
-/// A file `.git` names no repository, or out of memory.
+/// A file `.git` names no repository, the system refuses to read the folder or its `HEAD`, or out of memory.
 pub fn git_dir_in<R: Files + AllocGlobal>(
     rt: &R,
     folder: &str,
@@ -28,7 +28,9 @@ pub fn git_dir_in<R: Files + AllocGlobal>(
             }
         }
         Ok(found) if found.is_file() => Ok(Some(named_git_dir(rt, path)?)),
-        Err(error) if error.kind() == io::ErrorKind::OutOfMemory => Err(RepositoryError::Memory),
+        Err(error) if !is_missing(error.kind()) => {
+            Err(unreadable(rt.alloc(), path.as_str(), error.kind()))
+        }
         _ => Ok(None),
     }
 }
@@ -65,7 +67,7 @@ pub fn named_git_dir<R: Files + AllocGlobal>(
 /// there.
 ///
 /// # Errors
-/// The file `commondir` can't be read, or out of memory.
+/// The system refuses to read `HEAD` or the file `commondir`, or out of memory.
 pub fn is_git_dir<R: Files + AllocGlobal>(rt: &R, folder: &str) -> Result<bool, RepositoryError> {
     let alloc = rt.alloc();
     if !has_head(rt, folder)? {

@@ -1,7 +1,7 @@
 //! The head of a repository: which `HEAD` git accepts, and the commit that it leads to.
 
 use crate::error::RepositoryError;
-use crate::files::{joined, read_if_there};
+use crate::files::{is_missing, joined, read_if_there, unreadable};
 use crate::state::is_blank;
 use status_index::ObjectId;
 use std::alloc::Global;
@@ -32,31 +32,23 @@ enum Target {
 /// that begins as `is_head` states.
 ///
 /// # Errors
-/// Out of memory.
+/// The system refuses to read it, or out of memory.
 pub fn has_head<R: Files + AllocGlobal>(rt: &R, folder: &str) -> Result<bool, RepositoryError> {
     let path = joined(rt.alloc(), folder, "HEAD")?;
-    let path = path.as_str();
-    let found = match fs::symlink_metadata(rt, path) {
-        Ok(found) => found,
-        Err(error) if error.kind() == io::ErrorKind::OutOfMemory => {
-            return Err(RepositoryError::Memory);
-        }
-        Err(_) => return Ok(false),
-    };
-    let is_accepted = if found.is_symlink() {
-        fs::read_link(rt, path).map(|target| target
-            .as_path()
-            .as_str()
-            .as_bytes()
-            .starts_with(REFERENCES))
-    } else {
-        fs::read(rt, path).map(|bytes| is_head(&bytes))
-    };
-    match is_accepted {
+    match is_accepted(rt, path.as_str()) {
         Ok(is_accepted) => Ok(is_accepted),
-        Err(error) if error.kind() == io::ErrorKind::OutOfMemory => Err(RepositoryError::Memory),
-        Err(_) => Ok(false),
+        Err(error) if is_missing(error.kind()) => Ok(false),
+        Err(error) => Err(unreadable(rt.alloc(), path.as_str(), error.kind())),
     }
+}
+
+// Returns whether git accepts the link or file at a path as `HEAD`.
+fn is_accepted<R: Files + AllocGlobal>(rt: &R, path: &str) -> io::Result<bool> {
+    if fs::symlink_metadata(rt, path)?.is_symlink() {
+        let target = fs::read_link(rt, path)?;
+        return Ok(target.as_path().as_str().as_bytes().starts_with(REFERENCES));
+    }
+    Ok(is_head(&fs::read(rt, path)?))
 }
 
 /// Returns whether git accepts a file `HEAD` with these bytes. It begins with `ref:`, blanks or line ends if any, and
@@ -86,7 +78,7 @@ fn after_blanks(text: &[u8]) -> &[u8] {
 /// Returns the commit that `HEAD` leads to, through loose and packed references. None if it leads to none.
 ///
 /// # Errors
-/// A file can't be read, or out of memory.
+/// A file can't be read, a reference's name isn't UTF-8, or out of memory.
 pub fn head_of<R: Files + AllocGlobal>(
     rt: &R,
     git_dir: &str,
@@ -133,10 +125,21 @@ fn target_in(alloc: Global, bytes: &[u8]) -> Result<Option<Target>, RepositoryEr
     match text.strip_prefix(b"ref:") {
         Some(name) => match str::from_utf8(name.trim_ascii()) {
             Ok(name) => Ok(Some(Target::Name(String::from_str(alloc, name)?))),
-            Err(_) => Ok(None),
+            Err(_) => Err(RepositoryError::IllformedPath {
+                path: String::from_utf8_lossy(alloc, name)?,
+            }),
         },
-        None => Ok(id_of(text).map(Target::Commit)),
+        None => Ok(first_id(text).map(Target::Commit)),
     }
+}
+
+// Returns the id at the beginning of a text, before its end, a blank or a zero byte. What follows doesn't count.
+fn first_id(text: &[u8]) -> Option<ObjectId> {
+    let len = text
+        .iter()
+        .position(|byte| *byte == 0 || *byte == b'\n' || is_blank(*byte))
+        .unwrap_or(text.len());
+    id_of(text.get(..len)?)
 }
 
 // Returns the commit of a name in a file of packed references, whose lines are an id, a blank and a name.

@@ -7,6 +7,8 @@ use crate::git_dir::{common_dir_of, git_dir_in, is_git_dir, named_git_dir, paren
 use crate::settings::{Settings, read_settings};
 use status_base::worktree::Fault;
 use std::alloc::{AllocError, Global};
+use std::fs;
+use std::os::unix::fs::MetadataExt as _;
 use std::rt::{Env, Files};
 
 /// A repository with a worktree. All paths are absolute.
@@ -120,11 +122,11 @@ fn search<R: Files + AllocGlobal>(
     let alloc = rt.alloc();
     let mut here = folder;
     for _ in 0..usize::MAX {
-        if let Some(git_dir) = git_dir_in(rt, here)? {
+        if let Some(git_dir) = readable(git_dir_in(rt, here), None)? {
             let top = Some(String::from_str(alloc, here)?);
             return Ok(Place { git_dir, top });
         }
-        if is_git_dir(rt, here)? {
+        if readable(is_git_dir(rt, here), false)? {
             let git_dir = String::from_str(alloc, here)?;
             return Ok(Place { git_dir, top: None });
         }
@@ -134,6 +136,14 @@ fn search<R: Files + AllocGlobal>(
         }
     }
     Err(RepositoryError::NotFound)
+}
+
+// Returns what was found in a folder. A node that the system refuses to read counts as missing.
+fn readable<T: Drop>(found: Result<T, RepositoryError>, nothing: T) -> Result<T, RepositoryError> {
+    match found {
+        Err(RepositoryError::Unreadable { .. }) => Ok(nothing),
+        found => found,
+    }
 }
 
 fn is_ceiling(folder: &str, ceilings: &str) -> bool {
@@ -155,6 +165,10 @@ fn top_of<R: Files + Env + AllocGlobal>(
 ) -> Result<String, RepositoryError> {
     let alloc = rt.alloc();
     if let Some(path) = variable(rt, "GIT_WORK_TREE")? {
+        if path.is_empty() {
+            let name = String::from_str(alloc, "GIT_WORK_TREE")?;
+            return Err(RepositoryError::BadEnvironment { name });
+        }
         let path = joined(alloc, folder, path.as_str())?;
         return canonical(rt, path.as_str());
     }
@@ -175,13 +189,49 @@ fn top_of<R: Files + Env + AllocGlobal>(
 
 // Returns a folder relative to the worktree's, and a slash. Nothing if it is the same, or outside.
 fn prefix_of(alloc: Global, top: &str, folder: &str) -> Result<String, AllocError> {
-    let top = top.trim_end_matches('/');
-    let below = match folder.strip_prefix(top) {
-        Some(rest) => rest.strip_prefix('/'),
-        None => None,
-    };
-    match below {
-        Some(below) if !below.is_empty() => format!(in alloc; "{below}/"),
+    match below(top, folder) {
+        Some(rest) if !rest.is_empty() => format!(in alloc; "{rest}/"),
         _ => Ok(String::new(alloc)),
+    }
+}
+
+// Returns the rest of a folder's path after that of a folder above it, or nothing if they are the same. None if it isn't below.
+fn below<'a>(top: &str, folder: &'a str) -> Option<&'a str> {
+    match folder.strip_prefix(top.trim_end_matches('/'))? {
+        "" => Some(""),
+        rest => rest.strip_prefix('/'),
+    }
+}
+
+/// Returns a path by which the system finds a folder in few steps: from the process's working folder, if that is the folder or
+/// below it, and otherwise the path itself. The paths of both are without links.
+///
+/// # Errors
+/// Out of memory.
+pub fn short_path<R: Files + AllocGlobal>(rt: &R, folder: &str) -> Result<String, AllocError> {
+    let alloc = rt.alloc();
+    let Ok(here) = canonical(rt, ".") else {
+        return String::from_str(alloc, folder);
+    };
+    let Some(rest) = below(folder, here.as_str()) else {
+        return String::from_str(alloc, folder);
+    };
+    let mut path = String::from_str(alloc, ".")?;
+    for component in rest.split('/') {
+        if !component.is_empty() {
+            path.push_str("/..")?;
+        }
+    }
+    if is_same(rt, path.as_str(), folder) {
+        return Ok(path);
+    }
+    String::from_str(alloc, folder)
+}
+
+// Returns whether two paths are known to lead to one node.
+fn is_same<R: Files>(rt: &R, one: &str, other: &str) -> bool {
+    match (fs::metadata(rt, one), fs::metadata(rt, other)) {
+        (Ok(one), Ok(other)) => one.dev() == other.dev() && one.ino() == other.ino(),
+        _ => false,
     }
 }

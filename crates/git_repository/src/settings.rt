@@ -82,7 +82,16 @@ fn read_place(
 ) -> Result<(Option<bool>, Option<String>), RepositoryError> {
     let bare = switch(alloc, config, "core.bare")?;
     match config.get(b"core", None, b"worktree") {
-        Some(found) => Ok((bare, Some(path_of(alloc, found.value().unwrap_or(b""))?))),
+        Some(found) => {
+            let path = path_of(alloc, found.value().unwrap_or(b""))?;
+            if path.is_empty() {
+                return Err(RepositoryError::BadValue {
+                    name: "core.worktree",
+                    value: path,
+                });
+            }
+            Ok((bare, Some(path)))
+        }
         None => Ok((bare, None)),
     }
 }

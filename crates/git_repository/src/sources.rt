@@ -6,6 +6,7 @@ use crate::files::{joined, read_if_there, variable};
 use crate::parameters::append_parameters;
 use crate::reader::read_config;
 use crate::values::{bool_of, number_of};
+use status_index::Fault;
 use std::rt::{Env, Files};
 
 // The most variables that the environment may state.
@@ -42,10 +43,23 @@ pub fn read_outer<R: Files + Env + AllocGlobal>(rt: &R) -> Result<Config, Reposi
         }
     }
     match variable(rt, "GIT_CONFIG_GLOBAL")? {
-        Some(path) => config.append(read_file(rt, path.as_str())?)?,
+        Some(path) => config.append(read_user_file(rt, path.as_str())?)?,
         None => append_user(rt, &mut config)?,
     }
     Ok(config)
+}
+
+// Reads a configuration file of the user. As in git, one that may not be read has no variables.
+fn read_user_file<R: Files + AllocGlobal>(rt: &R, path: &str) -> Result<Config, RepositoryError> {
+    match read_file(rt, path) {
+        Err(
+            RepositoryError::Unreadable {
+                fault: Fault::PermissionDenied,
+                ..
+            },
+        ) => Ok(Config::new(rt.alloc())),
+        read => read,
+    }
 }
 
 // Returns whether the configuration of the system isn't read.
@@ -74,11 +88,11 @@ fn append_user<R: Files + Env + AllocGlobal>(
     };
     if let Some(folder) = folder {
         let path = joined(alloc, folder.as_str(), "git/config")?;
-        config.append(read_file(rt, path.as_str())?)?;
+        config.append(read_user_file(rt, path.as_str())?)?;
     }
     if let Some(home) = home {
         let path = joined(alloc, home.as_str(), ".gitconfig")?;
-        config.append(read_file(rt, path.as_str())?)?;
+        config.append(read_user_file(rt, path.as_str())?)?;
     }
     Ok(())
 }

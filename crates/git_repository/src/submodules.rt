@@ -22,6 +22,8 @@ pub struct IgnoredSubmodules {
     named: Vec<NamedSubmodule>,
     // Whether the other submodules don't count.
     are_others_ignored: bool,
+    /// Whether `.gitmodules` or a line of it can't be read, as in a conflict of that file. Then none of its lines counts.
+    pub is_unread: bool,
 }
 
 // A submodule that `.gitmodules` names.
@@ -35,19 +37,27 @@ impl IgnoredSubmodules {
     /// Reads which submodules of a worktree don't count.
     ///
     /// # Errors
-    /// `.gitmodules` can't be read, or out of memory.
+    /// Out of memory.
     pub fn read<R: Files + AllocGlobal>(
         rt: &R,
         top: &str,
         config: &Config,
     ) -> Result<IgnoredSubmodules, RepositoryError> {
         let alloc = rt.alloc();
-        let modules = read_file(rt, joined(alloc, top, ".gitmodules")?.as_str())?;
-        Ok(IgnoredSubmodules::of(alloc, config, &modules)?)
+        match read_file(rt, joined(alloc, top, ".gitmodules")?.as_str()) {
+            Ok(modules) => Ok(IgnoredSubmodules::of(alloc, config, &modules)?),
+            Err(RepositoryError::BadConfig { .. } | RepositoryError::Unreadable { .. }) => Ok(
+                IgnoredSubmodules {
+                    is_unread: true,
+                    ..IgnoredSubmodules::of(alloc, config, &Config::new(alloc))?
+                },
+            ),
+            Err(error) => Err(error),
+        }
     }
 
     // Returns which submodules don't count, from the configuration and the variables of `.gitmodules`.
-    pub(crate) fn of(
+    fn of(
         alloc: Global,
         config: &Config,
         modules: &Config,
@@ -70,6 +80,7 @@ impl IgnoredSubmodules {
         Ok(IgnoredSubmodules {
             named,
             are_others_ignored,
+            is_unread: false,
         })
     }
 
@@ -120,7 +131,7 @@ pub struct SubmoduleHead {
 
 /// Submodules in their folders of a worktree. One is changed if its `HEAD` leads to another commit than its entry has. If
 /// it leads to none, as in a folder without a repository, or to one with an id of another length, the submodule is
-/// unchanged. They aren't modelled.
+/// unchanged. If the system refuses to read what leads there, there is no status. They aren't modelled.
 #[derive(Drop)]
 pub struct SubmoduleHeads<'a, R> {
     rt: &'a R,
@@ -170,9 +181,25 @@ impl<'a, R: Files + AllocGlobal> SubmoduleStatus for SubmoduleHeads<'a, R> {
             Ok(Some(id)) if id.kind() == entry.id.kind() && id != entry.id => Ok(Some(
                 SubmoduleHead { id },
             )),
-            Err(RepositoryError::Memory) => Err(SubmoduleFault::Memory),
-            _ => Ok(None),
+            Ok(_)
+            | Err(RepositoryError::NotARepository { .. } | RepositoryError::BadGitFile { .. }) =>
+                Ok(None),
+            Err(error) => Err(fault_of(self.rt.alloc(), &error)),
         }
+    }
+}
+
+// Returns why a submodule has no status.
+fn fault_of(alloc: Global, error: &RepositoryError) -> SubmoduleFault {
+    if matches!(error, RepositoryError::Memory) {
+        return SubmoduleFault::Memory;
+    }
+    let Ok(words) = format!(in alloc; "{error}") else {
+        return SubmoduleFault::Memory;
+    };
+    match ByteText::from_slice(alloc, words.as_bytes()) {
+        Ok(text) => SubmoduleFault::Failed { text },
+        Err(_) => SubmoduleFault::Memory,
     }
 }
 

@@ -23,10 +23,10 @@ fn is_word(text: &[u8], words: [&[u8]; 3]) -> bool {
     words.iter().any(|word| text.eq_ignore_ascii_case(word))
 }
 
-/// Returns the number that git reads: decimal, octal after a `0` or hexadecimal after `0x`, with a sign if any, and `k`,
-/// `m` or `g` for a factor of 1024 to the power of 1, 2 or 3. None if it isn't a number, or doesn't fit.
+/// Returns the number that git reads: after blanks decimal, octal after a `0` or hexadecimal after `0x` or `0X`, with a sign if
+/// any, and `k`, `m` or `g` for a factor of 1024 to the power of 1, 2 or 3. None if it isn't a number, or doesn't fit.
 pub fn number_of(text: &[u8]) -> Option<i32> {
-    let text = str::from_utf8(text).ok()?;
+    let text = str::from_utf8(text).ok()?.trim_start_matches(is_space);
     let (is_negative, digits) = match text.strip_prefix('-') {
         Some(digits) => (true, digits),
         None => (false, text.strip_prefix('+').unwrap_or(text)),
@@ -38,6 +38,11 @@ pub fn number_of(text: &[u8]) -> Option<i32> {
     } else {
         Some(size)
     }
+}
+
+// Returns whether C passes over a character before a number.
+fn is_space(found: char) -> bool {
+    matches!(found, ' ' | '\t'..='\r')
 }
 
 // Returns the text without its unit, and the unit's factor.
@@ -54,13 +59,14 @@ fn split_unit(text: &str) -> (&str, u64) {
 }
 
 fn unsigned_of(digits: &str) -> Option<u64> {
+    let (digits, radix) = match digits.strip_prefix("0x").or(digits.strip_prefix("0X")) {
+        Some(digits) => (digits, 16),
+        None if digits.starts_with('0') => (digits, 8),
+        None => (digits, 10),
+    };
     if digits.starts_with('+') {
         return None;
     }
-    if let Some(hexadecimal) = digits.strip_prefix("0x") {
-        return u64::from_str_radix(hexadecimal, 16).ok();
-    }
-    let radix = if digits.starts_with('0') { 8 } else { 10 };
     u64::from_str_radix(digits, radix).ok()
 }
 

@@ -37,10 +37,6 @@ pub record IsRefusedFile (s : Settings) (bytes : List ℕ) (old : Option (List �
   pub failure : f ≡ failure_of_index error
   pub unchanged : new ≡ old
 
--- Why a status has no report: it failed, or it ended early without a difference.
-abbrev pub IsUnreported : Result Outcome Error → Failure → Type 0
-IsUnreported answer f = ((e : Error) × (answer ≡ Err e) × (f ≡ failure_of_status e)) ⊎ ((o : Outcome) × (answer ≡ Ok o) × (o.interrupted ≡ true) × (f ≡ Interrupted))
-
 module _ {T U : Type 0} where
   -- A record of an entry that differs from the worktree.
   abbrev pub is_difference : Visit T U → Bool
@@ -57,9 +53,14 @@ module _ {T U : Type 0} where
     pub dirty : r.dirty ≡ list_any is_difference visits
     pub early : r.outcome.interrupted ≡ true → r.dirty ≡ true
 
+  -- Why a status has no report: it failed, or it ended early without a difference.
+  abbrev pub IsUnreported : List (Visit T U) → Result Outcome Error → Failure → Type 0
+  IsUnreported visits answer f =
+      ((e : Error) × (answer ≡ Err e) × (f ≡ failure_of_status e)) ⊎ ((o : Outcome) × (answer ≡ Ok o) × (o.interrupted ≡ true) × (list_any is_difference visits ≡ false) × (f ≡ Interrupted))
+
   abbrev pub IsFound : List (Visit T U) → Result Outcome Error → Result Report Failure → Type 0
   IsFound visits answer (Ok r) = IsReport visits answer r
-  IsFound visits answer (Err f) = IsUnreported answer f
+  IsFound visits answer (Err f) = IsUnreported visits answer f
 
   -- The command isn't quiet, a beginning of the lines was printed, and the output can't be written or memory ran out.
   pub record IsPrintFailure (lines : Option LineStyle) (visits : List (Visit T U)) (old new : Option (List ℕ)) (f : Failure) : Type 0 where

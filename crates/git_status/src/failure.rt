@@ -44,6 +44,10 @@ impl fmt::Display for Failure {
             }
             Failure::Index(error) => write!(f, "the index can't be read: {error}"),
             Failure::Status(Error::Io(fault)) => write!(f, "the worktree can't be read: {fault}"),
+            Failure::Status(Error::SubmoduleStatus { rela_path, text }) => {
+                let path = BStr::new(rela_path.as_bytes());
+                write!(f, "can't read the submodule {path:?}: {text}")
+            }
             Failure::Status(error) => write!(f, "{error}"),
             Failure::Interrupted => f.write_str("interrupted"),
             Failure::Output => f.write_str("the output can't be written"),
