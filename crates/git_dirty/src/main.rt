@@ -11,7 +11,7 @@ use crate::selection::path_from_top;
 use clap::Error;
 use clap::error::ErrorKind;
 use git_repository::worktree::metadata_of;
-use git_repository::{GitWorktree, IgnoredSubmodules, Repository, SubmoduleHeads, short_path};
+use git_repository::{GitWorktree, IgnoredSubmodules, Repository, SubmoduleHeads};
 use git_status::lines::LineStyle;
 use git_status::{Asked, Paths, Settings, report, run_dirty};
 use status_call::index_as_worktree::{Capabilities, Options};
@@ -128,7 +128,11 @@ where
         return Ok(0);
     };
     let top = repository.top.as_str();
-    let worktree = GitWorktree::new(rt, short_path(rt, top)?.as_str())?;
+    // As git does: from the worktree's top the system has the fewest steps to a file.
+    let worktree = match env::set_current_dir(rt, top) {
+        Ok(()) => GitWorktree::new(rt, "")?,
+        Err(_) => GitWorktree::new(rt, top)?,
+    };
     let ignored = IgnoredSubmodules::read(rt, top, &repository.config)?;
     if !arguments.quiet {
         note_unread(&repository, &ignored, faults);

@@ -26,7 +26,7 @@ pub mod worktree;
 
 pub use config::{Config, ConfigError, Variable};
 pub use error::RepositoryError;
-pub use location::{Repository, short_path};
+pub use location::Repository;
 pub use reader::read_config;
 pub use settings::{Settings, read_settings};
 pub use submodules::{IgnoredSubmodules, SubmoduleHead, SubmoduleHeads};

@@ -7,8 +7,6 @@ use crate::git_dir::{common_dir_of, git_dir_in, is_git_dir, named_git_dir, paren
 use crate::settings::{Settings, read_settings};
 use status_base::worktree::Fault;
 use std::alloc::{AllocError, Global};
-use std::fs;
-use std::os::unix::fs::MetadataExt as _;
 use std::rt::{Env, Files};
 
 /// A repository with a worktree. All paths are absolute.
@@ -200,38 +198,5 @@ fn below<'a>(top: &str, folder: &'a str) -> Option<&'a str> {
     match folder.strip_prefix(top.trim_end_matches('/'))? {
         "" => Some(""),
         rest => rest.strip_prefix('/'),
-    }
-}
-
-/// Returns a path by which the system finds a folder in few steps: from the process's working folder, if that is the folder or
-/// below it, and otherwise the path itself. The paths of both are without links.
-///
-/// # Errors
-/// Out of memory.
-pub fn short_path<R: Files + AllocGlobal>(rt: &R, folder: &str) -> Result<String, AllocError> {
-    let alloc = rt.alloc();
-    let Ok(here) = canonical(rt, ".") else {
-        return String::from_str(alloc, folder);
-    };
-    let Some(rest) = below(folder, here.as_str()) else {
-        return String::from_str(alloc, folder);
-    };
-    let mut path = String::from_str(alloc, ".")?;
-    for component in rest.split('/') {
-        if !component.is_empty() {
-            path.push_str("/..")?;
-        }
-    }
-    if is_same(rt, path.as_str(), folder) {
-        return Ok(path);
-    }
-    String::from_str(alloc, folder)
-}
-
-// Returns whether two paths are known to lead to one node.
-fn is_same<R: Files>(rt: &R, one: &str, other: &str) -> bool {
-    match (fs::metadata(rt, one), fs::metadata(rt, other)) {
-        (Ok(one), Ok(other)) => one.dev() == other.dev() && one.ino() == other.ino(),
-        _ => false,
     }
 }

@@ -19,18 +19,19 @@ const OWNER_EXECUTES: u32 = 0o100;
 #[derive(Drop)]
 pub struct GitWorktree<R> {
     rt: R,
-    // The text before each path: the folder's own path and a slash.
+    // The text before each path: the folder's own path and a slash, or nothing in the working folder.
     front: String,
 }
 
 impl<R: Files + AllocGlobal + Drop> GitWorktree<R> {
-    /// Returns the worktree in a folder. The folder needn't be there.
+    /// Returns the worktree in a folder. The folder needn't be there. The empty path is the working folder, in which the
+    /// system has the fewest steps to a file.
     ///
     /// # Errors
     /// Out of memory.
     pub fn new(rt: R, top: &str) -> Result<GitWorktree<R>, AllocError> {
         let mut front = String::from_str(rt.alloc(), top)?;
-        if !top.ends_with('/') {
+        if !top.is_empty() && !top.ends_with('/') {
             front.push('/')?;
         }
         Ok(GitWorktree { rt, front })
