@@ -81,7 +81,7 @@ module _ {T U : Type 0} where
 
   run_clean : (q : Query T U) (index : State) (s : Settings) (old : Option (List ℕ)) (r : Report) (new : Option (List ℕ)) → IsTrue q.modelled → IsStatusRun q index s old (Ok r) new → r.dirty ≡ false
       → All (λ e. HasNoDifference (verdict q (considered_entries q index) e)) (considered_entries q index)
-  run_clean q index s old r new modelled run clean = met_clean q index run.visits run.answer r modelled run.met (reported run.visits run.answer run.ended) clean
+  run_clean q index s old r new modelled run clean = met_clean q index run.visits run.answer r modelled run.computed.met (reported run.visits run.answer run.ended) clean
     where
       reported : (visits : List (Visit T U)) (answer : Result Outcome Error) → IsEnded s.lines visits answer old (Ok r) new → IsReport visits answer r
       reported visits answer (inl found) = found.1

@@ -1,3 +1,5 @@
 pub mod Clean
+pub mod Fitting
+pub mod Founds
 pub mod Printed
 pub mod Runs

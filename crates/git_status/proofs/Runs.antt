@@ -18,24 +18,26 @@ use Rattle.status_index.specs.Entries.{IndexEntry, IsIndex}
 use Rattle.status_index.specs.States.{index_of, timestamp_of}
 use Rattle.status_index.specs.declared.state.State.{State}
 use Rattle.git_status.specs.Failures.{failure_of_index}
-use Rattle.git_status.specs.Runs.{IsEnded, IsRun, IsStatusRun}
+use Rattle.git_status.specs.Runs.{IsComputed, IsEnded, IsRun, IsStatusRun}
 use Rattle.git_status.specs.declared.asked.Settings.{Settings}
 use Rattle.git_status.specs.declared.dirty.Report.{Report}
 use Rattle.git_status.specs.declared.failure.Failure.{Failure}
 
 module _ {T U : Type 0} where
-  -- a status that was reported to an empty list, and how it ended
-  pub status_run : (query : Query T U) (index : State) (s : Settings) (start visits : List (Visit T U)) (answer : Result Outcome Error) (old : Option (List ℕ)) (result : Result Report Failure) (new : Option (List ℕ))
+  -- a status that was reported to an empty list
+  pub computed_from : (query : Query T U) (index : State) (s : Settings) (start visits : List (Visit T U)) (answer : Result Outcome Error)
       → start ≡ [] → IsMet query index start answer visits → (is_some s.lines ≡ true → IfOk answer (λ o. o.interrupted ≡ false)) → IsUnspawned query s.options.thread_limit answer
-      → IsEnded s.lines visits answer old result new → IsStatusRun query index s old result new
-  status_run query index s start visits answer old result new empty met whole alone ended = record {
-    visits = visits;
-    answer = answer;
+      → IsComputed query index s answer visits
+  computed_from query index s start visits answer empty met whole alone = record {
     met = subst (λ first. IsMet query index first answer visits) empty met;
     whole = whole;
     alone = alone;
-    ended = ended;
   }
+
+  -- a status that was computed, and how the command ended
+  pub status_run : (query : Query T U) (index : State) (s : Settings) (visits : List (Visit T U)) (answer : Result Outcome Error) (old : Option (List ℕ)) (result : Result Report Failure) (new : Option (List ℕ))
+      → IsComputed query index s answer visits → IsEnded s.lines visits answer old result new → IsStatusRun query index s old result new
+  status_run query index s visits answer old result new computed ended = record { visits = visits; answer = answer; computed = computed; ended = ended }
 
   -- a file that was read, and the status of its index
   pub file_run : (query : StatusSettings → Query T U) (s : Settings) (bytes : List ℕ) (old : Option (List ℕ)) (result : Result Report Failure) (new : Option (List ℕ)) (index : State) (version : ℕ) (extensions : List ℕ)

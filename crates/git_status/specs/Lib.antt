@@ -4,4 +4,5 @@ pub mod Lines
 pub mod Paths
 pub mod Printing
 pub mod Quoting
+pub mod Refreshes
 pub mod Runs

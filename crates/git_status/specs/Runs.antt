@@ -74,13 +74,17 @@ module _ {T U : Type 0} where
       (Appends old new (printed_text lines visits) × IsFound visits answer result) ⊎ IsErrAnd result (IsPrintFailure lines visits old new)
 
   -- A status of this index was computed by this query, as the status theorem has it; it ends early only if the command is quiet; with one
-  -- thread none is refused; and the command ended so.
-  pub record IsStatusRun (query : Query T U) (index : State) (s : Settings) (old : Option (List ℕ)) (result : Result Report Failure) (new : Option (List ℕ)) : Type 0 where
-    pub visits : List (Visit T U)
-    pub answer : Result Outcome Error
+  -- thread none is refused.
+  pub record IsComputed (query : Query T U) (index : State) (s : Settings) (answer : Result Outcome Error) (visits : List (Visit T U)) : Type 0 where
     pub met : IsMet query index [] answer visits
     pub whole : is_some s.lines ≡ true → IfOk answer (λ o. o.interrupted ≡ false)
     pub alone : IsUnspawned query s.options.thread_limit answer
+
+  -- A status of this index was computed, and the command ended so.
+  pub record IsStatusRun (query : Query T U) (index : State) (s : Settings) (old : Option (List ℕ)) (result : Result Report Failure) (new : Option (List ℕ)) : Type 0 where
+    pub visits : List (Visit T U)
+    pub answer : Result Outcome Error
+    pub computed : IsComputed query index s answer visits
     pub ended : IsEnded s.lines visits answer old result new
 
   -- The bytes are an index file of this index, which has the settings' timestamp, and a status of it was printed.

@@ -15,25 +15,16 @@ use crate::failure::Failure;
 use crate::fault_place::Search;
 use crate::lines::{LineStyle, letters, push_line};
 use crate::output::{print, report};
-use crate::watcher::Watcher;
+use crate::status::{Compared, Computed, compute};
 use git_index::read_index;
-use status_base::worktree::{
-    MemoryObjects, NoFilter, NoLister, Pathspec, SubmoduleStatus, Worktree,
-};
-use status_call::index_as_worktree::inputs::{Ask, Inputs};
-use status_call::index_as_worktree::traits::FastEq;
-use status_call::index_as_worktree::{
-    Context, Error, Outcome, Record, Recorder, index_as_worktree,
-};
+use status_base::worktree::{Pathspec, SubmoduleStatus, Worktree};
+use status_call::index_as_worktree::inputs::Ask;
+use status_call::index_as_worktree::{Error, Outcome, Record};
 use status_index::State;
 use std::alloc::{AllocError, Global};
 use std::io::{self, Write as _};
 use std::sync::Wait;
-use std::sync::atomic::AtomicBool;
 use std::thread::Threads;
-
-/// A worktree, submodules and paths, with comparison by sizes and ids, no filter and no listings.
-type Compared<'a, W, S, P> = Inputs<'a, W, FastEq, S, MemoryObjects, P, NoFilter, NoLister>;
 
 /// The result of a status.
 #[derive(Clone, Debug, Drop)]
@@ -77,43 +68,44 @@ where
             }
             u8::from(found.dirty)
         }
-        Err(Failure::Status(error)) => report_error(rt, bytes, search, error, faults),
-        Err(failure) => report(rt.alloc(), failure, faults),
+        Err(failure) => report_failure(rt, bytes, search, failure, faults),
     }
 }
 
-/// Writes a line that says why the status of an index file failed, with the path at which it did, and returns the exit status
-/// of a failure, 2.
-fn report_error<R: AllocGlobal + Threads + Wait, W: Worktree + Sync, P: Pathspec, E: io::Write>(
-    rt: &R,
-    bytes: &[u8],
-    search: Option<Search<'_, W, P>>,
-    error: Error,
-    faults: &mut E,
-) -> u8
+/// Writes a line that says why the status of an index file failed, with the path of an entry that can't be read, and returns
+/// the exit status of a failure, 2.
+pub(crate) fn report_failure<
+    R: AllocGlobal + Threads + Wait,
+    W: Worktree + Sync,
+    P: Pathspec,
+    E: io::Write,
+>(rt: &R, bytes: &[u8], search: Option<Search<'_, W, P>>, failure: Failure, faults: &mut E) -> u8
 where
     W::File: Send,
     ensures status { result ≡ 2 }
     ensures line { IsFaultLine (E.contents faults.old) (E.contents faults.new) }
 {
     let alloc = rt.alloc();
-    if let (Some(search), true) = (search, is_of_an_entry(&error)) {
+    if let (Some(search), true) = (search, is_of_an_entry(&failure)) {
         if let Ok(file) = read_index(alloc, search.kind, bytes, search.timestamp) {
             if let Some(found) = search.first_error(rt, &file.state) {
                 return report(alloc, found, faults);
             }
         }
     }
-    report(alloc, Failure::Status(error), faults)
+    report(alloc, failure, faults)
 }
 
-/// Whether an error of a status belongs to an entry that it doesn't name.
-fn is_of_an_entry(error: &Error) -> bool {
-    matches!(error, Error::Io(_) | Error::IllformedUtf8 | Error::Time)
+/// Whether a failure is the error of an entry that it doesn't name.
+fn is_of_an_entry(failure: &Failure) -> bool {
+    matches!(
+        failure,
+        Failure::Status(Error::Io(_) | Error::IllformedUtf8 | Error::Time)
+    )
 }
 
 /// Writes a line with the counts of a status.
-fn print_stats<E: io::Write>(outcome: &Outcome, faults: &mut E) {
+pub(crate) fn print_stats<E: io::Write>(outcome: &Outcome, faults: &mut E) {
     let Outcome {
         entries_to_process,
         symlink_metadata_calls,
@@ -173,39 +165,12 @@ where
     S::Output: Send,
     ensures { IsStatusRun (⟦<Compared<'a, W, S, P> as Ask>⟧.query (asked_inputs asked.entry) (settings asked.entry.settings.options index.now)) index.now asked.entry.settings (O.contents output.old) result (O.contents output.new) }
 {
-    let alloc = rt.alloc();
-    let Settings { options, lines, .. } = asked.settings;
-    let flag = AtomicBool::new(false);
-    let stop = match lines {
-        Some(_) => None,
-        None => Some(&flag),
-    };
-    let mut watcher = Watcher {
-        recorder: Recorder::new(alloc),
-        stop,
-    };
-    let context = Context {
-        pathspec: asked.paths,
-        filter: NoFilter,
-        lister: NoLister,
-        should_interrupt: stop,
-    };
-    let answer = index_as_worktree(
-        rt,
-        alloc,
-        index,
-        asked.worktree,
-        &mut watcher,
-        FastEq,
-        asked.submodules,
-        MemoryObjects::new(alloc),
-        context,
-        options,
-    );
+    let lines = asked.settings.lines;
+    let Computed { recorder, answer } = compute(rt, index, asked);
     print_answer(
-        alloc,
+        rt.alloc(),
         lines,
-        watcher.recorder.records.as_slice(),
+        recorder.records.as_slice(),
         answer,
         output,
     )
@@ -215,7 +180,7 @@ where
 ///
 /// # Errors
 /// The output can't be written, or memory ran out; or those of `found`, after all lines were printed.
-fn print_answer<T: Drop, U: Drop, O: io::Write>(
+pub(crate) fn print_answer<T: Drop, U: Drop, O: io::Write>(
     alloc: Global,
     lines: Option<LineStyle>,
     records: &[Record<'_, T, U>],

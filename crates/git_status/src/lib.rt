@@ -14,6 +14,8 @@ pub mod lines;
 mod output;
 mod paths;
 mod quoting;
+mod refresh;
+mod status;
 mod watcher;
 
 pub use asked::{Asked, Settings};
@@ -22,3 +24,4 @@ pub use failure::Failure;
 pub use laws::clean_means_no_difference;
 pub use output::report;
 pub use paths::Paths;
+pub use refresh::{Refreshed, run_refresh};

@@ -1,0 +1,15 @@
+use Rattle.status_call.specs.RecorderVisits.{visits_of}
+use Rattle.git_status.proofs.Runs.{computed_from, none_not_some}
+use Rattle.git_status.proofs.status.compute.Goals as goal
+use Rattle.git_status.proofs.status.compute.Goals.{in-Some, in-None}
+
+pub returns : goal.returns
+returns g c =
+    let s = c.args.asked.settings in
+    let call = c.index_as_worktree-answer in
+    computed_from _ c.args.index.now s _ (visits_of call.new.collector.recorder) call.result c.new.ensures (rw (c.new-2.ensures) at (call.ensures.all))
+    (λ some. call.ensures.uninterrupted (elim c.match-asked.branch [
+      | in-Some w ↦ w.stop-is
+      | in-None w ↦ absurd (none_not_some s.lines w.in-None.is some)
+    ]))
+    call.ensures.alone
