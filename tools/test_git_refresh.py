@@ -13,6 +13,7 @@ import re
 import shutil
 import signal
 import subprocess
+import tempfile
 import termios
 import threading
 import time
@@ -22,6 +23,8 @@ from cases import DIRTY as PROGRAM
 from cases import limit_files, may_read_all
 from compare_dirty import SETTINGS
 from draw_repositories import THEN, wait_for_later_second
+from quick_runs import Runner, content, empty
+from refuse_memory import compile_library, compiler
 from run_tests import ORDINARY
 from test_git_dirty import Dirty
 
@@ -42,6 +45,11 @@ class Refresh(Dirty):
         """Gives files other times than those in the index."""
         for name in names:
             os.utime(self.path(name), (THEN + 7, THEN + 7), follow_symlinks=False)
+
+    def wait(self):
+        """Waits until a refresh, which counts as somewhat earlier, is of a later second than the files."""
+        wait_for_later_second()
+        time.sleep(0.05)
 
     def place(self):
         return self.path(".git/index")
@@ -225,7 +233,7 @@ class Entries(Refresh):
         self.git("add", "a")
         nanos = os.stat(self.path("a")).st_mtime_ns
         os.utime(self.place(), ns=(nanos, nanos))
-        wait_for_later_second()
+        self.wait()
         self.assertEqual(self.counts(), (1, 1, 1, 1))
         self.assert_refreshes_as_git()
         self.assertEqual(self.counts(), (1, 0, 0, 0))
@@ -493,7 +501,7 @@ class Writing(Refresh):
         self.top = os.path.join(self.room, "linked")
         self.touch("a")
         self.assertEqual(self.counts()[3] > 0, True)
-        wait_for_later_second()
+        self.wait()
         self.assert_ends(self.refresh(), b"")
         self.assertEqual(self.counts()[1:], (0, 0, 0))
         self.top = os.path.join(self.room, "top")
@@ -579,8 +587,9 @@ class Together(Refresh):
 
         adding = threading.Thread(target=add)
         adding.start()
-        ends = set()
-        for number in range(ROUNDS):
+        ends, number, until = set(), 0, time.monotonic() + 3
+        while number < ROUNDS or time.monotonic() < until:
+            number += 1
             self.touch("a") if number % 2 else os.utime(self.path("a"), (THEN, THEN))
             ran = self.refresh()
             ends.add(ran.returncode)
@@ -593,6 +602,31 @@ class Together(Refresh):
         self.assertTrue(ends & {0, 1})
         self.assertEqual(self.run_in(["git", "fsck", "--no-dangling"]).returncode, 0)
         self.assertEqual(len(self.git("ls-files").split()), 33)
+
+
+@unittest.skipUnless(PROGRAM and compiler(), "no built program or no C compiler")
+class Memory(Refresh):
+    def test_each_allocation_is_refused(self):
+        """The index is written whole, or memory runs out and it is unchanged."""
+        old = self.read()
+        self.assert_ends(self.refresh(), b"")
+        new, ends, at = self.read(), set(), 0
+        with tempfile.TemporaryFile() as report, Runner(PROGRAM, 10) as runner:
+            number = report.fileno()
+            os.set_inheritable(number, True)
+            settings = {**SETTINGS, "LD_PRELOAD": compile_library(self.room), "REFUSE_REPORT": str(number)}
+            while at == 0 or content(number):
+                at += 1
+                empty(number)
+                self.put(old)
+                words = ["-C", self.top, "--refresh", "--threads", "1"]
+                ended = runner.run(words, settings | {"REFUSE_AT": str(at), "REFUSE_ON": "0"})
+                self.assertEqual((ended.out, os.path.exists(self.place() + ".lock")), (b"", False))
+                self.assertEqual(self.read(), old if ended.status else new, at)
+                self.assertRegex(ended.fault, rb"\A(git dirty|error): (?i:out of memory)\n\Z" if ended.status else rb"\A\Z")
+                ends.add(ended.status)
+        self.assertEqual(ends, {0, 2})
+        self.assertGreater(at, 15)
 
 
 if __name__ == "__main__":
