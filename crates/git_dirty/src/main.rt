@@ -147,17 +147,7 @@ where
             tops: tops.as_slice(),
         },
     };
-    let status = if arguments.refresh {
-        let time = time_of_refresh(rt, &file, &tops)?;
-        let refreshed = if arguments.quiet {
-            run_refresh(rt, &file.bytes, asked, &mut io::sink(), faults)
-        } else {
-            run_refresh(rt, &file.bytes, asked, &mut io::writer(rt), faults)
-        };
-        store(rt, &repository, &file, refreshed, time)?
-    } else {
-        run_dirty(rt, &file.bytes, asked, &mut io::writer(rt), faults)
-    };
+    let status = run_compared(rt, &repository, arguments, &file, asked, faults)?;
     if status == 1 && repository.settings.converts && !arguments.quiet {
         note(
             faults,
@@ -165,6 +155,34 @@ where
         );
     }
     Ok(status)
+}
+
+/// Prints the status of an index file. If it is to be refreshed, this writes the new one too. Returns the exit status.
+///
+/// # Errors
+/// The new index file can't be written.
+fn run_compared<R: AllocGlobal + Clock + Files + Print + Sync + Threads + Wait, E: io::Write>(
+    rt: &R,
+    repository: &Repository,
+    arguments: &Arguments<'_>,
+    file: &Written,
+    asked: Asked<'_, GitWorktree<&R>, SubmoduleHeads<'_, R>, Paths<'_>>,
+    faults: &mut E,
+) -> Result<u8, Refused>
+where
+    R::File: Send,
+    R::Dir: Send,
+{
+    if !arguments.refresh {
+        return Ok(run_dirty(rt, &file.bytes, asked, &mut io::writer(rt), faults));
+    }
+    let time = time_of_refresh(rt, file, asked.paths.tops)?;
+    let refreshed = if arguments.quiet {
+        run_refresh(rt, &file.bytes, asked, &mut io::sink(), faults)
+    } else {
+        run_refresh(rt, &file.bytes, asked, &mut io::writer(rt), faults)
+    };
+    store(rt, repository, file, refreshed, time)
 }
 
 /// Writes the index file of a refresh, if there is a new one, and returns the exit status.
