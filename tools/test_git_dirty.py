@@ -812,7 +812,7 @@ class Options(Dirty):
     def test_help_has_an_example(self):
         ran = self.ran("--help", folder="/")
         self.assertEqual((ran.returncode, ran.stderr), (0, b""))
-        for word in ("git dirty", "-C", "-z", "-q", "--refresh", "--threads", "--stats"):
+        for word in ("git dirty", "-C", "-z", "-q", "--threads", "--stats"):
             self.assertIn(word, ran.stdout.decode())
         self.assertEqual(self.ran("-h", folder="/").stdout, ran.stdout)
 

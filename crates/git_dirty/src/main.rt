@@ -11,9 +11,9 @@ use crate::selection::path_from_top;
 use clap::Error;
 use clap::error::ErrorKind;
 use git_repository::worktree::metadata_of;
-use git_repository::{GitWorktree, IgnoredSubmodules, Repository, SubmoduleHeads, replace_index};
+use git_repository::{GitWorktree, IgnoredSubmodules, Repository, SubmoduleHeads};
 use git_status::lines::LineStyle;
-use git_status::{Asked, Paths, Refreshed, Settings, report, run_dirty, run_refresh};
+use git_status::{Asked, Paths, Settings, report, run_dirty};
 use status_call::index_as_worktree::{Capabilities, Options};
 use status_index::{Moment, stat};
 use std::alloc::Global;
@@ -22,23 +22,19 @@ use std::process::ExitCode;
 use std::rt::{Env, Files};
 use std::sync::Wait;
 use std::thread::Threads;
-use std::time::{Clock, Duration, SystemTime, UNIX_EPOCH};
+use std::time::UNIX_EPOCH;
 use std::{env, fs};
 
 /// The number of entries of a piece of work if the first difference ends the command. Each thread has at most 8 pieces before
 /// the command sees that it may end: some 2,000 entries with the usual 4 threads.
 const SMALL_CHUNK: usize = 64;
 
-/// By how many milliseconds the time of a file that changes now may be before that of the clock: the system counts the times
-/// of files in steps.
-const CLOCK_STEP: u64 = 20;
-
 fn main(rt: HostRuntime) -> ExitCode {
     ExitCode::from(run(&rt, &mut rt.stderr()))
 }
 
 /// Runs the command of the program's arguments, and returns the exit status.
-fn run<R: AllocGlobal + Clock + Env + Eprint + Files + Print + Sync + Threads + Wait, E: io::Write>(
+fn run<R: AllocGlobal + Env + Eprint + Files + Print + Sync + Threads + Wait, E: io::Write>(
     rt: &R,
     faults: &mut E,
 ) -> u8
@@ -93,10 +89,11 @@ fn words_of<R: AllocGlobal + Env>(rt: &R) -> Result<Vec<String>, Refused> {
 }
 
 /// Runs the command of these arguments, and returns the exit status.
-fn run_in_folder<
-    R: AllocGlobal + Clock + Env + Files + Print + Sync + Threads + Wait,
-    E: io::Write,
->(rt: &R, arguments: &Arguments<'_>, faults: &mut E) -> u8
+fn run_in_folder<R: AllocGlobal + Env + Files + Print + Sync + Threads + Wait, E: io::Write>(
+    rt: &R,
+    arguments: &Arguments<'_>,
+    faults: &mut E,
+) -> u8
 where
     R::File: Send,
     R::Dir: Send,
@@ -110,11 +107,12 @@ where
 /// Runs the command in the repository of the arguments' folder, and returns the exit status.
 ///
 /// # Errors
-/// There is no repository, its index can't be read or refreshed, or a path isn't in its worktree.
-fn run_in_repository<
-    R: AllocGlobal + Clock + Env + Files + Print + Sync + Threads + Wait,
-    E: io::Write,
->(rt: &R, arguments: &Arguments<'_>, faults: &mut E) -> Result<u8, Refused>
+/// There is no repository, its index can't be read, or a path isn't in its worktree.
+fn run_in_repository<R: AllocGlobal + Env + Files + Print + Sync + Threads + Wait, E: io::Write>(
+    rt: &R,
+    arguments: &Arguments<'_>,
+    faults: &mut E,
+) -> Result<u8, Refused>
 where
     R::File: Send,
     R::Dir: Send,
@@ -147,7 +145,7 @@ where
             tops: tops.as_slice(),
         },
     };
-    let status = run_compared(rt, &repository, arguments, &file, asked, faults)?;
+    let status = run_dirty(rt, &file.bytes, asked, &mut io::writer(rt), faults);
     if status == 1 && repository.settings.converts && !arguments.quiet {
         note(
             faults,
@@ -155,69 +153,6 @@ where
         );
     }
     Ok(status)
-}
-
-/// Prints the status of an index file. If it is to be refreshed, this writes the new one too. Returns the exit status.
-///
-/// # Errors
-/// The new index file can't be written.
-fn run_compared<R: AllocGlobal + Clock + Files + Print + Sync + Threads + Wait, E: io::Write>(
-    rt: &R,
-    repository: &Repository,
-    arguments: &Arguments<'_>,
-    file: &Written,
-    asked: Asked<'_, GitWorktree<&R>, SubmoduleHeads<'_, R>, Paths<'_>>,
-    faults: &mut E,
-) -> Result<u8, Refused>
-where
-    R::File: Send,
-    R::Dir: Send,
-{
-    if !arguments.refresh {
-        return Ok(run_dirty(rt, &file.bytes, asked, &mut io::writer(rt), faults));
-    }
-    let time = time_of_refresh(rt, file, asked.paths.tops)?;
-    let refreshed = if arguments.quiet {
-        run_refresh(rt, &file.bytes, asked, &mut io::sink(), faults)
-    } else {
-        run_refresh(rt, &file.bytes, asked, &mut io::writer(rt), faults)
-    };
-    store(rt, repository, file, refreshed, time)
-}
-
-/// Writes the index file of a refresh, if there is a new one, and returns the exit status.
-///
-/// # Errors
-/// The file can't be written.
-fn store<R: AllocGlobal + Files>(
-    rt: &R,
-    repository: &Repository,
-    old: &Written,
-    refreshed: Refreshed,
-    time: SystemTime,
-) -> Result<u8, Refused> {
-    if let Some(bytes) = refreshed.bytes {
-        replace_index(rt, repository.index.as_str(), &old.bytes, &bytes, time)?;
-    }
-    Ok(refreshed.status)
-}
-
-/// Returns the time of a refreshed index file: a moment before any entry is compared. If only some entries are, it is the
-/// time of the old file, because the others that are racy have to stay so.
-///
-/// # Errors
-/// The time isn't known.
-fn time_of_refresh<R: Clock>(rt: &R, old: &Written, tops: &[&[u8]]) -> Result<SystemTime, Refused> {
-    let time = if tops.is_empty() {
-        match SystemTime::now(rt) {
-            Ok(now) => now.checked_sub(Duration::from_millis(CLOCK_STEP)),
-            Err(_) => None,
-        }
-    } else {
-        let Moment { secs, nsecs } = old.timestamp;
-        UNIX_EPOCH.checked_add(Duration::new(u64::from(secs), nsecs))
-    };
-    time.ok_or(Refused::Clock)
 }
 
 /// Writes notes on the configuration that isn't read.
@@ -299,8 +234,6 @@ fn changed_at(found: &fs::Metadata) -> Moment {
 /// Returns how a repository's entries are compared and printed.
 fn settings_of(repository: &Repository, arguments: &Arguments<'_>, timestamp: Moment) -> Settings {
     let found = &repository.settings;
-    // A refresh compares all entries, because those that are racy have to be.
-    let stops = arguments.quiet && !arguments.refresh;
     let options = Options {
         fs: Capabilities {
             symlink: found.symlinks,
@@ -315,14 +248,14 @@ fn settings_of(repository: &Repository, arguments: &Arguments<'_>, timestamp: Mo
             use_stdev: false,
         },
         fscache: false,
-        chunk_size: if stops { SMALL_CHUNK } else { 0 },
+        chunk_size: if arguments.quiet { SMALL_CHUNK } else { 0 },
     };
     Settings {
         kind: found.kind,
         timestamp,
         options,
         stats: arguments.stats,
-        lines: if stops {
+        lines: if arguments.quiet {
             None
         } else {
             Some(LineStyle {

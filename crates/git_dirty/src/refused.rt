@@ -25,8 +25,6 @@ pub enum Refused {
     EmptyPath,
     /// The arguments of the program can't be read.
     Arguments,
-    /// The system's time isn't known.
-    Clock,
     /// Memory ran out.
     Memory,
 }
@@ -63,7 +61,6 @@ impl fmt::Display for Refused {
             Refused::Outside { path } => write!(f, "{path:?} is outside of the worktree"),
             Refused::EmptyPath => f.write_str("an empty path: use . for the working folder"),
             Refused::Arguments => f.write_str("the arguments aren't UTF-8"),
-            Refused::Clock => f.write_str("the time isn't known"),
             Refused::Memory => f.write_str("out of memory"),
         }
     }

@@ -4,7 +4,7 @@
 //! on, with `format`, from what `sources` names and `parameters` reads. `config` has git's configuration, which `reader`
 //! reads by `state`, and `values` reads a variable's value. `worktree` is a worktree with all that git records of a file,
 //! and `path_buffer` has the paths of its calls. `submodules` compares the heads of submodules, which `heads` finds.
-//! `files` reads small files, `lock` replaces the index file, and `error` has the errors.
+//! `files` reads small files, and `error` has the errors.
 #![tactic(auto)]
 
 pub mod config;
@@ -14,7 +14,6 @@ mod format;
 mod git_dir;
 mod heads;
 pub mod location;
-mod lock;
 mod parameters;
 mod path_buffer;
 pub mod reader;
@@ -28,7 +27,6 @@ pub mod worktree;
 pub use config::{Config, ConfigError, Variable};
 pub use error::RepositoryError;
 pub use location::Repository;
-pub use lock::replace_index;
 pub use reader::read_config;
 pub use settings::{Settings, read_settings};
 pub use submodules::{IgnoredSubmodules, SubmoduleHead, SubmoduleHeads};
