@@ -17,7 +17,6 @@ mod folder_submodules;
 mod listings;
 mod nodes;
 mod orders;
-mod planted;
 mod refreshes;
 mod refused_threads;
 mod reports;
