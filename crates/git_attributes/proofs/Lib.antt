@@ -1,0 +1,6 @@
+mod Binary
+mod Giving
+mod Items
+mod Laws
+mod Leaving
+mod Lines

@@ -1,0 +1,14 @@
+pub mod Assignments
+pub mod Files
+pub mod Items
+pub mod LineEnds
+pub mod Lines
+pub mod Normalization
+pub mod Patterns
+pub mod Quoted
+pub mod Sets
+pub mod States
+pub mod Text
+pub mod Views
+pub mod Wildmatch
+pub mod Words

@@ -1,0 +1,46 @@
+-- The bytes that git stores of a file, by its attributes.
+use Rattle.std.specs.Prelude.{ℕ, ◌||◌, Bool, true, false, List, filter, Option, Some, None, if◌then◌else◌}
+use Rattle.std.specs.List.{list_any}
+use Rattle.status_base.specs.Conversions.{Conversion, other, refused, same}
+use Rattle.status_index.specs.BlobId.{blob_id, same_id}
+use Rattle.status_index.specs.Content.{Content}
+use Rattle.status_index.specs.Entries.{IndexEntry}
+use Rattle.status_index.specs.States.{index_of}
+use Rattle.status_index.specs.Stretch.{is_at}
+use Rattle.status_index.specs.declared.fault.Fault.{Fault}
+use Rattle.status_index.specs.declared.id.HashKind.{HashKind}
+use Rattle.git_attributes.specs.declared.line_ends.LineEnds.{LineEnds}
+use Rattle.git_attributes.specs.declared.normalization.Normalization.{Normalization}
+use Rattle.git_attributes.specs.declared.normalization.Normalization.TheVariants.{Off, On, Auto}
+use Rattle.git_attributes.specs.Files.{states_of}
+use Rattle.git_attributes.specs.Normalization.{normalization_of}
+use Rattle.git_attributes.specs.Text.{is_binary, normalized}
+use Rattle.git_attributes.specs.Views.{attributes_view}
+
+-- An entry of the path has the id of these bytes.
+abbrev pub has_stored : HashKind → List IndexEntry → List ℕ → List ℕ → Bool
+has_stored kind index bytes path = list_any (λ e. same_id e.id (blob_id kind bytes)) (filter (is_at path) index)
+
+-- A binary file isn't converted, and one whose bytes are stored already isn't, if git has to decide by the bytes.
+abbrev pub is_kept : Normalization → Bool → List ℕ → Bool
+is_kept Off is_stored bytes = true
+is_kept On is_stored bytes = false
+is_kept Auto is_stored bytes = is_binary bytes || is_stored
+
+-- The bytes that git stores.
+abbrev pub stored : Normalization → Bool → List ℕ → List ℕ
+stored how is_stored bytes = if is_kept how is_stored bytes then bytes else normalized bytes
+
+abbrev pub read_as : List ℕ → Option Fault → Conversion
+read_as bytes None = other bytes
+read_as bytes (Some fault) = refused fault
+
+-- A file's conversion, by the attributes of its path.
+abbrev pub conversion_by : Normalization → (List ℕ → Bool) → Content → Conversion
+conversion_by Off is_stored content = same
+conversion_by how is_stored content = read_as (stored how (is_stored content.bytes) content.bytes) content.fault
+
+abbrev pub line_ends : LineEnds → Content → List ℕ → Conversion
+line_ends filter content path =
+    conversion_by (normalization_of (states_of (attributes_view filter.attributes.now) path) filter.auto)
+    (λ bytes. has_stored filter.kind (index_of filter.index.now) bytes path) content

@@ -1,0 +1,186 @@
+//! Lines of attribute files.
+
+ghost use Rattle.std.specs.Prelude.{◌≡◌, IfOk, map, option_map};
+ghost use Rattle.git_attributes.specs.Lines.{ends_in_slash, has_slash, line_at, macro_name, macro_of, pattern_of, plain_line_at, rule_of, said_of, without_slash};
+ghost use Rattle.git_attributes.specs.Views.{line_view, macro_view, part_of, rule_view};
+
+use crate::assignment::{Assignment, assignments_of, is_name};
+use crate::pattern::{begins_with, pieces_of};
+use crate::piece::Piece;
+use crate::quoted::unquoted;
+use crate::words::{before, skip_blanks, word_of};
+use std::alloc::{AllocError, Global};
+
+/// As git does, a line of so many bytes or more is left out.
+const LINE_LIMIT: usize = 2048;
+
+/// A pattern, and the assignments of the paths that match it.
+#[derive(Debug, Drop)]
+pub(crate) struct Rule<'a> {
+    /// The folder of the pattern's file, with a slash at the end, or nothing for the worktree's top.
+    pub(crate) folder: &'a [u8],
+    /// Whether the pattern is compared with the last name of a path, and not with the path below the folder.
+    pub(crate) by_name: bool,
+    /// The pattern's pieces.
+    pub(crate) pieces: Vec<Piece>,
+    /// The assignments.
+    pub(crate) given: Vec<Assignment<'a>>,
+}
+
+/// An attribute with assignments of its own.
+#[derive(Debug, Drop)]
+pub(crate) struct Macro<'a> {
+    /// The attribute's name.
+    pub(crate) name: Vec<u8>,
+    /// The assignments.
+    pub(crate) given: Vec<Assignment<'a>>,
+}
+
+/// A rule or a macro.
+#[derive(Debug, Drop)]
+pub(crate) enum Line<'a> {
+    Rule(Rule<'a>),
+    Macro(Macro<'a>),
+}
+
+/// Returns whether a text has a slash.
+fn has_slash(text: &[u8]) -> bool
+    ensures { result ≡ has_slash text.now }
+{
+    text.iter().any(|byte| *byte == b'/')
+}
+
+/// Returns whether a text ends in a slash.
+fn ends_in_slash(text: &[u8]) -> bool
+    ensures { result ≡ ends_in_slash text.now }
+{
+    !text.is_empty() && text[text.len() - 1] == b'/'
+}
+
+/// Returns a text without a slash that comes first.
+fn without_slash(text: &[u8]) -> &[u8]
+    ensures { result.now ≡ without_slash text.now }
+{
+    match text {
+        [b'/', rest @ ..] => rest,
+        _ => text,
+    }
+}
+
+/// Returns whether a pattern is compared with the last name of a path, and its pieces. None if it begins with `!`, which
+/// git leaves out, or matches no file.
+fn pattern_of(alloc: Global, text: &[u8]) -> Result<Option<(bool, Vec<Piece>)>, AllocError>
+    ensures { IfOk result (λ found. option_map (λ x. (x.0, map part_of x.1.items)) found ≡ pattern_of text.now) }
+{
+    let text = before(0, text);
+    if begins_with(b'!', text) || ends_in_slash(text) {
+        return Ok(None);
+    }
+    let by_name = !has_slash(text);
+    match pieces_of(alloc, without_slash(text))? {
+        Some(pieces) => Ok(Some((by_name, pieces))),
+        None => Ok(None),
+    }
+}
+
+/// Returns the rule of a pattern and the text of its assignments. None if one of them isn't one.
+fn rule_of<'a>(
+    alloc: Global,
+    folder: &'a [u8],
+    pattern: &[u8],
+    text: &'a [u8],
+) -> Result<Option<Line<'a>>, AllocError>
+    ensures { IfOk result (λ found. option_map line_view found ≡ rule_of folder.now pattern.now text.now) }
+{
+    let Some(given) = assignments_of(alloc, text)? else {
+        return Ok(None);
+    };
+    match pattern_of(alloc, pattern)? {
+        Some((by_name, pieces)) => Ok(Some(Line::Rule(Rule {
+            folder,
+            by_name,
+            pieces,
+            given,
+        }))),
+        None => Ok(None),
+    }
+}
+
+/// Returns the macro whose name is the first word of a text, and the text of its assignments. None if one of them isn't one.
+fn macro_of<'a>(alloc: Global, name: &[u8], text: &'a [u8]) -> Result<Option<Line<'a>>, AllocError>
+    ensures { IfOk result (λ found. option_map line_view found ≡ macro_of name.now text.now) }
+{
+    let Some((name, _)) = word_of(name) else {
+        return Ok(None);
+    };
+    if !is_name(name) {
+        return Ok(None);
+    }
+    match assignments_of(alloc, text)? {
+        Some(given) => Ok(Some(Line::Macro(Macro {
+            name: Vec::from_slice(alloc, name)?,
+            given,
+        }))),
+        None => Ok(None),
+    }
+}
+
+/// Returns the text after `[attr]`, if a text begins with it and has more.
+fn macro_name(text: &[u8]) -> Option<&[u8]>
+    ensures { option_map (λ name. name.now) result ≡ macro_name text.now }
+{
+    match text {
+        [b'[', b'a', b't', b't', b'r', b']', name @ ..] if !name.is_empty() => Some(name),
+        _ => None,
+    }
+}
+
+/// Returns what a line says that begins with this pattern or macro.
+fn said_of<'a>(
+    alloc: Global,
+    folder: &'a [u8],
+    front: &[u8],
+    text: &'a [u8],
+) -> Result<Option<Line<'a>>, AllocError>
+    ensures { IfOk result (λ found. option_map line_view found ≡ said_of folder.now front.now text.now) }
+{
+    match macro_name(front) {
+        Some(name) => macro_of(alloc, name, text),
+        None => rule_of(alloc, folder, front, text),
+    }
+}
+
+/// Returns what a line says whose first word isn't in quotes.
+fn plain_line_of<'a>(
+    alloc: Global,
+    folder: &'a [u8],
+    text: &'a [u8],
+) -> Result<Option<Line<'a>>, AllocError>
+    ensures { IfOk result (λ found. option_map line_view found ≡ plain_line_at folder.now text.now) }
+{
+    let Some((word, rest)) = word_of(text) else {
+        return Ok(None);
+    };
+    said_of(alloc, folder, word, rest)
+}
+
+/// Returns what a line says, up to a NUL. None for a comment, an empty or an overlong line, and one that git can't read.
+pub(crate) fn line_of<'a>(
+    alloc: Global,
+    folder: &'a [u8],
+    line: &'a [u8],
+) -> Result<Option<Line<'a>>, AllocError>
+    ensures { IfOk result (λ found. option_map line_view found ≡ line_at folder.now line.now) }
+{
+    let line = before(0, line);
+    let text = skip_blanks(line);
+    if begins_with(b'#', text) || line.len() >= LINE_LIMIT {
+        return Ok(None);
+    }
+    if begins_with(b'"', text) {
+        if let Some((pattern, rest)) = unquoted(alloc, &text[1..])? {
+            return said_of(alloc, folder, &pattern, rest);
+        }
+    }
+    plain_line_of(alloc, folder, text)
+}

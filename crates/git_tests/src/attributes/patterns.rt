@@ -1,0 +1,110 @@
+//! Which paths match a pattern, by `git check-attr` of git 2.39.5.
+
+use git_attributes::{Attributes, Source, Value};
+use std::alloc::{AllocError, Global};
+use std::test::Fail;
+
+/// A pattern, paths that match it, and paths that don't.
+type Row = (
+    &'static str,
+    &'static [&'static str],
+    &'static [&'static str],
+);
+
+static ROWS: [Row; 56] = [
+    ("a", &["a", "d/a"], &["b", "a/b", "aa"]),
+    ("*.c", &["x.c", ".c", "d/x.c"], &["x.cc", "x/c"]),
+    ("/a", &["a"], &["d/a"]),
+    ("d/a", &["d/a"], &["x/d/a", "d/a/b"]),
+    ("d/*", &["d/a", "d/\n"], &["d/e/a"]),
+    ("d/**", &["d/a", "d/e/a"], &["d", "e/d/a"]),
+    ("**/a", &["a", "d/a", "d/e/a"], &["b", "da"]),
+    ("d/**/a", &["d/a", "d/e/a", "d/e/f/a"], &["da", "d/ea"]),
+    (
+        "a**/b",
+        &["ax/y/b", "a/b", "ab", "ax/b", "a/x/b"],
+        &["xa/b"],
+    ),
+    ("?**/b", &["a/b", "ax/b"], &["ax/y/b", "ab"]),
+    ("a**b", &["ab", "axb"], &["a/b"]),
+    ("**", &["a", "d/a"], &[]),
+    ("a/", &[], &["a", "a/b"]),
+    ("?", &["a"], &["é", "ab"]),
+    ("[a-c]x", &["ax", "cx"], &["dx", "x"]),
+    ("[!a-c]x", &["dx"], &["ax"]),
+    ("[^a]x", &["dx", "^x"], &["ax"]),
+    ("[]a]", &["]", "a"], &["b"]),
+    ("[!]a]", &["b"], &["]", "a"]),
+    ("[a-]", &["a", "-"], &["b"]),
+    ("[-a]", &["a", "-"], &["b"]),
+    ("[a-c-e]", &["b", "-", "e"], &["d"]),
+    ("[a-\\c]", &["b", "c"], &["\\", "-"]),
+    ("[\\]]", &["]"], &["\\"]),
+    ("[\\\\]", &["\\"], &["]"]),
+    ("[[:alpha:]]", &["a", "Z"], &["1", "[", "é"]),
+    ("[[:alpha:]-z]", &["a", "-", "z"], &["1"]),
+    ("[[:digit:][:upper:]]x", &["1x", "Ax"], &["ax"]),
+    ("[[:no:]]", &[], &["n", "o", ":", "a"]),
+    ("[[:alpha:]", &[], &["a]", "[", "a"]),
+    ("[[:a]", &["[", ":", "a"], &["b"]),
+    ("[[:]", &["[", ":"], &["]"]),
+    ("[[::]]", &[], &[":", "]", ":]", "["]),
+    ("[[-z]", &["[", "a", "z", "b"], &[]),
+    ("[z-a]", &["z"], &["a", "m", "-"]),
+    ("[/]", &[], &["a"]),
+    ("d[/]a", &[], &["d/a"]),
+    ("d[!x]a", &["dya"], &["d/a"]),
+    ("[a", &[], &["a", "[a"]),
+    ("a\\", &[], &["a", "a\\"]),
+    ("\\a", &["a"], &["\\a"]),
+    ("\\*", &["*"], &["a"]),
+    ("a\\*b", &["a*b"], &["axb"]),
+    ("**\\/a", &["d/a", "x/y/a"], &["a"]),
+    ("***/a", &["a", "d/a", "d/e/a"], &[]),
+    ("*/a", &["d/a"], &["d/e/a", "a"]),
+    ("*a*b*c", &["abc", "xaybzc"], &["acb"]),
+    ("d?a", &["dxa"], &["d/a"]),
+    ("!a", &[], &["a", "!a"]),
+    ("\\!a", &["!a"], &["a"]),
+    ("é*", &["éa"], &["e"]),
+    ("[é]", &[], &["é"]),
+    ("[[:space:]]x", &[" x", "\tx", "\nx"], &["\x0bx"]),
+    ("[[:punct:]]x", &["!x", "_x"], &["ax"]),
+    ("[[:xdigit:]]x", &["fx", "Fx"], &["gx"]),
+    ("[[:cntrl:]]x", &["\x01x", "\x7fx"], &["ax"]),
+];
+
+/// Returns whether the attribute `hit` is set for a path, if a line with the pattern sets it.
+fn is_hit(alloc: Global, pattern: &str, path: &str) -> Result<bool, AllocError> {
+    let line = format!(in alloc; "{pattern} hit")?;
+    let mut attributes = Attributes::new(alloc);
+    attributes.read(
+        alloc,
+        Source {
+            folder: b"",
+            has_macros: true,
+            bytes: line.as_bytes(),
+        },
+    )?;
+    let states = attributes.states_of(alloc, path.as_bytes())?;
+    Ok(states.iter().any(|it| it.name == b"hit".as_slice() && matches!(it.value, Value::Set)))
+}
+
+#[test]
+fn patterns_match_as_in_git(rt: HostRuntime) -> Result<(), Fail> {
+    for (pattern, hits, misses) in &ROWS {
+        for path in *hits {
+            assert!(rt;
+                is_hit(rt.alloc(), pattern, path)?,
+                "{pattern:?} matches {path:?}"
+            );
+        }
+        for path in *misses {
+            assert!(rt;
+                !is_hit(rt.alloc(), pattern, path)?,
+                "{pattern:?} doesn't match {path:?}"
+            );
+        }
+    }
+    Ok(())
+}
