@@ -4,4 +4,3 @@ mod Items
 mod Laws
 mod Leaving
 mod Lines
-pub mod Sent

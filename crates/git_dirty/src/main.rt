@@ -11,9 +11,7 @@ use crate::selection::path_from_top;
 use clap::Error;
 use clap::error::ErrorKind;
 use git_repository::worktree::metadata_of;
-use git_repository::{
-    GitAttributeFiles, GitWorktree, IgnoredSubmodules, Repository, SubmoduleHeads,
-};
+use git_repository::{GitWorktree, IgnoredSubmodules, Repository, SubmoduleHeads};
 use git_status::lines::LineStyle;
 use git_status::{Asked, Paths, Settings, report, run_dirty};
 use status_call::index_as_worktree::{Capabilities, Options};
@@ -146,9 +144,15 @@ where
         paths: Paths {
             tops: tops.as_slice(),
         },
-        attributes: GitAttributeFiles::new(rt, &worktree, &repository)?,
     };
-    Ok(run_dirty(rt, &file.bytes, asked, &mut io::writer(rt), faults))
+    let status = run_dirty(rt, &file.bytes, asked, &mut io::writer(rt), faults);
+    if status == 1 && repository.settings.converts && !arguments.quiet {
+        note(
+            faults,
+            "git may convert line ends here: a file that differs only in them is listed",
+        );
+    }
+    Ok(status)
 }
 
 /// Writes notes on the configuration that isn't read.
@@ -250,8 +254,6 @@ fn settings_of(repository: &Repository, arguments: &Arguments<'_>, timestamp: Mo
         kind: found.kind,
         timestamp,
         options,
-        auto_line_ends: found.auto_line_ends,
-        notes: !arguments.quiet,
         stats: arguments.stats,
         lines: if arguments.quiet {
             None
