@@ -4,3 +4,4 @@ mod Items
 mod Laws
 mod Leaving
 mod Lines
+pub mod Sent

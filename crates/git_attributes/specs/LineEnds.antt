@@ -1,5 +1,5 @@
 -- The bytes that git stores of a file, by its attributes.
-use Rattle.std.specs.Prelude.{ℕ, ◌||◌, Bool, true, false, List, filter, Option, Some, None, if◌then◌else◌}
+use Rattle.std.specs.Prelude.{◌≡◌, ◌↔◌, not, ◌==◌, ◌&&◌, [], ◌∷◌, ℕ, ◌||◌, Bool, true, false, List, filter, Option, Some, None, if◌then◌else◌}
 use Rattle.std.specs.List.{list_any}
 use Rattle.status_base.specs.Conversions.{Conversion, other, refused, same}
 use Rattle.status_index.specs.BlobId.{blob_id, same_id}
@@ -14,7 +14,7 @@ use Rattle.git_attributes.specs.declared.normalization.Normalization.{Normalizat
 use Rattle.git_attributes.specs.declared.normalization.Normalization.TheVariants.{Off, On, Auto}
 use Rattle.git_attributes.specs.Files.{states_of}
 use Rattle.git_attributes.specs.Normalization.{normalization_of}
-use Rattle.git_attributes.specs.Text.{is_binary, normalized}
+use Rattle.git_attributes.specs.Text.{begins_with_lf, is_binary, normalized}
 use Rattle.git_attributes.specs.Views.{attributes_view}
 
 -- An entry of the path has the id of these bytes.
@@ -44,3 +44,19 @@ abbrev pub line_ends : LineEnds → Content → List ℕ → Conversion
 line_ends filter content path =
     conversion_by (normalization_of (states_of (attributes_view filter.attributes.now) path) filter.auto)
     (λ bytes. has_stored filter.kind (index_of filter.index.now) bytes path) content
+
+-- ---- git's own rule for `text=auto`
+
+-- A CR is directly before an LF.
+abbrev pub has_crlf : List ℕ → Bool
+has_crlf [] = false
+has_crlf (b ∷ rest) = (b == 13 && begins_with_lf rest) || has_crlf rest
+
+-- Git doesn't convert a binary file, and no file if the index's one is a text with CRLF.
+abbrev pub stored_by_git : List ℕ → List ℕ → List ℕ
+stored_by_git blob bytes = if is_binary bytes || (not (is_binary blob) && has_crlf blob) then bytes else normalized bytes
+
+-- If contents with equal ids are equal, a file's stored bytes are the blob's exactly if they are by git's rule.
+abbrev pub AutoLaw : HashKind → List ℕ → List ℕ → Type 0
+AutoLaw kind blob bytes =
+    (blob_id kind bytes ≡ blob_id kind blob → bytes ≡ blob) → (stored Auto (same_id (blob_id kind blob) (blob_id kind bytes)) bytes ≡ blob) ↔ (stored_by_git blob bytes ≡ blob)

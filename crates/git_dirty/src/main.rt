@@ -11,7 +11,9 @@ use crate::selection::path_from_top;
 use clap::Error;
 use clap::error::ErrorKind;
 use git_repository::worktree::metadata_of;
-use git_repository::{GitWorktree, IgnoredSubmodules, Repository, SubmoduleHeads};
+use git_repository::{
+    GitAttributeFiles, GitWorktree, IgnoredSubmodules, Repository, SubmoduleHeads,
+};
 use git_status::lines::LineStyle;
 use git_status::{Asked, Paths, Settings, report, run_dirty};
 use status_call::index_as_worktree::{Capabilities, Options};
@@ -144,15 +146,9 @@ where
         paths: Paths {
             tops: tops.as_slice(),
         },
+        attributes: GitAttributeFiles::new(rt, &worktree, &repository)?,
     };
-    let status = run_dirty(rt, &file.bytes, asked, &mut io::writer(rt), faults);
-    if status == 1 && repository.settings.converts && !arguments.quiet {
-        note(
-            faults,
-            "git may convert line ends here: a file that differs only in them is listed",
-        );
-    }
-    Ok(status)
+    Ok(run_dirty(rt, &file.bytes, asked, &mut io::writer(rt), faults))
 }
 
 /// Writes notes on the configuration that isn't read.
@@ -254,6 +250,8 @@ fn settings_of(repository: &Repository, arguments: &Arguments<'_>, timestamp: Mo
         kind: found.kind,
         timestamp,
         options,
+        auto_line_ends: found.auto_line_ends,
+        notes: !arguments.quiet,
         stats: arguments.stats,
         lines: if arguments.quiet {
             None

@@ -5,7 +5,7 @@ use crate::error::RepositoryError;
 use crate::files::{joined, path_of};
 use crate::format::read_format;
 use crate::sources::{append_environment, read_file, read_outer};
-use crate::values::{is_text, switch};
+use crate::values::{is_text, switch, switch_or_word};
 use status_index::HashKind;
 use std::alloc::Global;
 use std::rt::{Env, Files};
@@ -29,8 +29,8 @@ pub struct Settings {
     pub bare: Option<bool>,
     /// The worktree's folder (`core.worktree`), absolute or relative to the repository's. None if that isn't set.
     pub worktree: Option<String>,
-    /// Whether git may convert line ends (`core.autocrlf` or `core.eol`).
-    pub converts: bool,
+    /// Whether git decides by a file's bytes whether to convert its line ends, if its attributes don't (`core.autocrlf`).
+    pub auto_line_ends: bool,
     /// Whether the configuration includes files. They aren't read.
     pub has_include: bool,
 }
@@ -69,7 +69,9 @@ pub fn read_settings<R: Files + Env + AllocGlobal>(
         quote_path: switch(alloc, &config, "core.quotepath")?.unwrap_or(true),
         bare,
         worktree,
-        converts: may_convert(alloc, &config)?,
+        auto_line_ends: switch_or_word(alloc, &config, "core.autocrlf", Some(b"input"))?.unwrap_or(
+            false,
+        ),
         has_include: config.has_include(),
     };
     Ok((settings, config))
@@ -102,12 +104,4 @@ fn is_value(config: &Config, name: &[u8], word: &[u8]) -> bool {
         Some(found) => is_text(found.value(), word),
         None => false,
     }
-}
-
-// Returns whether git may convert line ends.
-fn may_convert(alloc: Global, config: &Config) -> Result<bool, RepositoryError> {
-    if is_value(config, b"autocrlf", b"input") || config.get(b"core", None, b"eol").is_some() {
-        return Ok(true);
-    }
-    Ok(switch(alloc, config, "core.autocrlf")?.unwrap_or(false))
 }

@@ -36,7 +36,7 @@ pub fn read_file<R: Files + AllocGlobal>(rt: &R, path: &str) -> Result<Config, R
 /// A file or a value can't be read, or out of memory.
 pub fn read_outer<R: Files + Env + AllocGlobal>(rt: &R) -> Result<Config, RepositoryError> {
     let mut config = Config::new(rt.alloc());
-    if !has_no_system(rt)? {
+    if !is_set(rt, "GIT_CONFIG_NOSYSTEM")? {
         match variable(rt, "GIT_CONFIG_SYSTEM")? {
             Some(path) => config.append(read_file(rt, path.as_str())?)?,
             None => config.append(read_file(rt, "/etc/gitconfig")?)?,
@@ -62,9 +62,11 @@ fn read_user_file<R: Files + AllocGlobal>(rt: &R, path: &str) -> Result<Config, 
     }
 }
 
-// Returns whether the configuration of the system isn't read.
-fn has_no_system<R: Env + AllocGlobal>(rt: &R) -> Result<bool, RepositoryError> {
-    let name = "GIT_CONFIG_NOSYSTEM";
+/// Returns whether an environment variable is set to true.
+///
+/// # Errors
+/// Its value isn't a boolean, or not UTF-8, or out of memory.
+pub fn is_set<R: Env + AllocGlobal>(rt: &R, name: &'static str) -> Result<bool, RepositoryError> {
     let Some(value) = variable(rt, name)? else {
         return Ok(false);
     };

@@ -73,25 +73,45 @@ fn unsigned_of(digits: &str) -> Option<u64> {
 /// Returns a boolean by its whole name, section and name in lower case. None if it isn't set.
 ///
 /// # Errors
-/// Git refuses the value, or out of memory.
+/// Git refuses a value, also one that a later one overrides, or out of memory.
 pub fn switch(
     alloc: Global,
     config: &Config,
     name: &'static str,
 ) -> Result<Option<bool>, RepositoryError> {
+    switch_or_word(alloc, config, name, None)
+}
+
+/// Returns a boolean for which a word also stands for true.
+///
+/// # Errors
+/// As for `switch`.
+pub fn switch_or_word(
+    alloc: Global,
+    config: &Config,
+    name: &'static str,
+    word: Option<&[u8]>,
+) -> Result<Option<bool>, RepositoryError> {
     let Some((section, last)) = name.split_once('.') else {
         return Ok(None);
     };
-    let Some(found) = config.get(section.as_bytes(), None, last.as_bytes()) else {
-        return Ok(None);
-    };
-    match bool_of(found.value()) {
-        Some(is_on) => Ok(Some(is_on)),
-        None => Err(RepositoryError::BadBoolean {
-            name,
-            value: String::from_utf8_lossy(alloc, found.value().unwrap_or(b""))?,
-        }),
+    let mut found = None;
+    for variable in config.variables() {
+        if variable.is_named(section.as_bytes(), None, last.as_bytes()) {
+            let value = variable.value();
+            let is_word = word.is_some_and(|word| is_text(value, word));
+            match if is_word { Some(true) } else { bool_of(value) } {
+                Some(is_on) => found = Some(is_on),
+                None => {
+                    return Err(RepositoryError::BadBoolean {
+                        name,
+                        value: String::from_utf8_lossy(alloc, value.unwrap_or(b""))?,
+                    });
+                }
+            }
+        }
     }
+    Ok(found)
 }
 
 /// Returns whether a value is a word, in lower or upper case.

@@ -4,6 +4,8 @@ use Rattle.std.specs.Prelude.{slice_get}
 use Rattle.std.specs.List.{list_any, cons_option}
 use Rattle.std.proofs.lemmas.List.Elements.{All-nil, All-cons}
 use Rattle.std.proofs.lemmas.List.Folds.{list_any-append}
+use Rattle.git_attributes.specs.Files.{File}
+use Rattle.git_attributes.specs.declared.line_ends.LineEnds.{LineEnds}
 use Rattle.git_status.specs.Lines.{differs}
 use Rattle.status_call.specs.Inputs.{settings}
 use Rattle.status_call.specs.Query.{Query}
@@ -87,14 +89,7 @@ module _ {T U : Type 0} where
       reported visits answer (inl found) = found.1
       reported visits answer (inr failed) = absurd failed
 
-  pub clean_law : (query : StatusSettings → Query T U) (s : Settings) (bytes : List ℕ) → CleanLaw query s bytes
-  clean_law query s bytes modelled old new exit =
-      let file = exit.2 in
-      record {
-        index = file.index;
-        version = file.version;
-        extensions = file.extensions;
-        file = file.file;
-        time = file.time;
-        none = run_clean (query (settings s.options file.index)) file.index s old exit.0 new (modelled (settings s.options file.index)) file.run exit.1;
-      }
+  pub clean_law : (query : LineEnds → StatusSettings → Query T U) (are_files : State → List File → Type 0) (s : Settings) (bytes : List ℕ) → CleanLaw query are_files s bytes
+  clean_law query are_files s bytes modelled old new exit =
+      let read = exit.2.0 in let asked = settings s.options read.index in
+      (read, run_clean (query read.converting.filter asked) read.index s old exit.0 new (modelled read.converting.filter asked) exit.2.1 exit.1)

@@ -1,6 +1,9 @@
 -- How a status and its changes make a refresh.
 use Rattle.std.proofs.Common.{◌≡◌, ℕ, List, [], Option, Result, Ok, Err, inl, inr, refl, sym, subst}
 use Rattle.std.specs.Result.{IsErrAnd}
+use Rattle.git_attributes.specs.Files.{File, attributes_of}
+use Rattle.git_attributes.specs.declared.line_ends.LineEnds.{LineEnds}
+use Rattle.git_attributes.specs.Views.{attributes_view}
 use Rattle.git_index.specs.File.{IsFileOf, IsIndexFile}
 use Rattle.git_index.specs.Refusals.{IsFileRefusal}
 use Rattle.git_index.specs.declared.fault.IndexFileError.{IndexFileError}
@@ -19,14 +22,14 @@ use Rattle.status_call.specs.Visits.{Visit}
 use Rattle.status_call.specs.declared.index_as_worktree.types.Outcome.{Outcome}
 use Rattle.status_compare.specs.declared.error.Error.{Error}
 use Rattle.status_index.specs.declared.state.State.{State}
-use Rattle.git_status.specs.Refreshes.{IsFileRefreshed, IsFoundRun, IsRefresh, IsRefreshedFile, IsUnrefreshed}
-use Rattle.git_status.specs.Runs.{IsComputed, IsEnded, IsStatusRun}
+use Rattle.git_status.specs.Refreshes.{IsFileRefreshed, IsFoundRun, IsIndexFound, IsRefresh, IsRefreshedFile, IsUnrefreshed}
+use Rattle.git_status.specs.Runs.{Converting, IsComputed, IsEnded, IsRun, IsStatusRun, ReadFile}
 use Rattle.git_status.specs.declared.asked.Settings.{Settings}
 use Rattle.git_status.specs.declared.dirty.Report.{Report}
 use Rattle.git_status.specs.declared.failure.Failure.{Failure}
 use Rattle.git_status.specs.declared.failure.Failure.TheVariants.{Memory}
 use Rattle.git_status.specs.declared.refresh.Found.{Found}
-use Rattle.git_status.proofs.Runs.{file_run, refused_run, status_run}
+use Rattle.git_status.proofs.Runs.{early_run, file_run, refused_run, status_run}
 
 module _ {T U : Type 0} where
   -- the changes were found
@@ -52,39 +55,62 @@ module _ {T U : Type 0} where
   found_inside query index s old found new run =
       subst (λ changes. AreInside changes (index_of index)) (sym run.1) (status_inside query index [] run.0.answer run.0.visits run.0.computed.met refl)
 
-  -- a file that was read, and its new bytes
-  pub refreshed_file : (query : StatusSettings → Query T U) (s : Settings) (bytes : List ℕ) (old : Option (List ℕ)) (index : State) (version : ℕ) (extensions : List ℕ) (found : Found) (refreshed new : Option (List ℕ))
-      → IsFileOf s.kind bytes version (index_of index) extensions → timestamp_of index ≡ s.timestamp → IsFoundRun (query (settings s.options index)) index s old (Ok found) new
-      → IsRefreshedFile s.kind version extensions (index_of index) found.changes.items refreshed → IsFileRefreshed query s bytes old found.report refreshed new
-  refreshed_file query s bytes old index version extensions found refreshed new file time run fits = (
-    record { index = index; version = version; extensions = extensions; file = file; time = time; run = run.0 },
-    subst (λ changes. IsRefreshedFile s.kind version extensions (index_of index) changes refreshed) run.1 fits,
-  )
+  -- an index whose line ends are converted, and the changes that its status asks for
+  pub index_found : (query : LineEnds → StatusSettings → Query T U) (are_files : State → List File → Type 0) (index : State) (s : Settings) (files : List File) (filter : LineEnds) (old : Option (List ℕ)) (result : Result Found Failure) (new : Option (List ℕ))
+      → are_files index files → attributes_view filter.attributes.now ≡ attributes_of files → filter.auto ≡ s.auto_line_ends → filter.index.now ≡ index → filter.kind ≡ s.kind
+      → IsFoundRun (query filter (settings s.options index)) index s old result new → IsIndexFound query are_files index s old result new
+  index_found query are_files index s files filter old result new found attributes auto entries kind run =
+      inl (record { files = files; found = found; filter = filter; attributes = attributes; auto = auto; entries = entries; kind = kind }, run)
 
-  -- a file that was read, and whose status fails, or memory ran out after it
-  unrefreshed : (query : StatusSettings → Query T U) (s : Settings) (bytes : List ℕ) (old : Option (List ℕ)) (index : State) (version : ℕ) (extensions : List ℕ) (f : Failure) (new : Option (List ℕ))
-      → IsFileOf s.kind bytes version (index_of index) extensions → timestamp_of index ≡ s.timestamp → IsFoundRun (query (settings s.options index)) index s old (Err f) new → IsUnrefreshed query s bytes old f new
-  unrefreshed query s bytes old index version extensions f new file time (inl run) = inl (file_run query s bytes old (Err f) new index version extensions file time run)
-  unrefreshed query s bytes old index version extensions f new file time (inr late) = inr (late.0, file_run query s bytes old (Ok late.0) new index version extensions file time late.1, late.2)
+  -- the changes that were found
+  abbrev FoundIn : (LineEnds → StatusSettings → Query T U) → (State → List File → Type 0) → State → Settings → Option (List ℕ) → Found → Option (List ℕ) → Type 0
+  FoundIn query are_files index s old found new = (c : Converting are_files s index) × IsFoundRun (query c.filter (settings s.options index)) index s old (Ok found) new
 
-  pub unrefreshed_file : (query : StatusSettings → Query T U) (s : Settings) (bytes : List ℕ) (old : Option (List ℕ)) (index : State) (version : ℕ) (extensions : List ℕ) (f : Failure) (result : Result RefreshedFile Failure) (new : Option (List ℕ))
-      → IsFileOf s.kind bytes version (index_of index) extensions → timestamp_of index ≡ s.timestamp → IsFoundRun (query (settings s.options index)) index s old (Err f) new → IsErrAnd result (λ e. e ≡ f)
-      → IsRefresh query s bytes old result new
-  unrefreshed_file query s bytes old index version extensions f (Ok r) new file time run failed = absurd failed
-  unrefreshed_file query s bytes old index version extensions f (Err e) new file time run failed =
-      subst (λ e. IsUnrefreshed query s bytes old e new) (sym failed) (unrefreshed query s bytes old index version extensions f new file time run)
+  found_in : (query : LineEnds → StatusSettings → Query T U) (are_files : State → List File → Type 0) (index : State) (s : Settings) (old : Option (List ℕ)) (found : Found) (new : Option (List ℕ))
+      → IsIndexFound query are_files index s old (Ok found) new → FoundIn query are_files index s old found new
+  found_in query are_files index s old found new (inl run) = run
+  found_in query are_files index s old found new (inr early) = absurd early.0
 
-  -- memory ran out after the changes were found
-  pub late_file : (query : StatusSettings → Query T U) (s : Settings) (bytes : List ℕ) (old : Option (List ℕ)) (index : State) (version : ℕ) (extensions : List ℕ) (found : Found) (result : Result RefreshedFile Failure) (new : Option (List ℕ))
-      → IsFileOf s.kind bytes version (index_of index) extensions → timestamp_of index ≡ s.timestamp → IsFoundRun (query (settings s.options index)) index s old (Ok found) new → IsErrAnd result (λ e. e ≡ Memory)
-      → IsRefresh query s bytes old result new
-  late_file query s bytes old index version extensions found (Ok r) new file time run failed = absurd failed
-  late_file query s bytes old index version extensions found (Err e) new file time run failed =
-      inr (found.report, file_run query s bytes old (Ok found.report) new index version extensions file time run.0, failed)
+  -- they are of entries of the index
+  pub index_inside : (query : LineEnds → StatusSettings → Query T U) (are_files : State → List File → Type 0) (index : State) (s : Settings) (old : Option (List ℕ)) (found : Found) (new : Option (List ℕ))
+      → IsIndexFound query are_files index s old (Ok found) new → AreInside found.changes.items (index_of index)
+  index_inside query are_files index s old found new run =
+      let c = found_in query are_files index s old found new run in found_inside (query c.0.filter (settings s.options index)) index s old found new c.1
+
+  module _ (query : LineEnds → StatusSettings → Query T U) (are_files : State → List File → Type 0) (s : Settings) (bytes : List ℕ) (old : Option (List ℕ)) (index : State) (version : ℕ) (extensions : List ℕ)
+      (file : IsFileOf s.kind bytes version (index_of index) extensions) (time : timestamp_of index ≡ s.timestamp) where
+    abbrev read_by : Converting are_files s index → ReadFile are_files s bytes
+    read_by c = record { index = index; version = version; extensions = extensions; file = file; time = time; converting = c }
+
+    -- a file that was read, and its new bytes
+    pub refreshed_file : (found : Found) (refreshed new : Option (List ℕ)) → IsIndexFound query are_files index s old (Ok found) new
+        → IsRefreshedFile s.kind version extensions (index_of index) found.changes.items refreshed → IsFileRefreshed query are_files s bytes old found.report refreshed new
+    refreshed_file found refreshed new run fits =
+        let c = found_in query are_files index s old found new run in
+        ((read_by c.0, c.1.0), subst (λ changes. IsRefreshedFile s.kind version extensions (index_of index) changes refreshed) c.1.1 fits)
+
+    -- a file that was read, and whose status fails, or memory ran out after it
+    unrefreshed : (f : Failure) (new : Option (List ℕ)) (c : Converting are_files s index) → IsFoundRun (query c.filter (settings s.options index)) index s old (Err f) new → IsUnrefreshed query are_files s bytes old f new
+    unrefreshed f new c (inl run) = inl (file_run query are_files s bytes old (Err f) new (read_by c) run)
+    unrefreshed f new c (inr late) = inr (late.0, file_run query are_files s bytes old (Ok late.0) new (read_by c) late.1, late.2)
+
+    failed_by : (f : Failure) (new : Option (List ℕ)) → IsIndexFound query are_files index s old (Err f) new → IsUnrefreshed query are_files s bytes old f new
+    failed_by f new (inl run) = unrefreshed f new run.0 run.1
+    failed_by f new (inr early) = inl (subst (λ after. IsRun query are_files s bytes old (Err f) after) (sym early.1) (early_run query are_files s bytes old (Err f) early.0))
+
+    pub unrefreshed_file : (f : Failure) (result : Result RefreshedFile Failure) (new : Option (List ℕ)) → IsIndexFound query are_files index s old (Err f) new → IsErrAnd result (λ e. e ≡ f) → IsRefresh query are_files s bytes old result new
+    unrefreshed_file f (Ok r) new run failed = absurd failed
+    unrefreshed_file f (Err e) new run failed = subst (λ e. IsUnrefreshed query are_files s bytes old e new) (sym failed) (failed_by f new run)
+
+    -- memory ran out after the changes were found
+    pub late_file : (found : Found) (result : Result RefreshedFile Failure) (new : Option (List ℕ)) → IsIndexFound query are_files index s old (Ok found) new → IsErrAnd result (λ e. e ≡ Memory) → IsRefresh query are_files s bytes old result new
+    late_file found (Ok r) new run failed = absurd failed
+    late_file found (Err e) new run failed =
+        let c = found_in query are_files index s old found new run in inr (found.report, file_run query are_files s bytes old (Ok found.report) new (read_by c.0) c.1.0, failed)
 
   -- a file that was refused
-  pub refused_file : (query : StatusSettings → Query T U) (s : Settings) (bytes : List ℕ) (known : Option (List ℕ)) (result : Result RefreshedFile Failure) (error : IndexFileError)
+  pub refused_file : (query : LineEnds → StatusSettings → Query T U) (are_files : State → List File → Type 0) (s : Settings) (bytes : List ℕ) (known : Option (List ℕ)) (result : Result RefreshedFile Failure) (error : IndexFileError)
       → IsFileRefusal s.kind bytes error → ((es : List IndexEntry) → IsIndexFile s.kind bytes es → IsIndex es → error ≡ index_errors.Memory)
-      → IsErrAnd result (λ f. f ≡ failure_of_index error) → IsRefresh query s bytes known result known
-  refused_file query s bytes known (Ok r) error refusal valid failed = absurd failed
-  refused_file query s bytes known (Err f) error refusal valid failed = inl (refused_run query s bytes known (Err f) error refusal valid failed)
+      → IsErrAnd result (λ f. f ≡ failure_of_index error) → IsRefresh query are_files s bytes known result known
+  refused_file query are_files s bytes known (Ok r) error refusal valid failed = absurd failed
+  refused_file query are_files s bytes known (Err f) error refusal valid failed = inl (refused_run query are_files s bytes known (Err f) error refusal valid failed)

@@ -1,7 +1,10 @@
 -- How the parts of a run make the whole.
-use Rattle.std.proofs.Common.{◌≡◌, ℕ, true, false, List, [], Option, None, Some, Result, Ok, Err, IfOk, inl, inr, refl, subst}
+use Rattle.std.proofs.Common.{◌≡◌, ℕ, true, false, List, [], Option, None, Some, Result, Ok, Err, IfOk, inl, inr, refl, subst, sym}
 use Rattle.std.specs.Prelude.{is_some}
 use Rattle.std.specs.Result.{IsErrAnd}
+use Rattle.git_attributes.specs.Files.{File, attributes_of}
+use Rattle.git_attributes.specs.Views.{attributes_view}
+use Rattle.git_attributes.specs.declared.line_ends.LineEnds.{LineEnds}
 use Rattle.git_index.specs.File.{IsFileOf, IsIndexFile}
 use Rattle.git_index.specs.Refusals.{IsFileRefusal}
 use Rattle.git_index.specs.declared.fault.IndexFileError.{IndexFileError}
@@ -18,10 +21,11 @@ use Rattle.status_index.specs.Entries.{IndexEntry, IsIndex}
 use Rattle.status_index.specs.States.{index_of, timestamp_of}
 use Rattle.status_index.specs.declared.state.State.{State}
 use Rattle.git_status.specs.Failures.{failure_of_index}
-use Rattle.git_status.specs.Runs.{IsComputed, IsEnded, IsRun, IsStatusRun}
+use Rattle.git_status.specs.Runs.{Converting, IsComputed, IsEnded, IsIndexRun, IsRun, IsStatusRun, ReadFile}
 use Rattle.git_status.specs.declared.asked.Settings.{Settings}
 use Rattle.git_status.specs.declared.dirty.Report.{Report}
 use Rattle.git_status.specs.declared.failure.Failure.{Failure}
+use Rattle.git_status.specs.declared.failure.Failure.TheVariants.{Memory}
 
 module _ {T U : Type 0} where
   -- a status that was reported to an empty list
@@ -39,19 +43,39 @@ module _ {T U : Type 0} where
       → IsComputed query index s answer visits → IsEnded s.lines visits answer old result new → IsStatusRun query index s old result new
   status_run query index s visits answer old result new computed ended = record { visits = visits; answer = answer; computed = computed; ended = ended }
 
+  -- an index whose line ends are converted, and its status
+  pub index_run : (query : LineEnds → StatusSettings → Query T U) (are_files : State → List File → Type 0) (index : State) (s : Settings) (files : List File) (filter : LineEnds) (old : Option (List ℕ)) (result : Result Report Failure) (new : Option (List ℕ))
+      → are_files index files → attributes_view filter.attributes.now ≡ attributes_of files → filter.auto ≡ s.auto_line_ends → filter.index.now ≡ index → filter.kind ≡ s.kind
+      → IsStatusRun (query filter (settings s.options index)) index s old result new → IsIndexRun query are_files index s old result new
+  index_run query are_files index s files filter old result new found attributes auto entries kind run =
+      inl (record { files = files; found = found; filter = filter; attributes = attributes; auto = auto; entries = entries; kind = kind }, run)
+
   -- a file that was read, and the status of its index
-  pub file_run : (query : StatusSettings → Query T U) (s : Settings) (bytes : List ℕ) (old : Option (List ℕ)) (result : Result Report Failure) (new : Option (List ℕ)) (index : State) (version : ℕ) (extensions : List ℕ)
-      → IsFileOf s.kind bytes version (index_of index) extensions → timestamp_of index ≡ s.timestamp
-      → IsStatusRun (query (settings s.options index)) index s old result new → IsRun query s bytes old result new
-  file_run query s bytes old (Ok r) new index version extensions file time run = record { index = index; version = version; extensions = extensions; file = file; time = time; run = run }
-  file_run query s bytes old (Err f) new index version extensions file time run = inl (record { index = index; version = version; extensions = extensions; file = file; time = time; run = run })
+  pub file_run : (query : LineEnds → StatusSettings → Query T U) (are_files : State → List File → Type 0) (s : Settings) (bytes : List ℕ) (old : Option (List ℕ)) (result : Result Report Failure) (new : Option (List ℕ)) (read : ReadFile are_files s bytes)
+      → IsStatusRun (query read.converting.filter (settings s.options read.index)) read.index s old result new → IsRun query are_files s bytes old result new
+  file_run query are_files s bytes old (Ok r) new read run = (read, run)
+  file_run query are_files s bytes old (Err f) new read run = inl (read, run)
 
   -- a file that was refused
-  pub refused_run : (query : StatusSettings → Query T U) (s : Settings) (bytes : List ℕ) (known : Option (List ℕ)) (result : Result Report Failure) (error : IndexFileError)
+  pub refused_run : (query : LineEnds → StatusSettings → Query T U) (are_files : State → List File → Type 0) (s : Settings) (bytes : List ℕ) (known : Option (List ℕ)) (result : Result Report Failure) (error : IndexFileError)
       → IsFileRefusal s.kind bytes error → ((es : List IndexEntry) → IsIndexFile s.kind bytes es → IsIndex es → error ≡ index.Memory)
-      → IsErrAnd result (λ f. f ≡ failure_of_index error) → IsRun query s bytes known result known
-  refused_run query s bytes known (Ok r) error refusal valid failed = absurd failed
-  refused_run query s bytes known (Err f) error refusal valid failed = inr (record { error = error; refusal = refusal; valid = valid; failure = failed; unchanged = refl })
+      → IsErrAnd result (λ f. f ≡ failure_of_index error) → IsRun query are_files s bytes known result known
+  refused_run query are_files s bytes known (Ok r) error refusal valid failed = absurd failed
+  refused_run query are_files s bytes known (Err f) error refusal valid failed = inr (record { error = error; refusal = refusal; valid = valid; failure = failed; unchanged = refl })
+
+  -- memory ran out before the status
+  pub early_run : (query : LineEnds → StatusSettings → Query T U) (are_files : State → List File → Type 0) (s : Settings) (bytes : List ℕ) (known : Option (List ℕ)) (result : Result Report Failure)
+      → IsErrAnd result (λ f. f ≡ Memory) → IsRun query are_files s bytes known result known
+  early_run query are_files s bytes known result failed = refused_run query are_files s bytes known result index.Memory (record { applies = tt; passes = tt }) (λ es file valid. refl) failed
+
+  -- the status of an index that was read
+  pub read_run : (query : LineEnds → StatusSettings → Query T U) (are_files : State → List File → Type 0) (s : Settings) (bytes : List ℕ) (old : Option (List ℕ)) (result : Result Report Failure) (new : Option (List ℕ)) (index : State) (version : ℕ) (extensions : List ℕ)
+      → IsFileOf s.kind bytes version (index_of index) extensions → timestamp_of index ≡ s.timestamp
+      → IsIndexRun query are_files index s old result new → IsRun query are_files s bytes old result new
+  read_run query are_files s bytes old result new index version extensions file time (inl run) =
+      file_run query are_files s bytes old result new (record { index = index; version = version; extensions = extensions; file = file; time = time; converting = run.0 }) run.1
+  read_run query are_files s bytes old result new index version extensions file time (inr early) =
+      subst (λ after. IsRun query are_files s bytes old result after) (sym early.1) (early_run query are_files s bytes old result early.0)
 
 -- nothing isn't something
 pub none_not_some : {A : Type 0} (x : Option A) → x ≡ None → is_some x ≡ true → ⊥

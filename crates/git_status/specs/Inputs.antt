@@ -1,20 +1,20 @@
--- A status is computed from the worktree, the submodules and the paths that are asked about, comparison by sizes and ids, no
--- filter, no blobs and no listings.
+-- A status is computed from the worktree, the submodules and the paths that are asked about, comparison by sizes and ids, this
+-- conversion of line ends, no blobs and no listings.
 use Rattle.std.specs.FinMap as ids
+use Rattle.git_attributes.specs.declared.line_ends.LineEnds.{LineEnds}
 use Rattle.status_base.specs.Objects.{Contents}
-use Rattle.status_base.specs.declared.worktree.filter.NoFilter.{NoFilter}
 use Rattle.status_base.specs.declared.worktree.lister.NoLister.{NoLister}
 use Rattle.status_call.specs.declared.index_as_worktree.inputs.Inputs.{Inputs}
 use Rattle.status_compare.specs.declared.fast_eq.FastEq.{FastEq}
 use Rattle.git_status.specs.declared.asked.Asked.{Asked}
 
-abbrev pub asked_inputs : {W S P : Type 0} → Asked W S P → Inputs W FastEq S Contents P NoFilter NoLister
-asked_inputs asked = record {
+abbrev pub asked_inputs : {W S P A : Type 0} → Asked W S P A → LineEnds → Inputs W FastEq S Contents P LineEnds NoLister
+asked_inputs asked filter = record {
   worktree = asked.worktree;
   compare = record {};
   submodule = asked.submodules;
   objects = ids.empty;
   pathspec = asked.paths;
-  filter = record {};
+  filter = filter;
   lister = record {};
 }

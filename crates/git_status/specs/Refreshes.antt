@@ -1,7 +1,11 @@
 -- The index file after a refresh: the same, except for the changes that its status asks for.
 use Rattle.std.specs.Prelude.{◌≡◌, ◌⊎◌, ℕ, Bool, List, [], Option, Some, None, Result, Ok, Err}
 use Rattle.std.specs.Option.{option_map}
+use Rattle.std.specs.Result.{IsErrAnd}
+use Rattle.git_attributes.specs.Files.{File}
+use Rattle.git_attributes.specs.declared.line_ends.LineEnds.{LineEnds}
 use Rattle.git_index.specs.File.{IsFileOf}
+use Rattle.status_call.specs.Inputs.{settings}
 use Rattle.status_call.specs.IndexChanges.{applied, changes_of}
 use Rattle.status_call.specs.Query.{Query}
 use Rattle.status_call.specs.declared.index_as_worktree.apply.ApplyChange.{ApplyChange}
@@ -10,7 +14,7 @@ use Rattle.status_index.specs.Entries.{IndexEntry, IsIndex}
 use Rattle.status_index.specs.States.{index_of}
 use Rattle.status_index.specs.declared.id.HashKind.{HashKind}
 use Rattle.status_index.specs.declared.state.State.{State}
-use Rattle.git_status.specs.Runs.{IsFileRun, IsRun, IsStatusRun}
+use Rattle.git_status.specs.Runs.{Converting, IsFileRun, IsRun, IsStatusRun}
 use Rattle.git_status.specs.declared.asked.Settings.{Settings}
 use Rattle.git_status.specs.declared.dirty.Report.{Report}
 use Rattle.git_status.specs.declared.failure.Failure.{Failure}
@@ -30,24 +34,29 @@ module _ {T U : Type 0} where
   IsFoundRun query index s old (Ok found) new = (run : IsStatusRun query index s old (Ok found.report) new) × (found.changes.items ≡ changes_of run.visits)
   IsFoundRun query index s old (Err f) new = IsStatusRun query index s old (Err f) new ⊎ ((r : Report) × IsStatusRun query index s old (Ok r) new × (f ≡ Memory))
 
+  -- Its status asks for these changes, with line ends converted; or memory ran out before it.
+  abbrev pub IsIndexFound : (LineEnds → StatusSettings → Query T U) → (State → List File → Type 0) → State → Settings → Option (List ℕ) → Result Found Failure → Option (List ℕ) → Type 0
+  IsIndexFound query are_files index s old result new =
+      ((c : Converting are_files s index) × IsFoundRun (query c.filter (settings s.options index)) index s old result new) ⊎ (IsErrAnd result (λ f. f ≡ Memory) × (new ≡ old))
+
   -- The status of an index file was printed, and these are the file's new bytes.
-  abbrev pub IsFileRefreshed : (StatusSettings → Query T U) → Settings → List ℕ → Option (List ℕ) → Report → Option (List ℕ) → Option (List ℕ) → Type 0
-  IsFileRefreshed query s bytes old r refreshed new =
-      (file : IsFileRun query s bytes old (Ok r) new) × IsRefreshedFile s.kind file.version file.extensions (index_of file.index) (changes_of file.run.visits) refreshed
+  abbrev pub IsFileRefreshed : (LineEnds → StatusSettings → Query T U) → (State → List File → Type 0) → Settings → List ℕ → Option (List ℕ) → Report → Option (List ℕ) → Option (List ℕ) → Type 0
+  IsFileRefreshed query are_files s bytes old r refreshed new =
+      (run : IsFileRun query are_files s bytes old (Ok r) new) × IsRefreshedFile s.kind run.0.version run.0.extensions (index_of run.0.index) (changes_of run.1.visits) refreshed
 
   -- The refresh of an index file fails as its status does, or since memory ran out after the status was printed.
-  abbrev pub IsUnrefreshed : (StatusSettings → Query T U) → Settings → List ℕ → Option (List ℕ) → Failure → Option (List ℕ) → Type 0
-  IsUnrefreshed query s bytes old f new = IsRun query s bytes old (Err f) new ⊎ ((r : Report) × IsRun query s bytes old (Ok r) new × (f ≡ Memory))
+  abbrev pub IsUnrefreshed : (LineEnds → StatusSettings → Query T U) → (State → List File → Type 0) → Settings → List ℕ → Option (List ℕ) → Failure → Option (List ℕ) → Type 0
+  IsUnrefreshed query are_files s bytes old f new = IsRun query are_files s bytes old (Err f) new ⊎ ((r : Report) × IsRun query are_files s bytes old (Ok r) new × (f ≡ Memory))
 
   -- The result of a refresh over the bytes of an index file and a worktree.
-  abbrev pub IsRefresh : (StatusSettings → Query T U) → Settings → List ℕ → Option (List ℕ) → Result RefreshedFile Failure → Option (List ℕ) → Type 0
-  IsRefresh query s bytes old (Ok r) new = IsFileRefreshed query s bytes old r.report (option_map (λ v. v.items) r.bytes) new
-  IsRefresh query s bytes old (Err f) new = IsUnrefreshed query s bytes old f new
+  abbrev pub IsRefresh : (LineEnds → StatusSettings → Query T U) → (State → List File → Type 0) → Settings → List ℕ → Option (List ℕ) → Result RefreshedFile Failure → Option (List ℕ) → Type 0
+  IsRefresh query are_files s bytes old (Ok r) new = IsFileRefreshed query are_files s bytes old r.report (option_map (λ v. v.items) r.bytes) new
+  IsRefresh query are_files s bytes old (Err f) new = IsUnrefreshed query are_files s bytes old f new
 
   -- With exit status 0 the refresh found no difference, and with 1 it found one.
-  abbrev pub IsRefreshExit : (StatusSettings → Query T U) → Settings → List ℕ → Bool → Option (List ℕ) → Option (List ℕ) → Option (List ℕ) → Type 0
-  IsRefreshExit query s bytes dirty refreshed old new = (r : Report) × (r.dirty ≡ dirty) × IsFileRefreshed query s bytes old r refreshed new
+  abbrev pub IsRefreshExit : (LineEnds → StatusSettings → Query T U) → (State → List File → Type 0) → Settings → List ℕ → Bool → Option (List ℕ) → Option (List ℕ) → Option (List ℕ) → Type 0
+  IsRefreshExit query are_files s bytes dirty refreshed old new = (r : Report) × (r.dirty ≡ dirty) × IsFileRefreshed query are_files s bytes old r refreshed new
 
   -- With exit status 2 it failed.
-  abbrev pub IsRefreshFailedExit : (StatusSettings → Query T U) → Settings → List ℕ → Option (List ℕ) → Option (List ℕ) → Type 0
-  IsRefreshFailedExit query s bytes old new = (f : Failure) × IsUnrefreshed query s bytes old f new
+  abbrev pub IsRefreshFailedExit : (LineEnds → StatusSettings → Query T U) → (State → List File → Type 0) → Settings → List ℕ → Option (List ℕ) → Option (List ℕ) → Type 0
+  IsRefreshFailedExit query are_files s bytes old new = (f : Failure) × IsUnrefreshed query are_files s bytes old f new

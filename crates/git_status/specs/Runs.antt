@@ -3,6 +3,9 @@ use Rattle.std.specs.Prelude.{◌≡◌, ◌⊎◌, ℕ, Bool, true, false, IsTr
 use Rattle.std.specs.List.{list_any}
 use Rattle.std.specs.Result.{IsErrAnd}
 use Rattle.std.specs.Io.KnownBytes.{Appends}
+use Rattle.git_attributes.specs.Files.{File, attributes_of}
+use Rattle.git_attributes.specs.Views.{attributes_view}
+use Rattle.git_attributes.specs.declared.line_ends.LineEnds.{LineEnds}
 use Rattle.git_index.specs.File.{IsFileOf, IsIndexFile}
 use Rattle.git_index.specs.Refusals.{IsFileRefusal}
 use Rattle.git_index.specs.declared.fault.IndexFileError.{IndexFileError}
@@ -36,6 +39,25 @@ pub record IsRefusedFile (s : Settings) (bytes : List ℕ) (old : Option (List �
   pub valid : (es : List IndexEntry) → IsIndexFile s.kind bytes es → IsIndex es → error ≡ index.Memory
   pub failure : f ≡ failure_of_index error
   pub unchanged : new ≡ old
+
+-- Line ends are converted by what these attribute files say, which were found for this index, and by the settings.
+pub record Converting (are_files : State → List File → Type 0) (s : Settings) (index : State) : Type 0 where
+  pub files : List File
+  pub found : are_files index files
+  pub filter : LineEnds
+  pub attributes : attributes_view filter.attributes.now ≡ attributes_of files
+  pub auto : filter.auto ≡ s.auto_line_ends
+  pub entries : filter.index.now ≡ index
+  pub kind : filter.kind ≡ s.kind
+
+-- The bytes are an index file of this index, which has the settings' timestamp, and line ends are converted.
+pub record ReadFile (are_files : State → List File → Type 0) (s : Settings) (bytes : List ℕ) : Type 0 where
+  pub index : State
+  pub version : ℕ
+  pub extensions : List ℕ
+  pub file : IsFileOf s.kind bytes version (index_of index) extensions
+  pub time : timestamp_of index ≡ s.timestamp
+  pub converting : Converting are_files s index
 
 module _ {T U : Type 0} where
   -- A record of an entry that differs from the worktree.
@@ -87,27 +109,28 @@ module _ {T U : Type 0} where
     pub computed : IsComputed query index s answer visits
     pub ended : IsEnded s.lines visits answer old result new
 
-  -- The bytes are an index file of this index, which has the settings' timestamp, and a status of it was printed.
-  pub record IsFileRun (query : StatusSettings → Query T U) (s : Settings) (bytes : List ℕ) (old : Option (List ℕ)) (result : Result Report Failure) (new : Option (List ℕ)) : Type 0 where
-    pub index : State
-    pub version : ℕ
-    pub extensions : List ℕ
-    pub file : IsFileOf s.kind bytes version (index_of index) extensions
-    pub time : timestamp_of index ≡ s.timestamp
-    pub run : IsStatusRun (query (settings s.options index)) index s old result new
+  -- A status of this index was printed, with line ends converted; or memory ran out before it.
+  abbrev pub IsIndexRun : (LineEnds → StatusSettings → Query T U) → (State → List File → Type 0) → State → Settings → Option (List ℕ) → Result Report Failure → Option (List ℕ) → Type 0
+  IsIndexRun query are_files index s old result new =
+      ((c : Converting are_files s index) × IsStatusRun (query c.filter (settings s.options index)) index s old result new) ⊎ (IsErrAnd result (λ f. f ≡ Memory) × (new ≡ old))
+
+  -- The status of an index that was read was printed.
+  abbrev pub IsFileRun : (LineEnds → StatusSettings → Query T U) → (State → List File → Type 0) → Settings → List ℕ → Option (List ℕ) → Result Report Failure → Option (List ℕ) → Type 0
+  IsFileRun query are_files s bytes old result new =
+      (read : ReadFile are_files s bytes) × IsStatusRun (query read.converting.filter (settings s.options read.index)) read.index s old result new
 
   -- The result of the command over the bytes of an index file and a worktree.
-  abbrev pub IsRun : (StatusSettings → Query T U) → Settings → List ℕ → Option (List ℕ) → Result Report Failure → Option (List ℕ) → Type 0
-  IsRun query s bytes old (Ok r) new = IsFileRun query s bytes old (Ok r) new
-  IsRun query s bytes old (Err f) new = IsFileRun query s bytes old (Err f) new ⊎ IsRefusedFile s bytes old f new
+  abbrev pub IsRun : (LineEnds → StatusSettings → Query T U) → (State → List File → Type 0) → Settings → List ℕ → Option (List ℕ) → Result Report Failure → Option (List ℕ) → Type 0
+  IsRun query are_files s bytes old (Ok r) new = IsFileRun query are_files s bytes old (Ok r) new
+  IsRun query are_files s bytes old (Err f) new = IsFileRun query are_files s bytes old (Err f) new ⊎ IsRefusedFile s bytes old f new
 
   -- With exit status 0 the command found no difference, and with 1 it found one.
-  abbrev pub IsExit : (StatusSettings → Query T U) → Settings → List ℕ → Bool → Option (List ℕ) → Option (List ℕ) → Type 0
-  IsExit query s bytes dirty old new = (r : Report) × (r.dirty ≡ dirty) × IsRun query s bytes old (Ok r) new
+  abbrev pub IsExit : (LineEnds → StatusSettings → Query T U) → (State → List File → Type 0) → Settings → List ℕ → Bool → Option (List ℕ) → Option (List ℕ) → Type 0
+  IsExit query are_files s bytes dirty old new = (r : Report) × (r.dirty ≡ dirty) × IsRun query are_files s bytes old (Ok r) new
 
   -- With exit status 2 it failed.
-  abbrev pub IsFailedExit : (StatusSettings → Query T U) → Settings → List ℕ → Option (List ℕ) → Option (List ℕ) → Type 0
-  IsFailedExit query s bytes old new = (f : Failure) × IsRun query s bytes old (Err f) new
+  abbrev pub IsFailedExit : (LineEnds → StatusSettings → Query T U) → (State → List File → Type 0) → Settings → List ℕ → Option (List ℕ) → Option (List ℕ) → Type 0
+  IsFailedExit query are_files s bytes old new = (f : Failure) × IsRun query are_files s bytes old (Err f) new
 
   -- An entry has no difference: it has no record, or one that only asks for a new stat.
   abbrev pub HasNoDifference : Result (Option (EntryStatus T U)) Error → Type 0
@@ -115,15 +138,15 @@ module _ {T U : Type 0} where
   HasNoDifference (Ok _) = ⊤
   HasNoDifference (Err e) = ⊥
 
-  -- The bytes are an index file of an index of which no considered entry differs from the worktree.
-  pub record IsClean (query : StatusSettings → Query T U) (s : Settings) (bytes : List ℕ) : Type 0 where
-    pub index : State
-    pub version : ℕ
-    pub extensions : List ℕ
-    pub file : IsFileOf s.kind bytes version (index_of index) extensions
-    pub time : timestamp_of index ≡ s.timestamp
-    pub none : All (λ e. HasNoDifference (verdict (query (settings s.options index)) (considered_entries (query (settings s.options index)) index) e)) (considered_entries (query (settings s.options index)) index)
+  -- No considered entry differs from the worktree.
+  abbrev pub NoneDiffers : Query T U → State → Type 0
+  NoneDiffers query index = All (λ e. HasNoDifference (verdict query (considered_entries query index) e)) (considered_entries query index)
+
+  -- An index was read of which no considered entry differs from the worktree.
+  abbrev pub IsClean : (LineEnds → StatusSettings → Query T U) → (State → List File → Type 0) → Settings → List ℕ → Type 0
+  IsClean query are_files s bytes = (read : ReadFile are_files s bytes) × NoneDiffers (query read.converting.filter (settings s.options read.index)) read.index
 
   -- Over a modelled worktree, a command that ended with exit status 0 means this.
-  abbrev pub CleanLaw : (StatusSettings → Query T U) → Settings → List ℕ → Type 0
-  CleanLaw query s bytes = ((settings : StatusSettings) → IsTrue (query settings).modelled) → (old new : Option (List ℕ)) → IsExit query s bytes false old new → IsClean query s bytes
+  abbrev pub CleanLaw : (LineEnds → StatusSettings → Query T U) → (State → List File → Type 0) → Settings → List ℕ → Type 0
+  CleanLaw query are_files s bytes =
+      ((filter : LineEnds) (settings : StatusSettings) → IsTrue (query filter settings).modelled) → (old new : Option (List ℕ)) → IsExit query are_files s bytes false old new → IsClean query are_files s bytes

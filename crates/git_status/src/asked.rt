@@ -1,7 +1,19 @@
 //! The question that the command is asked: an index file's kind and time, a worktree, and how they are compared.
 
+ghost use Rattle.std.specs.Prelude.{List};
+ghost use Rattle.git_attributes.specs.Files.{File};
+ghost use Rattle.git_attributes.specs.declared.line_ends.LineEnds.{LineEnds as Filter};
+ghost use Rattle.status_call.specs.Query.{Query};
+ghost use Rattle.status_call.specs.declared.index_as_worktree.inputs.Settings.{Settings as StatusSettings};
+ghost use Rattle.status_index.specs.declared.state.State.{State};
+ghost use Rattle.git_status.specs.Inputs.{asked_inputs};
+
 use crate::lines::LineStyle;
+use crate::status::Compared;
+use git_attributes::AttributeFiles;
+use status_base::worktree::{Pathspec, SubmoduleStatus, Worktree};
 use status_call::index_as_worktree::Options;
+use status_call::index_as_worktree::inputs::Ask;
 use status_index::{HashKind, Moment};
 
 /// How an index file is read, and how the differences are found and printed.
@@ -13,15 +25,19 @@ pub struct Settings {
     pub timestamp: Moment,
     /// How entries are compared with the worktree, and by how many threads.
     pub options: Options,
+    /// Whether git decides by a file's bytes whether to convert its line ends (`core.autocrlf`), if its attributes don't.
+    pub auto_line_ends: bool,
     /// How lines are printed. With `None` no line is printed, and the first entry that differs ends the command.
     pub lines: Option<LineStyle>,
+    /// Whether lines on standard error name the files with other contents that git converts, and the status doesn't.
+    pub notes: bool,
     /// Whether a line on standard error has the counts of the status.
     pub stats: bool,
 }
 
 /// A worktree, and what of it is compared with an index.
 #[derive(Drop)]
-pub struct Asked<'a, W, S, P> {
+pub struct Asked<'a, W, S, P, A> {
     /// The settings.
     pub settings: Settings,
     /// The worktree.
@@ -30,4 +46,28 @@ pub struct Asked<'a, W, S, P> {
     pub submodules: S,
     /// The paths that are compared.
     pub paths: P,
+    /// The attribute files, which say how git converts files.
+    pub attributes: A,
+}
+
+/// The question of a status, of any types.
+pub trait Question {
+    /// A submodule's report of a change.
+    type Submodule;
+
+    /// All that a status with these settings depends on, with line ends converted by this filter.
+    ghost query: { Self → Filter → StatusSettings → Query (Unit {0}) Self.Submodule };
+
+    /// Which attribute files may be found for an index.
+    ghost are_files: { Self → State → List File → Type 0 };
+}
+
+impl<'a, W: Worktree, S: SubmoduleStatus, P: Pathspec, A: AttributeFiles> Question
+    for Asked<'a, W, S, P, A>
+{
+    type Submodule = S::Output;
+
+    ghost query = { λ asked filter. ⟦<Compared<'a, 'a, 'a, 'a, W, S, P> as Ask>⟧.query (asked_inputs asked filter) };
+
+    ghost are_files = { λ asked. A.are_files asked.attributes };
 }

@@ -7,18 +7,19 @@ ghost use Rattle.status_call.specs.Inputs.{settings};
 ghost use Rattle.status_call.specs.RecorderVisits.{visit_of};
 ghost use Rattle.git_status.specs.Lines.{visit_lines};
 ghost use Rattle.git_status.specs.Printing.{IsFaultLine};
-ghost use Rattle.git_status.specs.Inputs.{asked_inputs};
-ghost use Rattle.git_status.specs.Runs.{IsEnded, IsExit, IsFailedExit, IsFound, IsPrintFailure, IsRun, IsStatusRun, is_difference, printed_text};
+ghost use Rattle.git_status.specs.Runs.{IsEnded, IsExit, IsFailedExit, IsFound, IsIndexRun, IsPrintFailure, IsRun, IsStatusRun, is_difference, printed_text};
 
-use crate::asked::{Asked, Settings};
+use crate::asked::{Asked, Question, Settings};
 use crate::failure::Failure;
 use crate::fault_place::Search;
 use crate::lines::{LineStyle, letters, push_line};
+use crate::notes::{print_notes, unconverted_paths};
 use crate::output::{print, report};
-use crate::status::{Compared, Computed, compute};
+use crate::status::{Computed, compute, filter_of};
+use bstr::BString;
+use git_attributes::{AttributeFiles, LineEnds, attributes_of};
 use git_index::read_index;
 use status_base::worktree::{Pathspec, SubmoduleStatus, Worktree};
-use status_call::index_as_worktree::inputs::Ask;
 use status_call::index_as_worktree::{Error, Outcome, Record};
 use status_index::State;
 use std::alloc::{AllocError, Global};
@@ -27,12 +28,14 @@ use std::sync::Wait;
 use std::thread::Threads;
 
 /// The result of a status.
-#[derive(Clone, Debug, Drop)]
+#[derive(Debug, Drop)]
 pub struct Report {
     /// Whether an entry differs from the worktree.
     pub dirty: bool,
     /// The counts of the status.
     pub outcome: Outcome,
+    /// The files with other contents for which a conversion is asked that isn't made here. None if they aren't noted.
+    pub unconverted: Option<Vec<BString>>,
 }
 
 /// Prints a line to `output` for each entry of an index file that differs from the worktree, in index order. A quiet
@@ -46,23 +49,27 @@ pub fn run_dirty<
     W: Worktree + Sync,
     S: SubmoduleStatus + Send,
     P: Pathspec + Send,
+    A: AttributeFiles,
     O: io::Write,
     E: io::Write,
->(rt: &R, bytes: &[u8], asked: Asked<'a, W, S, P>, output: &mut O, faults: &mut E) -> u8
+>(rt: &R, bytes: &[u8], asked: Asked<'a, W, S, P, A>, output: &mut O, faults: &mut E) -> u8
 where
     W::File: Send,
     S::Output: Send,
     ensures status { (result ≡ 0) ⊎ ((result ≡ 1) ⊎ (result ≡ 2)) }
-    ensures clean { result ≡ 0 → IsExit (⟦<Compared<'a, W, S, P> as Ask>⟧.query (asked_inputs asked.entry)) asked.entry.settings bytes.now false (O.contents output.old) (O.contents output.new) }
-    ensures dirty { result ≡ 1 → IsExit (⟦<Compared<'a, W, S, P> as Ask>⟧.query (asked_inputs asked.entry)) asked.entry.settings bytes.now true (O.contents output.old) (O.contents output.new) }
-    ensures failed { result ≡ 2 → IsFailedExit (⟦<Compared<'a, W, S, P> as Ask>⟧.query (asked_inputs asked.entry)) asked.entry.settings bytes.now (O.contents output.old) (O.contents output.new) }
+    ensures clean { result ≡ 0 → IsExit (⟦<Asked<'a, W, S, P, A> as Question>⟧.query asked.entry) (⟦<Asked<'a, W, S, P, A> as Question>⟧.are_files asked.entry) asked.entry.settings bytes.now false (O.contents output.old) (O.contents output.new) }
+    ensures dirty { result ≡ 1 → IsExit (⟦<Asked<'a, W, S, P, A> as Question>⟧.query asked.entry) (⟦<Asked<'a, W, S, P, A> as Question>⟧.are_files asked.entry) asked.entry.settings bytes.now true (O.contents output.old) (O.contents output.new) }
+    ensures failed { result ≡ 2 → IsFailedExit (⟦<Asked<'a, W, S, P, A> as Question>⟧.query asked.entry) (⟦<Asked<'a, W, S, P, A> as Question>⟧.are_files asked.entry) asked.entry.settings bytes.now (O.contents output.old) (O.contents output.new) }
     ensures line { result ≡ 2 → IsFaultLine (E.contents faults.old) (E.contents faults.new) }
-    ensures quiet { result ≢ 2 → asked.entry.settings.stats ≡ false → E.contents faults.new ≡ E.contents faults.old }
+    ensures quiet { result ≢ 2 → asked.entry.settings.stats ≡ false → asked.entry.settings.notes ≡ false → E.contents faults.new ≡ E.contents faults.old }
 {
-    let stats = asked.settings.stats;
+    let Settings { notes, stats, .. } = asked.settings;
     let search = Search::of(&asked).ok();
     match print_file(rt, bytes, asked, output) {
         Ok(found) => {
+            if notes {
+                print_notes(&found, faults);
+            }
             if stats {
                 print_stats(&found.outcome, faults);
             }
@@ -125,19 +132,20 @@ pub(crate) fn print_stats<E: io::Write>(outcome: &Outcome, faults: &mut E) {
 /// Prints the status of an index file.
 ///
 /// # Errors
-/// The bytes aren't an index file, or the failures of `print_status`.
+/// The bytes aren't an index file, memory runs out, or the failures of `print_status`.
 pub fn print_file<
     'a,
     R: AllocGlobal + Threads + Wait,
     W: Worktree + Sync,
     S: SubmoduleStatus + Send,
     P: Pathspec + Send,
+    A: AttributeFiles,
     O: io::Write,
->(rt: &R, bytes: &[u8], asked: Asked<'a, W, S, P>, output: &mut O) -> Result<Report, Failure>
+>(rt: &R, bytes: &[u8], asked: Asked<'a, W, S, P, A>, output: &mut O) -> Result<Report, Failure>
 where
     W::File: Send,
     S::Output: Send,
-    ensures { IsRun (⟦<Compared<'a, W, S, P> as Ask>⟧.query (asked_inputs asked.entry)) asked.entry.settings bytes.now (O.contents output.old) result (O.contents output.new) }
+    ensures { IsRun (⟦<Asked<'a, W, S, P, A> as Question>⟧.query asked.entry) (⟦<Asked<'a, W, S, P, A> as Question>⟧.are_files asked.entry) asked.entry.settings bytes.now (O.contents output.old) result (O.contents output.new) }
 {
     let Settings {
         kind,
@@ -145,7 +153,37 @@ where
         ..
     } = asked.settings;
     let file = read_index(rt.alloc(), kind, bytes, timestamp)?;
-    print_status(rt, &file.state, asked, output)
+    print_index(rt, &file.state, asked, output)
+}
+
+/// Prints the status of an index, with line ends converted by the attribute files.
+///
+/// # Errors
+/// Memory runs out, or the failures of `print_status`.
+fn print_index<
+    'a,
+    R: AllocGlobal + Threads + Wait,
+    W: Worktree + Sync,
+    S: SubmoduleStatus + Send,
+    P: Pathspec + Send,
+    A: AttributeFiles,
+    O: io::Write,
+>(
+    rt: &R,
+    index: &State,
+    asked: Asked<'a, W, S, P, A>,
+    output: &mut O,
+) -> Result<Report, Failure>
+where
+    W::File: Send,
+    S::Output: Send,
+    ensures { IsIndexRun (⟦<Asked<'a, W, S, P, A> as Question>⟧.query asked.entry) (⟦<Asked<'a, W, S, P, A> as Question>⟧.are_files asked.entry) index.now asked.entry.settings (O.contents output.old) result (O.contents output.new) }
+{
+    let alloc = rt.alloc();
+    let files = asked.attributes.find(alloc, index)?;
+    let attributes = attributes_of(alloc, &files)?;
+    let filter = filter_of(&attributes, index, &asked.settings);
+    print_status(rt, index, filter, asked, output)
 }
 
 /// Prints the status of an index.
@@ -154,26 +192,38 @@ where
 /// The status's error, after the lines before it were printed; or the output can't be written, or memory ran out.
 fn print_status<
     'a,
+    'b,
+    'files,
+    'index,
     R: AllocGlobal + Threads + Wait,
     W: Worktree + Sync,
     S: SubmoduleStatus + Send,
     P: Pathspec + Send,
+    A: AttributeFiles,
     O: io::Write,
->(rt: &R, index: &State, asked: Asked<'a, W, S, P>, output: &mut O) -> Result<Report, Failure>
+>(
+    rt: &R,
+    index: &'index State,
+    filter: LineEnds<'b, 'files, 'index>,
+    asked: Asked<'a, W, S, P, A>,
+    output: &mut O,
+) -> Result<Report, Failure>
 where
     W::File: Send,
     S::Output: Send,
-    ensures { IsStatusRun (⟦<Compared<'a, W, S, P> as Ask>⟧.query (asked_inputs asked.entry) (settings asked.entry.settings.options index.now)) index.now asked.entry.settings (O.contents output.old) result (O.contents output.new) }
+    ensures { IsStatusRun (⟦<Asked<'a, W, S, P, A> as Question>⟧.query asked.entry filter.entry (settings asked.entry.settings.options index.now)) index.now asked.entry.settings (O.contents output.old) result (O.contents output.new) }
 {
-    let lines = asked.settings.lines;
-    let Computed { recorder, answer } = compute(rt, index, asked);
-    print_answer(
-        rt.alloc(),
-        lines,
-        recorder.records.as_slice(),
-        answer,
-        output,
-    )
+    let alloc = rt.alloc();
+    let Settings { lines, notes, .. } = asked.settings;
+    let attributes = filter.attributes;
+    let Computed { recorder, answer } = compute(rt, index, filter, asked);
+    let records = recorder.records.as_slice();
+    let unconverted = if notes {
+        unconverted_paths(alloc, attributes, records)
+    } else {
+        None
+    };
+    print_answer(alloc, lines, records, unconverted, answer, output)
 }
 
 /// Prints the lines of a status's records, and returns what was found.
@@ -184,13 +234,14 @@ pub(crate) fn print_answer<T: Drop, U: Drop, O: io::Write>(
     alloc: Global,
     lines: Option<LineStyle>,
     records: &[Record<'_, T, U>],
+    unconverted: Option<Vec<BString>>,
     answer: Result<Outcome, Error>,
     output: &mut O,
 ) -> Result<Report, Failure>
     ensures { IsEnded lines (map visit_of records.now) answer (O.contents output.old) result (O.contents output.new) }
 {
     print_lines(alloc, lines, records, output)?;
-    found(records, answer)
+    found(records, unconverted, answer)
 }
 
 /// Prints the lines of records, or nothing if the command is quiet.
@@ -219,6 +270,7 @@ fn print_lines<T: Drop, U: Drop, O: io::Write>(
 /// The status's error, or it ended early without a difference.
 fn found<T: Drop, U: Drop>(
     records: &[Record<'_, T, U>],
+    unconverted: Option<Vec<BString>>,
     answer: Result<Outcome, Error>,
 ) -> Result<Report, Failure>
     ensures { IsFound (map visit_of records.now) answer result }
@@ -228,7 +280,11 @@ fn found<T: Drop, U: Drop>(
     if outcome.interrupted && !dirty {
         return Err(Failure::Interrupted);
     }
-    Ok(Report { dirty, outcome })
+    Ok(Report {
+        dirty,
+        outcome,
+        unconverted,
+    })
 }
 
 /// Returns the lines of records.

@@ -54,7 +54,7 @@ where
     ///
     /// # Errors
     /// Out of memory.
-    pub fn of<S>(asked: &Asked<'a, W, S, P>) -> Result<Search<'a, W, P>, AllocError> {
+    pub fn of<S, A>(asked: &Asked<'a, W, S, P, A>) -> Result<Search<'a, W, P>, AllocError> {
         let settings = &asked.settings;
         Ok(Search {
             kind: settings.kind,

@@ -1,13 +1,16 @@
 //! Laws that a user relies on. Each function's contract is a law of the definitions, and no function does anything.
 
 ghost use Rattle.std.specs.Prelude.{List, ℕ};
+ghost use Rattle.git_attributes.specs.declared.line_ends.LineEnds.{LineEnds};
 ghost use Rattle.status_call.specs.Query.{Query};
 ghost use Rattle.status_call.specs.declared.index_as_worktree.inputs.Settings.{Settings as StatusSettings};
 ghost use Rattle.git_status.specs.Runs.{CleanLaw};
 ghost use Rattle.git_status.specs.declared.asked.Settings.{Settings as AskedSettings};
 
+use git_attributes::AttributeFiles;
+
 /// Over a modelled worktree, exit status 0 means that no entry of the index differs from the worktree, of those that are
 /// compared.
-pub fn clean_means_no_difference<T: Drop, U: Drop>()
-    ensures { (query : StatusSettings → Query T U) (s : AskedSettings) (bytes : List ℕ) → CleanLaw query s bytes }
+pub fn clean_means_no_difference<T: Drop, U: Drop, A: AttributeFiles>(attributes: &A)
+    ensures { (query : LineEnds → StatusSettings → Query T U) (s : AskedSettings) (bytes : List ℕ) → CleanLaw query (A.are_files attributes.now) s bytes }
 {}

@@ -2,8 +2,9 @@
 //!
 //! Read `dirty` first, which has the command, and `asked`, what it is asked. `status` computes the status. `refresh` has the
 //! command with the new bytes of the index file. `lines` has git's lines, with paths as `quoting` prints them; `output`
-//! writes them. `paths` is a pathspec of files and folders. `watcher` stops at the first difference. `failure` says why the
-//! command fails, `fault_place` at which path, and `laws` what a user relies on.
+//! writes them. `paths` is a pathspec of files and folders. `watcher` stops at the first difference. `notes` are on files that
+//! the status doesn't convert. `failure` says why the command fails, `fault_place` at which path, and `laws` what a user
+//! relies on.
 #![tactic(auto)]
 
 mod asked;
@@ -12,6 +13,7 @@ mod failure;
 mod fault_place;
 mod laws;
 pub mod lines;
+mod notes;
 mod output;
 mod paths;
 mod quoting;

@@ -10,18 +10,17 @@ ghost use Rattle.status_call.specs.Inputs.{settings};
 ghost use Rattle.git_index.specs.File.{IsFileOf};
 ghost use Rattle.git_index.specs.RawEntry.{FixedFits};
 ghost use Rattle.git_index.specs.WholeFile.{IsWholeFile};
-ghost use Rattle.git_status.specs.Inputs.{asked_inputs};
 ghost use Rattle.git_status.specs.Printing.{IsFaultLine};
-ghost use Rattle.git_status.specs.Refreshes.{IsFoundRun, IsRefresh, IsRefreshExit, IsRefreshFailedExit};
+ghost use Rattle.git_status.specs.Refreshes.{IsFoundRun, IsIndexFound, IsRefresh, IsRefreshExit, IsRefreshFailedExit};
 
-use crate::asked::{Asked, Settings};
+use crate::asked::{Asked, Question, Settings};
 use crate::dirty::{Report, print_answer, print_stats, report_failure};
 use crate::failure::Failure;
 use crate::fault_place::Search;
-use crate::status::{Compared, Computed, compute};
+use crate::status::{Computed, compute, filter_of};
+use git_attributes::{AttributeFiles, LineEnds, attributes_of};
 use git_index::{IndexFile, read_index};
 use status_base::worktree::{Pathspec, SubmoduleStatus, Worktree};
-use status_call::index_as_worktree::inputs::Ask;
 use status_call::index_as_worktree::{ApplyChange, apply_changes};
 use status_index::{Stat, State};
 use std::alloc::{AllocError, Global};
@@ -61,16 +60,17 @@ pub fn run_refresh<
     W: Worktree + Sync,
     S: SubmoduleStatus + Send,
     P: Pathspec + Send,
+    A: AttributeFiles,
     O: io::Write,
     E: io::Write,
->(rt: &R, bytes: &[u8], asked: Asked<'a, W, S, P>, output: &mut O, faults: &mut E) -> Refreshed
+>(rt: &R, bytes: &[u8], asked: Asked<'a, W, S, P, A>, output: &mut O, faults: &mut E) -> Refreshed
 where
     W::File: Send,
     S::Output: Send,
     ensures status { (result.status ≡ 0) ⊎ ((result.status ≡ 1) ⊎ (result.status ≡ 2)) }
-    ensures clean { result.status ≡ 0 → IsRefreshExit (⟦<Compared<'a, W, S, P> as Ask>⟧.query (asked_inputs asked.entry)) asked.entry.settings bytes.now false (option_map (λ v. v.items) result.bytes) (O.contents output.old) (O.contents output.new) }
-    ensures dirty { result.status ≡ 1 → IsRefreshExit (⟦<Compared<'a, W, S, P> as Ask>⟧.query (asked_inputs asked.entry)) asked.entry.settings bytes.now true (option_map (λ v. v.items) result.bytes) (O.contents output.old) (O.contents output.new) }
-    ensures failed { result.status ≡ 2 → IsRefreshFailedExit (⟦<Compared<'a, W, S, P> as Ask>⟧.query (asked_inputs asked.entry)) asked.entry.settings bytes.now (O.contents output.old) (O.contents output.new) }
+    ensures clean { result.status ≡ 0 → IsRefreshExit (⟦<Asked<'a, W, S, P, A> as Question>⟧.query asked.entry) (⟦<Asked<'a, W, S, P, A> as Question>⟧.are_files asked.entry) asked.entry.settings bytes.now false (option_map (λ v. v.items) result.bytes) (O.contents output.old) (O.contents output.new) }
+    ensures dirty { result.status ≡ 1 → IsRefreshExit (⟦<Asked<'a, W, S, P, A> as Question>⟧.query asked.entry) (⟦<Asked<'a, W, S, P, A> as Question>⟧.are_files asked.entry) asked.entry.settings bytes.now true (option_map (λ v. v.items) result.bytes) (O.contents output.old) (O.contents output.new) }
+    ensures failed { result.status ≡ 2 → IsRefreshFailedExit (⟦<Asked<'a, W, S, P, A> as Question>⟧.query asked.entry) (⟦<Asked<'a, W, S, P, A> as Question>⟧.are_files asked.entry) asked.entry.settings bytes.now (O.contents output.old) (O.contents output.new) }
     ensures unwritten { result.status ≡ 2 → result.bytes ≡ None }
     ensures line { result.status ≡ 2 → IsFaultLine (E.contents faults.old) (E.contents faults.new) }
     ensures quiet { result.status ≢ 2 → asked.entry.settings.stats ≡ false → E.contents faults.new ≡ E.contents faults.old }
@@ -104,31 +104,68 @@ fn refresh_file<
     W: Worktree + Sync,
     S: SubmoduleStatus + Send,
     P: Pathspec + Send,
+    A: AttributeFiles,
     O: io::Write,
->(rt: &R, bytes: &[u8], asked: Asked<'a, W, S, P>, output: &mut O) -> Result<RefreshedFile, Failure>
+>(
+    rt: &R,
+    bytes: &[u8],
+    asked: Asked<'a, W, S, P, A>,
+    output: &mut O,
+) -> Result<RefreshedFile, Failure>
 where
     W::File: Send,
     S::Output: Send,
-    ensures { IsRefresh (⟦<Compared<'a, W, S, P> as Ask>⟧.query (asked_inputs asked.entry)) asked.entry.settings bytes.now (O.contents output.old) result (O.contents output.new) }
+    ensures { IsRefresh (⟦<Asked<'a, W, S, P, A> as Question>⟧.query asked.entry) (⟦<Asked<'a, W, S, P, A> as Question>⟧.are_files asked.entry) asked.entry.settings bytes.now (O.contents output.old) result (O.contents output.new) }
 {
+    let alloc = rt.alloc();
     let Settings {
         kind,
         timestamp,
         ..
     } = asked.settings;
-    let mut file = read_index(rt.alloc(), kind, bytes, timestamp)?;
-    let Found { report, changes } = find_changes(rt, &file.state, asked, output)?;
+    let mut file = read_index(alloc, kind, bytes, timestamp)?;
+    let Found { report, changes } = find_in_index(rt, &file.state, asked, output)?;
     if changes.is_empty() {
         return Ok(RefreshedFile {
             report,
             bytes: None,
         });
     }
-    let bytes = changed_bytes(rt.alloc(), &mut file, &changes)?;
+    let bytes = changed_bytes(alloc, &mut file, &changes)?;
     Ok(RefreshedFile {
         report,
         bytes: Some(bytes),
     })
+}
+
+/// Prints the status of an index, with line ends converted by the attribute files, and returns the changes that it asks for.
+///
+/// # Errors
+/// Memory runs out, or the failures of `find_changes`.
+fn find_in_index<
+    'a,
+    R: AllocGlobal + Threads + Wait,
+    W: Worktree + Sync,
+    S: SubmoduleStatus + Send,
+    P: Pathspec + Send,
+    A: AttributeFiles,
+    O: io::Write,
+>(
+    rt: &R,
+    index: &State,
+    asked: Asked<'a, W, S, P, A>,
+    output: &mut O,
+) -> Result<Found, Failure>
+where
+    W::File: Send,
+    S::Output: Send,
+    ensures { IsIndexFound (⟦<Asked<'a, W, S, P, A> as Question>⟧.query asked.entry) (⟦<Asked<'a, W, S, P, A> as Question>⟧.are_files asked.entry) index.now asked.entry.settings (O.contents output.old) result (O.contents output.new) }
+{
+    let alloc = rt.alloc();
+    let files = asked.attributes.find(alloc, index)?;
+    let attributes = attributes_of(alloc, &files)?;
+    let filter = filter_of(&attributes, index, &asked.settings);
+    find_changes(rt, index, filter, asked, output)
 }
 
 /// Prints the status of an index, and returns the changes that it asks for.
@@ -137,23 +174,34 @@ where
 /// Those of `print_status`, or out of memory after all lines were printed.
 fn find_changes<
     'a,
+    'b,
+    'files,
+    'index,
     R: AllocGlobal + Threads + Wait,
     W: Worktree + Sync,
     S: SubmoduleStatus + Send,
     P: Pathspec + Send,
+    A: AttributeFiles,
     O: io::Write,
->(rt: &R, index: &State, asked: Asked<'a, W, S, P>, output: &mut O) -> Result<Found, Failure>
+>(
+    rt: &R,
+    index: &'index State,
+    filter: LineEnds<'b, 'files, 'index>,
+    asked: Asked<'a, W, S, P, A>,
+    output: &mut O,
+) -> Result<Found, Failure>
 where
     W::File: Send,
     S::Output: Send,
-    ensures { IsFoundRun (⟦<Compared<'a, W, S, P> as Ask>⟧.query (asked_inputs asked.entry) (settings asked.entry.settings.options index.now)) index.now asked.entry.settings (O.contents output.old) result (O.contents output.new) }
+    ensures { IsFoundRun (⟦<Asked<'a, W, S, P, A> as Question>⟧.query asked.entry filter.entry (settings asked.entry.settings.options index.now)) index.now asked.entry.settings (O.contents output.old) result (O.contents output.new) }
 {
     let lines = asked.settings.lines;
-    let Computed { recorder, answer } = compute(rt, index, asked);
+    let Computed { recorder, answer } = compute(rt, index, filter, asked);
     let report = print_answer(
         rt.alloc(),
         lines,
         recorder.records.as_slice(),
+        None,
         answer,
         output,
     )?;

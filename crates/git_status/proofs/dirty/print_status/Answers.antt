@@ -11,4 +11,4 @@ returns g c =
     let result = c.print_answer.result in
     let old = g.O.Write.contents c.args.output.now in let new = g.O.Write.contents c.print_answer.new.output in
     status_run _ c.args.index.now s (visits_of computed.result.recorder) computed.result.answer old result new computed.ensures
-    (subst (λ records. IsEnded s.lines (map visit_of records) computed.result.answer old result new) c.as_slice.ensures.value c.print_answer.ensures)
+    (subst (λ records. IsEnded s.lines (map visit_of records) computed.result.answer old result new) c.as_slice-records.ensures.value c.print_answer.ensures)

@@ -1,3 +1,4 @@
+use Rattle.git_attributes.proofs.Sent.{filter_crosses}
 use Rattle.status_call.specs.RecorderVisits.{visits_of}
 use Rattle.git_status.proofs.Runs.{computed_from, none_not_some}
 use Rattle.git_status.proofs.status.compute.Goals as goal
@@ -13,3 +14,6 @@ returns g c =
       | in-None w ↦ absurd (none_not_some s.lines w.in-None.is some)
     ]))
     call.ensures.alone
+
+pub index_as_worktree-answer-requires : goal.index_as_worktree-answer-requires
+index_as_worktree-answer-requires g c κs = (search filter_crosses depth 60, search filter_crosses depth 60)

@@ -1,0 +1,192 @@
+//! The attribute files of a repository.
+
+use crate::config::Config;
+use crate::error::RepositoryError;
+use crate::files::{joined, path_of, variable};
+use crate::location::Repository;
+use crate::sources::is_set;
+use bstr::BStr;
+use git_attributes::{AttributeFile, AttributeFiles};
+use status_base::worktree::{Fault, NodeKind, Worktree};
+use status_index::{State, read_all};
+use std::alloc::{AllocError, Global};
+use std::rt::{Env, Files};
+use std::{fs, io};
+
+/// As git does, a file of so many bytes or more is left out.
+const FILE_LIMIT: usize = 100 << 20;
+
+/// The name of attribute files within a worktree.
+const NAME: &str = ".gitattributes";
+
+/// Finds the attribute files of a repository: of the system, the user, each folder of the worktree that has an entry, and
+/// the repository's own `info/attributes`.
+///
+/// As in git, a file that can't be read counts as none, and so does a link in the worktree. Unlike git, a file that is only
+/// in the index isn't read.
+#[derive(Drop)]
+pub struct GitAttributeFiles<'a, R, W> {
+    worktree: &'a W,
+    outer: Vec<String>,
+    own: String,
+    rt: &'a R,
+}
+
+impl<'a, R: Files + Env + AllocGlobal, W: Worktree> GitAttributeFiles<'a, R, W> {
+    /// Returns the attribute files of a repository with this worktree.
+    ///
+    /// # Errors
+    /// A variable of the environment or a path in the configuration isn't UTF-8, or out of memory.
+    pub fn new(
+        rt: &'a R,
+        worktree: &'a W,
+        repository: &Repository,
+    ) -> Result<GitAttributeFiles<'a, R, W>, RepositoryError> {
+        let alloc = rt.alloc();
+        let mut outer = Vec::new(alloc);
+        if !is_set(rt, "GIT_ATTR_NOSYSTEM")? {
+            outer.push(String::from_str(alloc, "/etc/gitattributes")?)?;
+        }
+        if let Some(path) = user_file(rt, &repository.config)? {
+            outer.push(path)?;
+        }
+        Ok(GitAttributeFiles {
+            worktree,
+            outer,
+            own: joined(alloc, repository.common_dir.as_str(), "info/attributes")?,
+            rt,
+        })
+    }
+}
+
+/// Returns the attribute file of the user: that of `core.attributesFile`, otherwise `git/attributes` in the folder of
+/// configuration files.
+fn user_file<R: Env + AllocGlobal>(
+    rt: &R,
+    config: &Config,
+) -> Result<Option<String>, RepositoryError> {
+    let alloc = rt.alloc();
+    let home = variable(rt, "HOME")?;
+    if let Some(found) = config.get(b"core", None, b"attributesfile") {
+        let Some(value) = found.value() else {
+            return Err(RepositoryError::BadValue {
+                name: "core.attributesfile",
+                value: String::new(alloc),
+            });
+        };
+        let path = path_of(alloc, value)?;
+        return match (path.strip_prefix("~/"), home) {
+            (Some(rest), Some(home)) => Ok(Some(joined(alloc, home.as_str(), rest)?)),
+            (Some(_), None) => Ok(None),
+            (None, _) => Ok(Some(path)),
+        };
+    }
+    match (variable(rt, "XDG_CONFIG_HOME")?, home) {
+        (Some(folder), _) if !folder.is_empty() => {
+            Ok(Some(joined(alloc, folder.as_str(), "git/attributes")?))
+        }
+        (_, Some(home)) => Ok(Some(joined(alloc, home.as_str(), ".config/git/attributes")?)),
+        (_, None) => Ok(None),
+    }
+}
+
+/// Returns the number of bytes up to the last slash that two paths share.
+fn shared_folders(one: &[u8], other: &[u8]) -> usize {
+    let mut shared = 0;
+    for (at, (a, b)) in one.iter().zip(other.iter()).enumerate() {
+        if *a != *b {
+            break;
+        }
+        if *a == b'/' {
+            shared = at + 1;
+        }
+    }
+    shared
+}
+
+impl<R: Files + AllocGlobal, W: Worktree> GitAttributeFiles<'_, R, W> {
+    /// Adds a file outside of the worktree, or the repository's own, if it can be read.
+    fn add_outer(&self, files: &mut Vec<AttributeFile>, path: &str) -> Result<(), AllocError> {
+        match fs::read(self.rt, path) {
+            Ok(bytes) if bytes.len() >= FILE_LIMIT => Ok(()),
+            Ok(bytes) => {
+                files.push(AttributeFile {
+                    folder: Vec::new(self.rt.alloc()),
+                    has_macros: true,
+                    bytes,
+                })?;
+                Ok(())
+            }
+            Err(error) if error.kind() == io::ErrorKind::OutOfMemory => Err(AllocError),
+            Err(_) => Ok(()),
+        }
+    }
+
+    /// Returns the bytes of a file of the worktree. None if there is none that can be read.
+    fn read_inner(&self, path: BStr<'_>) -> Result<Option<Vec<u8>>, AllocError> {
+        let mut bytes = Vec::new(self.rt.alloc());
+        let found = match self.worktree.open(path) {
+            Ok(mut file) => match read_all(&mut file, &mut bytes) {
+                Ok(()) => self.worktree.lstat(path),
+                Err(fault) => Err(fault),
+            },
+            Err(fault) => Err(fault),
+        };
+        match found {
+            Ok(node) if node.kind == NodeKind::File && bytes.len() < FILE_LIMIT => Ok(Some(bytes)),
+            Err(Fault::Memory) => Err(AllocError),
+            _ => Ok(None),
+        }
+    }
+
+    /// Adds the file of a folder of the worktree, if there is one that can be read.
+    fn add_inner(&self, files: &mut Vec<AttributeFile>, folder: &[u8]) -> Result<(), AllocError> {
+        let mut path = Vec::from_slice(self.rt.alloc(), folder)?;
+        path.extend_from_slice(NAME.as_bytes())?;
+        if let Some(bytes) = self.read_inner(BStr::new(path.as_slice()))? {
+            files.push(AttributeFile {
+                folder: Vec::from_slice(self.rt.alloc(), folder)?,
+                has_macros: folder.is_empty(),
+                bytes,
+            })?;
+        }
+        Ok(())
+    }
+
+    /// Adds the files of the folders on the way to a path. Those up to `from` were added before.
+    fn add_folders(
+        &self,
+        files: &mut Vec<AttributeFile>,
+        path: &[u8],
+        from: usize,
+    ) -> Result<(), AllocError> {
+        for (at, byte) in path.iter().enumerate() {
+            if *byte == b'/' && at >= from {
+                self.add_inner(files, &path[..at + 1])?;
+            }
+        }
+        Ok(())
+    }
+}
+
+impl<R: Files + AllocGlobal, W: Worktree> AttributeFiles for GitAttributeFiles<'_, R, W> {
+    ghost use Rattle.std.specs.Prelude.{⊤};
+
+    ghost are_files = { λ _ _ _. ⊤ };
+
+    fn find(&self, alloc: Global, index: &State) -> Result<Vec<AttributeFile>, AllocError> {
+        let mut files = Vec::new(alloc);
+        for path in &self.outer {
+            self.add_outer(&mut files, path.as_str())?;
+        }
+        self.add_inner(&mut files, b"")?;
+        let mut last: &[u8] = b"";
+        for entry in index.entries() {
+            let path = entry.path_in(index.path_backing()).as_bytes();
+            self.add_folders(&mut files, path, shared_folders(last, path))?;
+            last = path;
+        }
+        self.add_outer(&mut files, self.own.as_str())?;
+        Ok(files)
+    }
+}

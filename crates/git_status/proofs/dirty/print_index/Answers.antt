@@ -1,0 +1,10 @@
+use Rattle.std.proofs.Common.{◌∙◌, ap, map}
+use Rattle.git_attributes.specs.Views.{attributes_view, file_view}
+use Rattle.git_status.proofs.Runs.{index_run}
+use Rattle.git_status.proofs.dirty.print_index.Goals as goal
+
+pub returns : goal.returns
+returns g c =
+    let filter = c.filter_of-filter in let made = filter.ensures in
+    index_run _ _ c.args.index.now c.args.asked.settings (map file_view c.in_ok-files.files.items) filter.result _ c.print_status.result _ c.in_ok-files.ensures
+    (ap attributes_view made.attributes ∙ rw c.deref.ensures.value at c.in_ok-attributes.ensures) made.auto made.entries made.kind c.print_status.ensures
