@@ -1,7 +1,8 @@
+mod Auto
 mod Binary
 mod Giving
 mod Items
-mod Laws
+mod Matching
 mod Leaving
 mod Lines
 pub mod Sent

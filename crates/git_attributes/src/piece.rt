@@ -72,7 +72,7 @@ fn is_match(pieces: &[Piece], path: &[u8]) -> bool
 }
 
 /// Returns whether a path matches a pattern of these pieces.
-#[tactic(auto, using(crate::proofs::Laws::is_match_Matches))]
+#[tactic(auto, using(crate::proofs::Matching::is_match_Matches))]
 pub(crate) fn matches(pieces: &[Piece], path: &[u8]) -> bool
     ensures test { result ≡ is_match (map part_of pieces.now) path.now }
     ensures matches { IsTrue result ↔ Matches (map part_of pieces.now) path.now }
