@@ -59,8 +59,15 @@ module _ {T U : Type 0} where
   pub index_found : (query : LineEnds → StatusSettings → Query T U) (are_files : State → List File → Type 0) (index : State) (s : Settings) (files : List File) (filter : LineEnds) (old : Option (List ℕ)) (result : Result Found Failure) (new : Option (List ℕ))
       → are_files index files → attributes_view filter.attributes.now ≡ attributes_of files → filter.auto ≡ s.auto_line_ends → filter.index.now ≡ index → filter.kind ≡ s.kind
       → IsFoundRun (query filter (settings s.options index)) index s old result new → IsIndexFound query are_files index s old result new
+  unfolding IsIndexFound
   index_found query are_files index s files filter old result new found attributes auto entries kind run =
       inl (record { files = files; found = found; filter = filter; attributes = attributes; auto = auto; entries = entries; kind = kind }, run)
+
+  -- memory ran out before the status of an index
+  pub unfound_index : (query : LineEnds → StatusSettings → Query T U) (are_files : State → List File → Type 0) (index : State) (s : Settings) (known : Option (List ℕ)) (result : Result Found Failure)
+      → IsErrAnd result (λ f. f ≡ Memory) → IsIndexFound query are_files index s known result known
+  unfolding IsIndexFound
+  unfound_index query are_files index s known result failed = inr (failed, refl)
 
   -- the changes that were found
   abbrev FoundIn : (LineEnds → StatusSettings → Query T U) → (State → List File → Type 0) → State → Settings → Option (List ℕ) → Found → Option (List ℕ) → Type 0
@@ -68,6 +75,7 @@ module _ {T U : Type 0} where
 
   found_in : (query : LineEnds → StatusSettings → Query T U) (are_files : State → List File → Type 0) (index : State) (s : Settings) (old : Option (List ℕ)) (found : Found) (new : Option (List ℕ))
       → IsIndexFound query are_files index s old (Ok found) new → FoundIn query are_files index s old found new
+  unfolding IsIndexFound
   found_in query are_files index s old found new (inl run) = run
   found_in query are_files index s old found new (inr early) = absurd early.0
 
@@ -95,15 +103,18 @@ module _ {T U : Type 0} where
     unrefreshed f new c (inr late) = inr (late.0, file_run query are_files s bytes old (Ok late.0) new (read_by c) late.1, late.2)
 
     failed_by : (f : Failure) (new : Option (List ℕ)) → IsIndexFound query are_files index s old (Err f) new → IsUnrefreshed query are_files s bytes old f new
+    unfolding IsIndexFound
     failed_by f new (inl run) = unrefreshed f new run.0 run.1
     failed_by f new (inr early) = inl (subst (λ after. IsRun query are_files s bytes old (Err f) after) (sym early.1) (early_run query are_files s bytes old (Err f) early.0))
 
     pub unrefreshed_file : (f : Failure) (result : Result RefreshedFile Failure) (new : Option (List ℕ)) → IsIndexFound query are_files index s old (Err f) new → IsErrAnd result (λ e. e ≡ f) → IsRefresh query are_files s bytes old result new
+    unfolding IsRefresh
     unrefreshed_file f (Ok r) new run failed = absurd failed
     unrefreshed_file f (Err e) new run failed = subst (λ e. IsUnrefreshed query are_files s bytes old e new) (sym failed) (failed_by f new run)
 
     -- memory ran out after the changes were found
     pub late_file : (found : Found) (result : Result RefreshedFile Failure) (new : Option (List ℕ)) → IsIndexFound query are_files index s old (Ok found) new → IsErrAnd result (λ e. e ≡ Memory) → IsRefresh query are_files s bytes old result new
+    unfolding IsRefresh
     late_file found (Ok r) new run failed = absurd failed
     late_file found (Err e) new run failed =
         let c = found_in query are_files index s old found new run in inr (found.report, file_run query are_files s bytes old (Ok found.report) new (read_by c.0) c.1.0, failed)
@@ -112,5 +123,6 @@ module _ {T U : Type 0} where
   pub refused_file : (query : LineEnds → StatusSettings → Query T U) (are_files : State → List File → Type 0) (s : Settings) (bytes : List ℕ) (known : Option (List ℕ)) (result : Result RefreshedFile Failure) (error : IndexFileError)
       → IsFileRefusal s.kind bytes error → ((es : List IndexEntry) → IsIndexFile s.kind bytes es → IsIndex es → error ≡ index_errors.Memory)
       → IsErrAnd result (λ f. f ≡ failure_of_index error) → IsRefresh query are_files s bytes known result known
+  unfolding IsRefresh
   refused_file query are_files s bytes known (Ok r) error refusal valid failed = absurd failed
   refused_file query are_files s bytes known (Err f) error refusal valid failed = inl (refused_run query are_files s bytes known (Err f) error refusal valid failed)

@@ -47,12 +47,20 @@ module _ {T U : Type 0} where
   pub index_run : (query : LineEnds → StatusSettings → Query T U) (are_files : State → List File → Type 0) (index : State) (s : Settings) (files : List File) (filter : LineEnds) (old : Option (List ℕ)) (result : Result Report Failure) (new : Option (List ℕ))
       → are_files index files → attributes_view filter.attributes.now ≡ attributes_of files → filter.auto ≡ s.auto_line_ends → filter.index.now ≡ index → filter.kind ≡ s.kind
       → IsStatusRun (query filter (settings s.options index)) index s old result new → IsIndexRun query are_files index s old result new
+  unfolding IsIndexRun
   index_run query are_files index s files filter old result new found attributes auto entries kind run =
       inl (record { files = files; found = found; filter = filter; attributes = attributes; auto = auto; entries = entries; kind = kind }, run)
+
+  -- memory ran out before the status of an index
+  pub unread_run : (query : LineEnds → StatusSettings → Query T U) (are_files : State → List File → Type 0) (index : State) (s : Settings) (known : Option (List ℕ)) (result : Result Report Failure)
+      → IsErrAnd result (λ f. f ≡ Memory) → IsIndexRun query are_files index s known result known
+  unfolding IsIndexRun
+  unread_run query are_files index s known result failed = inr (failed, refl)
 
   -- a file that was read, and the status of its index
   pub file_run : (query : LineEnds → StatusSettings → Query T U) (are_files : State → List File → Type 0) (s : Settings) (bytes : List ℕ) (old : Option (List ℕ)) (result : Result Report Failure) (new : Option (List ℕ)) (read : ReadFile are_files s bytes)
       → IsStatusRun (query read.converting.filter (settings s.options read.index)) read.index s old result new → IsRun query are_files s bytes old result new
+  unfolding IsRun
   file_run query are_files s bytes old (Ok r) new read run = (read, run)
   file_run query are_files s bytes old (Err f) new read run = inl (read, run)
 
@@ -60,6 +68,7 @@ module _ {T U : Type 0} where
   pub refused_run : (query : LineEnds → StatusSettings → Query T U) (are_files : State → List File → Type 0) (s : Settings) (bytes : List ℕ) (known : Option (List ℕ)) (result : Result Report Failure) (error : IndexFileError)
       → IsFileRefusal s.kind bytes error → ((es : List IndexEntry) → IsIndexFile s.kind bytes es → IsIndex es → error ≡ index.Memory)
       → IsErrAnd result (λ f. f ≡ failure_of_index error) → IsRun query are_files s bytes known result known
+  unfolding IsRun
   refused_run query are_files s bytes known (Ok r) error refusal valid failed = absurd failed
   refused_run query are_files s bytes known (Err f) error refusal valid failed = inr (record { error = error; refusal = refusal; valid = valid; failure = failed; unchanged = refl })
 
@@ -72,6 +81,7 @@ module _ {T U : Type 0} where
   pub read_run : (query : LineEnds → StatusSettings → Query T U) (are_files : State → List File → Type 0) (s : Settings) (bytes : List ℕ) (old : Option (List ℕ)) (result : Result Report Failure) (new : Option (List ℕ)) (index : State) (version : ℕ) (extensions : List ℕ)
       → IsFileOf s.kind bytes version (index_of index) extensions → timestamp_of index ≡ s.timestamp
       → IsIndexRun query are_files index s old result new → IsRun query are_files s bytes old result new
+  unfolding IsIndexRun
   read_run query are_files s bytes old result new index version extensions file time (inl run) =
       file_run query are_files s bytes old result new (record { index = index; version = version; extensions = extensions; file = file; time = time; converting = run.0 }) run.1
   read_run query are_files s bytes old result new index version extensions file time (inr early) =

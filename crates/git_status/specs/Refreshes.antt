@@ -35,7 +35,7 @@ module _ {T U : Type 0} where
   IsFoundRun query index s old (Err f) new = IsStatusRun query index s old (Err f) new ⊎ ((r : Report) × IsStatusRun query index s old (Ok r) new × (f ≡ Memory))
 
   -- Its status asks for these changes, with line ends converted; or memory ran out before it.
-  abbrev pub IsIndexFound : (LineEnds → StatusSettings → Query T U) → (State → List File → Type 0) → State → Settings → Option (List ℕ) → Result Found Failure → Option (List ℕ) → Type 0
+  unfoldable pub IsIndexFound : (LineEnds → StatusSettings → Query T U) → (State → List File → Type 0) → State → Settings → Option (List ℕ) → Result Found Failure → Option (List ℕ) → Type 0
   IsIndexFound query are_files index s old result new =
       ((c : Converting are_files s index) × IsFoundRun (query c.filter (settings s.options index)) index s old result new) ⊎ (IsErrAnd result (λ f. f ≡ Memory) × (new ≡ old))
 
@@ -49,7 +49,7 @@ module _ {T U : Type 0} where
   IsUnrefreshed query are_files s bytes old f new = IsRun query are_files s bytes old (Err f) new ⊎ ((r : Report) × IsRun query are_files s bytes old (Ok r) new × (f ≡ Memory))
 
   -- The result of a refresh over the bytes of an index file and a worktree.
-  abbrev pub IsRefresh : (LineEnds → StatusSettings → Query T U) → (State → List File → Type 0) → Settings → List ℕ → Option (List ℕ) → Result RefreshedFile Failure → Option (List ℕ) → Type 0
+  unfoldable pub IsRefresh : (LineEnds → StatusSettings → Query T U) → (State → List File → Type 0) → Settings → List ℕ → Option (List ℕ) → Result RefreshedFile Failure → Option (List ℕ) → Type 0
   IsRefresh query are_files s bytes old (Ok r) new = IsFileRefreshed query are_files s bytes old r.report (option_map (λ v. v.items) r.bytes) new
   IsRefresh query are_files s bytes old (Err f) new = IsUnrefreshed query are_files s bytes old f new
 

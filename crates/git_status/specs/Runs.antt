@@ -110,7 +110,7 @@ module _ {T U : Type 0} where
     pub ended : IsEnded s.lines visits answer old result new
 
   -- A status of this index was printed, with line ends converted; or memory ran out before it.
-  abbrev pub IsIndexRun : (LineEnds → StatusSettings → Query T U) → (State → List File → Type 0) → State → Settings → Option (List ℕ) → Result Report Failure → Option (List ℕ) → Type 0
+  unfoldable pub IsIndexRun : (LineEnds → StatusSettings → Query T U) → (State → List File → Type 0) → State → Settings → Option (List ℕ) → Result Report Failure → Option (List ℕ) → Type 0
   IsIndexRun query are_files index s old result new =
       ((c : Converting are_files s index) × IsStatusRun (query c.filter (settings s.options index)) index s old result new) ⊎ (IsErrAnd result (λ f. f ≡ Memory) × (new ≡ old))
 
@@ -120,7 +120,7 @@ module _ {T U : Type 0} where
       (read : ReadFile are_files s bytes) × IsStatusRun (query read.converting.filter (settings s.options read.index)) read.index s old result new
 
   -- The result of the command over the bytes of an index file and a worktree.
-  abbrev pub IsRun : (LineEnds → StatusSettings → Query T U) → (State → List File → Type 0) → Settings → List ℕ → Option (List ℕ) → Result Report Failure → Option (List ℕ) → Type 0
+  unfoldable pub IsRun : (LineEnds → StatusSettings → Query T U) → (State → List File → Type 0) → Settings → List ℕ → Option (List ℕ) → Result Report Failure → Option (List ℕ) → Type 0
   IsRun query are_files s bytes old (Ok r) new = IsFileRun query are_files s bytes old (Ok r) new
   IsRun query are_files s bytes old (Err f) new = IsFileRun query are_files s bytes old (Err f) new ⊎ IsRefusedFile s bytes old f new
 

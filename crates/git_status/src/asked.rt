@@ -63,8 +63,7 @@ pub trait Question {
 }
 
 impl<'a, W: Worktree, S: SubmoduleStatus, P: Pathspec, A: AttributeFiles> Question
-    for Asked<'a, W, S, P, A>
-{
+    for Asked<'a, W, S, P, A> {
     type Submodule = S::Output;
 
     ghost query = { λ asked filter. ⟦<Compared<'a, 'a, 'a, 'a, W, S, P> as Ask>⟧.query (asked_inputs asked filter) };

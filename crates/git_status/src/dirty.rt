@@ -168,12 +168,7 @@ fn print_index<
     P: Pathspec + Send,
     A: AttributeFiles,
     O: io::Write,
->(
-    rt: &R,
-    index: &State,
-    asked: Asked<'a, W, S, P, A>,
-    output: &mut O,
-) -> Result<Report, Failure>
+>(rt: &R, index: &State, asked: Asked<'a, W, S, P, A>, output: &mut O) -> Result<Report, Failure>
 where
     W::File: Send,
     S::Output: Send,

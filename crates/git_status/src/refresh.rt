@@ -54,6 +54,7 @@ pub struct Found {
 /// Does what `run_dirty` does, and returns the new bytes of the index file: of each unchanged entry with an old stat the
 /// new one is stored, and of each changed entry whose stat would hide that, size 0. Version and extensions stay. The
 /// caller replaces the file, if it still has the bytes that were passed.
+#[tactic(auto, unfolding(crate::specs::Refreshes::IsRefresh))]
 pub fn run_refresh<
     'a,
     R: AllocGlobal + Threads + Wait,
@@ -150,12 +151,7 @@ fn find_in_index<
     P: Pathspec + Send,
     A: AttributeFiles,
     O: io::Write,
->(
-    rt: &R,
-    index: &State,
-    asked: Asked<'a, W, S, P, A>,
-    output: &mut O,
-) -> Result<Found, Failure>
+>(rt: &R, index: &State, asked: Asked<'a, W, S, P, A>, output: &mut O) -> Result<Found, Failure>
 where
     W::File: Send,
     S::Output: Send,

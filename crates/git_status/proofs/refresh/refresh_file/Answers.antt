@@ -3,6 +3,7 @@ use Rattle.std.proofs.lemmas.Bool.{eqb-true}
 use Rattle.std.proofs.lemmas.List.{nil_from_length}
 use Rattle.status_call.specs.IndexChanges.{AreInside}
 use Rattle.status_index.specs.States.{index_of}
+use Rattle.git_status.specs.Refreshes.{IsRefresh}
 use Rattle.git_status.proofs.Founds.{index_inside, late_file, refreshed_file, refused_file, unrefreshed_file}
 use Rattle.git_status.proofs.refresh.refresh_file.Goals as goal
 
@@ -19,6 +20,7 @@ returns-in_err-report g c =
     (rw c.in_err-report.was at c.find_in_index.ensures) failed.ensures.1
 
 pub returns-then-is_empty : goal.returns-then-is_empty
+unfolding IsRefresh
 returns-then-is_empty g c =
     let file = c.in_ok-file.file in
     let found = c.in_ok-report.field-0 in
@@ -39,6 +41,7 @@ returns-in_err-bytes g c =
     (rw c.in_ok-report.was at c.find_in_index.ensures) failed.ensures.1
 
 pub returns : goal.returns
+unfolding IsRefresh
 returns g c =
     let file = c.in_ok-file.file in
     let found = c.in_ok-report.field-0 in

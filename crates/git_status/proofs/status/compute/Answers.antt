@@ -1,3 +1,5 @@
+use Rattle.std.proofs.Common.{refl}
+use Rattle.std.proofs.MapsCrossing.{crosses as maps_cross}
 use Rattle.git_attributes.proofs.Sent.{filter_crosses}
 use Rattle.status_call.specs.RecorderVisits.{visits_of}
 use Rattle.git_status.proofs.Runs.{computed_from, none_not_some}
@@ -15,5 +17,33 @@ returns g c =
     ]))
     call.ensures.alone
 
+-- what is shared with threads, in the order of the call's types: comparison, submodules, blobs, paths, line ends, and so on
 pub index_as_worktree-answer-requires : goal.index_as_worktree-answer-requires
-index_as_worktree-answer-requires g c κs = (search filter_crosses depth 60, search filter_crosses depth 60)
+index_as_worktree-answer-requires g c κs = (
+  search filter_crosses depth 60,
+  (
+    search filter_crosses depth 60,
+    (
+      search (filter_crosses, maps_cross) depth 60,
+      (
+        search filter_crosses depth 60,
+        (
+          search filter_crosses depth 60,
+          (
+            search filter_crosses depth 60,
+            (
+              search filter_crosses depth 60,
+              (
+                search filter_crosses depth 60,
+                (
+                  search filter_crosses depth 60,
+                  (search filter_crosses depth 60, (refl, tt)),
+                ),
+              ),
+            ),
+          ),
+        ),
+      ),
+    ),
+  ),
+)
