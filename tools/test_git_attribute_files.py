@@ -99,7 +99,7 @@ class Names(Attributes):
 
     # Values of core.attributesFile. The user's folder has the files `mine` and `link`, and the usual one.
     READ = ["~/mine", "{room}/home/mine", "../home/mine", '"~/mine"', "./../home/mine", "~/link"]
-    READ += ["nothing\nattributesFile = ~/mine", "~/../home/mine"]
+    READ += ["nothing\nattributesFile = ~/mine", "~/../home/mine", "~//mine"]
     OTHER = ["", "nothing", "mine", "/dev/null", "~/mine\nattributesFile = nothing", "~/mine\nattributesFile =", "~", "~/"]
     OTHER += ["{room}/home", "$HOME/mine", "~/mine/", "/"]
 
@@ -131,10 +131,13 @@ class Names(Attributes):
                 self.assertEqual(set(self.ask_each(rows, put)), {listed})
 
     def test_values_that_are_none(self):
-        self.put_config("attributesFile\n")
-        self.assertEqual(self.ask(), "bad config variable 'core.attributesfile'")
-        self.put_config("attributesFile = ~/mine\n")
-        self.assertEqual(self.ask(front=["env", "-u", "HOME"]), "failed to expand user dir in: '~/mine'")
+        for text in ("attributesFile\n", "attributesFile\nattributesFile = mine\n"):
+            self.put_config(text)
+            self.assertEqual(self.ask(), "bad config variable 'core.attributesfile'")
+        for value in ("~/mine", "~", "~nobody-of-this-name/mine"):
+            for after in ("", "attributesFile = mine\n"):
+                self.put_config(f"attributesFile = {value}\n{after}")
+                self.assertEqual(self.ask(front=["env", "-u", "HOME"]), f"failed to expand user dir in: '{value}'")
         self.put_config("")
         self.assertEqual(self.ask(GIT_ATTR_NOSYSTEM="x"), "bad boolean config value 'x' for 'GIT_ATTR_NOSYSTEM'")
 

@@ -1287,14 +1287,6 @@ class Differences(Dirty):
         self.assertEqual(as_dirty(self.run_in(git_words()).stdout), b"")
         self.assert_ends(self.ran(), b" D d/b\n")
 
-    def test_each_row_of_the_table_has_a_test(self):
-        with open(os.path.join(os.path.dirname(compare_dirty.HERE), "docs", "FORMATS.md"), encoding="utf-8") as file:
-            page = file.read()
-        table = page[page.index("### Differences from git\n") :].partition("| What | git | git dirty |\n|---|---|---|\n")[2]
-        rows = [line.split(" | ")[0].removeprefix("| ") for line in table.partition("\n\n")[0].split("\n")]
-        tests = [getattr(self, name).__doc__ for name in unittest.defaultTestLoader.getTestCaseNames(Differences)]
-        self.assertEqual(sorted(rows), sorted(filter(None, tests)))
-
 
 @unittest.skipUnless(PROGRAM and compiler(), "no built program, or no C compiler")
 class Memory(Dirty):
