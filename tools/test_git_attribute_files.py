@@ -61,6 +61,27 @@ class Kinds(Attributes):
         read = {kind for kind in self.KINDS if found[kind] != {ALL}}
         self.assertEqual(read, {"file", "link", "relative link", "link to a link"})
 
+    def test_links_to_a_device_are_not_followed(self):
+        """It has no end."""
+        for name in (".gitattributes", "d/e/.gitattributes"):
+            os.symlink("/dev/zero", self.path(name))
+        self.assertEqual(self.ask(), ALL)
+
+    def test_links_in_place_of_folders(self):
+        """Files below a link are gone for git, and an attribute file there counts for no other file."""
+        texts = ["* text\n", "a text\n", "../a text\n", "/a text\n", "[attr]x text\n* x\n", "e/* text\n", ""]
+        for name in ("x/a", "x/e/a"):
+            self.put(name, CRLF)
+        for folder, targets in (("d", ["x", self.path("x"), ".", "x/e"]), ("d/e", ["../x", self.path("x"), ".", ".."])):
+            os.rename(self.path(folder), self.path("old"))
+            for target in targets:
+                os.symlink(target, self.path(folder))
+                for inside in ("x", "x/e"):
+                    rows = [(self.path(f"{inside}/.gitattributes"), text) for text in texts]
+                    self.assertEqual(set(self.ask_each(rows, lambda row: self.put(*row))), {ALL})
+                os.remove(self.path(folder))
+            os.rename(self.path("old"), self.path(folder))
+
     def test_a_stronger_file_counts(self):
         rows = [f"{weak} * text|{strong} * -text" for weak, strong in itertools.permutations(PLACES, 2)]
         rows += [f"{weak} * text|{strong} * !text" for weak, strong in itertools.combinations(PLACES, 2)]

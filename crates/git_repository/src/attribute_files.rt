@@ -145,20 +145,23 @@ impl<R: Files + AllocGlobal, W: Worktree> GitAttributeFiles<'_, R, W> {
         }
     }
 
-    /// Returns the bytes of a file of the worktree. None if there is none that can be read.
+    /// Returns the bytes of a file of the worktree. None if there is none that can be read. Links aren't opened, since they may
+    /// lead to a device, and neither are files that are too large.
     fn read_inner(&self, path: BStr<'_>) -> Result<Option<Vec<u8>>, AllocError> {
+        match self.worktree.lstat(path) {
+            Ok(node) if node.kind == NodeKind::File && node.len < FILE_LIMIT as u64 => {}
+            Err(Fault::Memory) => return Err(AllocError),
+            _ => return Ok(None),
+        }
         let mut bytes = Vec::new(self.rt.alloc());
-        let found = match self.worktree.open(path) {
-            Ok(mut file) => match read_all(&mut file, &mut bytes) {
-                Ok(()) => self.worktree.lstat(path),
-                Err(fault) => Err(fault),
-            },
+        let read = match self.worktree.open(path) {
+            Ok(mut file) => read_all(&mut file, &mut bytes),
             Err(fault) => Err(fault),
         };
-        match found {
-            Ok(node) if node.kind == NodeKind::File && bytes.len() < FILE_LIMIT => Ok(Some(bytes)),
+        match read {
+            Ok(()) => Ok(Some(bytes)),
             Err(Fault::Memory) => Err(AllocError),
-            _ => Ok(None),
+            Err(_) => Ok(None),
         }
     }
 
