@@ -61,6 +61,27 @@ class Kinds(Attributes):
         read = {kind for kind in self.KINDS if found[kind] != {ALL}}
         self.assertEqual(read, {"file", "link", "relative link", "link to a link"})
 
+    def test_links_to_a_device_are_not_followed(self):
+        """It has no end."""
+        for name in (".gitattributes", "d/e/.gitattributes"):
+            os.symlink("/dev/zero", self.path(name))
+        self.assertEqual(self.ask(), ALL)
+
+    def test_links_in_place_of_folders(self):
+        """Files below a link are gone for git, and an attribute file there counts for no other file."""
+        texts = ["* text\n", "a text\n", "../a text\n", "/a text\n", "[attr]x text\n* x\n", "e/* text\n", ""]
+        for name in ("x/a", "x/e/a"):
+            self.put(name, CRLF)
+        for folder, targets in (("d", ["x", self.path("x"), ".", "x/e"]), ("d/e", ["../x", self.path("x"), ".", ".."])):
+            os.rename(self.path(folder), self.path("old"))
+            for target in targets:
+                os.symlink(target, self.path(folder))
+                for inside in ("x", "x/e"):
+                    rows = [(self.path(f"{inside}/.gitattributes"), text) for text in texts]
+                    self.assertEqual(set(self.ask_each(rows, lambda row: self.put(*row))), {ALL})
+                os.remove(self.path(folder))
+            os.rename(self.path("old"), self.path(folder))
+
     def test_a_stronger_file_counts(self):
         rows = [f"{weak} * text|{strong} * -text" for weak, strong in itertools.permutations(PLACES, 2)]
         rows += [f"{weak} * text|{strong} * !text" for weak, strong in itertools.combinations(PLACES, 2)]
@@ -99,7 +120,7 @@ class Names(Attributes):
 
     # Values of core.attributesFile. The user's folder has the files `mine` and `link`, and the usual one.
     READ = ["~/mine", "{room}/home/mine", "../home/mine", '"~/mine"', "./../home/mine", "~/link"]
-    READ += ["nothing\nattributesFile = ~/mine", "~/../home/mine"]
+    READ += ["nothing\nattributesFile = ~/mine", "~/../home/mine", "~//mine"]
     OTHER = ["", "nothing", "mine", "/dev/null", "~/mine\nattributesFile = nothing", "~/mine\nattributesFile =", "~", "~/"]
     OTHER += ["{room}/home", "$HOME/mine", "~/mine/", "/"]
 
@@ -131,10 +152,13 @@ class Names(Attributes):
                 self.assertEqual(set(self.ask_each(rows, put)), {listed})
 
     def test_values_that_are_none(self):
-        self.put_config("attributesFile\n")
-        self.assertEqual(self.ask(), "bad config variable 'core.attributesfile'")
-        self.put_config("attributesFile = ~/mine\n")
-        self.assertEqual(self.ask(front=["env", "-u", "HOME"]), "failed to expand user dir in: '~/mine'")
+        for text in ("attributesFile\n", "attributesFile\nattributesFile = mine\n"):
+            self.put_config(text)
+            self.assertEqual(self.ask(), "bad config variable 'core.attributesfile'")
+        for value in ("~/mine", "~", "~nobody-of-this-name/mine"):
+            for after in ("", "attributesFile = mine\n"):
+                self.put_config(f"attributesFile = {value}\n{after}")
+                self.assertEqual(self.ask(front=["env", "-u", "HOME"]), f"failed to expand user dir in: '{value}'")
         self.put_config("")
         self.assertEqual(self.ask(GIT_ATTR_NOSYSTEM="x"), "bad boolean config value 'x' for 'GIT_ATTR_NOSYSTEM'")
 

@@ -177,8 +177,6 @@ class Patterns(Attributes):
     QUOTED += [rb'"/a\040b"', rb'"[!\001-\177]*"', rb'"[\200-\377]?"', rb'"d/\145/?"', b"\xc3?", b"?\xa9", b"[\xc3]\xa9"]
     QUOTED += [b"[\xc3-\xc4]\xa9", b"[^a]\xa9", b"\xc3*", b"*\xa9", b"[\x80-\xff]\xa9", b"\xc3[\xa8-\xaa]"]
 
-    # Patterns with core.ignoreCase. In a class no capital letter matches, and none after a backslash.
-    LETTERS = ["A", "a", "D/A", "D/**/B", "*B", "[A]", "[[:upper:]]", "[Y-Z]", "\\A", "\\z", "É", "[!a]"]
     # A file, a pattern in it, and the files that it matches.
     FOLDERS = [("d/.gitattributes", "a", "d/a d/e/a d/e/f/a"), ("d/.gitattributes", "/a", "d/a")]
     FOLDERS += [("d/.gitattributes", "e/a", "d/e/a"), ("d/.gitattributes", "**/e/a", "d/e/a")]
@@ -213,14 +211,6 @@ class Patterns(Attributes):
                 after = self.ask().split(" ")
                 self.put(name, "")
                 self.assertEqual(" ".join(it for it in before if it not in after), matched)
-
-    def test_letters_of_patterns(self):
-        """With core.ignoreCase both cases of a letter are one."""
-        found = []
-        for value in ("true", "false"):
-            self.put_config(f"ignoreCase = {value}\n")
-            found.append(self.ask_each(self.LETTERS, lambda pattern: self.put(".gitattributes", pattern + " text\n")))
-        self.assertEqual([it for it, case, other in zip(self.LETTERS, *found) if case == other], ["\\z", "É"])
 
 
 if __name__ == "__main__":

@@ -10,7 +10,15 @@ as for tools/test_git_dirty.py. The differences from git have both results.
 import os
 import unittest
 
+import compare_dirty
+import test_git_dirty
+from cases import DIRTY as PROGRAM
+from cases import may_read_all
+from compare_dirty import as_dirty
+from run_tests import ORDINARY
+from test_git_attributes import FILE
 from test_git_line_ends import ALL, CRLF, LF, NOTES, LineEnds
+from test_git_settings import STATUS
 
 # The note on a file that is listed, and that has an attribute by which git converts more than line ends.
 NOTE = 'git dirty: note: [^\n]*"{}"[^\n]*\n'
@@ -54,7 +62,7 @@ class Values(LineEnds):
 
 
 class Differences(LineEnds):
-    """The differences from git. The words of a test are for the first cell of a row in docs/FORMATS.md."""
+    """The differences from git. The words of a test are the first cell of a row in docs/FORMATS.md."""
 
     # An attribute, settings, a content, and the blob that git makes of it.
     ROWS = [("filter=f", '[filter "f"]\nclean = tr a-z A-Z\n', b"foo\n", b"FOO\n"), ("ident", "", b"$Id: x $\n", b"$Id$\n")]
@@ -63,6 +71,8 @@ class Differences(LineEnds):
     # An attribute that isn't set changes nothing. Others have values by which git converts nothing, or have no filter.
     UNSET = ["-filter", "!filter", "-ident", "!ident", "!working-tree-encoding", "-working-tree-encoding"]
     WITHOUT_USE = ["filter=f", "filter", "ident=x", "working-tree-encoding=UTF-8", "working-tree-encoding="]
+    # Patterns that match other files if the case of letters doesn't count, and two that don't.
+    LETTERS = ["A", "a", "D/A", "D/**/B", "*B", "[A]", "[[:upper:]]", "[Y-Z]", "\\A", "\\z", "É", "[!a]"]
 
     def put_row(self, words, settings, content, blob):
         self.put_config(settings)
@@ -88,7 +98,7 @@ class Differences(LineEnds):
         self.assert_noted("a", "d/a")
 
     def test_other_conversions_of_the_blob(self):
-        """the blob's bytes, if git converts them to others by these attributes"""
+        """a file with its blob's bytes, if git converts these to others by `filter`, `ident` or `working-tree-encoding`"""
         for words, settings, content, _ in self.ROWS[:3]:
             with self.subTest(words):
                 self.put_row(words, settings, content, content)
@@ -96,7 +106,7 @@ class Differences(LineEnds):
                 self.assert_ends(self.ran(), b"")
 
     def test_no_note_without_need(self):
-        """Files that aren't listed need no note, and neither do attributes that aren't set."""
+        # Files that aren't listed need no note, and neither do attributes that aren't set.
         for words, settings, _, _ in self.ROWS:
             self.put_row(words, settings, b"FOO\r\n", b"FOO\n")
             self.assertEqual(self.ask(), "")
@@ -105,7 +115,7 @@ class Differences(LineEnds):
             self.assertEqual(self.ask(), "a")
 
     def test_attributes_without_use(self):
-        """By these attributes git converts nothing. A note may be printed."""
+        # By these attributes git converts nothing. A note may be printed.
         for words in self.WITHOUT_USE:
             with self.subTest(words):
                 self.put_row(words, "", b"foo\r\n", b"foo\n")
@@ -116,18 +126,60 @@ class Differences(LineEnds):
                 self.assertRegex(ran.stderr, NOTES)
 
     def test_a_staged_attribute_file(self):
-        """an attribute file that is only in the index"""
+        """a staged attribute file that is gone from the worktree, or is a link, unreadable or of 100 MiB there"""
+        place, others = self.path("d/.gitattributes"), ["--", *self.FILES]
+        front = ORDINARY if may_read_all() else []
         self.put_files({"d/.gitattributes": (b"* text\n", b"* text\n")})
         self.assertEqual(self.ask(), "a b")
-        os.remove(self.path("d/.gitattributes"))
-        self.assertEqual(self.git_lines().decode(), " M a\n M b\n D d/.gitattributes\n")
-        self.assert_ends(self.ran(), b" M a\n M b\n D d/.gitattributes\n M d/a\n M d/e/a\n")
+        self.put("mine", "* text\n")
+        changes = {"100 MiB": lambda: os.truncate(place, FILE), "less": lambda: os.truncate(place, 7)}
+        changes |= {"unreadable": lambda: os.chmod(place, 0), "gone": lambda: os.remove(place)}
+        changes |= {"a link": lambda: os.symlink("../mine", place)}
+        for name, change in changes.items():
+            with self.subTest(name):
+                change()
+                gits, ours = (self.run_in([*front, *command, *others]) for command in (STATUS, [PROGRAM]))
+                self.assertEqual((gits.returncode, as_dirty(gits.stdout)), (0, b" M a\n M b\n"))
+                self.assert_ends(ours, b" M a\n M b\n" + b" M d/a\n M d/e/a\n" * (name != "less"))
         # Git doesn't read the index if there is a folder or an empty file.
+        os.remove(place)
         for make in (os.mkdir, lambda place: self.put(place, "")):
-            make(self.path("d/.gitattributes"))
+            make(place)
             self.assertEqual(self.ask(), "a b d/.gitattributes d/a d/e/a")
-            if os.path.isdir(self.path("d/.gitattributes")):
-                os.rmdir(self.path("d/.gitattributes"))
+            if os.path.isdir(place):
+                os.rmdir(place)
+
+    def test_letters_of_patterns(self):
+        """patterns of attribute files, with `core.ignoreCase`"""
+        self.put_files({name: (LF, CRLF) for name in ("A", "ab", "d/b", "db", "z", "é")})
+        alike = []
+        for pattern in self.LETTERS:
+            with self.subTest(pattern):
+                self.put(".gitattributes", f"{pattern} text\n")
+                self.put_config("ignoreCase = false\n")
+                exact = self.git_lines()
+                self.assert_ends(self.ran(), exact)
+                self.put_config("ignoreCase = true\n")
+                self.assert_ends(self.ran(), exact)
+                alike += [pattern] * (self.git_lines() == exact)
+        self.assertEqual(alike, ["\\z", "É"])
+
+    def test_a_file_of_another_user(self):
+        """`core.attributesFile` in the home folder of another user, `~USER/`"""
+        self.put_config("attributesFile = ~root/nothing\n")
+        self.assertEqual(self.git_lines().decode(), "".join(f" M {name}\n" for name in self.FILES))
+        self.assert_fails(self.ran(), "core.attributesfile.*~root/nothing")
+
+
+class Table(unittest.TestCase):
+    def test_each_row_of_the_table_has_a_test(self):
+        with open(os.path.join(os.path.dirname(compare_dirty.HERE), "docs", "FORMATS.md"), encoding="utf-8") as file:
+            page = file.read()
+        table = page[page.index("### Differences from git\n") :].partition("| What | git | git dirty |\n|---|---|---|\n")[2]
+        rows = [line.split(" | ")[0].removeprefix("| ") for line in table.partition("\n\n")[0].split("\n")]
+        tests = [getattr(kind, name).__doc__ for kind in (test_git_dirty.Differences, Differences)
+                 for name in unittest.defaultTestLoader.getTestCaseNames(kind)]
+        self.assertEqual(sorted(rows), sorted(filter(None, tests)))
 
 
 if __name__ == "__main__":

@@ -487,6 +487,23 @@ class Files(Dirty):
             self.write("l", text)
             self.assert_as_git(lines)
 
+    def test_line_ends_that_git_converts(self):
+        """tools/test_git_line_ends.py has the rules."""
+        self.git("config", "core.autocrlf", "true")
+        self.write("c", "foo\r\n")
+        self.git("add", "c")
+        self.settle()
+        self.assert_as_git("")
+        os.utime(self.path("c"), (5, 5))
+        self.assert_as_git("")
+        # Bytes that are the blob's, and that git would convert to others.
+        self.git("config", "core.autocrlf", "false")
+        self.git("add", "--renormalize", "c")
+        self.assert_as_git("")
+        self.write(".git/info/attributes", "c text\n")
+        os.utime(self.path("c"), (6, 6))
+        self.assert_as_git(" M c\n")
+
     def test_flags(self):
         for name in ("k", "v"):
             self.write(name, "foo")
@@ -1131,26 +1148,6 @@ class Differences(Dirty):
         os.utime(self.path(".git/index"), (0, 0))
         self.assert_differs("", " M a\n")
 
-    def test_conversions(self):
-        """a file that git converts"""
-        self.git("config", "core.autocrlf", "true")
-        self.write("c", "foo\r\n")
-        self.git("add", "c")
-        self.settle()
-        self.assert_as_git("")
-        os.utime(self.path("c"), (5, 5))
-        self.assertEqual(self.git_lines(), b"")
-        ran = self.ran()
-        self.assertEqual((ran.returncode, ran.stdout), (1, b" M c\n"))
-        # Bytes that are the blob's, and that git would convert to others.
-        self.git("config", "core.autocrlf", "false")
-        self.git("add", "--renormalize", "c")
-        self.write(".git/info/attributes", "c text\n")
-        os.utime(self.path("c"), (6, 6))
-        self.assertEqual(self.git_lines(), b" M c\n")
-        ran = self.ran()
-        self.assertEqual((ran.returncode, ran.stdout), (0, b""))
-
     def test_a_split_index(self):
         """a split or sparse index"""
         self.git("update-index", "--split-index")
@@ -1286,14 +1283,6 @@ class Differences(Dirty):
         os.symlink("d", self.path("d"))
         self.assertEqual(as_dirty(self.run_in(git_words()).stdout), b"")
         self.assert_ends(self.ran(), b" D d/b\n")
-
-    def test_each_row_of_the_table_has_a_test(self):
-        with open(os.path.join(os.path.dirname(compare_dirty.HERE), "docs", "FORMATS.md"), encoding="utf-8") as file:
-            page = file.read()
-        table = page[page.index("### Differences from git\n") :].partition("| What | git | git dirty |\n|---|---|---|\n")[2]
-        rows = [line.split(" | ")[0].removeprefix("| ") for line in table.partition("\n\n")[0].split("\n")]
-        tests = [getattr(self, name).__doc__ for name in unittest.defaultTestLoader.getTestCaseNames(Differences)]
-        self.assertEqual(sorted(rows), sorted(filter(None, tests)))
 
 
 @unittest.skipUnless(PROGRAM and compiler(), "no built program, or no C compiler")

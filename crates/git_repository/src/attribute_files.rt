@@ -36,7 +36,8 @@ impl<'a, R: Files + Env + AllocGlobal, W: Worktree> GitAttributeFiles<'a, R, W> 
     /// Returns the attribute files of a repository with this worktree.
     ///
     /// # Errors
-    /// A variable of the environment or a path in the configuration isn't UTF-8, or out of memory.
+    /// `core.attributesFile` has no value, or is in a home folder that isn't known; a variable of the environment or a path
+    /// in the configuration isn't UTF-8; or out of memory.
     pub fn new(
         rt: &'a R,
         worktree: &'a W,
@@ -60,26 +61,21 @@ impl<'a, R: Files + Env + AllocGlobal, W: Worktree> GitAttributeFiles<'a, R, W> 
 }
 
 /// Returns the attribute file of the user: that of `core.attributesFile`, otherwise `git/attributes` in the folder of
-/// configuration files.
+/// configuration files. As in git, a value that names no file is an error even if a later one overrides it.
 fn user_file<R: Env + AllocGlobal>(
     rt: &R,
     config: &Config,
 ) -> Result<Option<String>, RepositoryError> {
     let alloc = rt.alloc();
     let home = variable(rt, "HOME")?;
-    if let Some(found) = config.get(b"core", None, b"attributesfile") {
-        let Some(value) = found.value() else {
-            return Err(RepositoryError::BadValue {
-                name: "core.attributesfile",
-                value: String::new(alloc),
-            });
-        };
-        let path = path_of(alloc, value)?;
-        return match (path.strip_prefix("~/"), home) {
-            (Some(rest), Some(home)) => Ok(Some(joined(alloc, home.as_str(), rest)?)),
-            (Some(_), None) => Ok(None),
-            (None, _) => Ok(Some(path)),
-        };
+    let mut set = None;
+    for found in config.variables() {
+        if found.is_named(b"core", None, b"attributesfile") {
+            set = Some(named_file(alloc, found.value(), &home)?);
+        }
+    }
+    if set.is_some() {
+        return Ok(set);
     }
     match (variable(rt, "XDG_CONFIG_HOME")?, home) {
         (Some(folder), _) if !folder.is_empty() => {
@@ -87,6 +83,33 @@ fn user_file<R: Env + AllocGlobal>(
         }
         (_, Some(home)) => Ok(Some(joined(alloc, home.as_str(), ".config/git/attributes")?)),
         (_, None) => Ok(None),
+    }
+}
+
+/// Returns the file of a path that is set, and may begin with `~` for the home folder. Those of other users aren't known.
+fn named_file(
+    alloc: Global,
+    value: Option<&[u8]>,
+    home: &Option<String>,
+) -> Result<String, RepositoryError> {
+    let Some(value) = value else {
+        return Err(bad_file(String::new(alloc)));
+    };
+    let path = path_of(alloc, value)?;
+    match (path.strip_prefix('~'), home) {
+        (None, _) => Ok(path),
+        (Some(rest), Some(home)) if rest.is_empty() || rest.starts_with('/') => {
+            Ok(format!(in alloc; "{home}{rest}")?)
+        }
+        (Some(_), _) => Err(bad_file(path)),
+    }
+}
+
+/// Returns the error of a value of `core.attributesFile` that names no file.
+fn bad_file(value: String) -> RepositoryError {
+    RepositoryError::BadValue {
+        name: "core.attributesfile",
+        value,
     }
 }
 
@@ -122,20 +145,23 @@ impl<R: Files + AllocGlobal, W: Worktree> GitAttributeFiles<'_, R, W> {
         }
     }
 
-    /// Returns the bytes of a file of the worktree. None if there is none that can be read.
+    /// Returns the bytes of a file of the worktree. None if there is none that can be read. Links aren't opened, since they may
+    /// lead to a device, and neither are files that are too large.
     fn read_inner(&self, path: BStr<'_>) -> Result<Option<Vec<u8>>, AllocError> {
+        match self.worktree.lstat(path) {
+            Ok(node) if node.kind == NodeKind::File && node.len < FILE_LIMIT as u64 => {}
+            Err(Fault::Memory) => return Err(AllocError),
+            _ => return Ok(None),
+        }
         let mut bytes = Vec::new(self.rt.alloc());
-        let found = match self.worktree.open(path) {
-            Ok(mut file) => match read_all(&mut file, &mut bytes) {
-                Ok(()) => self.worktree.lstat(path),
-                Err(fault) => Err(fault),
-            },
+        let read = match self.worktree.open(path) {
+            Ok(mut file) => read_all(&mut file, &mut bytes),
             Err(fault) => Err(fault),
         };
-        match found {
-            Ok(node) if node.kind == NodeKind::File && bytes.len() < FILE_LIMIT => Ok(Some(bytes)),
+        match read {
+            Ok(()) => Ok(Some(bytes)),
             Err(Fault::Memory) => Err(AllocError),
-            _ => Ok(None),
+            Err(_) => Ok(None),
         }
     }
 

@@ -3,8 +3,8 @@
 //! Read `location` first, which finds the repository of a folder by `git_dir`. `settings` are those that a status depends
 //! on, with `format`, from what `sources` names and `parameters` reads. `config` has git's configuration, which `reader`
 //! reads by `state`, and `values` reads a variable's value. `worktree` is a worktree with all that git records of a file,
-//! and `path_buffer` has the paths of its calls. `attribute_files` finds its attribute files. `submodules` compares the heads of submodules, which `heads` finds.
-//! `files` reads small files, and `error` has the errors.
+//! and `path_buffer` has the paths of its calls. `attribute_files` finds its attribute files. `submodules` compares the
+//! heads of submodules, which `heads` finds. `files` reads small files, and `error` has the errors.
 #![tactic(auto)]
 
 pub mod attribute_files;

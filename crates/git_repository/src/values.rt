@@ -82,7 +82,7 @@ pub fn switch(
     switch_or_word(alloc, config, name, None)
 }
 
-/// Returns a boolean for which a word also stands for true.
+/// Returns a boolean that may also be this word, which is true.
 ///
 /// # Errors
 /// As for `switch`.
