@@ -2,7 +2,7 @@
 
 use crate::config::Config;
 use crate::error::RepositoryError;
-use crate::files::{joined, path_of, variable};
+use crate::files::{configuration_folder, joined, path_of, variable};
 use crate::location::Repository;
 use crate::sources::is_set;
 use bstr::BStr;
@@ -77,12 +77,9 @@ fn user_file<R: Env + AllocGlobal>(
     if set.is_some() {
         return Ok(set);
     }
-    match (variable(rt, "XDG_CONFIG_HOME")?, home) {
-        (Some(folder), _) if !folder.is_empty() => {
-            Ok(Some(joined(alloc, folder.as_str(), "git/attributes")?))
-        }
-        (_, Some(home)) => Ok(Some(joined(alloc, home.as_str(), ".config/git/attributes")?)),
-        (_, None) => Ok(None),
+    match configuration_folder(rt, &home)? {
+        Some(folder) => Ok(Some(joined(alloc, folder.as_str(), "git/attributes")?)),
+        None => Ok(None),
     }
 }
 

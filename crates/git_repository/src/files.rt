@@ -109,3 +109,19 @@ pub fn variable<R: Env + AllocGlobal>(
         Err(VarError::OutOfMemory) => Err(RepositoryError::Memory),
     }
 }
+
+/// Returns the user's folder of configuration files: that of `XDG_CONFIG_HOME`, otherwise `.config` in the home folder. None
+/// if there is neither.
+///
+/// # Errors
+/// The variable isn't UTF-8, or out of memory.
+pub fn configuration_folder<R: Env + AllocGlobal>(
+    rt: &R,
+    home: &Option<String>,
+) -> Result<Option<String>, RepositoryError> {
+    match (variable(rt, "XDG_CONFIG_HOME")?, home) {
+        (Some(folder), _) if !folder.is_empty() => Ok(Some(folder)),
+        (_, Some(home)) => Ok(Some(joined(rt.alloc(), home.as_str(), ".config")?)),
+        (_, None) => Ok(None),
+    }
+}

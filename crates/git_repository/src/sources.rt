@@ -2,7 +2,7 @@
 
 use crate::config::{Config, ConfigError};
 use crate::error::RepositoryError;
-use crate::files::{joined, read_if_there, variable};
+use crate::files::{configuration_folder, joined, read_if_there, variable};
 use crate::parameters::append_parameters;
 use crate::reader::read_config;
 use crate::values::{bool_of, number_of};
@@ -83,12 +83,7 @@ fn append_user<R: Files + Env + AllocGlobal>(
 ) -> Result<(), RepositoryError> {
     let alloc = rt.alloc();
     let home = variable(rt, "HOME")?;
-    let folder = match (variable(rt, "XDG_CONFIG_HOME")?, &home) {
-        (Some(folder), _) if !folder.is_empty() => Some(folder),
-        (_, Some(home)) => Some(joined(alloc, home.as_str(), ".config")?),
-        (_, None) => None,
-    };
-    if let Some(folder) = folder {
+    if let Some(folder) = configuration_folder(rt, &home)? {
         let path = joined(alloc, folder.as_str(), "git/config")?;
         config.append(read_user_file(rt, path.as_str())?)?;
     }
