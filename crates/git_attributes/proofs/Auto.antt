@@ -3,11 +3,13 @@ use Rattle.std.proofs.Common.{◌≡◌, ◌∙◌, ◌==◌, ◌&&◌, ◌||◌
 use Rattle.std.proofs.lemmas.Slice.Eq.{bytes_eq-Decides}
 use Rattle.std.specs.List.{list_any}
 use Rattle.status_index.specs.BlobId.{blob_id, same_id}
+use Rattle.status_index.specs.Entries.{IndexEntry}
 use Rattle.status_index.specs.declared.id.HashKind.{HashKind}
 use Rattle.status_index.specs.declared.id.ObjectId.{ObjectId}
 use Rattle.status_index.specs.declared.id.ObjectId.TheVariants.{Sha1 as Sha1Id, Sha256 as Sha256Id}
-use Rattle.git_attributes.specs.LineEnds.{AutoLaw, has_crlf}
-use Rattle.git_attributes.specs.Text.{begins_with_lf, has_lone_cr, is_binary, is_nul, normalized}
+use Rattle.git_attributes.specs.LineEnds.{AutoLaw, has_stored, is_kept, stored}
+use Rattle.git_attributes.specs.declared.normalization.Normalization.{Normalization}
+use Rattle.git_attributes.specs.Text.{begins_with_lf, has_crlf, has_lone_cr, is_binary, is_nul, normalized}
 
 abbrev has_cr : List ℕ → Bool
 has_cr [] = false
@@ -89,9 +91,23 @@ same_id_self : (a : ObjectId) → same_id a a ≡ true
 same_id_self (Sha1Id a) = (bytes_eq-Decides a a).1 refl
 same_id_self (Sha256Id a) = (bytes_eq-Decides a a).1 refl
 
-pub auto_law : (kind : HashKind) (blob bytes : List ℕ) → AutoLaw kind blob bytes
-auto_law kind blob bytes known =
-    let is_stored = same_id (blob_id kind blob) (blob_id kind bytes) in
-    let same : is_stored ≡ true → bytes ≡ blob = λ e. known (sym (same_id_is (blob_id kind blob) (blob_id kind bytes) e)) in
-    let back : bytes ≡ blob → is_stored ≡ true = λ e. subst (λ b. same_id (blob_id kind blob) (blob_id kind b) ≡ true) (sym e) (same_id_self (blob_id kind blob)) in
+or_nothing : (b : Bool) → (b || false) ≡ b
+or_nothing true = refl
+or_nothing false = refl
+
+pub auto_law : (kind : HashKind) (index : List IndexEntry) (path blob bytes : List ℕ) → AutoLaw kind index path blob bytes
+auto_law kind index path blob bytes has known =
+    let is_stored = has_stored kind index bytes path in
+    let by_id : is_stored ≡ same_id (blob_id kind blob) (blob_id kind bytes) =
+    ap (list_any (λ e. same_id e.id (blob_id kind bytes))) has.one ∙ or_nothing (same_id has.entry.id (blob_id kind bytes)) ∙ ap (λ id. same_id id (blob_id kind bytes)) has.id in
+    let same : is_stored ≡ true → bytes ≡ blob = λ e. known (sym (same_id_is (blob_id kind blob) (blob_id kind bytes) (sym by_id ∙ e))) in
+    let back : bytes ≡ blob → is_stored ≡ true = λ e. by_id ∙ subst (λ b. same_id (blob_id kind blob) (blob_id kind b) ≡ true) (sym e) (same_id_self (blob_id kind blob)) in
     (by_git (is_binary bytes) is_stored blob bytes refl same, by_ids (is_binary bytes) (has_crlf_stored blob) is_stored blob bytes (normalized bytes) same back)
+
+-- nothing is left out of a text without CRLF
+same_choice : (is_kept : Bool) (bytes less : List ℕ) → less ≡ bytes → bytes ≡ (if is_kept then bytes else less)
+same_choice true bytes less same = refl
+same_choice false bytes less same = sym same
+
+pub stored_unchanged : (how : Normalization) (is_stored : Bool) (bytes : List ℕ) → has_crlf bytes ≡ false → bytes ≡ stored how is_stored bytes
+stored_unchanged how is_stored bytes none = same_choice (is_kept how is_stored bytes) bytes (normalized bytes) (unchanged bytes none)

@@ -1,4 +1,4 @@
--- The bytes that git stores of a file, by its attributes.
+-- The bytes that are stored of a file, by its attributes.
 use Rattle.std.specs.Prelude.{◌≡◌, ◌↔◌, not, ◌==◌, ◌&&◌, [], ◌∷◌, ℕ, ◌||◌, Bool, true, false, List, filter, Option, Some, None, if◌then◌else◌}
 use Rattle.std.specs.List.{list_any}
 use Rattle.status_base.specs.Conversions.{Conversion, other, refused, same}
@@ -14,7 +14,7 @@ use Rattle.git_attributes.specs.declared.normalization.Normalization.{Normalizat
 use Rattle.git_attributes.specs.declared.normalization.Normalization.TheVariants.{Off, On, Auto}
 use Rattle.git_attributes.specs.Files.{states_of}
 use Rattle.git_attributes.specs.Normalization.{normalization_of}
-use Rattle.git_attributes.specs.Text.{begins_with_lf, is_binary, normalized}
+use Rattle.git_attributes.specs.Text.{has_crlf, is_binary, normalized}
 use Rattle.git_attributes.specs.Views.{attributes_view}
 
 -- An entry of the path has the id of these bytes.
@@ -27,7 +27,7 @@ is_kept Off is_stored bytes = true
 is_kept On is_stored bytes = false
 is_kept Auto is_stored bytes = is_binary bytes || is_stored
 
--- The bytes that git stores.
+-- The bytes that are stored.
 abbrev pub stored : Normalization → Bool → List ℕ → List ℕ
 stored how is_stored bytes = if is_kept how is_stored bytes then bytes else normalized bytes
 
@@ -47,16 +47,17 @@ line_ends filter content path =
 
 -- ---- git's own rule for `text=auto`
 
--- A CR is directly before an LF.
-abbrev pub has_crlf : List ℕ → Bool
-has_crlf [] = false
-has_crlf (b ∷ rest) = (b == 13 && begins_with_lf rest) || has_crlf rest
-
 -- Git doesn't convert a binary file, and no file if the index's one is a text with CRLF.
 abbrev pub stored_by_git : List ℕ → List ℕ → List ℕ
 stored_by_git blob bytes = if is_binary bytes || (not (is_binary blob) && has_crlf blob) then bytes else normalized bytes
 
--- If contents with equal ids are equal, a file's stored bytes are the blob's exactly if they are by git's rule.
-abbrev pub AutoLaw : HashKind → List ℕ → List ℕ → Type 0
-AutoLaw kind blob bytes =
-    (blob_id kind bytes ≡ blob_id kind blob → bytes ≡ blob) → (stored Auto (same_id (blob_id kind blob) (blob_id kind bytes)) bytes ≡ blob) ↔ (stored_by_git blob bytes ≡ blob)
+-- A path has one entry, of this blob.
+pub record HasBlob (kind : HashKind) (index : List IndexEntry) (path blob : List ℕ) : Type 0 where
+  pub entry : IndexEntry
+  pub one : filter (is_at path) index ≡ entry ∷ []
+  pub id : entry.id ≡ blob_id kind blob
+
+-- If contents with equal ids are equal, the bytes that are stored of a file are its entry's blob exactly if they are by git's rule.
+abbrev pub AutoLaw : HashKind → List IndexEntry → List ℕ → List ℕ → List ℕ → Type 0
+AutoLaw kind index path blob bytes =
+    HasBlob kind index path blob → (blob_id kind bytes ≡ blob_id kind blob → bytes ≡ blob) → (stored Auto (has_stored kind index bytes path) bytes ≡ blob) ↔ (stored_by_git blob bytes ≡ blob)

@@ -54,9 +54,9 @@ rule_of folder pattern text = option_and_then (λ given. option_map (rule_with f
 abbrev pub macro_with : List ℕ → List ℕ → Option Line
 macro_with name text = if is_name name then option_map (λ given. MacroLine (record { name = name; given = given })) (assignments_of text) else None
 
--- The name of a macro is the first word.
+-- The name of a macro is the first word, up to a NUL.
 abbrev pub macro_of : List ℕ → List ℕ → Option Line
-macro_of name text = option_and_then (λ found. macro_with found.0 text) (word_at name)
+macro_of name text = option_and_then (λ found. macro_with found.0 text) (word_at (before 0 name))
 
 -- The text after `[attr]`, if a text begins with it and has more.
 abbrev pub macro_name : List ℕ → Option (List ℕ)

@@ -12,6 +12,11 @@ abbrev pub normalized : List ℕ → List ℕ
 normalized [] = []
 normalized (b ∷ rest) = if b == 13 && begins_with_lf rest then normalized rest else (b ∷ normalized rest)
 
+-- A CR is directly before an LF.
+abbrev pub has_crlf : List ℕ → Bool
+has_crlf [] = false
+has_crlf (b ∷ rest) = (b == 13 && begins_with_lf rest) || has_crlf rest
+
 -- A CR has no LF after it.
 abbrev pub has_lone_cr : List ℕ → Bool
 has_lone_cr [] = false

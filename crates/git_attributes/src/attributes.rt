@@ -114,7 +114,7 @@ pub const BUILT_IN: Source<'static> = Source {
 };
 
 impl<'a> Attributes<'a> {
-    /// Returns no attributes.
+    /// Returns no attributes, not even git's own macro (`BUILT_IN`), which `attributes_of` reads first.
     pub fn new(alloc: Global) -> Attributes<'a>
         ensures { attributes_view result ≡ ([], []) }
     {

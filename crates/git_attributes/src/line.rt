@@ -106,11 +106,12 @@ fn rule_of<'a>(
     }
 }
 
-/// Returns the macro whose name is the first word of a text, and the text of its assignments. None if one of them isn't one.
+/// Returns the macro whose name is the first word of a text, up to a NUL, with the assignments of the other text. None if one
+/// of them isn't one.
 fn macro_of<'a>(alloc: Global, name: &[u8], text: &'a [u8]) -> Result<Option<Line<'a>>, AllocError>
     ensures { IfOk result (λ found. option_map line_view found ≡ macro_of name.now text.now) }
 {
-    let Some((name, _)) = word_of(name) else {
+    let Some((name, _)) = word_of(before(0, name)) else {
         return Ok(None);
     };
     if !is_name(name) {

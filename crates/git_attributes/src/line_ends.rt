@@ -3,18 +3,18 @@
 ghost use Rattle.std.specs.Prelude.{◌≡◌, ◌++◌, [], OnOk, IfOk, refl};
 ghost use Rattle.bstr.specs.BStr.{bstr_bytes};
 ghost use Rattle.status_index.specs.States.{index_of};
-ghost use Rattle.git_attributes.specs.LineEnds.{has_stored, is_kept, line_ends};
+ghost use Rattle.git_attributes.specs.LineEnds.{has_stored, is_kept, line_ends, stored};
 ghost use Rattle.git_attributes.specs.Views.{attributes_view};
 
 use crate::attributes::Attributes;
 use crate::normalization::{Normalization, normalization_of};
-use crate::text::{is_binary, push_normalized};
+use crate::text::{has_crlf, is_binary, push_normalized};
 use bstr::BStr;
 use status_base::worktree::{ToGit, ToGitOutcome};
 use status_index::{Fault, HashKind, ReadBytes, State, compute_hash, read_all};
 use std::alloc::AllocError;
 
-/// Converts the line ends of a worktree's files to those that git stores.
+/// Converts the line ends of a worktree's files as git does before it stores them.
 #[derive(Drop)]
 pub struct LineEnds<'a, 'files, 'index> {
     /// The attributes of the worktree's paths.
@@ -56,7 +56,28 @@ impl LineEnds<'_, '_, '_> {
         false
     }
 
-    /// Returns whether git stores a file's bytes as they are.
+    /// Changes a file's bytes to those that are stored.
+    ///
+    /// # Errors
+    /// Out of memory.
+    #[tactic(auto, using(crate::proofs::Auto::stored_unchanged))]
+    fn normalize(
+        &self,
+        how: Normalization,
+        bytes: &mut Vec<u8>,
+        path: &[u8],
+    ) -> Result<(), AllocError>
+        ensures { OnOk result (bytes.new.items ≡ stored how (has_stored self.now.kind (index_of self.now.index.now) bytes.old.items path.now) bytes.old.items) }
+    {
+        if !has_crlf(bytes) || self.is_kept(how, bytes, path) {
+            return Ok(());
+        }
+        let text = Vec::from_slice(*bytes.allocator(), bytes)?;
+        bytes.clear();
+        push_normalized(&text, bytes)
+    }
+
+    /// Returns whether a file's bytes are stored as they are.
     fn is_kept(&self, how: Normalization, bytes: &[u8], path: &[u8]) -> bool
         ensures { result ≡ is_kept how (has_stored self.now.kind (index_of self.now.index.now) bytes.now path.now) bytes.now }
     {
@@ -88,14 +109,9 @@ impl ToGit for LineEnds<'_, '_, '_> {
         if how == Normalization::Off {
             return Ok(ToGitOutcome::Unchanged(file));
         }
-        let mut bytes = Vec::new(alloc);
-        read_all(&mut file, &mut bytes)?;
         buffer.clear();
-        if self.is_kept(how, &bytes, path) {
-            buffer.extend_from_slice(&bytes)?;
-        } else {
-            push_normalized(&bytes, buffer)?;
-        }
+        read_all(&mut file, buffer)?;
+        self.normalize(how, buffer, path)?;
         Ok(ToGitOutcome::Buffer(buffer))
     }
 }

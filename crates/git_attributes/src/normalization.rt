@@ -15,7 +15,7 @@ pub enum Normalization {
     Off,
     /// As line feeds.
     On,
-    /// As line feeds, if the file's bytes are those of a text, and the index's file has no CRLF.
+    /// As line feeds, if the file's bytes are those of a text and aren't stored already.
     Auto,
 }
 

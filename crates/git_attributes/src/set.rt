@@ -91,6 +91,7 @@ fn is_in_item(item: Item, byte: u8) -> bool
     ensures { result ≡ is_in_item byte item }
 {
     match item {
+        // As in git, a range that goes down has its first byte.
         Item::Range(first, last) => byte == first || (first <= byte && byte <= last),
         Item::Class(class) => is_in_class(class, byte),
     }

@@ -1,7 +1,7 @@
 //! What git stores of a text: its line ends are line feeds.
 
 ghost use Rattle.std.specs.Prelude.{◌≡◌, ◌++◌, OnOk};
-ghost use Rattle.git_attributes.specs.Text.{begins_with_lf, eof_at_end, is_binary, is_nonprintable, is_printable, nonprintables, normalized};
+ghost use Rattle.git_attributes.specs.Text.{begins_with_lf, eof_at_end, has_crlf, is_binary, is_nonprintable, is_printable, nonprintables, normalized};
 
 use std::alloc::AllocError;
 
@@ -33,6 +33,20 @@ pub fn push_normalized(text: &[u8], stored: &mut Vec<u8>) -> Result<(), AllocErr
         rest = after;
     }
     Ok(())
+}
+
+/// Returns whether a CR is directly before an LF.
+pub(crate) fn has_crlf(bytes: &[u8]) -> bool
+    ensures { result ≡ has_crlf bytes.now }
+{
+    let mut rest = bytes;
+    'bytes: while let [byte, after @ ..] = rest {
+        if *byte == b'\r' && begins_with_lf(after) {
+            return true;
+        }
+        rest = after;
+    }
+    false
 }
 
 /// Returns whether git counts a byte as printable: backspace, tab, form feed, escape, and what is neither a control

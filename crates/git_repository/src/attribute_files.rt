@@ -49,7 +49,8 @@ impl<'a, R: Files + Env + AllocGlobal, W: Worktree> GitAttributeFiles<'a, R, W> 
             outer.push(String::from_str(alloc, "/etc/gitattributes")?)?;
         }
         if let Some(path) = user_file(rt, &repository.config)? {
-            outer.push(path)?;
+            // A relative path starts at the worktree's top.
+            outer.push(joined(alloc, repository.top.as_str(), path.as_str())?)?;
         }
         Ok(GitAttributeFiles {
             worktree,

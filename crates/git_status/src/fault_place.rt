@@ -93,6 +93,7 @@ where
     ) -> Option<Error> {
         let alloc = rt.alloc();
         let top = path.as_bytes();
+        // A conversion of line ends fails only if reading does, so none is made here.
         let context = Context {
             pathspec: Paths { tops: &[top] },
             filter: NoFilter,

@@ -4,6 +4,7 @@ use crate::dirty::Report;
 use bstr::{BStr, BString};
 use git_attributes::{Attributes, is_unconverted};
 use status_call::index_as_worktree::{Change, EntryStatus, Record};
+use status_index::Mode;
 use std::alloc::{AllocError, Global};
 use std::io;
 
@@ -17,7 +18,11 @@ pub(crate) fn unconverted_paths<T: Drop, U: Drop>(
     let mut paths = Vec::new(alloc);
     for record in records {
         let path = record.relative_path;
-        if is_modified(&record.status) && is_unconverted_at(alloc, attributes, path).ok()? {
+        let is_file = record.entry.mode != Mode::Symlink;
+        if is_file
+            && is_modified(&record.status)
+            && is_unconverted_at(alloc, attributes, path).ok()?
+        {
             paths
                 .push(BString::from_slice(alloc, path.as_bytes()).ok()?)
                 .ok()?;

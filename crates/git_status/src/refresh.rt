@@ -51,7 +51,7 @@ pub struct Found {
     pub changes: Vec<ApplyChange>,
 }
 
-/// Does what `run_dirty` does, and returns the new bytes of the index file: of each unchanged entry with an old stat the
+/// Does what `run_dirty` does, without notes, and returns the new bytes of the index file: of each unchanged entry with an old stat the
 /// new one is stored, and of each changed entry whose stat would hide that, size 0. Version and extensions stay. The
 /// caller replaces the file, if it still has the bytes that were passed.
 #[tactic(auto, unfolding(crate::specs::Refreshes::IsRefresh))]
