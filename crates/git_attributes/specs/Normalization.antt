@@ -34,7 +34,7 @@ is_asked Set = true
 is_asked (Text text) = true
 is_asked state = false
 
--- A conversion that isn't made here is asked for.
+-- `filter`, `ident` or `working-tree-encoding` is set or has a text.
 abbrev pub is_unconverted : List Given → Bool
 is_unconverted known =
     is_asked (state_in (codes "filter") known) || (is_asked (state_in (codes "ident") known) || is_asked (state_in (codes "working-tree-encoding") known))
