@@ -5,4 +5,5 @@ mod Items
 mod Matching
 mod Leaving
 mod Lines
+mod Tables
 pub mod Sent

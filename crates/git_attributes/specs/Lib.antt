@@ -8,6 +8,7 @@ pub mod Patterns
 pub mod Quoted
 pub mod Sets
 pub mod States
+pub mod Tables
 pub mod Text
 pub mod Views
 pub mod Wildmatch

@@ -9,7 +9,7 @@ ghost use Rattle.git_attributes.specs.Views.{attributes_view, given_of, line_vie
 use crate::assignment::Assignment;
 use crate::given::give;
 use crate::line::{Line, Macro, Rule, line_of};
-use crate::piece::matches;
+use crate::table::matches;
 use crate::words::first_at;
 use std::alloc::{AllocError, Global};
 
@@ -55,13 +55,13 @@ fn below<'p>(folder: &[u8], path: &'p [u8]) -> Option<&'p [u8]>
 }
 
 /// Returns whether a rule is for a path.
-fn is_for(rule: &Rule<'_>, path: &[u8]) -> bool
-    ensures { result ≡ is_for (rule_view rule.now) path.now }
+fn is_for(alloc: Global, rule: &Rule<'_>, path: &[u8]) -> Result<bool, AllocError>
+    ensures { IfOk result (λ it. it ≡ is_for (rule_view rule.now) path.now) }
 {
     match below(rule.folder, path) {
-        Some(rest) if rule.by_name => matches(&rule.pieces, name_of(rest)),
-        Some(rest) => matches(&rule.pieces, rest),
-        None => false,
+        Some(rest) if rule.by_name => matches(alloc, &rule.pieces, name_of(rest)),
+        Some(rest) => matches(alloc, &rule.pieces, rest),
+        None => Ok(false),
     }
 }
 
@@ -165,7 +165,7 @@ impl<'a> Attributes<'a> {
         'rules: while at > 0 {
             at -= 1;
             let rule = &self.rules[at];
-            if is_for(rule, path) {
+            if is_for(alloc, rule, path)? {
                 give(&self.macros, self.macros.len(), &rule.given, &mut known)?;
             }
         }

@@ -3,7 +3,8 @@
 //! Begin at `line_ends`, the filter, which converts a file by its `normalization` with `text`. `attributes` has the states
 //! that `files` give to a path's attributes: it reads their lines (`line`), which have a pattern or a macro, and assignments
 //! (`assignment`), between blanks (`words`) or in quotes (`quoted`). `given` has the states that assignments give. `pattern`
-//! reads a pattern's pieces (`piece`) and sets of bytes (`set`). `laws` compares this with git's rule.
+//! reads a pattern's pieces (`piece`) and sets of bytes (`set`), and `table` compares paths with them. `laws` compares this
+//! with git's rule.
 #![tactic(auto)]
 
 pub mod assignment;
@@ -18,6 +19,7 @@ mod pattern;
 mod piece;
 mod quoted;
 mod set;
+mod table;
 pub mod text;
 mod words;
 

@@ -1,7 +1,7 @@
 //! Patterns as pieces, and which paths match them.
 
-ghost use Rattle.std.specs.Prelude.{◌≡◌, ◌↔◌, IsTrue, map};
-ghost use Rattle.git_attributes.specs.Wildmatch.{Matches, is_match};
+ghost use Rattle.std.specs.Prelude.{◌≡◌, map};
+ghost use Rattle.git_attributes.specs.Wildmatch.{is_match};
 ghost use Rattle.git_attributes.specs.Views.{part_of};
 
 use crate::set::{Item, is_in_set};
@@ -24,7 +24,7 @@ pub(crate) enum Piece {
 }
 
 /// Returns whether a path matches the pieces, one after the other.
-fn is_match(pieces: &[Piece], path: &[u8]) -> bool
+pub(crate) fn is_match(pieces: &[Piece], path: &[u8]) -> bool
     ensures { result ≡ is_match (map part_of pieces.now) path.now }
 {
     match pieces {
@@ -69,13 +69,4 @@ fn is_match(pieces: &[Piece], path: &[u8]) -> bool
                 }
         }
     }
-}
-
-/// Returns whether a path matches a pattern of these pieces.
-#[tactic(auto, using(crate::proofs::Matching::is_match_Matches))]
-pub(crate) fn matches(pieces: &[Piece], path: &[u8]) -> bool
-    ensures test { result ≡ is_match (map part_of pieces.now) path.now }
-    ensures matches { IsTrue result ↔ Matches (map part_of pieces.now) path.now }
-{
-    is_match(pieces, path)
 }

@@ -11,7 +11,7 @@ type Row = (
     &'static [&'static str],
 );
 
-static ROWS: [Row; 56] = [
+static ROWS: [Row; 65] = [
     ("a", &["a", "d/a"], &["b", "a/b", "aa"]),
     ("*.c", &["x.c", ".c", "d/x.c"], &["x.cc", "x/c"]),
     ("/a", &["a"], &["d/a"]),
@@ -63,6 +63,47 @@ static ROWS: [Row; 56] = [
     ("***/a", &["a", "d/a", "d/e/a"], &[]),
     ("*/a", &["d/a"], &["d/e/a", "a"]),
     ("*a*b*c", &["abc", "xaybzc"], &["acb"]),
+    (
+        "*a*a*a*a*b",
+        &[
+            "aaaab",
+            "xaxaxaxaxb",
+            "aaaaaaaaaaaaaaaaaaaaaaaaaaaaaaaaaaaaaaaaaaaaaaaaaaaaaaaaaaaab",
+        ],
+        &[
+            "aaab",
+            "aaaa/b",
+            "aaaaaaaaaaaaaaaaaaaaaaaaaaaaaaaaaaaaaaaaaaaaaaaaaaaaaaaaaaaa",
+        ],
+    ),
+    (
+        "**/*a*/*b*",
+        &["a/b", "x/a/b", "x/y/zaz/zbz"],
+        &["a/x/b", "b/a", "ab"],
+    ),
+    (
+        "**/a/**/*b*",
+        &["a/b", "x/a/y/z/bb", "a/x/b"],
+        &["x/b", "xa/b", "a/bx/c", "a"],
+    ),
+    (
+        "a*/**/b*/**",
+        &["a/b/c", "ax/y/bx/c", "ax/b/c/d"],
+        &["a/b", "xa/b/c", "a/x/b"],
+    ),
+    (
+        "*[!a]*?*[ab]*",
+        &["xxa", "bab", "xyzb"],
+        &["aaaa", "xa", "aab", "xxc"],
+    ),
+    ("**/**/*x", &["x", "a/x", "a/b/cx"], &["xa", "a/xb"]),
+    ("*/**/*", &["a/b", "a/b/c", "a/b/c/d"], &["a"]),
+    ("**/a/**", &["a/b", "x/a/b", "a/b/c"], &["a", "x/a", "xa/b"]),
+    (
+        "*a*/**/**/b",
+        &["a/b", "xax/y/b", "a/x/y/b"],
+        &["ab", "b/a/b", "a/xb"],
+    ),
     ("d?a", &["dxa"], &["d/a"]),
     ("!a", &[], &["a", "!a"]),
     ("\\!a", &["!a"], &["a"]),
