@@ -4,6 +4,7 @@ import os
 import resource
 import shutil
 import signal
+import stat
 import subprocess
 import sys
 import tempfile
@@ -42,6 +43,21 @@ def run_tool(tool, *words, stdout=subprocess.PIPE, folder=None, **settings):
     command = [sys.executable, os.path.join(HERE, tool), *words]
     environment = {**os.environ, "PYTHONUNBUFFERED": "", **settings}
     return subprocess.run(command, stdout=stdout, stderr=subprocess.PIPE, env=environment, timeout=60, cwd=folder)
+
+
+def kept(top):
+    """Returns the content and the time of each file of a folder."""
+    found = {}
+    for folder, _, names in os.walk(top):
+        for name in names:
+            path = os.path.join(folder, name)
+            node = os.lstat(path)
+            content = None
+            if stat.S_ISREG(node.st_mode):
+                with open(path, "rb") as file:
+                    content = file.read()
+            found[path] = (node.st_mtime_ns, node.st_ino, content)
+    return found
 
 
 class Ends(unittest.TestCase):

@@ -11,7 +11,6 @@ import shutil
 import socket
 import struct
 import subprocess
-import tempfile
 import time
 import unittest
 from unittest import mock
@@ -19,11 +18,14 @@ from unittest import mock
 import listed_entries
 import profile_from_git as tool
 import unseen
-from cases import FOO, PROGRAM, Case, run_tool
+from cases import FOO, PROGRAM, Case, kept, run_tool
+from draw_folders import Drawn
 from repository import Repository, quoted
 
-# git's letters for the program's words, or None if git prints no line.
-LETTERS = {"removed": "D", "modified": "M", "type": "T", "intent": "A", "update": None}
+# git's columns for the program's words, or None if git prints no line. Only a conflict has the first column.
+COLUMNS = {"removed": " D", "modified": " M", "type": " T", "intent": " A", "update": None}
+CONFLICTS = {"both-deleted": "DD", "added-by-us": "AU", "deleted-by-them": "UD", "added-by-them": "UA"}
+CONFLICTS |= {"deleted-by-us": "DU", "both-added": "AA", "both-modified": "UU"}
 
 
 def profile_of(folder, counts=False):
@@ -62,6 +64,16 @@ class Profiles(Case):
         self.assertEqual(profile["options"], wanted)
         self.git("config", "core.symlinks", "false")
         self.assertEqual(profile_of(self.top, True)[0]["options"], {**wanted, "symlink": False, "counts": True})
+
+    def test_any_folder_of_the_worktree_is_taken(self):
+        self.write("d/e/a", "foo")
+        self.git("add", ".")
+        os.symlink("d", self.path("link"))
+        printed = run_tool("profile_from_git.py", self.top).stdout
+        inside = self.path("d/e")
+        for folder, words in ((inside, []), (inside, ["../.."]), (self.room, ["top/d"]), ("/", [self.path("link")])):
+            ran = run_tool("profile_from_git.py", *words, folder=folder)
+            self.assertEqual((ran.stdout, ran.returncode), (printed, 0), (folder, words))
 
     def test_flags_stages_and_names_are_kept(self):
         odd = "d/tab\tline\n\"é\x01"
@@ -219,6 +231,38 @@ class Unseen(Case):
         self.assertIsNone(unseen.node_at(os.fsencode(self.top), b"d/a", {}))
         self.assertIsNotNone(unseen.node_at(os.fsencode(self.top), b"e/a", {}))
 
+    def test_nodes_that_are_as_stored_or_settled_by_the_program_are_passed_over(self):
+        names = ["a", "d/b", "d/e/c"]
+        for name in names:
+            self.write(name, "foo")
+        os.chmod(self.path("a"), 0o755)
+        self.git("add", ".")
+        self.write("intended", "foo")
+        self.git("add", "-N", "intended")
+        os.symlink("a", self.path("link"))
+        self.git("add", "link")
+        self.git("update-index", "--add", "--cacheinfo", f"160000,{FOO},sub")
+        self.assertEqual(self.changed(), [])
+        os.utime(self.path("a"), (5, 5))
+        self.write("d/b", "longer")
+        os.utime(self.path("d/b"), (6, 6))
+        self.assertEqual(self.changed(), [])
+        # Another mode, another inode with the time put back, and a time that the program can't read.
+        os.chmod(self.path("a"), 0o644)
+        found = os.stat(self.path("d/e/c"))
+        self.write("c", "foo")
+        os.rename(self.path("c"), self.path("d/e/c"))
+        os.utime(self.path("d/e/c"), ns=(found.st_mtime_ns, found.st_mtime_ns))
+        os.utime(self.path("d/b"), (-6, -6))
+        self.assertEqual(self.changed(), ["a", "d/b", "d/e/c"])
+
+    def changed(self):
+        """Returns the paths whose nodes may differ unseen. Each link is one of them, since its target may be unreadable."""
+        found = unseen.changed_nodes(os.fsencode(self.top), tool.Profile(Repository(self.top)).entries)
+        paths = [path.decode() for path, _, _ in found]
+        paths.remove("link")
+        return paths
+
     def test_paths_are_quoted_as_git_quotes_them(self):
         names = [bytes([byte]) + b"x" for byte in range(1, 256) if byte != ord("/")] + [b"plain", "é x".encode()]
         lines = b"".join(b"100644 " + FOO.encode() + b" 0\t" + name + b"\0" for name in names)
@@ -243,6 +287,8 @@ class Refusals(Case):
 
     def test_a_folder_that_is_not_there_is_refused(self):
         self.refused("gone is no folder", self.path("gone"))
+        self.refused(".git/config is no folder", self.path(".git/config"))
+        self.refused("must be run in a work tree", self.path(".git"))
         self.git("config", "core.worktree", self.path("gone"))
         self.refused("gone", self.top)
 
@@ -279,36 +325,192 @@ class Refusals(Case):
 
 
 @unittest.skipUnless(PROGRAM, "no built program")
-class Comparison(Case):
+class Comparison(Drawn):
+    """Compares what the program prints of a repository's profile with git's lines."""
+
     def lines(self):
         """Returns the lines that the program prints."""
-        profile, _ = profile_of(self.top)
-        with tempfile.NamedTemporaryFile("w", suffix=".json") as file:
-            json.dump(profile, file)
-            file.flush()
-            # Opening a pipe would never return.
-            ran = subprocess.run([PROGRAM, "status", file.name], capture_output=True, text=True, timeout=30)
-        self.assertEqual((ran.returncode, ran.stderr), (0, ""))
-        return ran.stdout.split("\n")[:-1]
+        profile = run_tool("profile_from_git.py", self.top)
+        self.assertEqual(profile.returncode, 0, profile.stderr)
+        # Opening a pipe of the folder would never return.
+        command = [PROGRAM, "status", "/dev/stdin"]
+        ran = subprocess.run(command, input=profile.stdout, capture_output=True, timeout=30)
+        self.assertEqual((ran.returncode, ran.stderr), (0, b""))
+        return ran.stdout.decode().split("\n")[:-1]
 
     def program(self):
-        """Returns the program's report of each path: a letter as git's, or that there is a conflict."""
+        """Returns the program's report of each path as git's columns."""
         reported = {}
         for line in self.lines():
-            words = line.split(" ")
-            path = json.loads(line[line.index('"') :])
-            reported[path] = "conflict" if words[1] == "conflict" else LETTERS[words[1]]
-        return {path: letter for path, letter in reported.items() if letter}
+            words, path = line.split(" "), json.loads(line[line.index('"') :])
+            reported[path] = CONFLICTS[words[2]] if words[1] == "conflict" else COLUMNS[words[1]]
+        return {path: columns for path, columns in reported.items() if columns}
 
     def git_reports(self):
-        """Returns git's report of each path, in the same words."""
+        """Returns git's columns of each path. The first is a space unless there is a conflict."""
         reported = {}
         ran = subprocess.run([*tool.comparable(self.top), "-z"], capture_output=True, check=True)
         for line in ran.stdout.decode().split("\0")[:-1]:
-            pair, path = line[:2], line[3:]
-            conflict = "U" in pair or pair in ("AA", "DD")
-            reported[path] = "conflict" if conflict else pair[1]
-        return {path: letter for path, letter in reported.items() if letter != " "}
+            columns, path = line[:2], line[3:]
+            reported[path] = columns if columns in CONFLICTS.values() else " " + columns[1]
+        return {path: columns for path, columns in reported.items() if columns != "  "}
+
+    def assert_as_git(self):
+        """Asserts that the program reports what git reports. Returns that."""
+        reported = self.program()
+        self.assertEqual(reported, self.git_reports())
+        return reported
+
+    def test_drawn_repositories_are_reported_as_by_git(self):
+        columns = set()
+        for seed in range(6):
+            for kind in ("sha1", "sha256"):
+                with self.subTest(seed=seed, kind=kind):
+                    self.draw(seed, kind)
+                    columns.update(self.assert_as_git().values())
+        self.assertEqual(columns, {" M", " D", " T", " A", *CONFLICTS.values()})
+
+    def test_a_clean_repository_has_no_line(self):
+        self.write("a", "foo")
+        self.assertEqual(self.lines(), [])
+        self.git("add", "a")
+        os.utime(self.path("a"), (5, 5))
+        self.git("update-index", "--refresh")
+        self.assertEqual(self.lines(), [])
+        os.utime(self.path("a"), (6, 6))
+        self.assertEqual((self.lines(), self.assert_as_git()), (['0 update "a"'], {}))
+
+    def test_a_sparse_checkout_is_reported_as_by_git(self):
+        for name in ("in/a", "in/b", "out/a", "out/d/b", "top"):
+            self.write(name, "foo")
+        self.git("add", ".")
+        self.git("commit", "-q", "-m", "all")
+        self.git("sparse-checkout", "set", "--cone", "--sparse-index", "in")
+        self.assertFalse(os.path.exists(self.path("out")))
+        self.assertEqual(self.assert_as_git(), {})
+        self.write("in/a", "bars")
+        self.write("out/a", "bars")
+        os.remove(self.path("top"))
+        self.assertEqual(self.assert_as_git(), {"in/a": " M", "out/a": " M", "top": " D"})
+
+    def test_a_split_index_is_reported_as_by_git(self):
+        for name in ("a", "b", "c"):
+            self.write(name, "foo")
+        self.git("add", ".")
+        self.git("update-index", "--split-index")
+        self.git("rm", "-q", "--cached", "b")
+        self.write("d", "foo")
+        self.git("add", "d")
+        for name in ("a", "d"):
+            self.write(name, "bars")
+        self.assertEqual(self.assert_as_git(), {"a": " M", "d": " M"})
+
+    def test_a_linked_worktree_is_reported_as_by_git(self):
+        for name in ("a", "b"):
+            self.write(name, "foo")
+        self.git("add", ".")
+        self.git("commit", "-q", "-m", "all")
+        self.git("worktree", "add", "-q", "--detach", os.path.join(self.room, "linked"))
+        self.write("b", "bars")
+        self.top = os.path.join(self.room, "linked")
+        self.assertEqual(self.assert_as_git(), {})
+        os.remove(self.path("a"))
+        self.assertEqual(self.assert_as_git(), {"a": " D"})
+
+    def test_submodules_are_entries(self):
+        names = ["as it is", "gone", "a file", "empty"]
+        for name in names:
+            self.git("init", "-q", name)
+            self.git("-C", name, "commit", "-q", "--allow-empty", "-m", "one")
+        self.git("add", *names)
+        for name in names[1:]:
+            shutil.rmtree(self.path(name))
+        self.write("a file", "foo")
+        os.mkdir(self.path("empty"))
+        wanted = {"gone": " D", "a file": " T"}
+        self.assertEqual(self.assert_as_git(), wanted)
+        # The head of a submodule isn't compared.
+        self.git("-C", "as it is", "commit", "-q", "--allow-empty", "-m", "two")
+        self.assertEqual((self.program(), self.git_reports()), (wanted, {**wanted, "as it is": " M"}))
+
+    def test_settings_of_the_repository_change_no_report(self):
+        self.draw(99, "sha1")
+        wanted = self.assert_as_git()
+        values = {"core.quotePath": "false", "core.fsmonitor": "/bin/false", "status.branch": "true"}
+        values |= {"status.short": "true", "status.renames": "copies", "status.relativePaths": "true"}
+        values |= {"status.showUntrackedFiles": "all"}
+        for name, value in values.items():
+            self.git("config", name, value)
+        self.assertEqual(self.assert_as_git(), wanted)
+        self.top = self.path("p")
+        os.makedirs(self.top, exist_ok=True)
+        self.assertEqual(self.assert_as_git(), wanted)
+
+    def test_files_in_place_of_links_are_reported_as_by_git(self):
+        self.git("config", "core.symlinks", "false")
+        blob = self.git("hash-object", "-w", "--stdin", stdin=b"foo").decode().strip()
+        for name, content in (("a", "foo"), ("b", "bar")):
+            self.git("update-index", "--add", "--cacheinfo", f"120000,{blob},{name}")
+            self.write(name, content)
+        self.assertEqual(self.assert_as_git(), {"b": " M"})
+
+    def test_a_moved_file_that_is_to_be_added_is_two_reports(self):
+        self.write("a", "foo")
+        self.git("add", "a")
+        self.git("commit", "-q", "-m", "all")
+        os.rename(self.path("a"), self.path("b"))
+        self.git("add", "-N", "b")
+        # By default git pairs them.
+        self.assertEqual(self.git("status", "--porcelain", "-uno"), b" R a -> b\n")
+        self.assertEqual(self.assert_as_git(), {"a": " D", "b": " A"})
+
+    def test_a_repository_in_place_of_a_file_is_a_removal(self):
+        for name in ("a", "b", "c"):
+            self.write(name, "foo")
+        self.git("add", "a", "b")
+        self.git("add", "-N", "c")
+        for name in ("a", "b", "c"):
+            os.remove(self.path(name))
+            self.git("init", "-q", name)
+        for name in ("a", "c"):
+            self.git("-C", name, "commit", "-q", "--allow-empty", "-m", "one")
+        self.assertEqual(self.git_reports(), {"a": " T", "b": " D", "c": " A"})
+        self.assertEqual(self.program(), {"a": " D", "b": " D", "c": " D"})
+
+    def test_conversions_hide_changes_and_show_others(self):
+        self.write("a", "foo\r\n")
+        self.write("b", "foo\n")
+        self.git("add", "a", "b")
+        self.git("config", "filter.f.clean", "tr f g")
+        self.write(".git/info/attributes", "a text\nb filter=f\n")
+        for name in ("a", "b"):
+            os.utime(self.path(name), (5, 5))
+        # The bytes are as staged, and git would store others.
+        self.assertEqual((self.program(), self.git_reports()), ({}, {"a": " M", "b": " M"}))
+        self.git("add", "a", "b")
+        for name in ("a", "b"):
+            os.utime(self.path(name), (6, 6))
+        self.assertEqual((self.program(), self.git_reports()), ({"a": " M", "b": " M"}, {}))
+
+    def test_what_would_end_the_status_is_left_out(self):
+        for name in ("a", "old"):
+            self.write(name, "foo")
+        os.symlink(b"\xff", self.path("odd"))
+        os.utime(self.path("old"), (-5, -5))
+        self.git("add", ".")
+        for name in ("a", "odd"):
+            os.remove(self.path(name))
+        os.symlink(b"\xfe", self.path("odd"))
+        self.assertEqual((self.program(), self.git_reports()), ({"a": " D"}, {"a": " D", "odd": " M"}))
+        said = run_tool("profile_from_git.py", self.top).stderr
+        for name, why in (("odd", "the link's target isn't UTF-8"), ("old", "its time is before 1970, or after 32-bit seconds")):
+            self.assertIn(f"note: left out, since {why}: {name}\n".encode(), said)
+
+    def test_nothing_of_the_repository_is_written(self):
+        self.draw(7, "sha1")
+        before = kept(self.top)
+        self.lines()
+        self.assertEqual(kept(self.top), before)
 
     def test_the_program_reports_what_git_reports(self):
         names = ["clean", "touched", "changed", "shrunk", "same-size", "removed", "d/e/gone", "becomes-link", "a b"]
@@ -338,8 +540,7 @@ class Comparison(Case):
         os.symlink("d", self.path("relinked"))
         shutil.rmtree(self.path("folder-link"))
         os.symlink("d", self.path("folder-link"))
-        reported = self.program()
-        self.assertEqual(reported, self.git_reports())
+        reported = self.assert_as_git()
         self.assertNotIn("touched", reported)
         self.assertEqual(len(reported), 14)
 
@@ -367,7 +568,7 @@ class Comparison(Case):
         os.utime(self.path("a"), (now, now))
         os.utime(self.path(".git/index"), (now, now))
         self.assertEqual(self.lines(), ['0 modified -cs "a"'])
-        self.assertEqual(self.git_reports(), {"a": "M"})
+        self.assertEqual(self.git_reports(), {"a": " M"})
 
 
 if __name__ == "__main__":

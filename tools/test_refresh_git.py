@@ -22,9 +22,10 @@ from unittest import mock
 
 import index_file
 import refresh_git as tool
-from cases import FOO, PROGRAM, may_read_all, run_tool
+from cases import FOO, PROGRAM, kept, may_read_all, run_tool
+from draw_folders import FOLDERS, NAMES, Drawn
+from profile_from_git import comparable
 from shared import how_to_build
-from test_status import FOLDERS, NAMES, Drawn, git_lines, kept
 
 THEN = 1_600_000_000
 # A run of the tool with hooks before or after calls: of `os`, or the `write` of its line.
@@ -200,7 +201,8 @@ class Stored(Refreshes):
 
     def told(self):
         """Returns git's status under its own settings, and under those by which it compares what the program compares."""
-        return self.git("--no-optional-locks", "status", "--porcelain", "-uno"), git_lines(self)
+        compared = subprocess.run(comparable(self.top), capture_output=True, check=True).stdout
+        return self.git("--no-optional-locks", "status", "--porcelain", "-uno"), compared
 
     def test_git_reads_what_is_not_refreshed(self):
         self.stage("a", "b", "c")
@@ -544,10 +546,22 @@ class Faults(Refreshes):
         self.put_index(index)
 
     def test_a_program_that_is_not_built_or_cannot_be_run_is_refused(self):
-        self.refused(f"build it by {how_to_build()}", program=self.path("none"))
+        self.refused(f"build it by {how_to_build()}", program=self.path("text"))
         self.write("text", "foo")
+        self.refused(f"build it by {how_to_build()}", program=self.path("text"))
         os.chmod(self.path("text"), 0o755)
         self.refused("can't be run", program=self.path("text"))
+
+    def test_the_command_that_builds_the_program_is_right_in_any_folder(self):
+        words = shlex.split(how_to_build().strip("()"))
+        self.assertEqual((words[0], words[2:5]), ("cd", ["&&", "rt", "run"]))
+        self.assertTrue(os.path.isfile(os.path.join(words[1], "src", "main.rt")))
+
+    def test_a_program_is_named_from_the_folder_in_which_the_tool_runs(self):
+        self.updates()
+        for words, settings in ((["--program", "../program"], {"STATUS_PROGRAM": "/none"}), ([], {"STATUS_PROGRAM": "../program"})):
+            ran = run_tool("refresh_git.py", "--dry-run", *words, folder=self.top, **settings)
+            self.assertEqual((ran.returncode, ran.stdout), (0, b"refreshed 1 entry, 0 to be compared again\n"), ran.stderr)
 
     def test_a_program_that_fails_is_refused_with_its_line(self):
         program = self.program("echo '0 removed \"a\"'", "echo 'status failed: other 0' >&2", "exit 1")
@@ -605,6 +619,22 @@ class Faults(Refreshes):
         self.await_that(lambda: not os.path.exists(lock))
         os.read(reader, 1 << 20)
         self.assertEqual(ran.wait(20), 130)
+        self.assertEqual(kept(self.top), before)
+
+    def test_an_interrupt_ends_the_program_too(self):
+        before, pipe = kept(self.top), os.path.join(self.room, "pipe")
+        os.mkfifo(pipe)
+        command = [sys.executable, tool.__file__, self.top, "--program", self.program(f"echo $$ > {pipe}", "exec sleep 60")]
+        ran = subprocess.Popen(command, stdout=subprocess.PIPE, stderr=subprocess.PIPE)
+        self.addCleanup(ran.wait)
+        self.addCleanup(ran.kill)
+        with open(pipe, encoding="ascii") as reader:
+            process = int(reader.readline())
+        self.await_that(lambda: state_of(ran.pid) == "S")
+        ran.send_signal(signal.SIGINT)
+        self.assertEqual((ran.communicate(timeout=20), ran.returncode), ((b"", b""), 130))
+        # An ended process that nobody waits for still exists, as a zombie.
+        self.assertIn(state_of(process), (None, "Z"))
         self.assertEqual(kept(self.top), before)
 
     def ended_by(self, hooks):
@@ -683,6 +713,15 @@ class Faults(Refreshes):
         while not holds():
             self.assertLess(time.monotonic(), began + 20)
             time.sleep(0.01)
+
+
+def state_of(process):
+    """Returns the letter of a process's state, such as S if it waits, or None if it is gone."""
+    try:
+        with open(f"/proc/{process}/stat", encoding="utf-8") as file:
+            return file.read().rpartition(") ")[2][0]
+    except (FileNotFoundError, ProcessLookupError):
+        return None
 
 
 def fill(pipe):
