@@ -40,9 +40,6 @@ class Entries:
     def __iter__(self):
         return zip(self.paths, self.records)
 
-    def __str__(self):
-        return "1 entry" if len(self.paths) == 1 else f"{len(self.paths)} entries"
-
     def in_parts(self, length):
         """Yields the entries, so many at a time."""
         for at in range(0, len(self.paths), length):

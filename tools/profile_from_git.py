@@ -26,7 +26,9 @@ submodules, and the kinds of files for which git has no mode. An entry whose nod
 whole status, so it is left out. Notes name these cases (unseen.py).
 """
 
+import argparse
 import os
+import shlex
 import sys
 
 from index_entries import (
@@ -145,10 +147,6 @@ def comparable(folder):
 
 
 def main():
-    # status.py imports this module too, and needs neither.
-    import argparse
-    import shlex
-
     description = "Prints the profile of a git repository's index, over its real folder."
     parser = argparse.ArgumentParser(description=description)
     parser.add_argument("--counts", action="store_true", help="have the program print its total line too")

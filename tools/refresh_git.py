@@ -24,7 +24,7 @@ it: by index.lock, which replaces the index (index_file.py). Nothing but stats a
 
 One line says how many entries git trusts from now on, and how many other files it has to read again, of entries that are
 as staged or have the size 0. --dry-run prints it and writes nothing. Notes on standard error say what the program
-doesn't see in the folder, as for status.py.
+doesn't see in the folder, as for profile_from_git.py.
 
 The exit status is 0. It is 2 if the tool can't do its work, with one line on standard error. Then the index is unchanged,
 also if it is split, locked, broken, or written meanwhile, or if the program fails. The exit status is 130 if SIGINT,
@@ -43,10 +43,10 @@ import time
 import index_file
 from processes import Running, fault_of
 from profile_from_git import Profile
-from repository import Repository, git
+from repository import Repository
 from shared import Refused, end, program_of, say
 from signals import end_by_signals
-from unseen import conversions_in, is_passed_over, node_at, unseen_of
+from unseen import conversions, is_passed_over, node_at, unseen_of
 
 UPDATED, SMUDGED = "update", "size 0"
 # A line of the program: the entry's index position, its record with the letters of a change, and its path.
@@ -118,8 +118,7 @@ def converted(top, paths):
     If git itself decides which files are texts (`text=auto`, core.autocrlf), it keeps line ends that the blob has.
     """
     found, of_lines, by_itself = set(), set(), set()
-    asked = b"".join(path + b"\0" for path in paths)
-    for path, name, value in conversions_in(git(top, "check-attr", "-z", "--all", "--stdin", stdin=asked)):
+    for path, name, value in conversions(top, b"\0".join(paths)):
         if (name, value) == (b"text", b"auto"):
             by_itself.add(path)
         else:

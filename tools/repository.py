@@ -12,15 +12,15 @@ ESCAPED = [bytes([byte]) if byte == 0x20 or byte in PLAIN else b"\\%03o" % byte 
 for byte, letter in zip(b'\a\b\t\n\v\f\r"\\', b'abtnvfr"\\'):
     ESCAPED[byte] = b"\\%c" % letter
 # The settings that the tools ask for, and their defaults.
-DEFAULTS = {"core.symlinks": True, "core.filemode": True, "core.autocrlf": False, "core.ignorecase": False}
+DEFAULTS = {"core.symlinks": True, "core.filemode": True, "core.autocrlf": False}
 # The words for true and false in settings. git also takes numbers.
 TRUTH = {b"true": True, b"yes": True, b"on": True, b"1": True}
 TRUTH |= {b"false": False, b"no": False, b"off": False, b"0": False, b"": False}
 
 
-def start_git(folder, *words, settings=(), stdin=b""):
-    """Starts git in a folder, under settings. It runs while the tool does something else."""
-    command = ["git", "--no-optional-locks", "-C", folder, "-c", "core.fsmonitor=false", *settings, *words]
+def start_git(folder, *words, stdin=b""):
+    """Starts git in a folder. It runs while the tool does something else."""
+    command = ["git", "--no-optional-locks", "-C", folder, "-c", "core.fsmonitor=false", *words]
     try:
         return Running(command, [stdin])
     except FileNotFoundError:
@@ -36,10 +36,10 @@ def printed_by(running, word, also=()):
     return printed
 
 
-def git(folder, *words, settings=(), stdin=b"", also=()):
-    """Runs git in a folder, under settings. Returns what it prints. `also` is as for `printed_by`."""
-    with start_git(folder, *words, settings=settings, stdin=stdin) as running:
-        return printed_by(running, words[0], also)
+def git(folder, *words, stdin=b""):
+    """Runs git in a folder. Returns what it prints."""
+    with start_git(folder, *words, stdin=stdin) as running:
+        return printed_by(running, words[0])
 
 
 def line_of(folder, *words):

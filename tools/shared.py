@@ -1,9 +1,7 @@
-"""Code that the tools share: the path of the built program, refusals, and how a tool ends.
-
-A tool imports few modules before it knows that it needs them: most take as long as git's status of 2,000 files.
-"""
+"""Code that the tools share: the path of the built program, refusals, and how a tool ends."""
 
 import os
+import shlex
 import sys
 
 TOP = os.path.dirname(os.path.dirname(os.path.abspath(__file__)))
@@ -27,8 +25,6 @@ def program_of(named=None):
 
 def how_to_build():
     """Returns the command that builds the program of this checkout, from any folder."""
-    import shlex
-
     return f"(cd {shlex.quote(CRATE)} && {BUILD})"
 
 
@@ -41,8 +37,8 @@ def say(line):
         pass
 
 
-def end(main, fault, leave=sys.exit):
-    """Ends the process by `leave`, with the status that `main` returns. A failure is one line, and the status `fault`."""
+def end(main, fault):
+    """Ends the process with the status that `main` returns. A failure is one line, and the status `fault`."""
     try:
         if sys.stdout is None:
             raise Refused("standard output is closed")
@@ -57,7 +53,7 @@ def end(main, fault, leave=sys.exit):
     except KeyboardInterrupt:
         status = 130
     forget_output()
-    leave(status)
+    sys.exit(status)
 
 
 def status_of(main):

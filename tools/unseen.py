@@ -3,23 +3,9 @@
 import os
 import stat
 
-from index_entries import (
-    ASSUME_VALID,
-    BITS,
-    FSMONITOR_VALID,
-    INTENT_TO_ADD,
-    LENGTH,
-    MODE,
-    SKIP_WORKTREE,
-    STAGES,
-    UP_TO_DATE,
-)
-from repository import printed_by, quoted, start_git
+from index_entries import ASSUME_VALID, BITS, FSMONITOR_VALID, INTENT_TO_ADD, MODE, SKIP_WORKTREE, STAGES, UP_TO_DATE
+from repository import git, quoted
 
-# How git lists the paths whose nodes have another stat than their entries, in any part.
-ALL_COUNTS = ["-c", "core.trustctime=true", "-c", "core.checkStat=default", "-c", "core.fileMode=true"]
-CHANGED = ["diff-files", "-z", "--name-only", "--no-renames", "--ignore-submodules=all"]
-ATTRIBUTES = ["check-attr", "-z", "--all", "--stdin"]
 CONVERSIONS = {b"text", b"eol", b"crlf", b"filter", b"ident", b"working-tree-encoding"}
 # The bits of an entry with which no node is compared.
 PASSED_OVER = STAGES | UP_TO_DATE | SKIP_WORKTREE | ASSUME_VALID | FSMONITOR_VALID
@@ -60,51 +46,20 @@ def files(count):
     return f"{count} file" + "s" * (count != 1)
 
 
-def start_changed(repository):
-    """Starts git, which lists the paths of changed nodes. It runs while the tool does something else."""
-    return start_git(repository.top, *CHANGED, settings=ALL_COUNTS)
-
-
-def changed_for_git(running):
-    """Returns the set of the paths that git lists."""
-    return set(printed_by(running, CHANGED[0]).split(b"\0"))
-
-
-class NotAsked:
-    """Stands for a git that isn't started: None in a `with` block."""
-
-    def __enter__(self):
-        return None
-
-    def __exit__(self, *_):
-        pass
-
-
-def start_attributes(profile):
-    """Starts git, which lists the attributes of all paths, if these matter."""
-    if converts_lines(profile.repository):
-        return NotAsked()
-    # The paths are in order, so that git reads the attributes of a folder once.
-    return start_git(profile.repository.top, *ATTRIBUTES, stdin=profile.entries.joined)
-
-
 def unseen_of(profile):
     """Returns the counts for a profile's entries."""
-    with start_attributes(profile) as attributes:
-        return unseen_by(profile, attributes)
-
-
-def unseen_by(profile, attributes, among=None):
-    """Returns the counts by git's list of attributes, which is None if all files are converted. If the set `among` is
-    passed, other paths have unchanged nodes."""
-    found, entries = Unseen(), profile.entries
-    add_nodes(found, profile, among)
-    if attributes is None:
-        converted = set(entries.paths)
-    else:
-        converted = {path for path, _, _ in conversions_in(printed_by(attributes, ATTRIBUTES[0]))}
-    found.conversions = len(files_among(converted, entries))
+    found = Unseen()
+    add_nodes(found, profile)
+    found.conversions = len(files_among(converted_paths(profile), profile.entries))
     return found
+
+
+def converted_paths(profile):
+    """Returns the paths whose bytes git converts."""
+    if converts_lines(profile.repository):
+        return set(profile.entries.paths)
+    # The paths are in order, so that git reads the attributes of a folder once.
+    return {path for path, _, _ in conversions(profile.repository.top, profile.entries.joined)}
 
 
 def files_among(paths, entries):
@@ -120,22 +75,19 @@ def converts_lines(repository):
     return value.lower() == b"input" or repository.is_set("core.autocrlf")
 
 
-def conversions_in(listed):
-    """Returns the path, the name and the value of each converting attribute that `check-attr -z` lists."""
-    parts = listed.split(b"\0")
+def conversions(top, paths):
+    """Returns the path, the name and the value of each converting attribute of paths, which have a NUL between them."""
+    parts = git(top, "check-attr", "-z", "--all", "--stdin", stdin=paths).split(b"\0")
     attributes = zip(parts[0::3], parts[1::3], parts[2::3])
     return [it for it in attributes if it[1] in CONVERSIONS and it[2] not in (b"unspecified", b"unset")]
 
 
-def add_nodes(found, profile, among):
+def add_nodes(found, profile):
     """Adds the files and links with differences that aren't seen."""
     top, links = os.fsencode(profile.repository.top), {}
     modes_count = profile.repository.is_set("core.filemode")
-    entries = profile.entries
-    found.submodules = sum(record[MODE] == SUBMODULE for record in entries.records)
-    # The program may read an unchanged link.
-    looked_at = entries if among is None else [it for it in entries if it[0] in among or it[1][MODE] == LINK]
-    for path, record, node in changed_nodes(top, looked_at):
+    found.submodules = sum(record[MODE] == SUBMODULE for record in profile.entries.records)
+    for path, record, node in changed_nodes(top, profile.entries):
         if is_behind_link(top, path, links):
             continue
         why = unreadable(top, path, record, node)
