@@ -22,6 +22,8 @@ pub struct Arguments<'a> {
     pub zero: bool,
     /// Whether nothing is printed, and the command stops at the first difference.
     pub quiet: bool,
+    /// Whether the new stats of unchanged files are stored in the index.
+    pub refresh: bool,
     /// Whether the counts are printed.
     pub stats: bool,
     /// The greatest number of threads, or `None` for the usual number.
@@ -47,6 +49,7 @@ impl<'a> Arguments<'a> {
             },
             zero: matches.get_flag("zero"),
             quiet: matches.get_flag("quiet"),
+            refresh: matches.get_flag("refresh"),
             stats: matches.get_flag("stats"),
             threads: matches.get_one("threads"),
             paths,
@@ -89,6 +92,12 @@ pub fn command_line<'a>(alloc: Global) -> Result<Command<'a>, AllocError> {
             .short('q')
             .long("quiet"),
         )?
+        .arg(flag(
+            alloc,
+            "refresh",
+            "Store the new times of unchanged files in the index",
+        )
+        .long("refresh"))?
         .arg(threads)?
         .arg(flag(
             alloc,

@@ -2,30 +2,35 @@
 #![tactic(auto)]
 
 mod arguments;
+mod index_file;
+mod refresh;
 mod refused;
 mod selection;
 
 use crate::arguments::{Arguments, command_line};
+use crate::index_file::read_index_file;
+use crate::refresh::Refresh;
 use crate::refused::Refused;
 use crate::selection::path_from_top;
 use clap::Error;
 use clap::error::ErrorKind;
-use git_repository::worktree::metadata_of;
+use git_attributes::AttributeFiles;
 use git_repository::{
-    GitAttributeFiles, GitWorktree, IgnoredSubmodules, Repository, SubmoduleHeads,
+    GitAttributeFiles, GitWorktree, IgnoredSubmodules, Repository, SubmoduleHeads, time_of_lock,
 };
 use git_status::lines::LineStyle;
-use git_status::{Asked, Paths, Settings, report, run_dirty};
+use git_status::{Asked, Paths, Refreshed, Settings, report, run_dirty, run_refresh};
+use status_base::worktree::{Pathspec, SubmoduleStatus, Worktree};
 use status_call::index_as_worktree::{Capabilities, Options};
 use status_index::{Moment, stat};
 use std::alloc::Global;
+use std::env;
 use std::io::{self, Write as _};
 use std::process::ExitCode;
 use std::rt::{Env, Files};
 use std::sync::Wait;
+use std::sync::atomic::{AtomicBool, Ordering};
 use std::thread::Threads;
-use std::time::UNIX_EPOCH;
-use std::{env, fs};
 
 /// The number of entries of a piece of work if the first difference ends the command. Each thread has at most 8 pieces before
 /// the command sees that it may end: some 2,000 entries with the usual 4 threads.
@@ -109,7 +114,7 @@ where
 /// Runs the command in the repository of the arguments' folder, and returns the exit status.
 ///
 /// # Errors
-/// There is no repository, its index can't be read, or a path isn't in its worktree.
+/// There is no repository, its index can't be read or refreshed, or a path isn't in its worktree.
 fn run_in_repository<R: AllocGlobal + Env + Files + Print + Sync + Threads + Wait, E: io::Write>(
     rt: &R,
     arguments: &Arguments<'_>,
@@ -129,6 +134,7 @@ where
     let Some(file) = read_index_file(rt, &repository)? else {
         return Ok(0);
     };
+    let unread = AtomicBool::new(false);
     let top = repository.top.as_str();
     // As git does: from the worktree's top the system has the fewest steps to a file.
     let worktree = match env::set_current_dir(rt, top) {
@@ -139,6 +145,7 @@ where
     if !arguments.quiet {
         note_unread(&repository, &ignored, faults);
     }
+    let attributes = GitAttributeFiles::new(rt, &worktree, &repository, &unread)?;
     let asked = Asked {
         settings: settings_of(&repository, arguments, file.timestamp),
         worktree: &worktree,
@@ -146,9 +153,58 @@ where
         paths: Paths {
             tops: tops.as_slice(),
         },
-        attributes: GitAttributeFiles::new(rt, &worktree, &repository)?,
+        attributes,
     };
-    Ok(run_dirty(rt, &file.bytes, asked, &mut io::writer(rt), faults))
+    let begun = if arguments.refresh {
+        Some(time_of_lock(rt, repository.index.as_str()))
+    } else {
+        None
+    };
+    let compared = compare(rt, arguments, &file.bytes, asked, faults);
+    let Some(begun) = begun else {
+        return Ok(compared.status);
+    };
+    let refresh = Refresh {
+        repository: &repository,
+        old: &file,
+        begun,
+        unread: unread.load(Ordering::Relaxed),
+    };
+    refresh.end(rt, compared)
+}
+
+/// Prints the status of an index file. There are new bytes only if the file is to be refreshed.
+fn compare<
+    'b,
+    R: AllocGlobal + Print + Threads + Wait,
+    W: Worktree + Sync,
+    S: SubmoduleStatus + Send,
+    P: Pathspec + Send,
+    A: AttributeFiles,
+    E: io::Write,
+>(
+    rt: &R,
+    arguments: &Arguments<'_>,
+    bytes: &'b [u8],
+    asked: Asked<'_, W, S, P, A>,
+    faults: &mut E,
+) -> Refreshed<'b>
+where
+    W::File: Send,
+    S::Output: Send,
+{
+    if !arguments.refresh {
+        Refreshed {
+            status: run_dirty(rt, bytes, asked, &mut io::writer(rt), faults),
+            bytes: None,
+            is_whole: false,
+            extensions: &[],
+        }
+    } else if arguments.quiet {
+        run_refresh(rt, bytes, asked, &mut io::sink(), faults)
+    } else {
+        run_refresh(rt, bytes, asked, &mut io::writer(rt), faults)
+    }
 }
 
 /// Writes notes on the configuration that isn't read.
@@ -191,45 +247,11 @@ fn selected_paths(
     Ok(paths)
 }
 
-/// The bytes of an index file, and when it was last changed.
-#[derive(Drop)]
-struct Written {
-    bytes: Vec<u8>,
-    timestamp: Moment,
-}
-
-/// Reads a repository's index file. None if there is none, as before the first `git add`. The time is read before the bytes:
-/// if the file is replaced in between, it is too early, and then more entries count as racy, and never fewer.
-fn read_index_file<R: AllocGlobal + Files>(
-    rt: &R,
-    repository: &Repository,
-) -> Result<Option<Written>, Refused> {
-    let path = repository.index.as_str();
-    match fs::metadata(rt, path) {
-        Err(error) if error.kind() == io::ErrorKind::NotFound => return Ok(None),
-        Err(error) => return Err(Refused::unreadable(rt.alloc(), path, error.kind())),
-        Ok(found) => match fs::read(rt, path) {
-            Ok(bytes) => Ok(Some(Written {
-                bytes,
-                timestamp: changed_at(&found),
-            })),
-            Err(error) => Err(Refused::unreadable(rt.alloc(), path, error.kind())),
-        },
-    }
-}
-
-/// Returns when a file was last changed, or 1970 if that isn't known: then every entry counts as racy.
-fn changed_at(found: &fs::Metadata) -> Moment {
-    let (secs, nsecs) = match metadata_of(found).mtime {
-        Some(time) => (time.secs, time.nsecs),
-        None => (0, 0),
-    };
-    Moment { secs, nsecs }
-}
-
 /// Returns how a repository's entries are compared and printed.
 fn settings_of(repository: &Repository, arguments: &Arguments<'_>, timestamp: Moment) -> Settings {
     let found = &repository.settings;
+    // A refresh compares all entries.
+    let stops = arguments.quiet && !arguments.refresh;
     let options = Options {
         fs: Capabilities {
             symlink: found.symlinks,
@@ -244,7 +266,7 @@ fn settings_of(repository: &Repository, arguments: &Arguments<'_>, timestamp: Mo
             use_stdev: false,
         },
         fscache: false,
-        chunk_size: if arguments.quiet { SMALL_CHUNK } else { 0 },
+        chunk_size: if stops { SMALL_CHUNK } else { 0 },
     };
     Settings {
         kind: found.kind,
@@ -253,7 +275,7 @@ fn settings_of(repository: &Repository, arguments: &Arguments<'_>, timestamp: Mo
         auto_line_ends: found.auto_line_ends,
         notes: !arguments.quiet,
         stats: arguments.stats,
-        lines: if arguments.quiet {
+        lines: if stops {
             None
         } else {
             Some(LineStyle {

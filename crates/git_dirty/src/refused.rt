@@ -25,6 +25,13 @@ pub enum Refused {
     EmptyPath,
     /// The arguments of the program can't be read.
     Arguments,
+    /// The index isn't refreshed, because the new one might hide a change from git.
+    Unrefreshed {
+        /// Why it might.
+        reason: &'static str,
+    },
+    /// The time of the index file isn't known.
+    Clock,
     /// Memory ran out.
     Memory,
 }
@@ -61,6 +68,11 @@ impl fmt::Display for Refused {
             Refused::Outside { path } => write!(f, "{path:?} is outside of the worktree"),
             Refused::EmptyPath => f.write_str("an empty path: use . for the working folder"),
             Refused::Arguments => f.write_str("the arguments aren't UTF-8"),
+            Refused::Unrefreshed { reason } => write!(
+                f,
+                "the index isn't refreshed, since {reason}: use git update-index --refresh"
+            ),
+            Refused::Clock => f.write_str("the time of the index file isn't known"),
             Refused::Memory => f.write_str("out of memory"),
         }
     }

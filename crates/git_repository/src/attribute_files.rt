@@ -5,12 +5,13 @@ use crate::error::RepositoryError;
 use crate::files::{configuration_folder, joined, path_of, variable};
 use crate::location::Repository;
 use crate::sources::is_set;
-use bstr::BStr;
+use bstr::{BStr, ByteSlice as _};
 use git_attributes::{AttributeFile, AttributeFiles};
 use status_base::worktree::{Fault, NodeKind, Worktree};
 use status_index::{State, read_all};
 use std::alloc::{AllocError, Global};
 use std::rt::{Env, Files};
+use std::sync::atomic::{AtomicBool, Ordering};
 use std::{fs, io};
 
 /// As git does, a file of so many bytes or more is left out.
@@ -23,17 +24,19 @@ const NAME: &str = ".gitattributes";
 /// the repository's own `info/attributes`.
 ///
 /// As in git, a file that can't be read counts as none, and so does a link in the worktree. Unlike git, a file that is only
-/// in the index isn't read.
+/// in the index isn't read: then `unread` becomes true, if its folder is in the worktree.
 #[derive(Drop)]
 pub struct GitAttributeFiles<'a, R, W> {
     worktree: &'a W,
     outer: Vec<String>,
     own: String,
+    unread: &'a AtomicBool,
     rt: &'a R,
 }
 
 impl<'a, R: Files + Env + AllocGlobal, W: Worktree> GitAttributeFiles<'a, R, W> {
-    /// Returns the attribute files of a repository with this worktree.
+    /// Returns the attribute files of a repository with this worktree. `unread` becomes true if git would read one in the
+    /// index.
     ///
     /// # Errors
     /// `core.attributesFile` has no value, or is in a home folder that isn't known; a variable of the environment or a path
@@ -42,6 +45,7 @@ impl<'a, R: Files + Env + AllocGlobal, W: Worktree> GitAttributeFiles<'a, R, W> 
         rt: &'a R,
         worktree: &'a W,
         repository: &Repository,
+        unread: &'a AtomicBool,
     ) -> Result<GitAttributeFiles<'a, R, W>, RepositoryError> {
         let alloc = rt.alloc();
         let mut outer = Vec::new(alloc);
@@ -56,6 +60,7 @@ impl<'a, R: Files + Env + AllocGlobal, W: Worktree> GitAttributeFiles<'a, R, W> 
             worktree,
             outer,
             own: joined(alloc, repository.common_dir.as_str(), "info/attributes")?,
+            unread,
             rt,
         })
     }
@@ -84,7 +89,8 @@ fn user_file<R: Env + AllocGlobal>(
     }
 }
 
-/// Returns the file of a path that is set, and may begin with `~` for the home folder. Those of other users aren't known.
+/// Returns the file of a path that is set, and may begin with `~` for the home folder. Those of other users aren't known, and
+/// neither is git's own folder, `%(prefix)/`.
 fn named_file(
     alloc: Global,
     value: Option<&[u8]>,
@@ -95,6 +101,7 @@ fn named_file(
     };
     let path = path_of(alloc, value)?;
     match (path.strip_prefix('~'), home) {
+        (None, _) if path.starts_with("%(prefix)/") => Err(bad_file(path)),
         (None, _) => Ok(path),
         (Some(rest), Some(home)) if rest.is_empty() || rest.starts_with('/') => {
             Ok(format!(in alloc; "{home}{rest}")?)
@@ -108,6 +115,22 @@ fn bad_file(value: String) -> RepositoryError {
     RepositoryError::BadValue {
         name: "core.attributesfile",
         value,
+    }
+}
+
+/// Returns whether a path is that of a file in a folder, and not in a folder below it. A folder's path ends with a slash.
+fn is_directly_in(path: &[u8], folder: &[u8]) -> bool {
+    match path.strip_prefix(folder) {
+        Some(name) => name.find_byte(b'/').is_none(),
+        None => false,
+    }
+}
+
+/// Returns the path of the folder that a path is in, with a slash at the end; nothing for the worktree's top.
+fn folder_of(path: &[u8]) -> &[u8] {
+    match path.rfind_byte(b'/') {
+        Some(at) => &path[..at + 1],
+        None => &[],
     }
 }
 
@@ -164,17 +187,41 @@ impl<R: Files + AllocGlobal, W: Worktree> GitAttributeFiles<'_, R, W> {
     }
 
     /// Adds the file of a folder of the worktree, if there is one that can be read.
-    fn add_inner(&self, files: &mut Vec<AttributeFile>, folder: &[u8]) -> Result<(), AllocError> {
+    fn add_inner(
+        &self,
+        files: &mut Vec<AttributeFile>,
+        folder: &[u8],
+        index: &State,
+    ) -> Result<(), AllocError> {
         let mut path = Vec::from_slice(self.rt.alloc(), folder)?;
         path.extend_from_slice(NAME.as_bytes())?;
-        if let Some(bytes) = self.read_inner(BStr::new(path.as_slice()))? {
-            files.push(AttributeFile {
+        let path = BStr::new(path.as_slice());
+        match self.read_inner(path)? {
+            Some(bytes) => files.push(AttributeFile {
                 folder: Vec::from_slice(self.rt.alloc(), folder)?,
                 has_macros: folder.is_empty(),
                 bytes,
-            })?;
+            })?,
+            None => {
+                if !index.entries_at(path).is_empty() && self.may_have(folder)? {
+                    self.unread.store(true, Ordering::Relaxed);
+                }
+            }
         }
         Ok(())
+    }
+
+    /// Returns whether the worktree may have files in a folder, whose path ends with a slash.
+    fn may_have(&self, folder: &[u8]) -> Result<bool, AllocError> {
+        let [path @ .., _] = folder else {
+            return Ok(true);
+        };
+        match self.worktree.lstat(BStr::new(path)) {
+            Ok(node) => Ok(node.kind == NodeKind::Directory),
+            Err(Fault::Memory) => Err(AllocError),
+            Err(Fault::NotFound | Fault::NotADirectory) => Ok(false),
+            Err(_) => Ok(true),
+        }
     }
 
     /// Adds the files of the folders on the way to a path. Those up to `from` were added before.
@@ -183,10 +230,11 @@ impl<R: Files + AllocGlobal, W: Worktree> GitAttributeFiles<'_, R, W> {
         files: &mut Vec<AttributeFile>,
         path: &[u8],
         from: usize,
+        index: &State,
     ) -> Result<(), AllocError> {
         for (at, byte) in path.iter().enumerate() {
             if *byte == b'/' && at >= from {
-                self.add_inner(files, &path[..at + 1])?;
+                self.add_inner(files, &path[..at + 1], index)?;
             }
         }
         Ok(())
@@ -203,12 +251,14 @@ impl<R: Files + AllocGlobal, W: Worktree> AttributeFiles for GitAttributeFiles<'
         for path in &self.outer {
             self.add_outer(&mut files, path.as_str())?;
         }
-        self.add_inner(&mut files, b"")?;
-        let mut last: &[u8] = b"";
+        self.add_inner(&mut files, b"", index)?;
+        let mut folder: &[u8] = b"";
         for entry in index.entries() {
             let path = entry.path_in(index.path_backing()).as_bytes();
-            self.add_folders(&mut files, path, shared_folders(last, path))?;
-            last = path;
+            if !is_directly_in(path, folder) {
+                self.add_folders(&mut files, path, shared_folders(folder, path), index)?;
+                folder = folder_of(path);
+            }
         }
         self.add_outer(&mut files, self.own.as_str())?;
         Ok(files)

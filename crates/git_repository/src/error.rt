@@ -1,10 +1,11 @@
-//! Why a repository isn't read.
+//! Why a repository isn't read, or its index isn't written.
 
 use status_index::Fault;
 use std::alloc::{AllocError, AllocFailed};
+use std::io;
 use thiserror::Error;
 
-/// Why a repository or its settings aren't read. The words are git's, if git has the same error.
+/// Why a repository or its settings aren't read, or its index isn't written. The words are git's, if git has the same error.
 #[derive(Debug, Drop, Error)]
 pub enum RepositoryError {
     /// Neither the folder nor one above it has a repository.
@@ -96,6 +97,31 @@ pub enum RepositoryError {
         path: String,
         /// Why it can't be read.
         fault: Fault,
+    },
+    /// A lock is there that another process made.
+    #[error("Unable to create '{path}': File exists. If no git process is running, remove it")]
+    Locked {
+        /// The lock's path.
+        path: String,
+    },
+    /// A lock can't be created.
+    #[error("Unable to create '{path}': {error}")]
+    NotLocked {
+        /// The lock's path.
+        path: String,
+        /// The system's error.
+        error: io::ErrorKind,
+    },
+    /// The index isn't the one that was read any more.
+    #[error("the index changed meanwhile, so nothing was written")]
+    IndexChanged,
+    /// A lock can't be written, or can't replace the index.
+    #[error("Unable to write '{path}': {error}")]
+    Unwritable {
+        /// The lock's path.
+        path: String,
+        /// The system's error.
+        error: io::ErrorKind,
     },
     /// A path isn't UTF-8, and the system's paths have to be.
     #[error("the path '{path}' isn't UTF-8")]

@@ -4,7 +4,8 @@
 //! on, with `format`, from what `sources` names and `parameters` reads. `config` has git's configuration, which `reader`
 //! reads by `state`, and `values` reads a variable's value. `worktree` is a worktree with all that git records of a file,
 //! and `path_buffer` has the paths of its calls. `attribute_files` finds its attribute files. `submodules` compares the
-//! heads of submodules, which `heads` finds. `files` reads small files, and `error` has the errors.
+//! heads of submodules, which `heads` finds. `files` reads small files, `lock` replaces the index file, and `error` has the
+//! errors.
 #![tactic(auto)]
 
 pub mod attribute_files;
@@ -15,6 +16,7 @@ mod format;
 mod git_dir;
 mod heads;
 pub mod location;
+mod lock;
 mod parameters;
 mod path_buffer;
 pub mod reader;
@@ -29,6 +31,7 @@ pub use attribute_files::GitAttributeFiles;
 pub use config::{Config, ConfigError, Variable};
 pub use error::RepositoryError;
 pub use location::Repository;
+pub use lock::{replace_index, time_of_lock};
 pub use reader::read_config;
 pub use settings::{Settings, read_settings};
 pub use submodules::{IgnoredSubmodules, SubmoduleHead, SubmoduleHeads};

@@ -2,7 +2,7 @@
 
 use crate::config::Config;
 use crate::error::RepositoryError;
-use crate::files::{joined, path_of};
+use crate::files::{joined, path_of, variable};
 use crate::format::read_format;
 use crate::sources::{append_environment, read_file, read_outer};
 use crate::values::{is_text, switch, switch_or_word};
@@ -31,6 +31,11 @@ pub struct Settings {
     pub worktree: Option<String>,
     /// Whether git decides by a file's bytes whether to convert its line ends, if its attributes don't (`core.autocrlf`).
     pub auto_line_ends: bool,
+    /// Whether git compares paths without regard to case (`core.ignoreCase`). Here they are compared exactly.
+    pub ignore_case: bool,
+    /// Whether git reads attributes elsewhere: newer versions in a tree (`attr.tree`, `GIT_ATTR_SOURCE`), or in the folder of
+    /// `GIT_COMMON_DIR`.
+    pub has_other_attributes: bool,
     /// Whether the configuration includes files. They aren't read.
     pub has_include: bool,
 }
@@ -65,13 +70,17 @@ pub fn read_settings<R: Files + Env + AllocGlobal>(
         file_mode: switch(alloc, &config, "core.filemode")?.unwrap_or(true),
         symlinks: switch(alloc, &config, "core.symlinks")?.unwrap_or(true),
         trust_ctime: switch(alloc, &config, "core.trustctime")?.unwrap_or(true),
-        check_stat_minimal: is_value(&config, b"checkstat", b"minimal"),
+        check_stat_minimal: is_minimal(&config),
         quote_path: switch(alloc, &config, "core.quotepath")?.unwrap_or(true),
         bare,
         worktree,
         auto_line_ends: switch_or_word(alloc, &config, "core.autocrlf", Some(b"input"))?.unwrap_or(
             false,
         ),
+        ignore_case: switch(alloc, &config, "core.ignorecase")?.unwrap_or(false),
+        has_other_attributes: config.get(b"attr", None, b"tree").is_some()
+            || variable(rt, "GIT_ATTR_SOURCE")?.is_some()
+            || variable(rt, "GIT_COMMON_DIR")?.is_some(),
         has_include: config.has_include(),
     };
     Ok((settings, config))
@@ -98,10 +107,14 @@ fn read_place(
     }
 }
 
-// Returns whether a variable of the section `core` has a value, in lower or upper case.
-fn is_value(config: &Config, name: &[u8], word: &[u8]) -> bool {
-    match config.get(b"core", None, name) {
-        Some(found) => is_text(found.value(), word),
-        None => false,
+// Returns whether the last word of `core.checkStat` that git knows is `minimal`.
+fn is_minimal(config: &Config) -> bool {
+    let mut minimal = false;
+    for found in config.variables() {
+        if found.is_named(b"core", None, b"checkstat") {
+            let value = found.value();
+            minimal = is_text(value, b"minimal") || (minimal && !is_text(value, b"default"));
+        }
     }
+    minimal
 }

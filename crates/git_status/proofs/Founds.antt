@@ -1,7 +1,7 @@
 -- How a status and its changes make a refresh.
-use Rattle.std.proofs.Common.{◌≡◌, ℕ, List, [], Option, Result, Ok, Err, inl, inr, refl, sym, subst}
+use Rattle.std.proofs.Common.{◌≡◌, ◌≢◌, ◌<◌, ◌^◌, ◌==◌, ℕ, false, List, [], ◌∷◌, length, Option, Result, Ok, Err, IfOk, inl, inr, refl, sym, subst}
 use Rattle.std.specs.Result.{IsErrAnd}
-use Rattle.git_attributes.specs.Files.{File, attributes_of}
+use Rattle.git_attributes.specs.Files.{File, Said, attributes_of}
 use Rattle.git_attributes.specs.declared.line_ends.LineEnds.{LineEnds}
 use Rattle.git_attributes.specs.Views.{attributes_view}
 use Rattle.git_index.specs.File.{IsFileOf, IsIndexFile}
@@ -10,58 +10,72 @@ use Rattle.git_index.specs.declared.fault.IndexFileError.{IndexFileError}
 use Rattle.git_index.specs.declared.fault.IndexFileError.TheVariants as index_errors
 use Rattle.status_call.specs.Inputs.{settings}
 use Rattle.status_call.specs.IndexChanges.{AreInside}
-use Rattle.status_call.proofs.IndexChanges.{status_inside}
 use Rattle.status_call.specs.declared.index_as_worktree.inputs.Settings.{Settings as StatusSettings}
 use Rattle.status_index.specs.Entries.{IndexEntry, IsIndex}
 use Rattle.status_index.specs.States.{index_of, timestamp_of}
 use Rattle.git_status.specs.Failures.{failure_of_index}
 use Rattle.git_status.specs.declared.refresh.RefreshedFile.{RefreshedFile}
-use Rattle.status_call.specs.IndexChanges.{changes_of}
+use Rattle.status_call.specs.Outcomes.{skipped_of}
 use Rattle.status_call.specs.Query.{Query}
 use Rattle.status_call.specs.Visits.{Visit}
 use Rattle.status_call.specs.declared.index_as_worktree.types.Outcome.{Outcome}
 use Rattle.status_compare.specs.declared.error.Error.{Error}
 use Rattle.status_index.specs.declared.state.State.{State}
-use Rattle.git_status.specs.Refreshes.{IsFileRefreshed, IsFoundRun, IsIndexFound, IsRefresh, IsRefreshedFile, IsUnrefreshed}
+use Rattle.git_status.specs.Refreshes.{IsFileRefreshed, IsFoundIn, IsFoundRun, IsIndexFound, IsRefresh, IsRefreshedFile, IsUnrefreshed}
 use Rattle.git_status.specs.Runs.{Converting, IsComputed, IsEnded, IsRun, IsStatusRun, ReadFile}
 use Rattle.git_status.specs.declared.asked.Settings.{Settings}
 use Rattle.git_status.specs.declared.dirty.Report.{Report}
 use Rattle.git_status.specs.declared.failure.Failure.{Failure}
 use Rattle.git_status.specs.declared.failure.Failure.TheVariants.{Memory}
 use Rattle.git_status.specs.declared.refresh.Found.{Found}
+use Rattle.git_status.proofs.LeftOut.{kept_inside}
 use Rattle.git_status.proofs.Runs.{early_run, file_run, refused_run, status_run}
+
+-- a list that has a length other than 0
+pub not_empty : {A : Type 0} (xs : List A) (n : ℕ) → n ≡ length xs → (n == 0) ≡ false → xs ≢ []
+not_empty [] n len none nil = absurd (let known : (0 == 0) ≡ false = subst (λ m. (m == 0) ≡ false) len none in cc)
+not_empty (x ∷ xs) n len none nil = absurd (cc)
 
 module _ {T U : Type 0} where
   -- the changes were found
-  pub found_run : (query : Query T U) (index : State) (s : Settings) (visits : List (Visit T U)) (answer : Result Outcome Error) (old : Option (List ℕ)) (found : Found) (new : Option (List ℕ))
-      → IsComputed query index s answer visits → IsEnded s.lines visits answer old (Ok found.report) new → found.changes.items ≡ changes_of visits → IsFoundRun query index s old (Ok found) new
-  found_run query index s visits answer old found new computed ended changes = (record { visits = visits; answer = answer; computed = computed; ended = ended }, changes)
+  pub found_run : (said : Said) (query : Query T U) (index : State) (s : Settings) (visits : List (Visit T U)) (answer : Result Outcome Error) (old : Option (List ℕ)) (found : Found) (new : Option (List ℕ))
+      → IsComputed query index s answer visits → IsEnded s.lines visits answer old (Ok found.report) new → IsFoundIn said visits found → IsFoundRun said query index s old (Ok found) new
+  found_run said query index s visits answer old found new computed ended kept = (record { visits = visits; answer = answer; computed = computed; ended = ended }, kept)
+
+  -- the counts of skipped entries have a sum that fits
+  pub skipped_fits : (query : Query T U) (index : State) (s : Settings) (visits : List (Visit T U)) (answer : Result Outcome Error) (old : Option (List ℕ)) (r : Report) (new : Option (List ℕ))
+      → IsComputed query index s answer visits → IsEnded s.lines visits answer old (Ok r) new → skipped_of r.outcome < 2 ^ 64
+  skipped_fits query index s visits answer old r new computed (inl ended) = subst (λ a. IfOk a (λ o. skipped_of o < 2 ^ 64)) ended.1.outcome computed.met.fits
+  skipped_fits query index s visits answer old r new computed (inr failed) = absurd failed
 
   -- the status has no report
-  pub unfound_run : (query : Query T U) (index : State) (s : Settings) (visits : List (Visit T U)) (answer : Result Outcome Error) (old : Option (List ℕ)) (f : Failure) (result : Result Found Failure) (new : Option (List ℕ))
-      → IsComputed query index s answer visits → IsEnded s.lines visits answer old (Err f) new → IsErrAnd result (λ e. e ≡ f) → IsFoundRun query index s old result new
-  unfound_run query index s visits answer old f (Ok found) new computed ended failed = absurd failed
-  unfound_run query index s visits answer old f (Err e) new computed ended failed =
+  pub unfound_run : (said : Said) (query : Query T U) (index : State) (s : Settings) (visits : List (Visit T U)) (answer : Result Outcome Error) (old : Option (List ℕ)) (f : Failure) (result : Result Found Failure) (new : Option (List ℕ))
+      → IsComputed query index s answer visits → IsEnded s.lines visits answer old (Err f) new → IsErrAnd result (λ e. e ≡ f) → IsFoundRun said query index s old result new
+  unfound_run said query index s visits answer old f (Ok found) new computed ended failed = absurd failed
+  unfound_run said query index s visits answer old f (Err e) new computed ended failed =
       inl (subst (λ e. IsStatusRun query index s old (Err e) new) (sym failed) (status_run query index s visits answer old (Err f) new computed ended))
 
   -- memory ran out after it
-  pub late_run : (query : Query T U) (index : State) (s : Settings) (visits : List (Visit T U)) (answer : Result Outcome Error) (old : Option (List ℕ)) (r : Report) (result : Result Found Failure) (new : Option (List ℕ))
-      → IsComputed query index s answer visits → IsEnded s.lines visits answer old (Ok r) new → IsErrAnd result (λ e. e ≡ Memory) → IsFoundRun query index s old result new
-  late_run query index s visits answer old r (Ok found) new computed ended failed = absurd failed
-  late_run query index s visits answer old r (Err e) new computed ended failed = inr (r, status_run query index s visits answer old (Ok r) new computed ended, failed)
+  pub late_run : (said : Said) (query : Query T U) (index : State) (s : Settings) (visits : List (Visit T U)) (answer : Result Outcome Error) (old : Option (List ℕ)) (r : Report) (result : Result Found Failure) (new : Option (List ℕ))
+      → IsComputed query index s answer visits → IsEnded s.lines visits answer old (Ok r) new → IsErrAnd result (λ e. e ≡ Memory) → IsFoundRun said query index s old result new
+  late_run said query index s visits answer old r (Ok found) new computed ended failed = absurd failed
+  late_run said query index s visits answer old r (Err e) new computed ended failed = inr (r, status_run query index s visits answer old (Ok r) new computed ended, failed)
 
   -- the changes that were found are of entries of the index
-  pub found_inside : (query : Query T U) (index : State) (s : Settings) (old : Option (List ℕ)) (found : Found) (new : Option (List ℕ)) → IsFoundRun query index s old (Ok found) new → AreInside found.changes.items (index_of index)
-  found_inside query index s old found new run =
-      subst (λ changes. AreInside changes (index_of index)) (sym run.1) (status_inside query index [] run.0.answer run.0.visits run.0.computed.met refl)
+  pub found_inside : (said : Said) (query : Query T U) (index : State) (s : Settings) (old : Option (List ℕ)) (found : Found) (new : Option (List ℕ)) → IsFoundRun said query index s old (Ok found) new → AreInside found.changes.items (index_of index)
+  found_inside said query index s old found new run =
+      subst (λ changes. AreInside changes (index_of index)) (sym run.1.0) (kept_inside said query index run.0.answer run.0.visits run.0.computed.met)
 
   -- an index whose line ends are converted, and the changes that its status asks for
   pub index_found : (query : LineEnds → StatusSettings → Query T U) (are_files : State → List File → Type 0) (index : State) (s : Settings) (files : List File) (filter : LineEnds) (old : Option (List ℕ)) (result : Result Found Failure) (new : Option (List ℕ))
       → are_files index files → attributes_view filter.attributes.now ≡ attributes_of files → filter.auto ≡ s.auto_line_ends → filter.index.now ≡ index → filter.kind ≡ s.kind
-      → IsFoundRun (query filter (settings s.options index)) index s old result new → IsIndexFound query are_files index s old result new
+      → IsFoundRun (attributes_view filter.attributes.now) (query filter (settings s.options index)) index s old result new → IsIndexFound query are_files index s old result new
   unfolding IsIndexFound
   index_found query are_files index s files filter old result new found attributes auto entries kind run =
-      inl (record { files = files; found = found; filter = filter; attributes = attributes; auto = auto; entries = entries; kind = kind }, run)
+      inl (
+        record { files = files; found = found; filter = filter; attributes = attributes; auto = auto; entries = entries; kind = kind },
+        subst (λ said. IsFoundRun said (query filter (settings s.options index)) index s old result new) attributes run,
+      )
 
   -- memory ran out before the status of an index
   pub unfound_index : (query : LineEnds → StatusSettings → Query T U) (are_files : State → List File → Type 0) (index : State) (s : Settings) (known : Option (List ℕ)) (result : Result Found Failure)
@@ -71,7 +85,7 @@ module _ {T U : Type 0} where
 
   -- the changes that were found
   abbrev FoundIn : (LineEnds → StatusSettings → Query T U) → (State → List File → Type 0) → State → Settings → Option (List ℕ) → Found → Option (List ℕ) → Type 0
-  FoundIn query are_files index s old found new = (c : Converting are_files s index) × IsFoundRun (query c.filter (settings s.options index)) index s old (Ok found) new
+  FoundIn query are_files index s old found new = (c : Converting are_files s index) × IsFoundRun (attributes_of c.files) (query c.filter (settings s.options index)) index s old (Ok found) new
 
   found_in : (query : LineEnds → StatusSettings → Query T U) (are_files : State → List File → Type 0) (index : State) (s : Settings) (old : Option (List ℕ)) (found : Found) (new : Option (List ℕ))
       → IsIndexFound query are_files index s old (Ok found) new → FoundIn query are_files index s old found new
@@ -83,7 +97,7 @@ module _ {T U : Type 0} where
   pub index_inside : (query : LineEnds → StatusSettings → Query T U) (are_files : State → List File → Type 0) (index : State) (s : Settings) (old : Option (List ℕ)) (found : Found) (new : Option (List ℕ))
       → IsIndexFound query are_files index s old (Ok found) new → AreInside found.changes.items (index_of index)
   index_inside query are_files index s old found new run =
-      let c = found_in query are_files index s old found new run in found_inside (query c.0.filter (settings s.options index)) index s old found new c.1
+      let c = found_in query are_files index s old found new run in found_inside (attributes_of c.0.files) (query c.0.filter (settings s.options index)) index s old found new c.1
 
   module _ (query : LineEnds → StatusSettings → Query T U) (are_files : State → List File → Type 0) (s : Settings) (bytes : List ℕ) (old : Option (List ℕ)) (index : State) (version : ℕ) (extensions : List ℕ)
       (file : IsFileOf s.kind bytes version (index_of index) extensions) (time : timestamp_of index ≡ s.timestamp) where
@@ -92,13 +106,18 @@ module _ {T U : Type 0} where
 
     -- a file that was read, and its new bytes
     pub refreshed_file : (found : Found) (refreshed new : Option (List ℕ)) → IsIndexFound query are_files index s old (Ok found) new
-        → IsRefreshedFile s.kind version extensions (index_of index) found.changes.items refreshed → IsFileRefreshed query are_files s bytes old found.report refreshed new
+        → IsRefreshedFile s.kind bytes version extensions (index_of index) found.changes.items refreshed → IsFileRefreshed query are_files s bytes old found.report found.is_whole extensions refreshed new
     refreshed_file found refreshed new run fits =
         let c = found_in query are_files index s old found new run in
-        ((read_by c.0, c.1.0), subst (λ changes. IsRefreshedFile s.kind version extensions (index_of index) changes refreshed) c.1.1 fits)
+        record {
+          run = (read_by c.0, c.1.0);
+          kept = refl;
+          whole = c.1.1.1;
+          file = subst (λ changes. IsRefreshedFile s.kind bytes version extensions (index_of index) changes refreshed) c.1.1.0 fits;
+        }
 
     -- a file that was read, and whose status fails, or memory ran out after it
-    unrefreshed : (f : Failure) (new : Option (List ℕ)) (c : Converting are_files s index) → IsFoundRun (query c.filter (settings s.options index)) index s old (Err f) new → IsUnrefreshed query are_files s bytes old f new
+    unrefreshed : (f : Failure) (new : Option (List ℕ)) (c : Converting are_files s index) → IsFoundRun (attributes_of c.files) (query c.filter (settings s.options index)) index s old (Err f) new → IsUnrefreshed query are_files s bytes old f new
     unrefreshed f new c (inl run) = inl (file_run query are_files s bytes old (Err f) new (read_by c) run)
     unrefreshed f new c (inr late) = inr (late.0, file_run query are_files s bytes old (Ok late.0) new (read_by c) late.1, late.2)
 

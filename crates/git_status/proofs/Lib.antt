@@ -1,5 +1,7 @@
 pub mod Clean
 pub mod Fitting
 pub mod Founds
+pub mod LeftOut
 pub mod Printed
 pub mod Runs
+pub mod Shown

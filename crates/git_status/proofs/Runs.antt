@@ -21,7 +21,7 @@ use Rattle.status_index.specs.Entries.{IndexEntry, IsIndex}
 use Rattle.status_index.specs.States.{index_of, timestamp_of}
 use Rattle.status_index.specs.declared.state.State.{State}
 use Rattle.git_status.specs.Failures.{failure_of_index}
-use Rattle.git_status.specs.Runs.{Converting, IsComputed, IsEnded, IsIndexRun, IsRun, IsStatusRun, ReadFile}
+use Rattle.git_status.specs.Runs.{IsComputed, IsEnded, IsIndexRun, IsRun, IsStatusRun, ReadFile}
 use Rattle.git_status.specs.declared.asked.Settings.{Settings}
 use Rattle.git_status.specs.declared.dirty.Report.{Report}
 use Rattle.git_status.specs.declared.failure.Failure.{Failure}

@@ -1,5 +1,7 @@
+pub mod Differences
 pub mod Failures
 pub mod Inputs
+pub mod Kept
 pub mod Lines
 pub mod Paths
 pub mod Printing

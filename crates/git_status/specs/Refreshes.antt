@@ -1,48 +1,67 @@
--- The index file after a refresh: the same, except for the changes that its status asks for.
-use Rattle.std.specs.Prelude.{◌≡◌, ◌⊎◌, ℕ, Bool, List, [], Option, Some, None, Result, Ok, Err}
+-- The index file after a refresh: the same, except for the changes that the refresh makes.
+use Rattle.std.specs.Prelude.{◌≡◌, ◌≢◌, ◌⊎◌, ◌↔◌, ℕ, Bool, false, List, [], replicate, Option, Some, None, Result, Ok, Err}
 use Rattle.std.specs.Option.{option_map}
 use Rattle.std.specs.Result.{IsErrAnd}
-use Rattle.git_attributes.specs.Files.{File}
+use Rattle.git_attributes.specs.Files.{File, Said, attributes_of}
 use Rattle.git_attributes.specs.declared.line_ends.LineEnds.{LineEnds}
 use Rattle.git_index.specs.File.{IsFileOf}
+use Rattle.git_index.specs.RawEntry.{id_len}
+use Rattle.git_index.specs.Refusals.{sum_of}
+use Rattle.git_index.specs.Writing.{file_bytes}
 use Rattle.status_call.specs.Inputs.{settings}
-use Rattle.status_call.specs.IndexChanges.{applied, changes_of}
+use Rattle.status_call.specs.IndexChanges.{applied}
 use Rattle.status_call.specs.Query.{Query}
+use Rattle.status_call.specs.Visits.{Visit}
 use Rattle.status_call.specs.declared.index_as_worktree.apply.ApplyChange.{ApplyChange}
 use Rattle.status_call.specs.declared.index_as_worktree.inputs.Settings.{Settings as StatusSettings}
 use Rattle.status_index.specs.Entries.{IndexEntry, IsIndex}
 use Rattle.status_index.specs.States.{index_of}
 use Rattle.status_index.specs.declared.id.HashKind.{HashKind}
 use Rattle.status_index.specs.declared.state.State.{State}
+use Rattle.git_status.specs.Kept.{is_whole, kept_changes}
 use Rattle.git_status.specs.Runs.{Converting, IsFileRun, IsRun, IsStatusRun}
 use Rattle.git_status.specs.declared.asked.Settings.{Settings}
 use Rattle.git_status.specs.declared.dirty.Report.{Report}
 use Rattle.git_status.specs.declared.failure.Failure.{Failure}
 use Rattle.git_status.specs.declared.failure.Failure.TheVariants.{Memory}
+use Rattle.git_status.specs.declared.refresh.Refreshed.{Refreshed}
 use Rattle.git_status.specs.declared.refresh.RefreshedFile.{RefreshedFile}
 use Rattle.git_status.specs.declared.refresh.Found.{Found}
 
--- These bytes are an index file of these entries after these changes, of the same version and with the same extensions, and its index is
--- valid. Without changes there are no new bytes.
-abbrev pub IsRefreshedFile : HashKind → ℕ → List ℕ → List IndexEntry → List ApplyChange → Option (List ℕ) → Type 0
-IsRefreshedFile kind version extensions es changes None = changes ≡ []
-IsRefreshedFile kind version extensions es changes (Some bytes) = IsFileOf kind bytes version (applied changes es) extensions × IsIndex (applied changes es)
+-- A file of these entries, written with a checksum unless the old bytes end in zeros in place of one; its index is valid.
+pub record IsRewritten (kind : HashKind) (old : List ℕ) (version : ℕ) (extensions : List ℕ) (es : List IndexEntry) (bytes : List ℕ) : Type 0 where
+  pub has_checksum : Bool
+  pub sum : (has_checksum ≡ false) ↔ (sum_of kind old ≡ replicate (id_len kind) 0)
+  pub written : bytes ≡ file_bytes kind version es extensions has_checksum
+  pub file : IsFileOf kind bytes version es extensions
+  pub valid : IsIndex es
+
+-- The new bytes of an index file, of the same version and with the same extensions, if changes are made. Without changes there are none.
+abbrev pub IsRefreshedFile : HashKind → List ℕ → ℕ → List ℕ → List IndexEntry → List ApplyChange → Option (List ℕ) → Type 0
+IsRefreshedFile kind old version extensions es changes None = changes ≡ []
+IsRefreshedFile kind old version extensions es changes (Some bytes) = (changes ≢ []) × IsRewritten kind old version extensions (applied changes es) bytes
 
 module _ {T U : Type 0} where
-  -- A status of this index was printed, and it asks for these changes; or it failed; or memory ran out after it was printed.
-  abbrev pub IsFoundRun : Query T U → State → Settings → Option (List ℕ) → Result Found Failure → Option (List ℕ) → Type 0
-  IsFoundRun query index s old (Ok found) new = (run : IsStatusRun query index s old (Ok found.report) new) × (found.changes.items ≡ changes_of run.visits)
-  IsFoundRun query index s old (Err f) new = IsStatusRun query index s old (Err f) new ⊎ ((r : Report) × IsStatusRun query index s old (Ok r) new × (f ≡ Memory))
+  -- The changes that a refresh makes by these records, and whether it is whole.
+  abbrev pub IsFoundIn : Said → List (Visit T U) → Found → Type 0
+  IsFoundIn said visits found = (found.changes.items ≡ kept_changes said visits) × (found.is_whole ≡ is_whole said visits found.report.outcome)
 
-  -- Its status asks for these changes, with line ends converted; or memory ran out before it.
+  -- A status of this index was printed, with the changes that a refresh makes; or it failed; or memory ran out after it was printed.
+  abbrev pub IsFoundRun : Said → Query T U → State → Settings → Option (List ℕ) → Result Found Failure → Option (List ℕ) → Type 0
+  IsFoundRun said query index s old (Ok found) new = (run : IsStatusRun query index s old (Ok found.report) new) × IsFoundIn said run.visits found
+  IsFoundRun said query index s old (Err f) new = IsStatusRun query index s old (Err f) new ⊎ ((r : Report) × IsStatusRun query index s old (Ok r) new × (f ≡ Memory))
+
+  -- The same, with line ends converted; or memory ran out before it.
   unfoldable pub IsIndexFound : (LineEnds → StatusSettings → Query T U) → (State → List File → Type 0) → State → Settings → Option (List ℕ) → Result Found Failure → Option (List ℕ) → Type 0
   IsIndexFound query are_files index s old result new =
-      ((c : Converting are_files s index) × IsFoundRun (query c.filter (settings s.options index)) index s old result new) ⊎ (IsErrAnd result (λ f. f ≡ Memory) × (new ≡ old))
+      ((c : Converting are_files s index) × IsFoundRun (attributes_of c.files) (query c.filter (settings s.options index)) index s old result new) ⊎ (IsErrAnd result (λ f. f ≡ Memory) × (new ≡ old))
 
-  -- The status of an index file was printed, and these are the file's new bytes.
-  abbrev pub IsFileRefreshed : (LineEnds → StatusSettings → Query T U) → (State → List File → Type 0) → Settings → List ℕ → Option (List ℕ) → Report → Option (List ℕ) → Option (List ℕ) → Type 0
-  IsFileRefreshed query are_files s bytes old r refreshed new =
-      (run : IsFileRun query are_files s bytes old (Ok r) new) × IsRefreshedFile s.kind run.0.version run.0.extensions (index_of run.0.index) (changes_of run.1.visits) refreshed
+  -- The status of an index file was printed, these are the file's extensions and its new bytes, and this states whether the refresh is whole.
+  pub record IsFileRefreshed (query : LineEnds → StatusSettings → Query T U) (are_files : State → List File → Type 0) (s : Settings) (bytes : List ℕ) (old : Option (List ℕ)) (r : Report) (all : Bool) (extensions : List ℕ) (refreshed new : Option (List ℕ)) : Type 0 where
+    pub run : IsFileRun query are_files s bytes old (Ok r) new
+    pub kept : extensions ≡ run.0.extensions
+    pub whole : all ≡ is_whole (attributes_of run.0.converting.files) run.1.visits r.outcome
+    pub file : IsRefreshedFile s.kind bytes run.0.version run.0.extensions (index_of run.0.index) (kept_changes (attributes_of run.0.converting.files) run.1.visits) refreshed
 
   -- The refresh of an index file fails as its status does, or since memory ran out after the status was printed.
   abbrev pub IsUnrefreshed : (LineEnds → StatusSettings → Query T U) → (State → List File → Type 0) → Settings → List ℕ → Option (List ℕ) → Failure → Option (List ℕ) → Type 0
@@ -50,12 +69,13 @@ module _ {T U : Type 0} where
 
   -- The result of a refresh over the bytes of an index file and a worktree.
   unfoldable pub IsRefresh : (LineEnds → StatusSettings → Query T U) → (State → List File → Type 0) → Settings → List ℕ → Option (List ℕ) → Result RefreshedFile Failure → Option (List ℕ) → Type 0
-  IsRefresh query are_files s bytes old (Ok r) new = IsFileRefreshed query are_files s bytes old r.report (option_map (λ v. v.items) r.bytes) new
+  IsRefresh query are_files s bytes old (Ok r) new = IsFileRefreshed query are_files s bytes old r.report r.is_whole r.extensions.now (option_map (λ v. v.items) r.bytes) new
   IsRefresh query are_files s bytes old (Err f) new = IsUnrefreshed query are_files s bytes old f new
 
   -- With exit status 0 the refresh found no difference, and with 1 it found one.
-  abbrev pub IsRefreshExit : (LineEnds → StatusSettings → Query T U) → (State → List File → Type 0) → Settings → List ℕ → Bool → Option (List ℕ) → Option (List ℕ) → Option (List ℕ) → Type 0
-  IsRefreshExit query are_files s bytes dirty refreshed old new = (r : Report) × (r.dirty ≡ dirty) × IsFileRefreshed query are_files s bytes old r refreshed new
+  abbrev pub IsRefreshExit : (LineEnds → StatusSettings → Query T U) → (State → List File → Type 0) → Settings → List ℕ → Bool → Refreshed → Option (List ℕ) → Option (List ℕ) → Type 0
+  IsRefreshExit query are_files s bytes dirty result old new =
+      (r : Report) × (r.dirty ≡ dirty) × IsFileRefreshed query are_files s bytes old r result.is_whole result.extensions.now (option_map (λ v. v.items) result.bytes) new
 
   -- With exit status 2 it failed.
   abbrev pub IsRefreshFailedExit : (LineEnds → StatusSettings → Query T U) → (State → List File → Type 0) → Settings → List ℕ → Option (List ℕ) → Option (List ℕ) → Type 0

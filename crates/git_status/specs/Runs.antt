@@ -84,11 +84,10 @@ module _ {T U : Type 0} where
   IsFound visits answer (Ok r) = IsReport visits answer r
   IsFound visits answer (Err f) = IsUnreported visits answer f
 
-  -- The command isn't quiet, a beginning of the lines was printed, and the output can't be written or memory ran out.
+  -- The command isn't quiet, and memory ran out before anything was printed, or the output can't be written after a beginning of the lines.
   pub record IsPrintFailure (lines : Option LineStyle) (visits : List (Visit T U)) (old new : Option (List ℕ)) (f : Failure) : Type 0 where
     pub loud : is_some lines ≡ true
-    pub reason : (f ≡ Output) ⊎ (f ≡ Memory)
-    pub printed : IsBegun (printed_text lines visits) old new
+    pub reason : ((f ≡ Memory) × (new ≡ old)) ⊎ ((f ≡ Output) × IsBegun (printed_text lines visits) old new)
 
   -- All lines were printed, and this was found; or they can't be printed.
   abbrev pub IsEnded : Option LineStyle → List (Visit T U) → Result Outcome Error → Option (List ℕ) → Result Report Failure → Option (List ℕ) → Type 0

@@ -13,7 +13,7 @@ use crate::asked::{Asked, Question, Settings};
 use crate::failure::Failure;
 use crate::fault_place::Search;
 use crate::lines::{LineStyle, letters, push_line};
-use crate::notes::{print_notes, unconverted_paths};
+use crate::notes::{noted_paths, print_notes};
 use crate::output::{print, report};
 use crate::status::{Computed, compute, filter_of};
 use bstr::BString;
@@ -67,12 +67,7 @@ where
     let search = Search::of(&asked).ok();
     match print_file(rt, bytes, asked, output) {
         Ok(found) => {
-            if notes {
-                print_notes(&found, faults);
-            }
-            if stats {
-                print_stats(&found.outcome, faults);
-            }
+            print_besides(notes, stats, &found, faults);
             u8::from(found.dirty)
         }
         Err(failure) => report_failure(rt, bytes, search, failure, faults),
@@ -111,8 +106,20 @@ fn is_of_an_entry(failure: &Failure) -> bool {
     )
 }
 
+/// Writes the notes and the counts of a status, if they are asked for.
+pub(crate) fn print_besides<E: io::Write>(notes: bool, stats: bool, found: &Report, faults: &mut E)
+    ensures { stats ≡ false → notes ≡ false → E.contents faults.new ≡ E.contents faults.old }
+{
+    if notes {
+        print_notes(found, faults);
+    }
+    if stats {
+        print_stats(&found.outcome, faults);
+    }
+}
+
 /// Writes a line with the counts of a status.
-pub(crate) fn print_stats<E: io::Write>(outcome: &Outcome, faults: &mut E) {
+fn print_stats<E: io::Write>(outcome: &Outcome, faults: &mut E) {
     let Outcome {
         entries_to_process,
         symlink_metadata_calls,
@@ -213,11 +220,7 @@ where
     let attributes = filter.attributes;
     let Computed { recorder, answer } = compute(rt, index, filter, asked);
     let records = recorder.records.as_slice();
-    let unconverted = if notes {
-        unconverted_paths(alloc, attributes, records)
-    } else {
-        None
-    };
+    let unconverted = noted_paths(alloc, notes, attributes, records);
     print_answer(alloc, lines, records, unconverted, answer, output)
 }
 
@@ -242,7 +245,7 @@ pub(crate) fn print_answer<T: Drop, U: Drop, O: io::Write>(
 /// Prints the lines of records, or nothing if the command is quiet.
 ///
 /// # Errors
-/// The output can't be written, or memory ran out. Then a beginning is printed.
+/// The output can't be written, and a beginning of the lines is; or memory ran out, and nothing is printed.
 fn print_lines<T: Drop, U: Drop, O: io::Write>(
     alloc: Global,
     lines: Option<LineStyle>,

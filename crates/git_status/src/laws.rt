@@ -4,6 +4,7 @@ ghost use Rattle.std.specs.Prelude.{List, ℕ};
 ghost use Rattle.git_attributes.specs.declared.line_ends.LineEnds.{LineEnds};
 ghost use Rattle.status_call.specs.Query.{Query};
 ghost use Rattle.status_call.specs.declared.index_as_worktree.inputs.Settings.{Settings as StatusSettings};
+ghost use Rattle.git_status.specs.Differences.{LinesLaw};
 ghost use Rattle.git_status.specs.Runs.{CleanLaw};
 ghost use Rattle.git_status.specs.declared.asked.Settings.{Settings as AskedSettings};
 
@@ -13,4 +14,10 @@ use git_attributes::AttributeFiles;
 /// compared.
 pub fn clean_means_no_difference<T: Drop, U: Drop, A: AttributeFiles>(attributes: &A)
     ensures { (query : LineEnds → StatusSettings → Query T U) (s : AskedSettings) (bytes : List ℕ) → CleanLaw query (A.are_files attributes.now) s bytes }
+{}
+
+/// Over a modelled worktree and with exit status 0 or 1, the output grew by the lines of exactly the entries that differ from
+/// the worktree, of those that are compared, unless the command is quiet.
+pub fn lines_are_of_all_differences<T: Drop, U: Drop, A: AttributeFiles>(attributes: &A)
+    ensures { (query : LineEnds → StatusSettings → Query T U) (s : AskedSettings) (bytes : List ℕ) → LinesLaw query (A.are_files attributes.now) s bytes }
 {}

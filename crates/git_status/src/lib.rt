@@ -1,7 +1,7 @@
 //! The command `git dirty`, over the bytes of an index file, any worktree and any writers.
 //!
 //! Read `dirty` first, which has the command, and `asked`, what it is asked. `status` computes the status. `refresh` has the
-//! command with the new bytes of the index file. `lines` has git's lines, with paths as `quoting` prints them; `output`
+//! command with the new bytes of the index file, and `kept` the changes in them. `lines` has git's lines, with paths as `quoting` prints them; `output`
 //! writes them. `paths` is a pathspec of files and folders. `watcher` stops at the first difference. `notes` are on files that
 //! the status doesn't convert. `failure` says why the command fails, `fault_place` at which path, and `laws` what a user
 //! relies on.
@@ -11,6 +11,7 @@ mod asked;
 mod dirty;
 mod failure;
 mod fault_place;
+mod kept;
 mod laws;
 pub mod lines;
 mod notes;
@@ -24,7 +25,7 @@ mod watcher;
 pub use asked::{Asked, Settings};
 pub use dirty::{Report, print_file, run_dirty};
 pub use failure::Failure;
-pub use laws::clean_means_no_difference;
+pub use laws::{clean_means_no_difference, lines_are_of_all_differences};
 pub use output::report;
 pub use paths::Paths;
 pub use refresh::{Refreshed, run_refresh};

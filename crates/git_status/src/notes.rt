@@ -1,55 +1,88 @@
 //! Notes on files that git converts, and the status doesn't.
 
+ghost use Rattle.std.specs.Prelude.{◌≡◌, IfOk};
+ghost use Rattle.git_attributes.specs.Views.{attributes_view};
+ghost use Rattle.status_call.specs.RecorderVisits.{visit_of};
+ghost use Rattle.git_status.specs.Kept.{is_compared, is_left_out};
+
 use crate::dirty::Report;
-use bstr::{BStr, BString};
+use bstr::BString;
 use git_attributes::{Attributes, is_unconverted};
 use status_call::index_as_worktree::{Change, EntryStatus, Record};
 use status_index::Mode;
 use std::alloc::{AllocError, Global};
 use std::io;
 
+/// Returns the paths of files with other contents for which a conversion is asked that isn't made here. None if no notes are
+/// asked for, or memory runs out: then no note is written.
+pub(crate) fn noted_paths<T: Drop, U: Drop>(
+    alloc: Global,
+    notes: bool,
+    attributes: &Attributes<'_>,
+    records: &[Record<'_, T, U>],
+) -> Option<Vec<BString>> {
+    if notes {
+        unconverted_paths(alloc, attributes, records)
+    } else {
+        None
+    }
+}
+
 /// Returns the paths of files with other contents for which a conversion is asked that isn't made here. None if memory runs
-/// out: then no note is written.
-pub(crate) fn unconverted_paths<T: Drop, U: Drop>(
+/// out.
+fn unconverted_paths<T: Drop, U: Drop>(
     alloc: Global,
     attributes: &Attributes<'_>,
     records: &[Record<'_, T, U>],
 ) -> Option<Vec<BString>> {
     let mut paths = Vec::new(alloc);
     for record in records {
-        let path = record.relative_path;
-        let is_file = record.entry.mode != Mode::Symlink;
-        if is_file
-            && is_modified(&record.status)
-            && is_unconverted_at(alloc, attributes, path).ok()?
-        {
-            paths
-                .push(BString::from_slice(alloc, path.as_bytes()).ok()?)
-                .ok()?;
+        if is_modified_file(record) && is_left_out(alloc, attributes, record).ok()? {
+            let path = record.relative_path.as_bytes();
+            paths.push(BString::from_slice(alloc, path).ok()?).ok()?;
         }
     }
     Some(paths)
 }
 
-/// Returns whether the attributes of a path ask for a conversion that isn't made here.
-fn is_unconverted_at(
+/// Returns whether an entry's content was compared.
+fn is_compared<T, U>(status: &EntryStatus<T, U>) -> bool
+    ensures { result ≡ is_compared status.now }
+{
+    matches!(
+        status,
+        EntryStatus::NeedsUpdate(_) | EntryStatus::Change(Change::Modification { .. })
+    )
+}
+
+/// Returns whether a record's content was compared without a conversion that its attributes ask for.
+///
+/// # Errors
+/// Out of memory.
+pub(crate) fn is_left_out<T: Drop, U: Drop>(
     alloc: Global,
     attributes: &Attributes<'_>,
-    path: BStr<'_>,
-) -> Result<bool, AllocError> {
-    let states = attributes.states_of(alloc, path.as_bytes())?;
+    found: &Record<'_, T, U>,
+) -> Result<bool, AllocError>
+    ensures { IfOk result (λ it. it ≡ is_left_out (attributes_view attributes.now) (visit_of found.now)) }
+{
+    if !is_compared(&found.status) {
+        return Ok(false);
+    }
+    let states = attributes.states_of(alloc, found.relative_path.as_bytes())?;
     Ok(is_unconverted(&states))
 }
 
-/// Returns whether an entry's file has another content.
-fn is_modified<T, U>(status: &EntryStatus<T, U>) -> bool {
-    matches!(
-        status,
+/// Returns whether a record's file has another content. Links aren't converted.
+fn is_modified_file<T, U>(found: &Record<'_, T, U>) -> bool {
+    let is_modified = matches!(
+        &found.status,
         EntryStatus::Change(Change::Modification {
             content_change: Some(_),
             ..
-        },)
-    )
+        })
+    );
+    is_modified && found.entry.mode != Mode::Symlink
 }
 
 /// Writes a note for each file that git converts, and the status doesn't.

@@ -1,27 +1,31 @@
 //! The command with the index file that it leaves: the stats of unchanged entries are renewed.
 
-ghost use Rattle.std.specs.Prelude.{◌≡◌, ◌≢◌, ◌⊎◌, ◌<◌, ◌^◌, true, false, None, IfOk};
+ghost use Rattle.std.specs.Prelude.{◌≡◌, ◌≢◌, ◌⊎◌, ◌<◌, ◌^◌, ◌&&◌, ◌==◌, not, true, false, None, IfOk};
 ghost use Rattle.std.specs.List.{AllByRecursion};
-ghost use Rattle.std.specs.Option.{option_map};
 ghost use Rattle.status_index.specs.Entries.{IsIndex};
 ghost use Rattle.status_index.specs.States.{index_of};
 ghost use Rattle.status_call.specs.IndexChanges.{AreInside, applied};
 ghost use Rattle.status_call.specs.Inputs.{settings};
+ghost use Rattle.status_call.specs.Outcomes.{skipped_of};
+ghost use Rattle.git_attributes.specs.Views.{attributes_view};
 ghost use Rattle.git_index.specs.File.{IsFileOf};
 ghost use Rattle.git_index.specs.RawEntry.{FixedFits};
 ghost use Rattle.git_index.specs.WholeFile.{IsWholeFile};
+ghost use Rattle.git_index.specs.Writing.{file_bytes};
 ghost use Rattle.git_status.specs.Printing.{IsFaultLine};
 ghost use Rattle.git_status.specs.Refreshes.{IsFoundRun, IsIndexFound, IsRefresh, IsRefreshExit, IsRefreshFailedExit};
 
 use crate::asked::{Asked, Question, Settings};
-use crate::dirty::{Report, print_answer, print_stats, report_failure};
+use crate::dirty::{Report, print_answer, print_besides, report_failure};
 use crate::failure::Failure;
 use crate::fault_place::Search;
+use crate::kept::{Kept, kept_changes};
+use crate::notes::noted_paths;
 use crate::status::{Computed, compute, filter_of};
 use git_attributes::{AttributeFiles, LineEnds, attributes_of};
 use git_index::{IndexFile, read_index};
 use status_base::worktree::{Pathspec, SubmoduleStatus, Worktree};
-use status_call::index_as_worktree::{ApplyChange, apply_changes};
+use status_call::index_as_worktree::{ApplyChange, Outcome, apply_changes};
 use status_index::{Stat, State};
 use std::alloc::{AllocError, Global};
 use std::io;
@@ -30,33 +34,43 @@ use std::thread::Threads;
 
 /// A refresh: the exit status, and the new bytes of the index file.
 #[derive(Debug, Drop)]
-pub struct Refreshed {
+pub struct Refreshed<'b> {
     /// The exit status: 0 if no entry differs, 1 if one does, and 2 after a failure.
     pub status: u8,
     /// The new bytes. None after a failure, and if the file needn't change.
     pub bytes: Option<Vec<u8>>,
+    /// Whether all entries were compared, each as git compares it. Then the new file may count as written just before the
+    /// first of them was compared. Otherwise it mustn't be later than the old file either, so that what is racy stays racy.
+    pub is_whole: bool,
+    /// The bytes of the file's extensions. Nothing after a failure.
+    pub extensions: &'b [u8],
 }
 
 /// The result of a status, and the new bytes of the index file. None if it needn't change.
 #[derive(Debug, Drop)]
-pub struct RefreshedFile {
+pub struct RefreshedFile<'b> {
     pub report: Report,
     pub bytes: Option<Vec<u8>>,
+    pub is_whole: bool,
+    pub extensions: &'b [u8],
 }
 
-/// The result of a status, and the changes that it asks for.
+/// The result of a status, and the changes that a refresh makes.
 #[derive(Debug, Drop)]
 pub struct Found {
     pub report: Report,
     pub changes: Vec<ApplyChange>,
+    pub is_whole: bool,
 }
 
-/// Does what `run_dirty` does, without notes, and returns the new bytes of the index file: of each unchanged entry with an old stat the
-/// new one is stored, and of each changed entry whose stat would hide that, size 0. Version and extensions stay. The
-/// caller replaces the file, if it still has the bytes that were passed.
+/// Does what `run_dirty` does, and returns the new bytes of the index file: of each unchanged entry with an old stat the
+/// new one is stored, and of each changed entry whose stat would hide that, size 0. A file for which a conversion is asked
+/// that isn't made is left out, since git may compare it otherwise. Version and extensions stay. The caller replaces the
+/// file, if it still has the bytes that were passed.
 #[tactic(auto, unfolding(crate::specs::Refreshes::IsRefresh))]
 pub fn run_refresh<
     'a,
+    'b,
     R: AllocGlobal + Threads + Wait,
     W: Worktree + Sync,
     S: SubmoduleStatus + Send,
@@ -64,33 +78,48 @@ pub fn run_refresh<
     A: AttributeFiles,
     O: io::Write,
     E: io::Write,
->(rt: &R, bytes: &[u8], asked: Asked<'a, W, S, P, A>, output: &mut O, faults: &mut E) -> Refreshed
+>(
+    rt: &R,
+    bytes: &'b [u8],
+    asked: Asked<'a, W, S, P, A>,
+    output: &mut O,
+    faults: &mut E,
+) -> Refreshed<'b>
 where
     W::File: Send,
     S::Output: Send,
     ensures status { (result.status ≡ 0) ⊎ ((result.status ≡ 1) ⊎ (result.status ≡ 2)) }
-    ensures clean { result.status ≡ 0 → IsRefreshExit (⟦<Asked<'a, W, S, P, A> as Question>⟧.query asked.entry) (⟦<Asked<'a, W, S, P, A> as Question>⟧.are_files asked.entry) asked.entry.settings bytes.now false (option_map (λ v. v.items) result.bytes) (O.contents output.old) (O.contents output.new) }
-    ensures dirty { result.status ≡ 1 → IsRefreshExit (⟦<Asked<'a, W, S, P, A> as Question>⟧.query asked.entry) (⟦<Asked<'a, W, S, P, A> as Question>⟧.are_files asked.entry) asked.entry.settings bytes.now true (option_map (λ v. v.items) result.bytes) (O.contents output.old) (O.contents output.new) }
+    ensures clean { result.status ≡ 0 → IsRefreshExit (⟦<Asked<'a, W, S, P, A> as Question>⟧.query asked.entry) (⟦<Asked<'a, W, S, P, A> as Question>⟧.are_files asked.entry) asked.entry.settings bytes.now false result (O.contents output.old) (O.contents output.new) }
+    ensures dirty { result.status ≡ 1 → IsRefreshExit (⟦<Asked<'a, W, S, P, A> as Question>⟧.query asked.entry) (⟦<Asked<'a, W, S, P, A> as Question>⟧.are_files asked.entry) asked.entry.settings bytes.now true result (O.contents output.old) (O.contents output.new) }
     ensures failed { result.status ≡ 2 → IsRefreshFailedExit (⟦<Asked<'a, W, S, P, A> as Question>⟧.query asked.entry) (⟦<Asked<'a, W, S, P, A> as Question>⟧.are_files asked.entry) asked.entry.settings bytes.now (O.contents output.old) (O.contents output.new) }
     ensures unwritten { result.status ≡ 2 → result.bytes ≡ None }
     ensures line { result.status ≡ 2 → IsFaultLine (E.contents faults.old) (E.contents faults.new) }
-    ensures quiet { result.status ≢ 2 → asked.entry.settings.stats ≡ false → E.contents faults.new ≡ E.contents faults.old }
+    ensures quiet { result.status ≢ 2 → asked.entry.settings.stats ≡ false → asked.entry.settings.notes ≡ false → E.contents faults.new ≡ E.contents faults.old }
 {
-    let stats = asked.settings.stats;
+    let Settings { notes, stats, .. } = asked.settings;
     let search = Search::of(&asked).ok();
     match refresh_file(rt, bytes, asked, output) {
-        Ok(RefreshedFile { report, bytes }) => {
-            if stats {
-                print_stats(&report.outcome, faults);
-            }
+        Ok(
+            RefreshedFile {
+                report,
+                bytes,
+                is_whole,
+                extensions,
+            },
+        ) => {
+            print_besides(notes, stats, &report, faults);
             Refreshed {
                 status: u8::from(report.dirty),
                 bytes,
+                is_whole,
+                extensions,
             }
         }
         Err(failure) => Refreshed {
             status: report_failure(rt, bytes, search, failure, faults),
             bytes: None,
+            is_whole: false,
+            extensions: &[],
         },
     }
 }
@@ -101,6 +130,7 @@ where
 /// Those of `print_file`, or out of memory after all lines were printed.
 fn refresh_file<
     'a,
+    'b,
     R: AllocGlobal + Threads + Wait,
     W: Worktree + Sync,
     S: SubmoduleStatus + Send,
@@ -109,10 +139,10 @@ fn refresh_file<
     O: io::Write,
 >(
     rt: &R,
-    bytes: &[u8],
+    bytes: &'b [u8],
     asked: Asked<'a, W, S, P, A>,
     output: &mut O,
-) -> Result<RefreshedFile, Failure>
+) -> Result<RefreshedFile<'b>, Failure>
 where
     W::File: Send,
     S::Output: Send,
@@ -125,21 +155,30 @@ where
         ..
     } = asked.settings;
     let mut file = read_index(alloc, kind, bytes, timestamp)?;
-    let Found { report, changes } = find_in_index(rt, &file.state, asked, output)?;
+    let Found {
+        report,
+        changes,
+        is_whole,
+    } = find_in_index(rt, &file.state, asked, output)?;
+    let extensions = file.extensions;
     if changes.is_empty() {
         return Ok(RefreshedFile {
             report,
             bytes: None,
+            is_whole,
+            extensions,
         });
     }
     let bytes = changed_bytes(alloc, &mut file, &changes)?;
     Ok(RefreshedFile {
         report,
         bytes: Some(bytes),
+        is_whole,
+        extensions,
     })
 }
 
-/// Prints the status of an index, with line ends converted by the attribute files, and returns the changes that it asks for.
+/// Prints the status of an index, with line ends converted by the attribute files, and returns the changes that a refresh makes.
 ///
 /// # Errors
 /// Memory runs out, or the failures of `find_changes`.
@@ -164,7 +203,7 @@ where
     find_changes(rt, index, filter, asked, output)
 }
 
-/// Prints the status of an index, and returns the changes that it asks for.
+/// Prints the status of an index, and returns the changes that a refresh makes.
 ///
 /// # Errors
 /// Those of `print_status`, or out of memory after all lines were printed.
@@ -189,20 +228,30 @@ fn find_changes<
 where
     W::File: Send,
     S::Output: Send,
-    ensures { IsFoundRun (⟦<Asked<'a, W, S, P, A> as Question>⟧.query asked.entry filter.entry (settings asked.entry.settings.options index.now)) index.now asked.entry.settings (O.contents output.old) result (O.contents output.new) }
+    ensures { IsFoundRun (attributes_view filter.entry.attributes.now) (⟦<Asked<'a, W, S, P, A> as Question>⟧.query asked.entry filter.entry (settings asked.entry.settings.options index.now)) index.now asked.entry.settings (O.contents output.old) result (O.contents output.new) }
 {
-    let lines = asked.settings.lines;
+    let alloc = rt.alloc();
+    let Settings { lines, notes, .. } = asked.settings;
+    let attributes = filter.attributes;
     let Computed { recorder, answer } = compute(rt, index, filter, asked);
-    let report = print_answer(
-        rt.alloc(),
-        lines,
-        recorder.records.as_slice(),
-        None,
-        answer,
-        output,
-    )?;
-    let changes = recorder.changes()?;
-    Ok(Found { report, changes })
+    let records = recorder.records.as_slice();
+    let unconverted = noted_paths(alloc, notes, attributes, records);
+    let report = print_answer(alloc, lines, records, unconverted, answer, output)?;
+    let Kept { changes, are_all } = kept_changes(alloc, attributes, records)?;
+    let is_whole = has_all(are_all, &report.outcome);
+    Ok(Found {
+        report,
+        changes,
+        is_whole,
+    })
+}
+
+/// Returns whether no record was left out, no entry was skipped, and the status didn't end early.
+fn has_all(are_all: bool, outcome: &Outcome) -> bool
+    requires { skipped_of outcome.now < 2 ^ 64 }
+    ensures { result ≡ (are_all && (skipped_of outcome.now == 0 && not outcome.now.interrupted)) }
+{
+    are_all && outcome.skipped() == 0 && !outcome.interrupted
 }
 
 /// Stores changes in an index file, and returns its bytes.
@@ -213,8 +262,9 @@ fn changed_bytes(
 ) -> Result<Vec<u8>, AllocError>
     requires whole { IsWholeFile file.old }
     requires inside { AreInside changes.now (index_of file.old.state) }
-    ensures { IfOk result (λ v. IsFileOf file.old.kind v.items file.old.version (applied changes.now (index_of file.old.state)) file.old.extensions.now
-        × IsIndex (applied changes.now (index_of file.old.state))) }
+    ensures bytes { IfOk result (λ v. v.items ≡ file_bytes file.old.kind file.old.version (applied changes.now (index_of file.old.state)) file.old.extensions.now file.old.has_checksum) }
+    ensures file { IfOk result (λ v. IsFileOf file.old.kind v.items file.old.version (applied changes.now (index_of file.old.state)) file.old.extensions.now) }
+    ensures valid { IfOk result (λ v. IsIndex (applied changes.now (index_of file.old.state))) }
 {
     apply_changes(&mut file.state, changes);
     all_fit(&file.state);

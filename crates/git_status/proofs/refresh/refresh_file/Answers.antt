@@ -4,7 +4,7 @@ use Rattle.std.proofs.lemmas.List.{nil_from_length}
 use Rattle.status_call.specs.IndexChanges.{AreInside}
 use Rattle.status_index.specs.States.{index_of}
 use Rattle.git_status.specs.Refreshes.{IsRefresh}
-use Rattle.git_status.proofs.Founds.{index_inside, late_file, refreshed_file, refused_file, unrefreshed_file}
+use Rattle.git_status.proofs.Founds.{index_inside, late_file, not_empty, refreshed_file, refused_file, unrefreshed_file}
 use Rattle.git_status.proofs.refresh.refresh_file.Goals as goal
 
 pub returns-in_err-file : goal.returns-in_err-file
@@ -45,5 +45,9 @@ unfolding IsRefresh
 returns g c =
     let file = c.in_ok-file.file in
     let found = c.in_ok-report.field-0 in
+    let made = rw (c.deref.ensures.value, c.in_ok-file.ensures.kind) at c.in_ok-bytes.ensures in
     refreshed_file _ _ c.args.asked.settings c.args.bytes.now _ file.state file.version file.extensions.now c.in_ok-file.ensures.found c.in_ok-file.ensures.timestamp found (Some c.in_ok-bytes.bytes.items) _
-    (rw c.in_ok-report.was at c.find_in_index.ensures) (rw (c.deref.ensures.value, c.in_ok-file.ensures.kind) at c.in_ok-bytes.ensures)
+    (rw c.in_ok-report.was at c.find_in_index.ensures) (
+      not_empty found.changes.items found.changes.len (omega (arith, found.changes.ok.0)) (sym c.is_empty.ensures ∙ c.if-is_empty.false),
+      record { has_checksum = file.has_checksum; sum = c.in_ok-file.ensures.sum; written = made.bytes; file = made.file; valid = made.valid },
+    )

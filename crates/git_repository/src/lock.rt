@@ -1,0 +1,174 @@
+//! Replacing the index file under git's lock.
+
+use crate::error::RepositoryError;
+use crate::files::{canonical, is_missing, read_if_there, unreadable};
+use std::alloc::Global;
+use std::fs::{self, FileTimes, Metadata, OpenFile, OpenOptions, Permissions};
+use std::io::{self, Write};
+use std::os::unix::fs::{MetadataExt as _, OpenOptionsExt as _, PermissionsExt as _, chown};
+use std::rt::Files;
+use std::time::SystemTime;
+
+// The bits of a mode that say who may read, write and run a file.
+const PERMISSION_BITS: u32 = 0o777;
+
+// The mode of a new lock: only this user, who may read the index, opens it. It gets the permissions of the index later.
+const LOCK_MODE: u32 = 0o600;
+
+/// Returns the time of a lock that is created now and removed again, by the clock of the file system that has the index. So
+/// no lock is left if the command is ended while it compares.
+///
+/// # Errors
+/// The lock is there already, or can't be created or removed; its time isn't known; the index isn't there any more; or out of
+/// memory.
+pub fn time_of_lock<R: Files + AllocGlobal>(
+    rt: &R,
+    index: &str,
+) -> Result<SystemTime, RepositoryError> {
+    let path = target_of(rt, index)?;
+    let lock = format!(in rt.alloc(); "{path}.lock")?;
+    drop(create_lock(rt, lock.as_str())?);
+    let time = match fs::symlink_metadata(rt, lock.as_str()) {
+        Ok(found) => found.modified(),
+        Err(error) => Err(error),
+    };
+    let ended = fs::remove_file(rt, lock.as_str());
+    match (time, ended) {
+        (Ok(time), Ok(())) => Ok(time),
+        (Err(error), _) | (_, Err(error)) => Err(unwritable(
+            rt.alloc(),
+            lock.as_str(),
+            error.kind(),
+        )),
+    }
+}
+
+/// Replaces an index file whole if it still has the bytes `old`, or leaves it unchanged.
+///
+/// The bytes `new` go to git's lock, a new file next to the index with its name and `.lock`, which then replaces the
+/// index. It has the permissions of the index, and its owner and group if the system allows that. No other process that takes
+/// the lock writes the index meanwhile. If a symbolic link is at the index, the file that it leads to is replaced, and the
+/// lock is next to that file.
+///
+/// The new file counts as written at `time`. An entry is racy if its file isn't older. So the time has to be before the
+/// moment at which any entry was compared.
+///
+/// After an error the lock is gone, unless another process made it or the system refuses to remove it.
+///
+/// # Errors
+/// The lock is there already, or can't be created or written; the index isn't there any more or has other bytes than
+/// `old`; or out of memory.
+pub fn replace_index<R: Files + AllocGlobal>(
+    rt: &R,
+    index: &str,
+    old: &[u8],
+    new: &[u8],
+    time: SystemTime,
+) -> Result<(), RepositoryError> {
+    let path = target_of(rt, index)?;
+    let lock = format!(in rt.alloc(); "{path}.lock")?;
+    let file = create_lock(rt, lock.as_str())?;
+    let ended = match metadata_of_unchanged(rt, path.as_str(), old) {
+        Ok(found) => {
+            let filled = fill(file, &found, new, time);
+            match replace(rt, path.as_str(), lock.as_str(), &found, filled) {
+                Ok(()) => Ok(()),
+                Err(error) => Err(unwritable(rt.alloc(), lock.as_str(), error.kind())),
+            }
+        }
+        Err(error) => Err(error),
+    };
+    if ended.is_err() {
+        // If the lock can't be removed it stays, and the error that is returned says more.
+        let _ = fs::remove_file(rt, lock.as_str());
+    }
+    ended
+}
+
+// Returns the path of the file that is to be replaced: that of the index, or of the file to which a link there leads.
+fn target_of<R: Files + AllocGlobal>(rt: &R, index: &str) -> Result<String, RepositoryError> {
+    match fs::symlink_metadata(rt, index) {
+        Ok(found) if found.is_symlink() => canonical(rt, index),
+        Ok(_) => Ok(String::from_str(rt.alloc(), index)?),
+        Err(error) if is_missing(error.kind()) => Err(RepositoryError::IndexChanged),
+        Err(error) => Err(unreadable(rt.alloc(), index, error.kind())),
+    }
+}
+
+// Creates a lock that isn't there.
+fn create_lock<R: Files + AllocGlobal>(rt: &R, lock: &str) -> Result<R::File, RepositoryError> {
+    let mut options = OpenOptions::new();
+    options.write(true).create_new(true).mode(LOCK_MODE);
+    match options.open(rt, lock) {
+        Ok(file) => Ok(file),
+        Err(error) => Err(not_created(rt.alloc(), lock, error.kind())),
+    }
+}
+
+// Returns the error of a lock that can't be created.
+fn not_created(alloc: Global, lock: &str, kind: io::ErrorKind) -> RepositoryError {
+    match String::from_str(alloc, lock) {
+        Ok(_) if kind == io::ErrorKind::OutOfMemory => RepositoryError::Memory,
+        Ok(path) if kind == io::ErrorKind::AlreadyExists => RepositoryError::Locked { path },
+        Ok(path) => RepositoryError::NotLocked { path, error: kind },
+        Err(_) => RepositoryError::Memory,
+    }
+}
+
+// Returns the metadata of the index if it still has the old bytes.
+fn metadata_of_unchanged<R: Files + AllocGlobal>(
+    rt: &R,
+    path: &str,
+    old: &[u8],
+) -> Result<Metadata, RepositoryError> {
+    match read_if_there(rt, path)? {
+        Some(found) if found.as_slice() == old => {}
+        _ => return Err(RepositoryError::IndexChanged),
+    }
+    match fs::metadata(rt, path) {
+        Ok(found) => Ok(found),
+        Err(error) => Err(unreadable(rt.alloc(), path, error.kind())),
+    }
+}
+
+// Sets the owner and the group of a lock that was filled to those of the index, if the system allows that, and renames it over
+// the index.
+fn replace<R: Files>(
+    rt: &R,
+    path: &str,
+    lock: &str,
+    found: &Metadata,
+    filled: io::Result<()>,
+) -> io::Result<()> {
+    filled?;
+    // Mostly they are the same already. Only root may give a file away; as with git, it is the user's own otherwise.
+    let _ = chown(rt, lock, Some(found.uid()), Some(found.gid()));
+    fs::rename(rt, lock, path)
+}
+
+// Sets the permissions of a new file, whatever the umask, writes all of it, and sets its time.
+fn fill<F: OpenFile + Write + Drop>(
+    mut file: F,
+    found: &Metadata,
+    bytes: &[u8],
+    time: SystemTime,
+) -> io::Result<()> {
+    file.set_permissions(Permissions::from_mode(found.mode() & PERMISSION_BITS))?;
+    file.write_all(bytes)?;
+    file.set_times(FileTimes::new().set_modified(time))?;
+    file.sync_all()?;
+    // A later time would hide changes.
+    if file.metadata()?.modified()? > time {
+        return Err(io::ErrorKind::Unsupported.into());
+    }
+    Ok(())
+}
+
+// Returns the error of a lock that can't be written.
+fn unwritable(alloc: Global, lock: &str, kind: io::ErrorKind) -> RepositoryError {
+    match String::from_str(alloc, lock) {
+        Ok(_) if kind == io::ErrorKind::OutOfMemory => RepositoryError::Memory,
+        Ok(path) => RepositoryError::Unwritable { path, error: kind },
+        Err(_) => RepositoryError::Memory,
+    }
+}

@@ -1,0 +1,64 @@
+-- The lines that are printed are those of the entries that differ.
+use Rattle.std.proofs.Common.{◌≡◌, ◌∙◌, ℕ, ◌++◌, List, [], ◌∷◌, map, All, Option, Some, None, Result, Ok, IfOk, inl, inr, refl, sym, ap, subst, IsTrue}
+use Rattle.std.specs.Prelude.{is_some, true, false, slice_get, option_map, Bool}
+use Rattle.std.specs.List.{flat_map}
+use Rattle.std.specs.Io.KnownBytes.{Appends}
+use Rattle.std.proofs.lemmas.List.Elements.{All-head, All-tail}
+use Rattle.std.proofs.lemmas.Option.{slice_get-map}
+use Rattle.git_attributes.specs.Files.{File}
+use Rattle.git_attributes.specs.declared.line_ends.LineEnds.{LineEnds}
+use Rattle.status_call.specs.Inputs.{settings}
+use Rattle.status_call.specs.Query.{Query}
+use Rattle.status_call.specs.StatusTheorem.{IsComplete, IsMet}
+use Rattle.status_call.specs.Visits.{IsFaithful, Visit, finding_of}
+use Rattle.status_call.specs.declared.index_as_worktree.inputs.Settings.{Settings as StatusSettings}
+use Rattle.status_call.specs.declared.index_as_worktree.types.Outcome.{Outcome}
+use Rattle.status_compare.specs.declared.error.Error.{Error}
+use Rattle.status_index.specs.Entries.{index_entry}
+use Rattle.status_index.specs.States.{backing_of, entries_of, index_of}
+use Rattle.status_index.specs.declared.state.State.{State}
+use Rattle.git_status.specs.Differences.{LinesLaw, difference_lines, entry_line, finding_line}
+use Rattle.git_status.specs.Lines.{status_line, visit_line, visit_lines}
+use Rattle.git_status.specs.Runs.{IsEnded, IsRun, IsStatusRun, printed_text}
+use Rattle.git_status.specs.declared.asked.Settings.{Settings}
+use Rattle.git_status.specs.declared.dirty.Report.{Report}
+use Rattle.git_status.specs.declared.lines.LineStyle.{LineStyle}
+
+module _ {T U : Type 0} (style : LineStyle) (index : State) where
+  -- the line of a record is that of the entry at its position
+  one_line : (v : Visit T U) → IsFaithful (entries_of index) (backing_of index) v → visit_line style v ≡ finding_line style (index_of index) (finding_of v)
+  one_line v faithful =
+      let there : slice_get (index_of index) v.entry_index ≡ Some (index_entry (backing_of index) v.entry) =
+      slice_get-map (index_entry (backing_of index)) (entries_of index) v.entry_index ∙ ap (option_map (index_entry (backing_of index))) faithful.entry in
+      ap (λ path. status_line style path v.status) faithful.path ∙ ap (λ e. entry_line style e v.status) (sym there)
+
+  all_lines : (vs : List (Visit T U)) → All (IsFaithful (entries_of index) (backing_of index)) vs → visit_lines style vs ≡ flat_map (finding_line style (index_of index)) (map finding_of vs)
+  all_lines [] faithful = refl
+  all_lines (v ∷ vs) faithful =
+      ap (λ line. line ++ visit_lines style vs) (one_line v (All-head (IsFaithful (entries_of index) (backing_of index)) v vs faithful))
+      ∙ ap (λ lines. finding_line style (index_of index) (finding_of v) ++ lines) (all_lines vs (All-tail (IsFaithful (entries_of index) (backing_of index)) v vs faithful))
+
+  -- those of a whole status
+  met_lines : (q : Query T U) (visits : List (Visit T U)) (answer : Result Outcome Error) (o : Outcome) → IsTrue q.modelled → IsMet q index [] answer visits → answer ≡ Ok o → o.interrupted ≡ false
+      → visit_lines style visits ≡ difference_lines style q index
+  met_lines q visits answer o modelled met found whole =
+      let complete = subst (λ a. IfOk a (λ o. o.interrupted ≡ false → IsComplete q index (map finding_of met.more) o)) found (met.complete modelled) in
+      ap (visit_lines style) met.grew ∙ all_lines met.more met.faithful ∙ ap (flat_map (finding_line style (index_of index))) (complete whole).records
+
+  run_lines : (q : Query T U) (s : Settings) (old : Option (List ℕ)) (r : Report) (new : Option (List ℕ)) → IsTrue q.modelled → s.lines ≡ Some style → IsStatusRun q index s old (Ok r) new
+      → Appends old new (difference_lines style q index)
+  run_lines q s old r new modelled loud run =
+      let ended = printed run.visits run.answer run.ended in
+      let whole = subst (λ a. IfOk a (λ o. o.interrupted ≡ false)) ended.1 (run.computed.whole (ap is_some loud)) in
+      subst (λ lines. Appends old new lines) (met_lines q run.visits run.answer r.outcome modelled run.computed.met ended.1 whole) ended.0
+    where
+      printed : (visits : List (Visit T U)) (answer : Result Outcome Error) → IsEnded s.lines visits answer old (Ok r) new → Appends old new (visit_lines style visits) × (answer ≡ Ok r.outcome)
+      printed visits answer (inl found) = (subst (λ lines. Appends old new (printed_text lines visits)) loud found.0, found.1.outcome)
+      printed visits answer (inr failed) = absurd failed
+
+module _ {T U : Type 0} where
+  pub lines_law : (query : LineEnds → StatusSettings → Query T U) (are_files : State → List File → Type 0) (s : Settings) (bytes : List ℕ) → LinesLaw query are_files s bytes
+  unfolding IsRun
+  lines_law query are_files s bytes modelled style loud dirty old new exit =
+      let read = exit.2.0 in let asked = settings s.options read.index in
+      (read, run_lines style read.index (query read.converting.filter asked) s old exit.0 new (modelled read.converting.filter asked) loud exit.2.1)

@@ -1,0 +1,45 @@
+-- The lines of the entries that differ from the worktree, from the bytes of an index file to those of the output.
+use Rattle.std.specs.Prelude.{◌≡◌, ℕ, Bool, List, [], Option, Some, None, IsTrue, slice_get}
+use Rattle.std.specs.List.{flat_map}
+use Rattle.std.specs.Io.KnownBytes.{Appends}
+use Rattle.git_attributes.specs.Files.{File}
+use Rattle.git_attributes.specs.declared.line_ends.LineEnds.{LineEnds}
+use Rattle.status_call.specs.Inputs.{settings}
+use Rattle.status_call.specs.Query.{Query}
+use Rattle.status_call.specs.Records.{records_of}
+use Rattle.status_call.specs.StatusTheorem.{considered_entries, start_of}
+use Rattle.status_call.specs.declared.index_as_worktree.inputs.Settings.{Settings as StatusSettings}
+use Rattle.status_call.specs.declared.index_as_worktree.types.EntryStatus.{EntryStatus}
+use Rattle.status_call.specs.declared.index_as_worktree.types.Finding.{Finding}
+use Rattle.status_index.specs.Entries.{IndexEntry}
+use Rattle.status_index.specs.States.{index_of}
+use Rattle.status_index.specs.declared.state.State.{State}
+use Rattle.git_status.specs.Lines.{status_line}
+use Rattle.git_status.specs.Runs.{IsExit, ReadFile}
+use Rattle.git_status.specs.declared.asked.Settings.{Settings}
+use Rattle.git_status.specs.declared.lines.LineStyle.{LineStyle}
+
+module _ {T U : Type 0} where
+  -- The line of an entry with this status; nothing if it doesn't differ.
+  abbrev pub entry_line : LineStyle → Option IndexEntry → EntryStatus T U → List ℕ
+  entry_line style (Some e) status = status_line style e.path status
+  entry_line style None status = []
+
+  -- The line of the entry at a finding's position.
+  abbrev pub finding_line : LineStyle → List IndexEntry → Finding T U → List ℕ
+  finding_line style es f = entry_line style (slice_get es f.entry_index) f.status
+
+  -- The lines of all considered entries that differ from the worktree, in index order.
+  abbrev pub difference_lines : LineStyle → Query T U → State → List ℕ
+  difference_lines style q index = flat_map (finding_line style (index_of index)) (records_of q (start_of q index) (considered_entries q index))
+
+  -- The bytes are an index file, and the output grew by exactly the lines of its entries that differ.
+  abbrev pub PrintsDifferences : (LineEnds → StatusSettings → Query T U) → (State → List File → Type 0) → Settings → LineStyle → List ℕ → Option (List ℕ) → Option (List ℕ) → Type 0
+  PrintsDifferences query are_files s style bytes old new =
+      (read : ReadFile are_files s bytes) × Appends old new (difference_lines style (query read.converting.filter (settings s.options read.index)) read.index)
+
+  -- Over a modelled worktree a command that ended with exit status 0 or 1 printed so, unless it is quiet.
+  abbrev pub LinesLaw : (LineEnds → StatusSettings → Query T U) → (State → List File → Type 0) → Settings → List ℕ → Type 0
+  LinesLaw query are_files s bytes =
+      ((filter : LineEnds) (settings : StatusSettings) → IsTrue (query filter settings).modelled) → (style : LineStyle) → s.lines ≡ Some style
+      → (dirty : Bool) (old new : Option (List ℕ)) → IsExit query are_files s bytes dirty old new → PrintsDifferences query are_files s style bytes old new
