@@ -53,8 +53,8 @@ def build(folder, name, *words):
 
 
 def profile_of(folder, top, name, **options):
-    """Writes the profile of the repository, with these options besides those of the tool. Returns its path."""
-    printed = subprocess.run([sys.executable, TOOL, top], stdout=subprocess.PIPE, stderr=subprocess.DEVNULL, check=True)
+    """Writes the profile of the repository, with these options besides those of the script. Returns its path."""
+    printed = subprocess.run([sys.executable, TOOL, top], stdout=subprocess.PIPE, check=True)
     profile = json.loads(printed.stdout)
     profile["options"] = dict(profile["options"], thread_limit=1, **options)
     path = os.path.join(folder, name + ".json")

@@ -4,7 +4,6 @@ import os
 import resource
 import shutil
 import signal
-import stat
 import subprocess
 import sys
 import tempfile
@@ -38,26 +37,11 @@ def limit_files(size):
     resource.setrlimit(resource.RLIMIT_FSIZE, (size, size))
 
 
-def run_tool(tool, *words, stdout=subprocess.PIPE, folder=None, **settings):
-    """Runs a tool by itself, in a folder, with these settings in its environment. Returns the ended process."""
+def run_tool(tool, *words, stdout=subprocess.PIPE, **settings):
+    """Runs a tool by itself, with these settings in its environment. Returns the ended process."""
     command = [sys.executable, os.path.join(HERE, tool), *words]
     environment = {**os.environ, "PYTHONUNBUFFERED": "", **settings}
-    return subprocess.run(command, stdout=stdout, stderr=subprocess.PIPE, env=environment, timeout=60, cwd=folder)
-
-
-def kept(top):
-    """Returns the content and the time of each file of a folder."""
-    found = {}
-    for folder, _, names in os.walk(top):
-        for name in names:
-            path = os.path.join(folder, name)
-            node = os.lstat(path)
-            content = None
-            if stat.S_ISREG(node.st_mode):
-                with open(path, "rb") as file:
-                    content = file.read()
-            found[path] = (node.st_mtime_ns, node.st_ino, content)
-    return found
+    return subprocess.run(command, stdout=stdout, stderr=subprocess.PIPE, env=environment, timeout=60)
 
 
 class Ends(unittest.TestCase):
@@ -85,8 +69,11 @@ class Ends(unittest.TestCase):
 class Case(Ends):
     """A test with a repository of its own, at `top`."""
 
+    # The folder that the room is in, or None for the system's folder of temporary files.
+    PLACE = None
+
     def setUp(self):
-        room = tempfile.TemporaryDirectory()
+        room = tempfile.TemporaryDirectory(dir=self.PLACE)
         self.addCleanup(room.cleanup)
         self.room = os.path.realpath(room.name)
         self.make("top")

@@ -15,8 +15,7 @@ from dataclasses import replace
 import draw_repositories
 from compare_dirty import SETTINGS
 from draw_repositories import make_git_folder, status_words
-from index_file import checksum_of
-from mutate_index import parts_of
+from index_bytes import SIZE, checksum_of, parts_of
 
 FOLDERS = ["", "", "", "d/", "d/e/", "d/e/f/", "dd/", "x/", "x/d/", "é/", "s t/", "a-/", "[d]/"]
 NAMES = ["a", "b", "c", "ab", "abc", "axb", "aa", "A", "1", "-", "a-", "]", "z", "a.c", "b.c", ".c", "c.", "é", "éa", "日"]
@@ -42,8 +41,8 @@ MACROS += ["[attr]m m -binary", "[attr]", "[attr]- text"]
 OTHER_LINES = ["", "# a text", "*", "!* text", " \t", "\\#a text", "\0* text", "* text\0 -text", "# \0"]
 ESCAPES = dict(zip(b'\a\b\t\n\v\f\r"\\', b'abtnvfr"\\'))
 ENDS = {"lf": [b"\n"], "crlf": [b"\r\n"], "mixed": [b"\n", b"\r\n"], "odd": [b"\n", b"\r\n", b"\r", b"\r\r\n", b""]}
-# The user's folder, and the position of the size in an entry's stat.
-USER, SIZE = ".git/user", 9
+# The user's folder.
+USER = ".git/user"
 
 
 class AttributeDrawing(draw_repositories.Drawing):

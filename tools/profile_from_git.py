@@ -1,166 +1,55 @@
 #!/usr/bin/env python3
-"""Prints the profile of a git repository's index, for the program's command `status`, over the real folder.
+"""Prints the profile of a git repository's index over its folder, for tests and benchmarks of status_program.
 
-    python3 tools/profile_from_git.py [--counts] [FOLDER] > profile.json
+    python3 tools/profile_from_git.py FOLDER > profile.json
 
-FOLDER is any folder of the worktree; without it the current folder is taken. The profile goes to standard output. What
-the program doesn't see there goes to standard error, with the git command to compare with. If git fails, the output
-can't be written, or a profile can't have something, the exit status is 1, with one line on standard error. It needs git.
-
-Over a folder the program sees a file's kind, its length and when its content last changed. So the profile has
-`trust_ctime` and `check_stat` off, and of a stat only the size and the seconds of the mtime: nothing else is compared.
-git needs the same settings. It must not compare the time of the last change of metadata (core.trustctime=false), nor
-inode, owner and nanoseconds (core.checkStat=minimal), nor the executable bit (core.fileMode=false). The second letter
-of each of git's lines then is what the program reports:
-
-    git            program                          git            program
-    M              modified -c- or -cs              D              removed
-    T              type                             A (intent)     intent
-    two letters of a conflict: conflict             no line        no line, or update (only the stat differs)
-
-The program prints `-cs` if the content changed and the stat agrees. Such a stat is racy: the file's time isn't before
-that of the index, in seconds.
-
-Some things differ, since the program doesn't know them: conversions (line ends and filters), the heads and contents of
-submodules, and the kinds of files for which git has no mode. An entry whose node the program can't read would end the
-whole status, so it is left out. Notes name these cases (unseen.py).
+FOLDER is a folder of the worktree. git lists the entries. Over a folder the program sees a file's kind, length and time of
+change, and no other part of a stat. So the profile has only the size and the seconds of the mtime, and `trust_ctime` and
+`check_stat` are off. docs/FORMATS.md has the keys, and what the program doesn't see there. If a path isn't UTF-8, or there
+is no index, the script ends with an error of git's or Python's. It doesn't read core.symlinks.
 """
 
-import argparse
+import json
 import os
-import shlex
+import re
+import subprocess
 import sys
 
-from index_entries import (
-    ASSUME_VALID,
-    FSMONITOR_VALID,
-    INTENT_TO_ADD,
-    LENGTH,
-    SKIP_WORKTREE,
-    STAGES,
-    UP_TO_DATE,
-    entries_of,
+# An entry as `git ls-files --stage --debug -z` lists it.
+ENTRY = re.compile(
+    r"([0-7]{6}) ([0-9a-f]+) ([0-3])\t([^\0]+)\0"
+    r"  ctime: .*\n  mtime: (\d+):\d+\n  dev: .*\n  uid: .*\n  size: (\d+)\tflags: ([0-9a-f]+)\n"
 )
-from repository import Repository
-from shared import Refused, end, say
-from unseen import unseen_of
-
-# The settings under which git compares what the program compares.
-COMPARABLE = ["-c", "core.trustctime=false", "-c", "core.checkStat=minimal", "-c", "core.fileMode=false"]
-COMPARABLE += ["-c", "core.fsmonitor=false"]
-STATUS = ["status", "--porcelain", "--untracked-files=no", "--no-renames", "--ignore-submodules=dirty"]
-
-# How many entries are made to text at a time. All at once take longer, since they need more memory.
-PART = 2000
-FILE = 0o100644
-MODES = {FILE, 0o100755, 0o120000, 0o160000, 0o040000}
-
-# The bits of a flag in git's memory.
-FLAGS = {
-    "uptodate": UP_TO_DATE,
-    "skip-worktree": SKIP_WORKTREE,
-    "assume-valid": ASSUME_VALID,
-    "fsmonitor-valid": FSMONITOR_VALID,
-    "intent-to-add": INTENT_TO_ADD,
-}
-
-# The characters that JSON writes with a backslash, and how. A path has no NUL.
-ESCAPES = {"\\": "\\\\", '"': '\\"', **{chr(code): f"\\u{code:04x}" for code in range(1, 32)}}
-ESCAPED = "".join(ESCAPES).encode()
+# The flags that an index file stores, and their bits in git's memory.
+FLAGS = {"assume-valid": 1 << 15, "intent-to-add": 1 << 29, "skip-worktree": 1 << 30}
 
 
-class Profile:
-    """A repository's index, and what else the program needs to compare it with the worktree."""
-
-    def __init__(self, repository, counts=False):
-        """Reads the index of a repository. With `counts` the program prints its total line, too."""
-        self.repository = repository
-        self.folder = written(os.fsencode(repository.top), "the folder's path")
-        self.timestamp, self.entries = entries_of(repository)
-        self.options = {"symlink": repository.is_set("core.symlinks"), "trust_ctime": False, "check_stat": False}
-        if counts:
-            self.options["counts"] = True
-
-    def json(self, left_out=()):
-        """Yields the profile as JSON text, in parts, without the entries of some paths."""
-        seconds, nanoseconds = self.timestamp
-        options = ",".join(f'"{name}":{"true" if value else "false"}' for name, value in self.options.items())
-        front = f'{{"hash":"{self.repository.kind}","timestamp":[{seconds},{nanoseconds}],"options":{{{options}}}'
-        yield f'{front},"index":['.encode()
-        comma = ""
-        for entries in self.entries.without(left_out).in_parts(PART):
-            yield (comma + ",".join(texts_of(entries))).encode()
-            comma = ","
-        yield f'],"folder":"{self.folder}"}}'.encode()
+def git(folder, *words):
+    """Runs git in a folder. Returns what it prints."""
+    command = ["git", "--no-optional-locks", "-C", folder, "-c", "core.fsmonitor=false", *words]
+    return subprocess.run(command, stdout=subprocess.PIPE, check=True).stdout.decode()
 
 
-def text(raw, what):
-    """Returns bytes as text, which JSON has to be."""
-    try:
-        return raw.decode()
-    except UnicodeDecodeError:
-        raise Refused(f"{what} isn't UTF-8: {raw!r}") from None
+def entry_of(mode, name, stage, path, mtime, size, bits):
+    """Returns an entry of the profile, from git's texts. Defaults are left out."""
+    entry = {"path": path, "id": name, "size": int(size), "mtime": [int(mtime), 0]}
+    flags = [flag for flag, bit in FLAGS.items() if int(bits, 16) & bit]
+    more = {"mode": (mode, "100644"), "stage": (int(stage), 0), "flags": (flags, [])}
+    return entry | {key: value for key, (value, default) in more.items() if value != default}
 
 
-def written(raw, what):
-    """Returns bytes as a text between the quotes of JSON."""
-    words = text(raw, what)
-    if len(raw.translate(None, ESCAPED)) < len(raw):
-        for character, escape in ESCAPES.items():
-            words = words.replace(character, escape)
-    return words
-
-
-def texts_of(entries):
-    """Returns the entries as JSON texts."""
-    texts = []
-    for path, (_, mtime, _, mode, size, name, bits) in zip(written_paths(entries), entries.records):
-        if mode == FILE and bits <= LENGTH:
-            texts.append(f'{{"path":"{path}","id":"{name.hex()}","size":{size},"mtime":[{mtime},0]}}')
-        else:
-            more = more_of(path, mode, bits)
-            texts.append(f'{{"path":"{path}","id":"{name.hex()}"{more},"size":{size},"mtime":[{mtime},0]}}')
-    return texts
-
-
-def written_paths(entries):
-    """Returns the paths of entries as texts between the quotes of JSON."""
-    try:
-        return written(entries.joined, "the index").split("\0")
-    except Refused:
-        return [written(path, "a path") for path in entries.paths]
-
-
-def more_of(path, mode, bits):
-    """Returns as JSON an entry's mode, stage and flags, without what is the default."""
-    if mode not in MODES:
-        raise Refused(f"a mode that is none of git's five: {mode:06o} at {path!r}")
-    stage, flags = bits & STAGES, [f'"{name}"' for name, bit in FLAGS.items() if bits & bit]
-    more = f',"mode":"{mode:06o}"' if mode != FILE else ""
-    more += f',"stage":{stage >> 12}' if stage else ""
-    return more + (f',"flags":[{",".join(flags)}]' if flags else "")
-
-
-def comparable(folder):
-    """Returns the git command whose output is to be compared with the program's."""
-    return ["git", "--no-optional-locks", "-C", folder, *COMPARABLE, *STATUS]
-
-
-def main():
-    description = "Prints the profile of a git repository's index, over its real folder."
-    parser = argparse.ArgumentParser(description=description)
-    parser.add_argument("--counts", action="store_true", help="have the program print its total line too")
-    parser.add_argument("folder", nargs="?", default=".", help="a folder of the repository's worktree")
-    arguments = parser.parse_args()
-    profile = Profile(Repository(arguments.folder), arguments.counts)
-    unseen = unseen_of(profile)
-    sys.stdout.buffer.write(b"".join(profile.json(unseen.left_out)) + b"\n")
-    sys.stdout.flush()
-    for note in unseen.notes():
-        say(f"note: {note}")
-    say(f"compare with: {shlex.join(comparable(profile.repository.top))}")
-    return 0
+def profile_of(folder):
+    """Returns the profile of the repository with this folder of its worktree."""
+    words = ["--show-toplevel", "--show-object-format", "--path-format=absolute", "--git-path", "index"]
+    top, kind, index = git(folder, "rev-parse", *words).splitlines()
+    # It is read before the entries: if the index is written in between, more of them are racy.
+    timestamp = divmod(os.stat(index).st_mtime_ns, 10**9)
+    listed = git(top, "ls-files", "--stage", "--debug", "-z")
+    entries = [entry_of(*found.groups()) for found in ENTRY.finditer(listed)]
+    assert len(entries) == listed.count("\0"), "git lists entries in another form"
+    options = {"trust_ctime": False, "check_stat": False}
+    return {"hash": kind, "timestamp": timestamp, "options": options, "index": entries, "folder": top}
 
 
 if __name__ == "__main__":
-    end(main, 1)
+    json.dump(profile_of(sys.argv[1]), sys.stdout)

@@ -1,31 +1,23 @@
 """Code that the tools share: the path of the built program, refusals, and how a tool ends."""
 
 import os
-import shlex
 import sys
 
 TOP = os.path.dirname(os.path.dirname(os.path.abspath(__file__)))
-CRATE = os.path.join(TOP, "crates", "status_program")
-BUILT = os.path.join(CRATE, "out", "status_program")
-BUILD = "rt run -- status data/row1.json"
+BUILT = os.path.join(TOP, "crates", "status_program", "out", "status_program")
 
 
 class Refused(Exception):
     """Raised if a tool can't do its work. Its text is one line."""
 
 
-def program_of(named=None):
-    """Returns the path of the built program: the named one, or that of STATUS_PROGRAM, or that of this checkout."""
-    path = os.path.abspath(named or os.environ.get("STATUS_PROGRAM") or BUILT)
+def program_of():
+    """Returns the path of the built program: that of STATUS_PROGRAM, or that of this checkout."""
+    path = os.path.abspath(os.environ.get("STATUS_PROGRAM") or BUILT)
     if not os.path.isfile(path) or not os.access(path, os.X_OK):
-        how = f"build it by {how_to_build()}, with the rt of the Rattle kit, or name one by STATUS_PROGRAM"
+        how = "build it by `rt run -- status data/row1.json` in crates/status_program, or name one by STATUS_PROGRAM"
         raise Refused(f"there is no built program at {path}: {how}")
     return path
-
-
-def how_to_build():
-    """Returns the command that builds the program of this checkout, from any folder."""
-    return f"(cd {shlex.quote(CRATE)} && {BUILD})"
 
 
 def say(line):

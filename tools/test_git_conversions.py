@@ -8,6 +8,7 @@ as for tools/test_git_dirty.py. The differences from git have both results.
 """
 
 import os
+import re
 import unittest
 
 import compare_dirty
@@ -169,6 +170,21 @@ class Differences(LineEnds):
         self.put_config("attributesFile = ~root/nothing\n")
         self.assertEqual(self.git_lines().decode(), "".join(f" M {name}\n" for name in self.FILES))
         self.assert_fails(self.ran(), "core.attributesfile.*~root/nothing")
+
+    def test_a_file_of_git(self):
+        """`core.attributesFile` in git's own folder, `%(prefix)/`"""
+        self.put_files({"a": (LF, CRLF), "b": (LF, CRLF)})
+        self.put(".git/mine", "a text\n")
+        folder = self.git("-c", "x.y=%(prefix)/", "config", "--type=path", "x.y").decode().strip()
+        value = f"%(prefix)/{os.path.relpath(self.path('.git/mine'), folder)}"
+        self.put_config(f"attributesFile = {value}\n")
+        self.assertEqual(self.git_lines(), b" M b\n")
+        for words in ([], ["--refresh"]):
+            self.assert_fails(self.ran(*words), f"core.attributesfile.*{re.escape(value)}")
+        # Without the slash it's the name of a file.
+        self.put_config("attributesFile = .git/%(prefix)\n")
+        self.put(".git/%(prefix)", "a text\n")
+        self.assertEqual(self.ask(), "b")
 
 
 class Table(unittest.TestCase):

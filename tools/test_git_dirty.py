@@ -20,7 +20,7 @@ from cases import DIRTY as PROGRAM
 from cases import Case, may_read_all
 from compare_dirty import SETTINGS, as_dirty
 from draw_repositories import THEN, Drawing, put_socket, wait_for_later_second
-from index_file import checksum_of
+from index_bytes import checksum_of, parts_of
 from quick_runs import Ended, Runner, content, empty
 from refuse_memory import compile_library, compiler
 from run_tests import ORDINARY
@@ -829,7 +829,7 @@ class Options(Dirty):
     def test_help_has_an_example(self):
         ran = self.ran("--help", folder="/")
         self.assertEqual((ran.returncode, ran.stderr), (0, b""))
-        for word in ("git dirty", "-C", "-z", "-q", "--threads", "--stats"):
+        for word in ("git dirty", "-C", "-z", "-q", "--refresh", "--threads", "--stats"):
             self.assertIn(word, ran.stdout.decode())
         self.assertEqual(self.ran("-h", folder="/").stdout, ran.stdout)
 
@@ -1185,7 +1185,7 @@ class Differences(Dirty):
     def test_an_unsorted_index(self):
         """an index file that is unsorted, otherwise invalid, or has a wrong checksum"""
         self.write("a", "bars")
-        parts = mutate_index.parts_of("sha1", self.index() + bytes(20))
+        parts = parts_of("sha1", self.index() + bytes(20))
         self.put_index(replace(parts, entries=parts.entries[::-1]).content())
         self.assert_refuses(" M a\n", "ascending")
         for field, value in (("padding", b"\0x"), ("flags", parts.entries[-1].flags ^ 1)):
@@ -1200,7 +1200,7 @@ class Differences(Dirty):
     def test_an_index_of_no_command(self):
         """an index file with entries that git's commands don't write"""
         self.put_entries(*(f"100644 {self.blob()} {stage}\tc".encode() for stage in (1, 2, 3)))
-        parts = mutate_index.parts_of("sha1", self.index() + bytes(20))
+        parts = parts_of("sha1", self.index() + bytes(20))
         front, conflict, last = parts.entries[:1], parts.entries[1:-1], parts.entries[-1:]
 
         def entries(*rows):

@@ -16,9 +16,9 @@ from dataclasses import replace
 
 from cases import DIRTY as PROGRAM
 from compare_dirty import Difference, as_dirty, room_of_memory
-from draw_attributes import SIZE, AttributeDrawing
+from draw_attributes import AttributeDrawing
 from draw_repositories import THEN, status_words
-from mutate_index import parts_of
+from index_bytes import SIZE, parts_of
 from quick_runs import Runner
 from test_git_settings import STATUS, Both, reason
 

@@ -82,6 +82,22 @@ class Refreshed(unittest.TestCase):
         self.assertEqual((again["timestamp"], again["worktree"]), ([4294967295, 999999999], MODIFIED["worktree"]))
         self.assertEqual(self.left(), ["profile.json"])
 
+    def test_the_stats_of_a_folder_are_stored(self):
+        for name, text, second in (("changed", "bar", 9), ("racy", "foo", 9), ("touched", "foo", 7)):
+            path = os.path.join(self.room, name)
+            with open(path, "w", encoding="utf-8") as file:
+                file.write(text)
+            os.utime(path, ns=(second * 10**9 + 5, second * 10**9 + 5))
+        index = [entry(name, "foo", mtime=[9, 0]) for name in ("changed", "gone", "racy", "touched")]
+        options, folder = {"trust_ctime": False, "check_stat": False}, os.path.dirname(self.file)
+        self.write({"timestamp": [9, 0], "options": options, "index": index, "folder": folder})
+        lines = '0 modified -cs "changed"\n1 removed "gone"\n2 update "racy"\n3 update "touched"\n'
+        self.assertEqual(self.refresh(), (0, lines, ""))
+        left = [(it["mtime"], it["size"]) for it in json.loads(self.content(self.out))["index"]]
+        self.assertEqual(left, [([9, 0], 0), ([9, 0], 3), ([9, 5], 3), ([7, 5], 3)])
+        lines = '0 modified -c- "changed"\n1 removed "gone"\n'
+        self.assertEqual(self.run_program("status", self.out), (0, lines, ""))
+
     def test_a_status_that_fails_leaves_the_file(self):
         failing = {"timestamp": [9, 0], "index": [entry("a", "foo"), entry("a//b", "foo")], "worktree": []}
         for profile, lines, said in [

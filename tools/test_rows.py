@@ -7,6 +7,7 @@ The rows are run if STATUS_PROGRAM names the built program. Without it they are 
 import json
 import os
 import re
+import socket
 import subprocess
 import tempfile
 import unittest
@@ -347,6 +348,17 @@ class Inputs(unittest.TestCase):
                 self.write_over_folder([entries[0], {**entries[1], "flags": ["skip-worktree"]}])
                 totals = b"total: to process 2, processed 2, skipped 1, lstat 1, to update 0, racy 0, read 0, bytes 0\n"
                 self.assert_ends("status f", 0, b'0 removed "a"\n' + totals, b"")
+
+    def test_what_is_no_file_is_not_opened(self):
+        # Opening the pipe would never return.
+        os.mkfifo(os.path.join(self.folder, "pipe"))
+        os.symlink("pipe", os.path.join(self.folder, "link"))
+        self.write_over_folder([{"path": name, "id": FOO} for name in ("link", "pipe", "socket")])
+        with socket.socket(socket.AF_UNIX) as bound:
+            bound.bind(os.path.join(self.folder, "socket"))
+            totals = b"total: to process 3, processed 3, skipped 0, lstat 3, to update 0, racy 0, read 0, bytes 0\n"
+            lines = b'0 type 120000 "link"\n1 type 100644 "pipe"\n2 type 100644 "socket"\n'
+            self.assert_ends("status f", 0, lines + totals, b"")
 
     def test_a_clean_file_and_a_clean_link_are_never_opened(self):
         # Reading the file would be a fault, or for root a change, and reading the link would be a fault.
