@@ -1,5 +1,5 @@
 -- Listings change nothing of a status.
-use Rattle.std.proofs.Common.{◌≡◌, refl, sym, ap, subst, ◌∙◌, ℕ, Bool, true, false, not, ◌&&◌, ◌||◌, ◌==◌, List, Option, Some, None, IfSome, option_map, slice_get, Result, Ok, Err, if◌then◌else◌}
+use Rattle.std.proofs.Common.{◌≡◌, refl, sym, ap, subst, ◌∙◌, ℕ, Bool, true, false, not, ◌||◌, ◌==◌, List, Option, Some, None, IfSome, option_map, slice_get, Result, Ok, Err, if◌then◌else◌}
 use Rattle.status_index.specs.Entries.{IndexEntry, stage_of}
 use Rattle.std.specs.List.{flat_map, filter_map, enumerate_from}
 use Rattle.status_index.specs.Absence.{is_absence}
@@ -22,10 +22,10 @@ use Rattle.status_base.specs.declared.fscache.Stat.{Stat as ListedStat}
 use Rattle.status_compare.specs.declared.error.Error.{Error}
 use Rattle.status_call.specs.declared.index_as_worktree.types.EntryStatus.{EntryStatus}
 use Rattle.status_call.specs.Considered.{has_flag, is_skipped, is_over, stages_from}
-use Rattle.status_call.specs.ListedStatus.{AreLive, FindsSame, IsSameNode, IsSameStatus, ListingsLaw, with_listings, without_listings}
+use Rattle.status_call.specs.ListedStatus.{AreLive, FindsSame, IsSameNode, ListingsLaw, with_listings, without_listings}
 use Rattle.status_call.specs.Query.{Query}
 use Rattle.status_call.specs.Records.{conflict_status, record_by, fault_by, verdict, records_of, first_fault}
-use Rattle.status_call.specs.Status.{Found, nothing, refused, directory, present, Case, added, answer, case_of_content, case_of_change, case_of_stat, case_of_found, cached_or, found_by, found_kind, found_node, is_trusted, status_of}
+use Rattle.status_call.specs.Status.{nothing, refused, present, Case, added, answer, case_of_content, case_of_change, case_of_stat, case_of_found, cached_or, found_by, found_kind, found_node, is_trusted, status_of}
 
 -- If executability doesn't count, an executable file is like another.
 module _ (symlink : Bool) where

@@ -1,5 +1,5 @@
 -- The rows of the status table cover all entries, and no entry is in two. Modifications and reads follow from that.
-use Rattle.std.proofs.Common.{◌≡◌, ◌⊎◌, ◌∙◌, inl, inr, refl, sym, ap, Bool, true, false, Option, Some, None, Result, Ok, Err}
+use Rattle.std.proofs.Common.{◌≡◌, ◌∙◌, inl, inr, refl, sym, ap, Bool, true, false, Option, Some, None, Result, Ok, Err}
 use Rattle.status_index.specs.declared.fault.Fault.{Fault}
 use Rattle.status_index.specs.declared.fault.Fault.TheVariants as faults
 use Rattle.status_index.specs.declared.metadata.Metadata.{Metadata}

@@ -1,5 +1,5 @@
 -- Comparison by ids or sizes reads no blob, and its reads are modelled.
-use Rattle.std.proofs.Common.{◌≡◌, refl, sym, ap, subst, ℕ, Bool, true, false, cond, List, [], ◌∷◌, sum_by, Option, Some, unwrap_or, IsTrue, is_some, arith}
+use Rattle.std.proofs.Common.{◌≡◌, refl, sym, ap, subst, ℕ, Bool, true, false, cond, List, [], ◌∷◌, sum_by, Option, unwrap_or, IsTrue, is_some, arith}
 use Rattle.std.proofs.lemmas.List.Sums.{sum_by-cons}
 use Rattle.status_index.specs.Content.{saturate}
 use Rattle.status_index.specs.Entries.{IndexEntry}

@@ -21,7 +21,7 @@ use Rattle.status_call.specs.Pieces.{IsAsSpecified, IsFaultAt}
 use Rattle.status_call.specs.Outcomes.{outcome_of, skipped_of}
 use Rattle.status_call.specs.Query.{Query}
 use Rattle.status_call.specs.Records.{records_in, records_of, faults_in, first_fault, verdict}
-use Rattle.status_call.specs.StatusOf.{IsUnspawned}
+use Rattle.status_call.specs.StatusOf.{IsThreadless, IsUnspawned}
 use Rattle.status_call.specs.StatusTheorem.{IsBeginning, IsComplete, IsMet, IsStatusOf, IsFirstFault, NeverSpawns, considered_entries, start_of}
 use Rattle.status_call.specs.Visits.{Visit, finding_of, IsFaithful}
 use Rattle.status_call.specs.WorkInOrder.{IsShortage, IsStopped, IsReportedWork}
@@ -251,6 +251,10 @@ met_along q r same index old result new met = subst (λ x. IsMet x index old res
 -- The same about threads, for an equal limit.
 pub unspawned_along : {T U : Type 0} (q r : Query T U) → r ≡ q → (m n : Option ℕ) → n ≡ m → (result : Result Outcome Error) → IsUnspawned r n result → IsUnspawned q m result
 unspawned_along q r same m n limit result alone = subst (λ x. IsUnspawned x m result) same (subst (λ x. IsUnspawned r x result) limit alone)
+
+-- The same without threads.
+pub threadless_along : {T U : Type 0} (q r : Query T U) → r ≡ q → (result : Result Outcome Error) → IsThreadless r result → IsThreadless q result
+threadless_along q r same result alone = subst (λ x. IsThreadless x result) same alone
 
 -- The number of considered entries, and of the others.
 module _ {X Y : Type 0} (all whole : List X) (entries : List Y) (s e : ℕ) (part : part_of all s e ≡ whole) (order : s ≤ e) (inside : e ≤ length entries) (same : length all ≡ length entries) where

@@ -27,6 +27,10 @@ pub not_set : {X : Type 0} (o : Option X) (b : Bool) → (o ≡ None → b ≡ f
 not_set None b h seen still = let same : b ≡ false = h refl in cc
 not_set (Some x) b h seen still = cc
 
+none_of : {X : Type 0} (o : Option X) → is_some o ≡ false → o ≡ None
+none_of None h = refl
+none_of (Some x) h = cc
+
 true_or_false : (b : Bool) → b ≡ true → b ≡ false → ⊥
 true_or_false b h k = cc
 
@@ -241,3 +245,19 @@ pub work_as : {T U : Type 0} (q : Query T U) (start : ℕ) (es : List IndexEntry
 work_as q start es faithful interruptible other workers from place to old new result flag at work =
     subst (λ n. IsReportedWork q start es n faithful interruptible workers to old result new) at
     (subst (λ b. IsReportedWork q start es place faithful b workers to old result new) flag work)
+
+-- A piece that was walked, by an equal query, is in a row.
+pub row_of : {T U X : Type 0} (q r : Query T U) (interrupt : Option X) (start : ℕ) (es : List IndexEntry) (at to : ℕ) (p : Piece T U) → r ≡ q → to ≤ length es → IsPiece r start es at to p → (interrupt ≡ None → IsUncut p.end)
+    → IsInRow q (is_some interrupt) start es at p
+row_of q r interrupt start es at to p same inside piece uncut = record {
+  to = to;
+  inside = inside;
+  result = record {
+    piece = subst (λ x. IsPiece x start es at to p) same piece;
+    uncut = λ h. uncut (none_of interrupt h);
+  };
+}
+
+-- A whole piece reached its end.
+pub whole_reaches : {T U : Type 0} (q : Query T U) (start : ℕ) (es : List IndexEntry) (from to : ℕ) (p : Piece T U) → IsPiece q start es from to p → p.end ≡ Whole → p.reached ≡ to
+whole_reaches q start es from to p piece whole = subst (λ (e : End). IsThrough q es to p.reached e) whole piece.through

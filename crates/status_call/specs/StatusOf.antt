@@ -12,6 +12,10 @@ use Rattle.status_call.specs.Query.{Query}
 use Rattle.status_call.specs.StatusTheorem.{IsMet, NeverSpawns}
 use Rattle.status_call.specs.Visits.{Visit}
 
+-- No thread is refused, if the comparer never returns that.
+abbrev pub IsThreadless : {T U : Type 0} → Query T U → Result Outcome Error → Type 0
+IsThreadless q result = IsTrue q.modelled → NeverSpawns q → result ≢ Err SpawnThread
+
 -- With limit 1 no thread is refused, if the comparer never returns that.
 abbrev pub IsUnspawned : {T U : Type 0} → Query T U → Option ℕ → Result Outcome Error → Type 0
 IsUnspawned q limit result = IsTrue q.modelled → limit ≡ Some 1 → NeverSpawns q → result ≢ Err SpawnThread
@@ -29,3 +33,7 @@ module _ {I T U : Type 0} (query : I → Settings → Query T U) (inputs : I) (o
   -- With limit 1 no thread is refused, by the interfaces passed and the options.
   abbrev pub IsAlone : Result Outcome Error → Type 0
   IsAlone result = IsUnspawned query_of options.thread_limit result
+
+  -- No thread is refused, by the interfaces passed and the options.
+  abbrev pub IsWithoutThread : Result Outcome Error → Type 0
+  IsWithoutThread result = IsThreadless query_of result

@@ -1,6 +1,6 @@
 -- The status theorem; with limit 1 only a comparer may report a refused thread. It states a status's reports to its collector,
 -- and its result.
-use Rattle.std.specs.Prelude.{◌≡◌, ◌≢◌, ℕ, ◌<◌, ◌≤◌, ◌^◌, false, true, IsTrue, List, ◌++◌, [], length, take, map, All, AllPairs, Option, Some, None, Result, Err, IfOk, IfErr}
+use Rattle.std.specs.Prelude.{◌≡◌, ◌≢◌, ℕ, ◌<◌, ◌≤◌, ◌^◌, false, true, IsTrue, List, ◌++◌, [], length, take, map, All, AllPairs, Some, None, Result, Err, IfOk, IfErr}
 use Rattle.std.specs.List.{slice_index_or}
 use Rattle.status_index.specs.declared.metadata.Metadata.{Metadata}
 use Rattle.status_index.specs.declared.state.State.{State}

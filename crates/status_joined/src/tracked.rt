@@ -30,7 +30,7 @@ pub(crate) fn record_tracked<'index, R: Threads + Wait, D: Decide + Send + Drop>
     rt: &R,
     alloc: Global,
     index: &'index State,
-    decider: D,
+    mut decider: D,
     limits: Limits,
     interrupt: Option<&AtomicBool>,
 ) -> Result<Tracked<'index, D::Content, D::Submodule>, Error>
@@ -40,7 +40,15 @@ where
     ensures { IsRecorded (D.query decider) limits.thread_limit index.now (is_some interrupt.entry) result }
 {
     let mut recorder = Recorder::new(alloc);
-    match status_by(rt, alloc, index, &decider, interrupt, limits, &mut recorder) {
+    match status_by(
+        rt,
+        alloc,
+        index,
+        &mut decider,
+        interrupt,
+        limits,
+        &mut recorder,
+    ) {
         Ok(outcome) => Ok(Tracked { recorder, outcome }),
         Err(error) => Err(error),
     }

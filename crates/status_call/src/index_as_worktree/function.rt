@@ -69,29 +69,16 @@ where
     ensures alone { IsAlone ⟦<Inputs<'w, W, C, S, O, P, T, L> as Ask>⟧.query
         (inputs_of worktree.entry compare submodule objects context.entry) options index.now result }
 {
-    let Context {
-        pathspec,
-        filter,
-        lister,
-        should_interrupt,
-    } = context;
+    let should_interrupt = context.should_interrupt;
+    let inputs = Inputs::of(worktree, compare, submodule, objects, context);
     let settings = Settings::of(&options, index);
-    let inputs = Inputs {
-        worktree,
-        compare,
-        submodule,
-        objects,
-        pathspec,
-        filter,
-        lister,
-    };
-    let decider = Decider::new(alloc, inputs, settings);
+    let mut decider = Decider::new(alloc, inputs, settings);
     let limits = Limits::of(&options);
     status_by(
         rt,
         alloc,
         index,
-        &decider,
+        &mut decider,
         should_interrupt,
         limits,
         collector,

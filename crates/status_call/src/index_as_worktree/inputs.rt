@@ -2,12 +2,12 @@
 
 ghost use Rattle.std.specs.Prelude.{◌≡◌, IfOk};
 ghost use Rattle.status_base.specs.ListedNodes.{known_node};
-ghost use Rattle.status_call.specs.Inputs.{settings};
+ghost use Rattle.status_call.specs.Inputs.{inputs_of, settings};
 ghost use Rattle.status_call.specs.Modelled.{all_modelled, are_modelled};
 ghost use Rattle.status_call.specs.Query.{Query};
 ghost use Rattle.status_call.specs.declared.index_as_worktree.inputs.Settings.{Settings as StatusSettings};
 
-use crate::index_as_worktree::types::{Capabilities, Options};
+use crate::index_as_worktree::types::{Capabilities, Context, Options};
 use status_base::index::{Moment, State, stat};
 use status_base::worktree::{Find, Lister, Pathspec, SubmoduleStatus, ToGit, Worktree};
 use status_compare::CompareBlobs;
@@ -57,6 +57,35 @@ pub struct Inputs<'w, W, C, S, O, P, T, L> {
     pub filter: T,
     /// Lists directories, if the settings have `fscache`.
     pub lister: L,
+}
+
+impl<'w, W, C, S, O, P, T, L> Inputs<'w, W, C, S, O, P, T, L> {
+    /// Returns the inputs that a call gets.
+    pub(crate) fn of(
+        worktree: &'w W,
+        compare: C,
+        submodule: S,
+        objects: O,
+        context: Context<'_, P, T, L>,
+    ) -> Inputs<'w, W, C, S, O, P, T, L>
+        ensures { result ≡ inputs_of worktree.entry compare submodule objects context.entry }
+    {
+        let Context {
+            pathspec,
+            filter,
+            lister,
+            should_interrupt: _,
+        } = context;
+        Inputs {
+            worktree,
+            compare,
+            submodule,
+            objects,
+            pathspec,
+            filter,
+            lister,
+        }
+    }
 }
 
 /// The inputs of a status, of any types.

@@ -17,10 +17,12 @@ pub mod piece;
 mod recorder;
 mod run_pieces;
 pub mod run_rounds;
+mod run_serially;
 pub mod status_by;
 mod step;
 pub mod traits;
 mod types;
+mod without_threads;
 pub mod workers;
 
 pub use apply::{ApplyChange, apply_changes};
@@ -31,3 +33,4 @@ pub use types::{
     Capabilities, Change, Conflict, ConflictIndexEntry, Context, EntryStatus, Error, Finding,
     Options, Outcome, VisitEntry,
 };
+pub use without_threads::index_as_worktree_without_threads;

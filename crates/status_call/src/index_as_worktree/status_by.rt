@@ -5,13 +5,16 @@ ghost use Rattle.status_index.specs.States.{entries_of, backing_of, index_of};
 ghost use Rattle.bstr.specs.BStr.{bstr_bytes};
 ghost use Rattle.status_index.specs.Stretch.{part_of};
 ghost use Rattle.status_call.specs.Considered.{considered, considered_start};
-ghost use Rattle.status_call.specs.StatusOf.{IsUnspawned};
+ghost use Rattle.status_call.specs.Outcomes.{outcome_of};
+ghost use Rattle.status_call.specs.StatusOf.{IsThreadless, IsUnspawned};
 ghost use Rattle.status_call.specs.StatusTheorem.{IsMet};
 ghost use Rattle.status_call.specs.Workers.{chunk_size_of};
 
 use crate::index_as_worktree::considered::Considered;
+use crate::index_as_worktree::counts::Progress;
 use crate::index_as_worktree::decide::Decide;
 use crate::index_as_worktree::run_rounds::run_rounds;
+use crate::index_as_worktree::run_serially::run_serially;
 use crate::index_as_worktree::types::{Error, Outcome, VisitEntry};
 use crate::index_as_worktree::workers::{Limits, Workers};
 use bstr::BStr;
@@ -59,6 +62,15 @@ fn considered_entries<'index>(index: &'index State, prefix: BStr<'_>) -> Conside
     }
 }
 
+/// Returns the outcome of a call that made this progress with the considered entries.
+fn outcome_of(progress: Progress, considered: &Considered<'_>) -> Outcome
+    ensures { result ≡ outcome_of progress (length considered.now.entries.now)
+        (record { start = considered.now.start; end = considered.now.end }) }
+{
+    let range = considered.start..considered.end;
+    Outcome::of(progress, considered.entries.len(), range)
+}
+
 /// Returns the number of entries of a piece, by the options' `chunk_size`.
 fn chunk_size_of(chunk_size: usize) -> usize
     ensures { result ≡ chunk_size_of chunk_size }
@@ -84,7 +96,7 @@ pub fn status_by<
     rt: &R,
     alloc: Global,
     index: &'index State,
-    decider: &D,
+    decider: &mut D,
     interrupt: Option<&AtomicBool>,
     limits: Limits,
     collector: &mut V,
@@ -92,10 +104,20 @@ pub fn status_by<
 where
     D::Content: Send,
     D::Submodule: Send,
-    ensures all { IsMet (D.query decider.now) index.now (V.visits collector.old) result (V.visits collector.new) }
+    ensures all { IsMet (D.query decider.old) index.now (V.visits collector.old) result (V.visits collector.new) }
     ensures uninterrupted { interrupt.entry ≡ None → IfOk result (λ o. o.interrupted ≡ false) }
-    ensures alone { IsUnspawned (D.query decider.now) limits.thread_limit result }
+    ensures alone { IsUnspawned (D.query decider.old) limits.thread_limit result }
 {
+    if limits.thread_limit == Some(1) {
+        return status_serially(
+            alloc,
+            index,
+            decider,
+            interrupt,
+            limits.chunk_size,
+            collector,
+        );
+    }
     let considered = considered_entries(index, decider.common_prefix());
     let workers = Workers::by_limit(limits.thread_limit, interrupt);
     match run_rounds(
@@ -107,10 +129,34 @@ where
         decider,
         collector,
     ) {
-        Ok(progress) => {
-            let range = considered.start..considered.end;
-            Ok(Outcome::of(progress, considered.entries.len(), range))
-        }
+        Ok(progress) => Ok(outcome_of(progress, &considered)),
         Err(error) => Err(error),
     }
+}
+
+/// Does what `status_by` does in the caller's thread alone, and returns for certain.
+///
+/// # Errors
+/// The fault of the first entry that has one, after the records before it were reported. Out of memory, after a
+/// beginning of the records was reported.
+pub fn status_serially<
+    'index,
+    D: Decide,
+    V: VisitEntry<'index, ContentChange = D::Content, SubmoduleStatus = D::Submodule>,
+>(
+    alloc: Global,
+    index: &'index State,
+    decider: &mut D,
+    interrupt: Option<&AtomicBool>,
+    chunk_size: usize,
+    collector: &mut V,
+) -> Result<Outcome, Error>
+    ensures all { IsMet (D.query decider.old) index.now (V.visits collector.old) result (V.visits collector.new) }
+    ensures uninterrupted { interrupt.entry ≡ None → IfOk result (λ o. o.interrupted ≡ false) }
+    ensures threadless { IsThreadless (D.query decider.old) result }
+{
+    let considered = considered_entries(index, decider.common_prefix());
+    let chunk = chunk_size_of(chunk_size);
+    let progress = run_serially(alloc, &considered, chunk, interrupt, decider, collector)?;
+    Ok(outcome_of(progress, &considered))
 }

@@ -7,8 +7,8 @@ pub status_by-requires : goal.status_by-requires
 status_by-requires g c κs = (search decider_crosses depth 60, search decider_crosses depth 60)
 
 pub returns-clause-all : goal.returns-clause-all
-returns-clause-all g c = met_along _ _ (rw c.of-settings.ensures at c.new-decider.ensures) _ _ _ _ c.status_by.ensures.all
+returns-clause-all g c = met_along _ _ (rw (c.of-inputs.ensures, c.of-settings.ensures) at c.new-decider.ensures) _ _ _ _ c.status_by.ensures.all
 
 pub returns-clause-alone : goal.returns-clause-alone
 returns-clause-alone g c =
-    unspawned_along _ _ (rw c.of-settings.ensures at c.new-decider.ensures) _ _ c.of-limits.ensures.thread_limit _ c.status_by.ensures.alone
+    unspawned_along _ _ (rw (c.of-inputs.ensures, c.of-settings.ensures) at c.new-decider.ensures) _ _ c.of-limits.ensures.thread_limit _ c.status_by.ensures.alone

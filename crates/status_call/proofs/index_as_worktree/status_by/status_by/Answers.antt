@@ -21,7 +21,7 @@ returns-in-Ok-clause-all g c =
     let inside = part_is.ensures.inside in
     let same = ap length part_is.ensures.entries in
     let fits : length considered.entries.now < 2 ^ 64 = search rules in
-    rw c.of.ensures (status_ok _ _ _ _ _ _ c.in-Ok.progress _ _ kept
+    rw c.outcome_of.ensures (status_ok _ _ _ _ _ _ c.in-Ok.progress _ _ kept
     (part_len (index_of index) _ (entries_of index) considered.start considered.end part order inside len)
     (rest_len (index_of index) _ (entries_of index) considered.start considered.end part order inside len _ same)
     (skip_room (index_of index) _ (entries_of index) considered.start considered.end part order inside len _ same fits))
