@@ -1,5 +1,5 @@
 -- How what is printed follows what was printed before.
-use Rattle.std.proofs.Common.{◌≡◌, Bool, true, false, IfOk, subst, ℕ, ◌+◌, ◌-◌, List, [], ◌∷◌, ◌++◌, length, Option, Result, Ok, Err, inl, inr, refl, sym, ap, ◌∙◌, append_assoc, append-nil, arith, take, drop, length-drop, take_all, take-append-drop, map}
+use Rattle.std.proofs.Common.{◌≡◌, ◌⊎◌, Bool, true, false, IfOk, subst, ℕ, ◌+◌, ◌-◌, List, [], ◌∷◌, ◌++◌, length, Option, Result, Ok, Err, inl, inr, refl, sym, ap, ◌∙◌, append_assoc, append-nil, arith, take, drop, length-drop, take_all, take-append-drop, map}
 use Rattle.std.specs.List.{flat_map}
 use Rattle.std.specs.Result.{IsErrAnd, IfErr}
 use Rattle.std.proofs.lemmas.List.{map-append}
@@ -8,9 +8,10 @@ use Rattle.std.proofs.KnownBytes.{Appends-nil, Appends-trans}
 use Rattle.status_call.specs.declared.index_as_worktree.apply.ApplyChange.{ApplyChange}
 use Rattle.status_call.specs.declared.index_as_worktree.types.Outcome.{Outcome}
 use Rattle.status_cli.specs.declared.failure.Failure.{Failure}
-use Rattle.status_cli.specs.declared.failure.Failure.TheVariants.{Memory}
+use Rattle.status_cli.specs.declared.failure.Failure.TheVariants.{Memory, Output}
 use Rattle.status_cli.specs.declared.status.profile_status.Changes.{Changes}
-use Rattle.status_cli.specs.Printing.{IsBegun, IsPrinted, IsUnprinted}
+use Rattle.status_cli.specs.FaultLines.{IsFaultWritten, memory_line}
+use Rattle.status_cli.specs.Printing.{IsBegun, IsPrinted, IsUnprinted, IsWritten}
 use Rattle.status_cli.specs.Statuses.{IsEnded, IsJoinedAnswer, IsJoinedPrinted, IsStatusPrinted, JoinedInputs, answered, closing, entry_lines, joined_answered, returned_changes, visit_lines}
 use Rattle.status_index.specs.declared.id.HashKind.{HashKind}
 use Rattle.status_index.specs.declared.state.State.{State}
@@ -60,10 +61,15 @@ begun_longer first second a b some = record {
   beginning = (some.beginning.0 ++ second, sym (append_assoc some.printed some.beginning.0 second) ∙ ap (λ t. t ++ second) some.beginning.1);
 }
 
--- a text that was printed was begun
-pub printed_begun : {T : Type 0} (text : List ℕ) (old new : Option (List ℕ)) (result : Result T Failure) → IsPrinted text old result new → IsBegun text old new
-printed_begun text old new (Ok v) all = all_begun text old new all
-printed_begun text old new (Err e) some = some.0
+-- a text that was written was begun
+written_begun : {T : Type 0} (text : List ℕ) (old new : Option (List ℕ)) (result : Result T Failure) → IsWritten text old result new → IsBegun text old new
+written_begun text old new (Ok v) all = all_begun text old new all
+written_begun text old new (Err e) some = some.0
+
+-- a line of a failure that was written was begun
+pub fault_begun : {T : Type 0} (names : Bool) (text : List ℕ) (old new : Option (List ℕ)) (result : Result T Failure) → IsFaultWritten names text old result new → IsBegun text old new ⊎ ((names ≡ true) × IsBegun memory_line old new)
+fault_begun names text old new result (inl all) = inl (written_begun text old new result all)
+fault_begun names text old new result (inr (is, all)) = inr (is, written_begun memory_line old new result all)
 
 -- all that is left is its own beginning
 pub rest_taken : (xs : List ℕ) (n : ℕ) → take (length xs - n) (drop n xs) ≡ drop n xs
@@ -84,25 +90,35 @@ module _ {A B : Type 0} (line : B → List ℕ) (view : A → B) where
   lines-append : (xs ys : List A) → lines (xs ++ ys) ≡ lines xs ++ lines ys
   lines-append xs ys = ap (flat_map line) (map-append view xs ys) ∙ flat_map-append line (map view xs) (map view ys)
 
+  -- the lines of some items, and of one more
+  pub lines_next : (done : List A) (x : A) → lines (done ++ x ∷ []) ≡ lines done ++ line (view x)
+  lines_next done x = lines-append done (x ∷ []) ∙ ap (λ t. lines done ++ t) (append-nil (line (view x)))
+
+  -- the lines of all items are those of the first, of one, and of the others
+  pub lines_whole : (xs : List A) (i : ℕ) (done : List A) (x : A) → take (i + 1) xs ≡ done ++ x ∷ [] → lines xs ≡ (lines done ++ line (view x)) ++ lines (drop (i + 1) xs)
+  lines_whole xs i done x next =
+      ap lines (sym (take-append-drop (i + 1) xs) ∙ ap (λ t. t ++ drop (i + 1) xs) next)
+      ∙ lines-append (done ++ x ∷ []) (drop (i + 1) xs)
+      ∙ ap (λ t. t ++ lines (drop (i + 1) xs)) (lines_next done x)
+
   -- the lines of the items so far, and one more
   pub printed_next : (done : List A) (x : A) (old mid new : Option (List ℕ)) → Appends old mid (lines done) → Appends mid new (line (view x)) → Appends old new (lines (done ++ x ∷ []))
   printed_next done x old mid new before here =
-      rw (lines-append done (x ∷ []), append-nil (line (view x))) (Appends-trans old mid new (lines done) (line (view x)) before here)
+      rw (lines_next done x) (Appends-trans old mid new (lines done) (line (view x)) before here)
 
   -- the lines of the items so far, and a beginning of the next
   pub begun_next : (xs : List A) (i : ℕ) (done : List A) (x : A) (old mid new : Option (List ℕ)) → take (i + 1) xs ≡ done ++ x ∷ [] → Appends old mid (lines done) → IsBegun (line (view x)) mid new → IsBegun (lines xs) old new
   begun_next xs i done x old mid new next before here =
-      let rest = lines (drop (i + 1) xs) in
-      let whole : lines xs ≡ (lines done ++ line (view x)) ++ rest =
-      ap lines (sym (take-append-drop (i + 1) xs) ∙ ap (λ t. t ++ drop (i + 1) xs) next)
-      ∙ lines-append (done ++ x ∷ []) (drop (i + 1) xs)
-      ∙ ap (λ t. t ++ rest) (lines-append done (x ∷ []) ∙ ap (λ t. lines done ++ t) (append-nil (line (view x)))) in
-      rw whole (begun_longer (lines done ++ line (view x)) rest old new (begun_more (lines done) (line (view x)) old mid new before here))
+      rw (lines_whole xs i done x next) (begun_longer (lines done ++ line (view x)) (lines (drop (i + 1) xs)) old new (begun_more (lines done) (line (view x)) old mid new before here))
 
 -- what failed printed a beginning
 pub failed_printed : {T : Type 0} (text : List ℕ) (old new : Option (List ℕ)) (failure : Failure) (result : Result T Failure) → IsErrAnd result (λ e. e ≡ failure) → IsBegun text old new → IsUnprinted failure → IsPrinted text old result new
 failed_printed text old new failure (Ok v) failed begun why = absurd failed
 failed_printed text old new failure (Err e) failed begun why = (begun, rw failed why)
+
+pub failed_written : {T : Type 0} (text : List ℕ) (old new : Option (List ℕ)) (failure : Failure) (result : Result T Failure) → IsErrAnd result (λ e. e ≡ failure) → IsBegun text old new → failure ≡ Output → IsWritten text old result new
+failed_written text old new failure (Ok v) failed begun why = absurd failed
+failed_written text old new failure (Err e) failed begun why = (begun, rw failed why)
 
 -- ---- how a status ends
 

@@ -1,7 +1,5 @@
 -- How the lines of runs follow one another.
 use Rattle.std.proofs.Common.{◌≡◌, None, inl, inr, subst, map, Result, Ok, Err, refl, ℕ, ◌+◌, ◌<◌, Bool, List, [], ◌∷◌, ◌++◌, length, Option, sym, ap, ◌∙◌, append_assoc, append-nil, arith, take, drop, length-take, take-append-drop}
-use Rattle.std.specs.Io.KnownBytes.{Appends}
-use Rattle.std.proofs.KnownBytes.{Appends-trans}
 use Rattle.std.specs.Prelude.{Vec}
 use Rattle.std.specs.Result.{IsErrAnd}
 use Rattle.std.specs.declared.alloc.Global.{Global}
@@ -16,7 +14,6 @@ use Rattle.status_profile.specs.declared.history.History.{History}
 use Rattle.status_cli.specs.declared.failure.Failure.{Failure}
 use Rattle.status_cli.specs.Printing.{IsBegun, IsUnprinted}
 use Rattle.status_cli.specs.Replays.{IsHistoryPrinted, IsNoStart, IsReplayed, IsReplayText, IsReplayEnded, replay_lines, run_lines, runs_behind, start_of}
-use Rattle.status_cli.proofs.Printed.{begun_longer, begun_more}
 
 runs-append : (counts : Bool) (before : ℕ) (xs ys : List Report) → runs_behind counts before (xs ++ ys) ≡ runs_behind counts before xs ++ runs_behind counts (before + length xs) ys
 runs-append counts before [] ys = ap (λ n. runs_behind counts n ys) (omega arith)
@@ -25,33 +22,28 @@ runs-append counts before (x ∷ xs) ys =
     ∙ sym (append_assoc (run_lines counts (before + 1) x) (runs_behind counts (before + 1) xs) (runs_behind counts (before + length (x ∷ xs)) ys))
 
 -- the lines of one more run
-one_more : (counts : Bool) (reports : List Report) (at : ℕ) (report : Report) → at < length reports → replay_lines counts (take at reports ++ report ∷ []) ≡ replay_lines counts (take at reports) ++ run_lines counts (at + 1) report
+pub one_more : (counts : Bool) (reports : List Report) (at : ℕ) (report : Report) → at < length reports → replay_lines counts (take at reports ++ report ∷ []) ≡ replay_lines counts (take at reports) ++ run_lines counts (at + 1) report
 one_more counts reports at report inside =
     let long : length (take at reports) ≡ at = omega (arith, length-take at reports, inside) in
     runs-append counts 0 (take at reports) (report ∷ [])
     ∙ ap (λ t. replay_lines counts (take at reports) ++ t) (append-nil (run_lines counts (0 + length (take at reports) + 1) report))
     ∙ ap (λ n. replay_lines counts (take at reports) ++ run_lines counts (n + 1) report) (omega (arith, long))
 
--- the lines of the runs so far, and one more
-pub printed_run : (counts : Bool) (reports : List Report) (at : ℕ) (report : Report) (old mid new : Option (List ℕ)) → at < length reports → Appends old mid (replay_lines counts (take at reports)) → Appends mid new (run_lines counts (at + 1) report) → Appends old new (replay_lines counts (take at reports ++ report ∷ []))
-printed_run counts reports at report old mid new inside before here = rw (one_more counts reports at report inside) (Appends-trans old mid new _ _ before here)
-
--- the lines of the runs so far, and a beginning of the next
-pub begun_run : (counts : Bool) (reports : List Report) (at : ℕ) (report : Report) (old mid new : Option (List ℕ)) → at < length reports → take (at + 1) reports ≡ take at reports ++ report ∷ [] → Appends old mid (replay_lines counts (take at reports)) → IsBegun (run_lines counts (at + 1) report) mid new → IsBegun (replay_lines counts reports) old new
-begun_run counts reports at report old mid new inside next before here =
+-- the lines of all runs are those of the first, of one, and of the others
+pub runs_whole : (counts : Bool) (reports : List Report) (at : ℕ) (report : Report) → at < length reports → take (at + 1) reports ≡ take at reports ++ report ∷ []
+    → replay_lines counts reports ≡ (replay_lines counts (take at reports) ++ run_lines counts (at + 1) report) ++ runs_behind counts (0 + length (take (at + 1) reports)) (drop (at + 1) reports)
+runs_whole counts reports at report inside next =
     let done = take (at + 1) reports in let rest = runs_behind counts (0 + length done) (drop (at + 1) reports) in
-    let whole : replay_lines counts reports ≡ (replay_lines counts (take at reports) ++ run_lines counts (at + 1) report) ++ rest =
     ap (replay_lines counts) (sym (take-append-drop (at + 1) reports))
     ∙ runs-append counts 0 done (drop (at + 1) reports)
-    ∙ ap (λ t. t ++ rest) (ap (replay_lines counts) next ∙ one_more counts reports at report inside) in
-    rw whole (begun_longer _ rest old new (begun_more _ _ old mid new before here))
+    ∙ ap (λ t. t ++ rest) (ap (replay_lines counts) next ∙ one_more counts reports at report inside)
 
 -- ---- a whole history
 
 -- a beginning of the lines was printed
-pub ended_begun : {T : Type 0} (text : List ℕ) (stopped : Option Stop) (old new : Option (List ℕ)) (result : Result T Failure) (failure : Failure) → IsErrAnd result (λ e. e ≡ failure) → IsBegun text old new → IsUnprinted failure → IsReplayEnded text stopped old result new
-ended_begun text stopped old new (Ok v) failure failed begun why = absurd failed
-ended_begun text stopped old new (Err e) failure failed begun why = inr (begun, rw failed why)
+pub ended_begun : {T : Type 0} (text : List ℕ) (stretches : List (Vec Event Global)) (stopped : Option Stop) (old new : Option (List ℕ)) (result : Result T Failure) (failure : Failure) → IsErrAnd result (λ e. e ≡ failure) → IsBegun text old new → IsUnprinted failure → IsReplayEnded text stretches stopped old result new
+ended_begun text stretches stopped old new (Ok v) failure failed begun why = absurd failed
+ended_begun text stretches stopped old new (Err e) failure failed begun why = inr (begun, rw failed why)
 
 -- the history can't begin so
 pub not_started : {A : Type 0} (h : History) (old : Option (List ℕ)) (result : Result A Failure) (failure : Failure) → IsErrAnd result (λ e. e ≡ failure) → IsNoStart h failure → IsHistoryPrinted h old result old
@@ -60,7 +52,7 @@ not_started h old (Err e) failure failed why = inl (rw failed why, refl)
 
 pub replay_printed : {A : Type 0} (h : History) (w final : StampedWorld) (stretches : List (Vec Event Global)) (reports : List Report) (stopped : Option Stop) (old new : Option (List ℕ)) (result : Result A Failure)
     → start_refusal h.clock h.timestamp ≡ None → w ≡ start_of h → stretches ≡ h.stretches.items → IsReopenedReplay w stretches final (map report_value reports) stopped
-    → IsReplayEnded (replay_lines h.options.counts reports) stopped old result new → IsHistoryPrinted h old result new
+    → IsReplayEnded (replay_lines h.options.counts reports) h.stretches.items stopped old result new → IsHistoryPrinted h old result new
 replay_printed h w final stretches reports stopped old new result start started same replay ended = inr (record {
   start = start;
   final = final;

@@ -1,5 +1,5 @@
 -- Each failure but a failed output has a line. Each fault is a failure of its own, except that out of memory is one.
-use Rattle.std.specs.Prelude.{ℕ, Bool, true, false, List, [], ◌∷◌, ◌++◌, codes, decimal}
+use Rattle.std.specs.Prelude.{◌≡◌, ◌⊎◌, ℕ, Bool, true, false, List, [], ◌∷◌, ◌++◌, codes, decimal, Option, Result}
 use Rattle.status_index.specs.declared.fault.Fault.{Fault}
 use Rattle.status_index.specs.declared.fault.Fault.TheVariants as faults
 use Rattle.status_index.specs.declared.state.IndexError.{IndexError}
@@ -21,6 +21,7 @@ use Rattle.status_profile.specs.declared.error.ProfileError.TheVariants as profi
 use Rattle.status_cli.specs.declared.failure.Failure.{Failure}
 use Rattle.status_cli.specs.declared.failure.Failure.TheVariants as failures
 use Rattle.status_cli.specs.Lines.{line, path_text}
+use Rattle.status_cli.specs.Printing.{IsBegun, IsWritten}
 
 abbrev pub fault_text : Fault → List ℕ
 fault_text faults.NotFound = codes "not found"
@@ -123,3 +124,19 @@ failure_line name (failures.Event refusal at) = line (codes "refused " ∷ decim
 failure_line name failures.Output = []
 failure_line name failures.Unwritable = line (codes "cannot write " ∷ name ∷ [])
 failure_line name failures.Memory = line (codes "out of memory" ∷ [])
+
+-- the line of a status that failed at the submodule with this path
+abbrev pub submodule_line : List ℕ → List ℕ
+submodule_line path = line (codes "status failed: " ∷ (codes "submodule " ++ path_text path) ∷ [])
+
+-- the line that memory ran out
+abbrev pub memory_line : List ℕ
+memory_line = line (codes "out of memory" ∷ [])
+
+-- a line was written; or, if it names a submodule, whose path takes memory, the line that memory ran out
+abbrev pub IsFaultWritten : {T : Type 0} → Bool → List ℕ → Option (List ℕ) → Result T Failure → Option (List ℕ) → Type 0
+IsFaultWritten names text old result new = IsWritten text old result new ⊎ ((names ≡ true) × IsWritten memory_line old result new)
+
+-- a beginning of a failure's line was written; or, if it names a submodule, of the line that memory ran out
+abbrev pub IsReported : List ℕ → Failure → Option (List ℕ) → Option (List ℕ) → Type 0
+IsReported name failure old new = IsBegun (failure_line name failure) old new ⊎ ((names_submodule failure ≡ true) × IsBegun memory_line old new)

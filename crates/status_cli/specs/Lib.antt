@@ -1,3 +1,5 @@
+pub mod Buffering
+pub mod Exactness
 pub mod Failures
 pub mod FaultLines
 pub mod Lines

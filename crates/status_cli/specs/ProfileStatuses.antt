@@ -47,8 +47,7 @@ use Rattle.status_cli.specs.declared.status.profile_status.IndexChanges.{IndexCh
 use Rattle.status_cli.specs.declared.status.profile_status.ProfileStatus.{ProfileStatus}
 use Rattle.status_cli.specs.declared.failure.Failure.TheVariants.{Unreadable, Memory}
 use Rattle.status_cli.specs.Failures.{failure_of_node, failure_of_profile}
-use Rattle.status_cli.specs.FaultLines.{failure_line, names_submodule}
-use Rattle.status_cli.specs.Printing.{IsBegun}
+use Rattle.status_cli.specs.FaultLines.{IsReported}
 use Rattle.status_cli.specs.Statuses.{IsJoinedAnswer, IsJoinedPrinted, IsStatusPrinted, JoinedInputs}
 
 -- the results of a worktree, and whether they are specified
@@ -193,10 +192,9 @@ IsTextPrinted kind text wanted old result new =
     (IsUnreadPrinted old result new ⊎ ((e : ProfileError) × IsRead kind text (Err e) × IsErrAnd result (λ f. f ≡ failure_of_profile e) × (new ≡ old)))
     ⊎ IsReadPrinted kind text wanted old result new
 
--- of a command that ended with exit status 1: a beginning of its failure's line was written, and this holds of what was printed. Of
--- the line of a submodule's fault nothing is claimed
+-- of a command that ended with exit status 1: a beginning of its failure's line was written, and this holds of what was printed
 abbrev pub IsFailed : (Failure → Type 0) → List ℕ → Option (List ℕ) → Option (List ℕ) → Type 0
-IsFailed Printed name old new = (f : Failure) × Printed f × (names_submodule f ≡ false → IsBegun (failure_line name f) old new)
+IsFailed Printed name old new = (f : Failure) × Printed f × IsReported name f old new
 
 -- the same of a command's text, if that is known: it succeeded, or it failed
 abbrev pub IsTextSucceeded : Kind → Option (List ℕ) → Option (List ℕ) → Option (List ℕ) → Type 0

@@ -1,13 +1,15 @@
 -- A replay prints the lines of its reports, up to its end or to what stops it; then the command fails for that. A refused start
 -- prints nothing.
-use Rattle.std.specs.Prelude.{◌≡◌, ◌⊎◌, IfSome, ℕ, ◌+◌, Bool, List, [], ◌∷◌, ◌++◌, map, Option, None, Some, Result, Ok, Err}
+use Rattle.std.specs.Prelude.{◌≡◌, ◌⊎◌, IfSome, Vec, ℕ, ◌+◌, ◌-◌, ◌^◌, min, Bool, List, [], ◌∷◌, ◌++◌, length, take, map, Option, None, Some, Result, Ok, Err}
 use Rattle.std.specs.Io.KnownBytes.{Appends}
-use Rattle.std.specs.List.{flat_map}
+use Rattle.std.specs.List.{flat_map, sum_by}
 use Rattle.std.specs.Result.{IsErrAnd}
+use Rattle.std.specs.declared.alloc.Global.{Global}
 use Rattle.status_stored.specs.Reopening.{IsReopenedReplay}
 use Rattle.status_stored.specs.declared.stop.Stop.{Stop}
 use Rattle.status_stored.specs.declared.stop.Stop.TheVariants as stops
 use Rattle.status_world.specs.Refusals.{start_refusal}
+use Rattle.status_world.specs.declared.world.event.Event.{Event}
 use Rattle.status_world.specs.declared.world.refusal.Refusal.{Refusal}
 use Rattle.status_world.specs.Reports.{Reported, RunReport, report_value}
 use Rattle.status_world.specs.declared.world.report.Report.{Report}
@@ -50,22 +52,31 @@ start_of h = empty_world h.hash h.options.stat h.options.executable_bit h.clock 
 abbrev pub IsNoStart : History → Failure → Type 0
 IsNoStart h failure = (r : Refusal) × (start_refusal h.clock h.timestamp ≡ Some r) × (failure ≡ failure_of_start r)
 
--- the command's failure for what stopped a replay, at this position in the list of events
-abbrev pub failure_of_stop : Stop → ℕ → Failure
-failure_of_stop (stops.Event stretch at refusal) position = failure_of_event refusal position
-failure_of_stop (stops.Opening stretch refusal) position = failure_of_event refusal position
-failure_of_stop (stops.Reports stretch) position = Memory
+-- the number of events in the list of a history for these stretches, with the reopening that follows each
+abbrev pub event_count : List (Vec Event Global) → ℕ
+event_count stretches = sum_by (λ events. length events.items + 1) stretches
 
--- something stopped the replay, and this is its failure, at some position
-abbrev pub IsStopOf : Option Stop → Failure → Type 0
-IsStopOf None failure = ⊥
-IsStopOf (Some stop) failure = (position : ℕ) × (failure ≡ failure_of_stop stop position)
+-- a count, up to the greatest number that is shown
+abbrev pub counted_up : ℕ → ℕ
+counted_up n = min n (2 ^ 64 - 1)
+
+-- the command's failure for what stopped a replay of these stretches, at its position in the list of events: an event comes after the
+-- stretches before its own and after the events before it, and the reopening at which a stretch begins is the last event before that
+abbrev pub failure_of_stop : List (Vec Event Global) → Stop → Failure
+failure_of_stop stretches (stops.Event stretch at refusal) = failure_of_event refusal (counted_up (event_count (take stretch stretches) + at))
+failure_of_stop stretches (stops.Opening stretch refusal) = failure_of_event refusal (counted_up (event_count (take stretch stretches)) - 1)
+failure_of_stop stretches (stops.Reports stretch) = Memory
+
+-- something stopped the replay of these stretches, and this is its failure
+abbrev pub IsStopOf : List (Vec Event Global) → Option Stop → Failure → Type 0
+IsStopOf stretches None failure = ⊥
+IsStopOf stretches (Some stop) failure = failure ≡ failure_of_stop stretches stop
 
 -- all of a text was printed, and the command succeeded if nothing stopped the replay, and failed for what stopped it if something did;
 -- or the output can't be written or memory ran out, and a beginning was
-abbrev pub IsReplayEnded : {A : Type 0} → List ℕ → Option Stop → Option (List ℕ) → Result A Failure → Option (List ℕ) → Type 0
-IsReplayEnded text stopped old (Ok _) new = (stopped ≡ None) × Appends old new text
-IsReplayEnded text stopped old (Err failure) new = (IsStopOf stopped failure × Appends old new text) ⊎ (IsBegun text old new × IsUnprinted failure)
+abbrev pub IsReplayEnded : {A : Type 0} → List ℕ → List (Vec Event Global) → Option Stop → Option (List ℕ) → Result A Failure → Option (List ℕ) → Type 0
+IsReplayEnded text stretches stopped old (Ok _) new = (stopped ≡ None) × Appends old new text
+IsReplayEnded text stretches stopped old (Err failure) new = (IsStopOf stretches stopped failure × Appends old new text) ⊎ (IsBegun text old new × IsUnprinted failure)
 
 -- the events were replayed, with what stopped that, if anything, and the lines of the reports were printed as it ended
 pub record IsReplayPrinted {A : Type 0} (h : History) (old : Option (List ℕ)) (result : Result A Failure) (new : Option (List ℕ)) : Type 0 where
@@ -74,7 +85,7 @@ pub record IsReplayPrinted {A : Type 0} (h : History) (old : Option (List ℕ)) 
   pub reports : List Report
   pub stopped : Option Stop
   pub replay : IsReopenedReplay (start_of h) h.stretches.items final (map report_value reports) stopped
-  pub ended : IsReplayEnded (replay_lines h.options.counts reports) stopped old result new
+  pub ended : IsReplayEnded (replay_lines h.options.counts reports) h.stretches.items stopped old result new
 
 -- the same; or the history can't begin so, for which the command fails, and nothing was printed
 abbrev pub IsHistoryPrinted : {A : Type 0} → History → Option (List ℕ) → Result A Failure → Option (List ℕ) → Type 0

@@ -1,14 +1,16 @@
 //! The line that says why a command failed. It is written part by part, so that it takes no memory, but for the path of a
 //! submodule.
 
-ghost use Rattle.std.specs.Prelude.{◌≡◌, ◌∷◌, [], codes, decimal, false};
-ghost use Rattle.status_cli.specs.FaultLines.{error_text, failure_line, fault_text, index_error_text, is_submodule_fault};
-ghost use Rattle.status_cli.specs.FaultLines.{joined_error_text, key_text, names_submodule, profile_error_text, refusal_text, tree_error_text};
-ghost use Rattle.status_cli.specs.Lines.{line, path_text};
-ghost use Rattle.status_cli.specs.Printing.{IsBegun, IsPrinted};
+ghost use Rattle.std.specs.Prelude.{◌≡◌, ◌∷◌, [], IfOk, codes, decimal, true};
+ghost use Rattle.bstr.specs.BStr.{bstr_bytes};
+ghost use Rattle.status_cli.specs.FaultLines.{IsFaultWritten, IsReported, error_text, failure_line, fault_text, index_error_text, is_submodule_fault};
+ghost use Rattle.status_cli.specs.FaultLines.{joined_error_text, key_text, names_submodule, profile_error_text, refusal_text, submodule_line, tree_error_text, walk_error_text};
+ghost use Rattle.status_cli.specs.Lines.{line};
+ghost use Rattle.status_cli.specs.Printing.{IsWritten};
 
 use crate::failure::Failure;
-use crate::output::print_parts;
+use crate::lines::push_path;
+use crate::output::{print, print_parts};
 use bstr::BStr;
 use gix_status::index::IndexError;
 use gix_status::index_as_worktree::Error;
@@ -17,16 +19,16 @@ use gix_status::walk::WalkError;
 use gix_status::worktree::{Fault, TreeError};
 use gix_status::world::Refusal;
 use itoa::Buffer;
-use serde_json::Value;
 use status_profile::{Key, ProfileError};
 use std::alloc::{AllocError, Global};
 use std::io;
 
 impl Failure {
-    /// Writes the failure in one line, and returns the exit status 1. `name` names the file that is read or written.
+    /// Writes the failure in one line, and returns the exit status 1. `name` names the file that is read or written. For a
+    /// failure of the output nothing is written.
     pub fn report<E: io::Write>(&self, alloc: Global, name: &str, faults: &mut E) -> u8
         ensures status { result ≡ 1 }
-        ensures line { names_submodule self.now ≡ false → IsBegun (failure_line name.now self.now) (E.contents faults.old) (E.contents faults.new) }
+        ensures line { IsReported name.now self.now (E.contents faults.old) (E.contents faults.new) }
     {
         // If the line can't be written, there is nowhere left to report that.
         let _ = self.print(alloc, name, faults);
@@ -35,7 +37,7 @@ impl Failure {
 
     /// Writes the failure in one line. For a failure of the output nothing is written.
     fn print<E: io::Write>(&self, alloc: Global, name: &str, faults: &mut E) -> Result<(), Failure>
-        ensures { names_submodule self.now ≡ false → IsPrinted (failure_line name.now self.now) (E.contents faults.old) result (E.contents faults.new) }
+        ensures { IsFaultWritten (names_submodule self.now) (failure_line name.now self.now) (E.contents faults.old) result (E.contents faults.new) }
     {
         match self {
             Failure::Unreadable => print_parts(&["cannot read ", name, "\n"], faults),
@@ -76,7 +78,7 @@ impl Failure {
 
 /// Writes the line of a text that isn't a profile.
 fn print_profile_error<E: io::Write>(error: ProfileError, faults: &mut E) -> Result<(), Failure>
-    ensures { IsPrinted (line (profile_error_text error ∷ [])) (E.contents faults.old) result (E.contents faults.new) }
+    ensures { IsWritten (line (profile_error_text error ∷ [])) (E.contents faults.old) result (E.contents faults.new) }
 {
     match error {
         ProfileError::NotJson => print_parts(&["not JSON\n"], faults),
@@ -88,7 +90,7 @@ fn print_profile_error<E: io::Write>(error: ProfileError, faults: &mut E) -> Res
 
 /// Writes the line of entries that aren't an index.
 fn print_index_error<E: io::Write>(error: IndexError, faults: &mut E) -> Result<(), Failure>
-    ensures { IsPrinted (line (codes "bad index: " ∷ index_error_text error ∷ [])) (E.contents faults.old) result (E.contents faults.new) }
+    ensures { IsWritten (line (codes "bad index: " ∷ index_error_text error ∷ [])) (E.contents faults.old) result (E.contents faults.new) }
 {
     match error {
         IndexError::EmptyPath { at } => print_bad_entry("empty path at ", at, faults),
@@ -104,7 +106,7 @@ fn print_bad_entry<E: io::Write>(
     at: usize,
     faults: &mut E,
 ) -> Result<(), Failure>
-    ensures { IsPrinted (line (codes "bad index: " ∷ words.now ∷ decimal at ∷ [])) (E.contents faults.old) result (E.contents faults.new) }
+    ensures { IsWritten (line (codes "bad index: " ∷ words.now ∷ decimal at ∷ [])) (E.contents faults.old) result (E.contents faults.new) }
 {
     let mut digits = Buffer::new();
     print_parts(&["bad index: ", words, digits.format(at), "\n"], faults)
@@ -112,20 +114,45 @@ fn print_bad_entry<E: io::Write>(
 
 /// Writes the line of a status that failed.
 fn print_error<E: io::Write>(alloc: Global, error: &Error, faults: &mut E) -> Result<(), Failure>
-    ensures { is_submodule_fault error.now ≡ false → IsPrinted (line (codes "status failed: " ∷ error_text error.now ∷ [])) (E.contents faults.old) result (E.contents faults.new) }
+    ensures { IsFaultWritten (is_submodule_fault error.now) (line (codes "status failed: " ∷ error_text error.now ∷ [])) (E.contents faults.old) result (E.contents faults.new) }
 {
     match error {
         Error::IllformedUtf8 => print_failed("ill-formed UTF-8", faults),
         Error::Time => print_failed("time", faults),
         Error::Io(fault) => print_fault("", *fault, faults),
         Error::Find(_) => print_failed("missing object", faults),
-        Error::SubmoduleStatus { rela_path, .. } => match json_text(alloc, rela_path.as_bytes()) {
-            Ok(path) => print_parts(&["status failed: submodule ", path.as_str(), "\n"], faults),
-            Err(_) => print_parts(&["out of memory\n"], faults),
-        },
+        Error::SubmoduleStatus { rela_path, .. } => print_submodule(
+            alloc,
+            rela_path.as_bstr(),
+            faults,
+        ),
         Error::SpawnThread => print_failed("no thread", faults),
         Error::Memory => print_failed("out of memory", faults),
     }
+}
+
+/// Writes the line of a status that failed at the submodule with this path, or that memory ran out for the line.
+fn print_submodule<E: io::Write>(
+    alloc: Global,
+    path: BStr<'_>,
+    faults: &mut E,
+) -> Result<(), Failure>
+    ensures { IsFaultWritten true (submodule_line (bstr_bytes path.entry)) (E.contents faults.old) result (E.contents faults.new) }
+{
+    match submodule_line(alloc, path) {
+        Ok(line) => print(&line, faults),
+        Err(_) => print_parts(&["out of memory\n"], faults),
+    }
+}
+
+/// Returns the line of a status that failed at the submodule with this path.
+fn submodule_line(alloc: Global, path: BStr<'_>) -> Result<Vec<u8>, AllocError>
+    ensures { IfOk result (λ line. line.items ≡ submodule_line (bstr_bytes path.entry)) }
+{
+    let mut line = Vec::from_slice(alloc, b"status failed: submodule ")?;
+    push_path(&mut line, alloc, path)?;
+    line.push(b'\n')?;
+    Ok(line)
 }
 
 /// Writes the line of a status with untracked files, renames or sorted lines that failed.
@@ -134,14 +161,11 @@ fn print_joined_error<E: io::Write>(
     error: &JoinedError,
     faults: &mut E,
 ) -> Result<(), Failure>
-    ensures { names_submodule (Failure.Joined error.now) ≡ false → IsPrinted (line (codes "status failed: " ∷ joined_error_text error.now ∷ [])) (E.contents faults.old) result (E.contents faults.new) }
+    ensures { IsFaultWritten (names_submodule (Failure.Joined error.now)) (line (codes "status failed: " ∷ joined_error_text error.now ∷ [])) (E.contents faults.old) result (E.contents faults.new) }
 {
     match error {
         JoinedError::TrackedFileModifications(error) => print_error(alloc, error, faults),
-        JoinedError::DirWalk(WalkError::Fault { fault, .. }) => print_fault(
-            "walk: ", *fault, faults,
-        ),
-        JoinedError::DirWalk(WalkError::Memory) => print_failed("out of memory", faults),
+        JoinedError::DirWalk(error) => print_walk_error(error, faults),
         JoinedError::SpawnThread => print_failed("no thread", faults),
         JoinedError::SetAttributeContext => print_failed("attributes", faults),
         JoinedError::OpenWorktreeFile(fault) => print_fault("open: ", *fault, faults),
@@ -153,9 +177,19 @@ fn print_joined_error<E: io::Write>(
     }
 }
 
+/// Writes the line of a status whose walk failed.
+fn print_walk_error<E: io::Write>(error: &WalkError, faults: &mut E) -> Result<(), Failure>
+    ensures { IsWritten (line (codes "status failed: " ∷ walk_error_text error.now ∷ [])) (E.contents faults.old) result (E.contents faults.new) }
+{
+    match error {
+        WalkError::Fault { fault, .. } => print_fault("walk: ", *fault, faults),
+        WalkError::Memory => print_failed("out of memory", faults),
+    }
+}
+
 /// Writes the line of a status that failed, with these words.
 fn print_failed<E: io::Write>(words: &'static str, faults: &mut E) -> Result<(), Failure>
-    ensures { IsPrinted (line (codes "status failed: " ∷ words.now ∷ [])) (E.contents faults.old) result (E.contents faults.new) }
+    ensures { IsWritten (line (codes "status failed: " ∷ words.now ∷ [])) (E.contents faults.old) result (E.contents faults.new) }
 {
     print_parts(&["status failed: ", words, "\n"], faults)
 }
@@ -166,7 +200,7 @@ fn print_fault<E: io::Write>(
     fault: Fault,
     faults: &mut E,
 ) -> Result<(), Failure>
-    ensures { IsPrinted (line (codes "status failed: " ∷ doing.now ∷ fault_text fault ∷ [])) (E.contents faults.old) result (E.contents faults.new) }
+    ensures { IsWritten (line (codes "status failed: " ∷ doing.now ∷ fault_text fault ∷ [])) (E.contents faults.old) result (E.contents faults.new) }
 {
     match fault {
         Fault::NotFound => print_doing(doing, "not found", faults),
@@ -199,7 +233,7 @@ fn print_doing<E: io::Write>(
     words: &'static str,
     faults: &mut E,
 ) -> Result<(), Failure>
-    ensures { IsPrinted (line (codes "status failed: " ∷ doing.now ∷ words.now ∷ [])) (E.contents faults.old) result (E.contents faults.new) }
+    ensures { IsWritten (line (codes "status failed: " ∷ doing.now ∷ words.now ∷ [])) (E.contents faults.old) result (E.contents faults.new) }
 {
     print_parts(&["status failed: ", doing, words, "\n"], faults)
 }
@@ -244,10 +278,4 @@ fn refusal_words(refusal: &Refusal) -> &'static str
         Refusal::BadMoment => "bad moment",
         Refusal::OtherIndex => "other index",
     }
-}
-
-/// Returns a path as a JSON text.
-fn json_text(alloc: Global, path: &[u8]) -> Result<String, AllocError> {
-    let text = String::from_utf8_lossy(alloc, BStr::new(path).as_bytes())?;
-    Value::String(text).to_string(alloc)
 }

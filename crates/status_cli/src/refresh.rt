@@ -22,7 +22,7 @@ use std::thread::Threads;
 /// last is kept. `name` is the name of the profile's file.
 ///
 /// Returns the exit status: 0, or 1 after a failure, which is one line on `faults` (none if `output` can't be written).
-/// Then `refreshed` is unchanged.
+/// After a failure `refreshed` is unchanged.
 pub fn run_refresh<
     R: AllocGlobal + Files + Sync + Threads + Wait,
     I: io::Read,

@@ -1,15 +1,16 @@
 //! The replay of a profile's history.
 
-ghost use Rattle.std.specs.Prelude.{◌≡◌, ◌⊎◌, All, IfErr, IfOk, IfSome, None, Some};
+ghost use Rattle.std.specs.Prelude.{◌≡◌, ◌⊎◌, All, IfErr, IfOk, IfSome, None, Some, take};
 ghost use Rattle.status_world.specs.Refusals.{start_refusal};
 ghost use Rattle.status_world.specs.Reports.{HasSum, report_value};
+ghost use Rattle.status_cli.specs.Buffering.{IsAdded};
 ghost use Rattle.status_cli.specs.Printing.{IsPrinted};
 ghost use Rattle.status_cli.specs.Replays.{IsHistoryPrinted, IsNoStart, IsReplayed, IsReplayFailed, IsReplayText, IsStopOf};
-ghost use Rattle.status_cli.specs.Replays.{replay_lines, report_lines, run_lines, start_of};
+ghost use Rattle.status_cli.specs.Replays.{counted_up, event_count, replay_lines, report_lines, run_lines, start_of};
 
 use crate::failure::Failure;
 use crate::input::read_all;
-use crate::output::{flush, print_record, print_run, print_totals};
+use crate::line_buffer::LineBuffer;
 use gix_status::world::{Event, Report, World};
 use status_profile::History;
 use status_stored::{ReopenedReplay, Stop, replay_reopening};
@@ -21,8 +22,8 @@ use std::thread::Threads;
 /// Reads a profile, replays its events, and prints for each run to `output` its number and a line for each record. With
 /// the option `counts` a line of totals follows. `name` is the name of the profile's file.
 ///
-/// Returns the exit status: 0, or 1 after a failure, which is one line on `faults`. Lines that were printed before it
-/// stay. If `output` can't be written, nothing more is printed.
+/// Returns the exit status: 0, or 1 after a failure, which is one line on `faults` (none if `output` can't be written; then
+/// nothing more is printed). Lines that were printed before it stay.
 pub fn run_replay<R: AllocGlobal + Threads + Wait, I: io::Read, O: io::Write, E: io::Write>(
     rt: &R,
     name: &str,
@@ -77,9 +78,9 @@ fn print_history<R: Threads + Wait, O: io::Write>(
     }
 }
 
-/// Returns why a replay stopped, with a place in the profile's list of events.
+/// Returns why a replay of these stretches stopped, with a place in the profile's list of events.
 fn failure_of(stop: Stop, stretches: &[Vec<Event>]) -> Failure
-    ensures { IsStopOf (Some stop) result }
+    ensures { IsStopOf stretches.now (Some stop) result }
 {
     match stop {
         Stop::Event {
@@ -95,9 +96,11 @@ fn failure_of(stop: Stop, stretches: &[Vec<Event>]) -> Failure
 }
 
 /// Returns the place of a stretch's first event in the profile's list, in which each reopening is an event too.
-fn first_place(stretches: &[Vec<Event>], stretch: usize) -> usize {
+fn first_place(stretches: &[Vec<Event>], stretch: usize) -> usize
+    ensures { result ≡ counted_up (event_count (take stretch stretches.now)) }
+{
     let mut place: usize = 0;
-    for events in stretches.iter().take(stretch) {
+    for events in &stretches[..stretch.min(stretches.len())] {
         place = place.saturating_add(events.len()).saturating_add(1);
     }
     place
@@ -130,14 +133,32 @@ fn print_reports<O: io::Write>(
     requires { All HasSum reports.now }
     ensures { IsPrinted (replay_lines counts reports.now) (O.contents output.old) result (O.contents output.new) }
 {
-    for (at, report) in reports.iter().enumerate() {
-        print_numbered(alloc, at + 1, report, counts, output)?;
-    }
-    flush(output)
+    let mut lines = LineBuffer::new(alloc);
+    let added = add_reports(&mut lines, alloc, reports, counts, output);
+    lines.finish(added, output)
 }
 
-/// Prints the report of a run, after its number.
-fn print_numbered<O: io::Write>(
+/// Adds the lines of the reports of the runs, numbered from 1.
+fn add_reports<O: io::Write>(
+    lines: &mut LineBuffer,
+    alloc: Global,
+    reports: &[Report],
+    counts: bool,
+    output: &mut O,
+) -> Result<(), Failure>
+    requires { All HasSum reports.now }
+    ensures { IsAdded (replay_lines counts reports.now)
+        lines.old.lines.items (O.contents output.old) result lines.new.lines.items (O.contents output.new) }
+{
+    for (at, report) in reports.iter().enumerate() {
+        add_numbered(lines, alloc, at + 1, report, counts, output)?;
+    }
+    Ok(())
+}
+
+/// Adds the lines of the report of a run, after that of its number.
+fn add_numbered<O: io::Write>(
+    lines: &mut LineBuffer,
     alloc: Global,
     run: usize,
     report: &Report,
@@ -145,26 +166,27 @@ fn print_numbered<O: io::Write>(
     output: &mut O,
 ) -> Result<(), Failure>
     requires { HasSum report.now }
-    ensures { IsPrinted (run_lines counts run report.now) (O.contents output.old) result (O.contents output.new) }
+    ensures { IsAdded (run_lines counts run report.now)
+        lines.old.lines.items (O.contents output.old) result lines.new.lines.items (O.contents output.new) }
 {
-    print_run(alloc, run, output)?;
-    print_report(alloc, report, counts, output)
+    lines.add_run(run, output)?;
+    add_report(lines, alloc, report, counts, output)
 }
 
-/// Prints the report of a run.
-fn print_report<O: io::Write>(
+/// Adds the lines of the report of a run.
+fn add_report<O: io::Write>(
+    lines: &mut LineBuffer,
     alloc: Global,
     report: &Report,
     counts: bool,
     output: &mut O,
 ) -> Result<(), Failure>
     requires { HasSum report.now }
-    ensures { IsPrinted (report_lines counts (report_value report.now)) (O.contents output.old) result (O.contents output.new) }
+    ensures { IsAdded (report_lines counts (report_value report.now))
+        lines.old.lines.items (O.contents output.old) result lines.new.lines.items (O.contents output.new) }
 {
-    let mut line = Vec::new(alloc);
     for record in &report.records {
-        print_record(
-            &mut line,
+        lines.add_record(
             alloc,
             record.entry_index,
             record.path.as_bstr(),
@@ -172,5 +194,5 @@ fn print_report<O: io::Write>(
             output,
         )?;
     }
-    print_totals(alloc, &report.outcome, counts, output)
+    lines.add_totals(&report.outcome, counts, output)
 }

@@ -39,8 +39,8 @@ use std::thread::Threads;
 /// Reads a profile, computes its status, and prints a line to `output` for each record, untracked file and rename. With
 /// the option `counts` a line of totals follows. `name` is the name of the profile's file.
 ///
-/// Returns the exit status: 0, or 1 after a failure, which is one line on `faults`. Lines that were printed before it
-/// stay. If `output` can't be written, nothing more is printed.
+/// Returns the exit status: 0, or 1 after a failure, which is one line on `faults` (none if `output` can't be written; then
+/// nothing more is printed). Lines that were printed before it stay.
 pub fn run_status<
     R: AllocGlobal + Files + Sync + Threads + Wait,
     I: io::Read,
@@ -118,20 +118,8 @@ where
     ensures inside { IfOk result (λ changes. AreInside changes.items (index_of index.now)) }
     ensures printed { IsPlacePrinted place hash options index.now changes (O.contents output.old) (result_map vec_items result) (O.contents output.new) }
 {
-    let alloc = rt.alloc();
     match place {
-        Place::Nodes(nodes) => {
-            let worktree = plant(alloc, nodes)?;
-            let status = ProfileStatus {
-                index,
-                worktree: &worktree,
-                walk: UntrackedWalk::new(alloc),
-                hash,
-                options,
-                changes,
-            };
-            print_prefixed(rt, status, output)
-        }
+        Place::Nodes(nodes) => print_nodes(rt, index, hash, options, nodes, changes, output),
         Place::Folder(folder) => {
             let worktree = DiskWorktree::new(rt, Path::new(folder.as_str()))?;
             let status = ProfileStatus {
@@ -145,6 +133,33 @@ where
             print_prefixed(rt, status, output)
         }
     }
+}
+
+/// Prints the status of an index against the worktree of these nodes. It isn't passed `Files`, so it can't open or
+/// remove a file.
+fn print_nodes<R: AllocGlobal + Threads + Wait, O: io::Write>(
+    rt: &R,
+    index: &State,
+    hash: HashKind,
+    options: ProfileOptions,
+    nodes: Vec<(BString, Node)>,
+    changes: Changes,
+    output: &mut O,
+) -> Result<Vec<ApplyChange>, Failure>
+    ensures inside { IfOk result (λ changes. AreInside changes.items (index_of index.now)) }
+    ensures printed { IsPlacePrinted (Place.Nodes nodes) hash options index.now changes (O.contents output.old) (result_map vec_items result) (O.contents output.new) }
+{
+    let alloc = rt.alloc();
+    let worktree = plant(alloc, nodes)?;
+    let status = ProfileStatus {
+        index,
+        worktree: &worktree,
+        walk: UntrackedWalk::new(alloc),
+        hash,
+        options,
+        changes,
+    };
+    print_prefixed(rt, status, output)
 }
 
 /// Makes the worktree of these nodes.

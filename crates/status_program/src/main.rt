@@ -3,7 +3,6 @@
 
 use status_cli::{Failure, run_refresh, run_replay, run_status, write_whole};
 use std::convert::AsStr;
-use std::io::BufWriter;
 use std::process::ExitCode;
 use std::rt::{Env, Files};
 use std::sync::Wait;
@@ -115,29 +114,27 @@ where
         Ok(profile) => profile,
         Err(error) => return Failure::of_reading(error).report(rt.alloc(), file, faults),
     };
-    match BufWriter::new(rt.alloc(), io::writer(rt)) {
-        Ok(mut output) => match command {
-            Command::Status => run_status(rt, file, &mut profile, &mut output, faults),
-            Command::Replay => run_replay(rt, file, &mut profile, &mut output, faults),
-            Command::Refresh { out, secs, nsecs } => {
-                let mut refreshed = Vec::new(rt.alloc());
-                let status = run_refresh(
-                    rt,
-                    file,
-                    secs,
-                    nsecs,
-                    &mut profile,
-                    &mut output,
-                    faults,
-                    &mut refreshed,
-                );
-                match status {
-                    0 => write_refreshed(rt, out.as_str(), &refreshed, faults),
-                    failed => failed,
-                }
+    let mut output = io::writer(rt);
+    match command {
+        Command::Status => run_status(rt, file, &mut profile, &mut output, faults),
+        Command::Replay => run_replay(rt, file, &mut profile, &mut output, faults),
+        Command::Refresh { out, secs, nsecs } => {
+            let mut refreshed = Vec::new(rt.alloc());
+            let status = run_refresh(
+                rt,
+                file,
+                secs,
+                nsecs,
+                &mut profile,
+                &mut output,
+                faults,
+                &mut refreshed,
+            );
+            match status {
+                0 => write_refreshed(rt, out.as_str(), &refreshed, faults),
+                failed => failed,
             }
-        },
-        Err(_) => Failure::Memory.report(rt.alloc(), file, faults),
+        }
     }
 }
 

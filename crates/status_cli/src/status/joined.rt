@@ -4,12 +4,14 @@ ghost use Rattle.std.specs.Prelude.{◌≡◌, map};
 ghost use Rattle.status_call.specs.Inputs.{usual};
 ghost use Rattle.status_joined.specs.Entries.{reported_entry};
 ghost use Rattle.status_profile.specs.Options.{option_values};
+ghost use Rattle.status_cli.specs.Buffering.{IsAdded};
 ghost use Rattle.status_cli.specs.Printing.{IsPrinted};
 ghost use Rattle.status_cli.specs.ProfileStatuses.{IsJoinedReported, IsJoinedShown, results_of};
 ghost use Rattle.status_cli.specs.Statuses.{entry_lines, joined_answered, joined_options};
 
 use crate::failure::Failure;
-use crate::output::{flush, print_closing, print_entry};
+use crate::line_buffer::LineBuffer;
+use crate::output::print_closing;
 use crate::status::profile_status::ProfileStatus;
 use gix_status::index::HashKind;
 use gix_status::index_as_worktree;
@@ -29,7 +31,7 @@ use std::sync::Wait;
 use std::thread::Threads;
 
 /// Prints a status of these paths. If the status fails, the entries that the recorder holds are printed: those before
-/// one for which it had no memory, and none after any other failure.
+/// one for which it had no memory, and none if the status fails otherwise.
 pub fn print_joined<
     'a,
     R: AllocGlobal + Threads + Wait,
@@ -139,9 +141,23 @@ fn print_entries<T: Drop, U: Drop, O: io::Write>(
 ) -> Result<(), Failure>
     ensures { IsPrinted (entry_lines (map reported_entry entries.now)) (O.contents output.old) result (O.contents output.new) }
 {
-    let mut line = Vec::new(alloc);
+    let mut lines = LineBuffer::new(alloc);
+    let added = add_entries(&mut lines, alloc, entries, output);
+    lines.finish(added, output)
+}
+
+/// Adds a line for each entry.
+fn add_entries<T: Drop, U: Drop, O: io::Write>(
+    lines: &mut LineBuffer,
+    alloc: Global,
+    entries: &[Entry<'_, T, U>],
+    output: &mut O,
+) -> Result<(), Failure>
+    ensures { IsAdded (entry_lines (map reported_entry entries.now))
+        lines.old.lines.items (O.contents output.old) result lines.new.lines.items (O.contents output.new) }
+{
     for entry in entries {
-        print_entry(&mut line, alloc, entry, output)?;
+        lines.add_entry(alloc, entry, output)?;
     }
-    flush(output)
+    Ok(())
 }

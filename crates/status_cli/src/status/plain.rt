@@ -5,12 +5,14 @@ ghost use Rattle.status_index.specs.States.{index_of};
 ghost use Rattle.status_call.specs.IndexChanges.{AreInside, changes_of};
 ghost use Rattle.status_call.specs.Outcomes.{skipped_of};
 ghost use Rattle.status_call.specs.RecorderVisits.{visit_of};
+ghost use Rattle.status_cli.specs.Buffering.{IsAdded};
 ghost use Rattle.status_cli.specs.Printing.{IsPrinted, result_map};
 ghost use Rattle.status_cli.specs.ProfileStatuses.{IsPlainShown, results_of};
 ghost use Rattle.status_cli.specs.Statuses.{answered, visit_lines};
 
 use crate::failure::Failure;
-use crate::output::{flush, print_closing, print_record};
+use crate::line_buffer::LineBuffer;
+use crate::output::print_closing;
 use crate::status::profile_status::{Changes, ProfileStatus};
 use gix_status::index_as_worktree::{
     ApplyChange, Error, Outcome, Record, Recorder, index_as_worktree_with_defaults,
@@ -78,10 +80,23 @@ fn print_records<T: Drop, U: Drop, O: io::Write>(
 ) -> Result<(), Failure>
     ensures { IsPrinted (visit_lines (map visit_of records.now)) (O.contents output.old) result (O.contents output.new) }
 {
-    let mut line = Vec::new(alloc);
+    let mut lines = LineBuffer::new(alloc);
+    let added = add_records(&mut lines, alloc, records, output);
+    lines.finish(added, output)
+}
+
+/// Adds a line for each record.
+fn add_records<T: Drop, U: Drop, O: io::Write>(
+    lines: &mut LineBuffer,
+    alloc: Global,
+    records: &[Record<'_, T, U>],
+    output: &mut O,
+) -> Result<(), Failure>
+    ensures { IsAdded (visit_lines (map visit_of records.now))
+        lines.old.lines.items (O.contents output.old) result lines.new.lines.items (O.contents output.new) }
+{
     for record in records {
-        print_record(
-            &mut line,
+        lines.add_record(
             alloc,
             record.entry_index,
             record.relative_path,
@@ -89,5 +104,5 @@ fn print_records<T: Drop, U: Drop, O: io::Write>(
             output,
         )?;
     }
-    flush(output)
+    Ok(())
 }

@@ -1,20 +1,5 @@
-use Rattle.std.proofs.Common.{◌≡◌, ◌∙◌, ◌+◌, ◌++◌, ◌∷◌, [], sym, ap, take}
-use Rattle.std.proofs.lemmas.List.{take_more}
-use Rattle.status_call.specs.RecorderVisits.{visit_of}
-use Rattle.status_cli.specs.Lines.{visit_line}
-use Rattle.status_cli.proofs.Printed.{begun_next, failed_printed, printed_next}
+use Rattle.status_cli.proofs.Buffered.{finished}
 use Rattle.status_cli.proofs.status.plain.print_records.Goals as goal
 
-pub returns-in_err-print_record : goal.returns-in_err-print_record
-returns-in_err-print_record g c =
-    let records = c.args.records.now in let at = c.loop-record.record-index in let one = c.record-item.result in
-    let next : take (at + 1) records ≡ take at records ++ one ∷ [] = take_more _ at one c.loop-record-test.true ∙ ap (λ d. take at records ++ d ∷ []) (sym c.record-item.is) in
-    failed_printed _ _ _ _ c.from_residual.result c.from_residual.ensures.1
-    (begun_next visit_line visit_of records at (take at records) one _ _ _ next c.loop-record.invariant c.in_err-print_record.ensures.0)
-    c.in_err-print_record.ensures.1
-
-pub loop-record-preserved : goal.loop-record-preserved
-loop-record-preserved g c =
-    let records = c.args.records.now in let at = c.loop-record.record-index in let one = c.record-item.result in
-    let next : take (at + 1) records ≡ take at records ++ one ∷ [] = take_more _ at one c.loop-record-test.true ∙ ap (λ d. take at records ++ d ∷ []) (sym c.record-item.is) in
-    rw next (printed_next visit_line visit_of (take at records) one _ _ _ c.loop-record.invariant c.in_ok-print_record.ensures)
+pub returns : goal.returns
+returns g c = finished _ _ _ _ _ c.add_records-added.result c.finish.result (rw c.new-lines.ensures at c.add_records-added.ensures) c.finish.ensures
