@@ -147,7 +147,7 @@ RENAMES = {
     "timestamp": [9, 0],
     "options": {"chunk_size": 1, "untracked": True, "renames": True, "sort": True},
     "index": [entry("a", "foo"), entry("m", "foo")],
-    "worktree": [node("b", "foo"), node("c", "foo"), node("m", "bars")],
+    "worktree": [node("b", "foo"), node("c", "foo"), node("m", "bars"), node("n", "bar"), node("o", "bar")],
 }
 # Untracked files and a link, on three levels, next to an entry and below the directory of one.
 LISTED = {
@@ -192,7 +192,7 @@ ROWS = {
     "refreshed": Row("refresh", MODIFIED, '0 modified -c- "a"\n'),
     "refreshed_over": Row("refresh", MODIFIED, '0 modified -c- "a"\n', old="what was there\n"),
     "listed": Row("status", LISTED, '0 modified -c- "d/a"\n- added "b"\n- added "d/c"\n- added "d/e/f"\n- added "l"\n'),
-    "renames": Row("status", RENAMES, '- renamed "a" "b"\n- added "c"\n1 modified -c- "m"\n'),
+    "renames": Row("status", RENAMES, '- renamed "a" "b"\n- added "c"\n1 modified -c- "m"\n- added "n"\n- added "o"\n'),
     "folder": Row(
         "status",
         FOLDER,

@@ -131,10 +131,10 @@ class Judging(unittest.TestCase):
     def test_a_joined_status_that_fails_before_it_reports_has_no_line(self):
         line = ROWS["renames"].out.splitlines(keepends=True)[0]
         self.assertIsNone(self.said("renames", "m", 1, "", "out of memory\n", 10))
-        # Of the hundred calls, three lines take at most eighteen.
-        for at in (10, 82):
+        # Of the hundred calls, five lines take at most thirty.
+        for at in (10, 70):
             self.assertIsNotNone(self.said("renames", "m", 1, line, "out of memory\n", at), at)
-        self.assertIsNone(self.said("renames", "m", 1, line, "out of memory\n", 83))
+        self.assertIsNone(self.said("renames", "m", 1, line, "out of memory\n", 71))
         self.assertIsNone(self.said("renames", "m", 1, line, "out of memory\n", 89))
         self.assertIsNotNone(self.said("renames", "m", 1, line + line, "out of memory\n", 89))
 
@@ -283,11 +283,12 @@ class Program(unittest.TestCase):
         # The recorder takes memory for four entries, and then for the fifth, before the first line takes any.
         with tempfile.TemporaryDirectory() as folder:
             library = tool.compile_library(folder)
-            with tool.sweeper(PROGRAM, library, "listed", 1, 10) as it:
-                ends = [it.run(at + 1, False)[0] for at in range(len(it.calls()))]
-        lines = ROWS["listed"].out.splitlines(keepends=True)
-        printed = [ended.out.decode() for ended in ends if ended.status != 0 and ended.out]
-        self.assertEqual(printed[0], "".join(lines[:4]))
+            for row in ("listed", "renames"):
+                with self.subTest(row), tool.sweeper(PROGRAM, library, row, 1, 10) as it:
+                    ends = [it.run(at + 1, False)[0] for at in range(len(it.calls()))]
+                    lines = ROWS[row].out.splitlines(keepends=True)
+                    printed = [ended.out.decode() for ended in ends if ended.status != 0 and ended.out]
+                    self.assertEqual(printed[0], "".join(lines[:4]))
 
     def test_each_call_of_a_folder_is_refused(self):
         self.assert_swept("--rows folder --limits 1 2 --repeat 1", 4, FEWEST["folder"])

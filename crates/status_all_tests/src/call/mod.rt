@@ -25,3 +25,4 @@ mod second_of_three;
 mod statuses;
 mod submodules;
 mod watched;
+mod without_threads;

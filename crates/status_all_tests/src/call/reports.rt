@@ -1,7 +1,7 @@
 //! Statuses by ids, and checks of their reports.
 
 use crate::contents::Content;
-use crate::stats::{LATER, stat};
+use crate::stats::{LATER, STAGED, stat};
 use gix_status::index::{ObjectId, State};
 use gix_status::index_as_worktree::traits::HashEq;
 use gix_status::index_as_worktree::{Change, EntryStatus, Error, Options, Outcome, Record};
@@ -39,6 +39,8 @@ pub enum Says {
     Changed(Content),
     /// The file has the same content of three bytes, and was written after the entry was staged.
     Updated,
+    /// The file has the same content of three bytes, and was written when the entry was staged.
+    Racy,
 }
 
 /// The index position of a record, its path, and its status.
@@ -68,6 +70,9 @@ fn is_said(status: &EntryStatus<ObjectId, ()>, says: Says) -> bool {
         Says::Changed(content) => is_changed(status, &content.id()),
         Says::Updated => {
             matches!(status, EntryStatus::NeedsUpdate(found) if *found == stat(LATER))
+        }
+        Says::Racy => {
+            matches!(status, EntryStatus::NeedsUpdate(found) if *found == stat(STAGED))
         }
     }
 }

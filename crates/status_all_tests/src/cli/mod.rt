@@ -5,3 +5,4 @@
 mod commands;
 mod failures;
 mod lines;
+mod writers;
