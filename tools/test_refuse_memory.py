@@ -25,14 +25,14 @@ ONE_PIECE = ("malformed",)
 # In each row that the gate sweeps, more calls than these are refused, so that a profile that shrinks is noticed. These
 # are about nine tenths of the calls that there were.
 FEWEST = {
-    "modified": 45,
-    "conflict": 56,
-    "renames": 68,
-    "listed": 77,
-    "folder": 57,
-    "refreshed": 120,
-    "refreshed_over": 120,
-    "reopened": 746,
+    "modified": 35,
+    "conflict": 55,
+    "renames": 80,
+    "listed": 75,
+    "folder": 47,
+    "refreshed": 105,
+    "refreshed_over": 105,
+    "reopened": 692,
 }
 
 # Takes memory twice, starts a thread, which takes memory too, and then prints the line of the first row.
