@@ -41,6 +41,8 @@ class Drawings(unittest.TestCase):
             top = os.path.join(room, "top")
             os.mkdir(top)
             drawing = Drawing(seed, top)
+            # Git compares whole seconds of the time at which a file changed, so making and editing are done in one.
+            wait_for_later_second()
             drawing.make()
             drawing.edit()
             lines = subprocess.run(git_words(), cwd=top, check=True, capture_output=True, env={**os.environ, **SETTINGS})
