@@ -1,5 +1,5 @@
 -- Assignments, the last one first.
-use Rattle.std.proofs.Common.{◌≡◌, ◌∙◌, ◌<◌, ◌≤◌, ◌-◌, ◌+◌, ℕ, zero, suc, Bool, true, false, cond, List, [], ◌∷◌, ◌++◌, length, map, drop, refl, sym, ap, arith}
+use Rattle.std.proofs.Common.{◌≡◌, ◌∙◌, ◌<◌, ◌≤◌, ◌-◌, ◌+◌, ℕ, zero, suc, Bool, true, cond, List, [], ◌∷◌, ◌++◌, length, map, drop, refl, sym, ap, arith}
 use Rattle.std.proofs.lemmas.List.{drop_all, drop_more}
 use Rattle.std.specs.List.{slice_index_or}
 use Rattle.git_attributes.specs.Assignments.{Given}
@@ -39,15 +39,3 @@ module _ {A : Type 0} (view : A → Given) where
       ∙ (assigned_more macros depth given (map view (drop at xs)) start
       ∙ (ap (assign_by macros depth given) (sym so_far)
       ∙ ap (λ (v : Bool). cond v known (unfolded macros depth given (known ++ given ∷ []))) is_there)))
-
-  -- the last one assigns to an attribute that isn't known
-  pub assigned_new : (macros : List Macro) (depth : ℕ) (xs : List A) (at : ℕ) (d : A) (start known new : List Given) → 0 < at → at ≤ length xs
-      → known ≡ assigned macros depth (map view (drop at xs)) start → is_known (view (slice_index_or xs (at - 1) d)).0 known ≡ false
-      → new ≡ unfolded macros depth (view (slice_index_or xs (at - 1) d)) (known ++ view (slice_index_or xs (at - 1) d) ∷ [])
-      → new ≡ assigned macros depth (map view (drop (at - 1) xs)) start
-  assigned_new macros depth xs at d start known new some inside so_far is_new e =
-      let given = view (slice_index_or xs (at - 1) d) in
-      e ∙ sym (ap (λ (ys : List A). assigned macros depth (map view ys) start) (last_of xs at d some inside)
-      ∙ (assigned_more macros depth given (map view (drop at xs)) start
-      ∙ (ap (assign_by macros depth given) (sym so_far)
-      ∙ ap (λ (v : Bool). cond v known (unfolded macros depth given (known ++ given ∷ []))) is_new)))

@@ -1,5 +1,5 @@
 -- The entries and the extensions of a file, one after the other.
-use Rattle.std.proofs.Common.{◌≡◌, ◌≢◌, ℕ, ◌+◌, ◌<◌, ◌≤◌, List, [], ◌∷◌, ◌++◌, length, Result, Ok, Err, refl, sym, ap, subst, ◌∙◌, append_assoc, arith}
+use Rattle.std.proofs.Common.{◌≡◌, ◌≢◌, ℕ, ◌+◌, ◌<◌, ◌≤◌, List, [], ◌∷◌, ◌++◌, length, Result, Ok, Err, refl, sym, ap, ◌∙◌, append_assoc, arith}
 use Rattle.std.specs.List.{flat_map, AllByRecursion}
 use Rattle.std.proofs.lemmas.Grind.{flat_map-append}
 use Rattle.std.proofs.lemmas.List.{append-nil, length-append}
@@ -28,9 +28,6 @@ flat_push f xs y = flat_map-append f xs (y ∷ []) ∙ ap (λ (t : List ℕ). fl
 pub record Front (kind : HashKind) (version at : ℕ) (bytes : List ℕ) (es : List RawEntry) (rest : List ℕ) : Type 0 where
   pub spells : Spells kind version at bytes es rest
   pub rest_fits : IsBytes rest
-
-pub front_start : (kind : HashKind) (version : ℕ) (bytes : List ℕ) → IsBytes bytes → Front kind version 0 bytes [] bytes
-front_start kind version bytes fits = record { spells = record { many = refl; fit = tt; parts = refl }; rest_fits = fits }
 
 pub front_more : (kind : HashKind) (version at : ℕ) (bytes : List ℕ) (es : List RawEntry) (rest : List ℕ) (x : RawEntry) (after : List ℕ) → Front kind version at bytes es rest → raw_at kind version rest ≡ Ok (x, after)
     → Front kind version (at + 1) bytes (es ++ x ∷ []) after
@@ -98,9 +95,6 @@ pub record Skipped (bytes rest : List ℕ) : Type 0 where
   pub parts : bytes ≡ before ++ rest
   pub rest_fits : IsBytes rest
 
-pub skipped_start : (bytes : List ℕ) → IsBytes bytes → Skipped bytes bytes
-skipped_start bytes fits = record { before = []; extensions = record { each = []; fit = tt; parts = refl }; parts = refl; rest_fits = fits }
-
 pub skipped_more : (bytes rest name content after : List ℕ) → Skipped bytes rest → extension_at rest ≡ Ok ((name, content), after) → Skipped bytes after × (length after < length rest)
 unfolding extension_bytes
 skipped_more bytes rest name content after s e =
@@ -119,12 +113,6 @@ skipped_more bytes rest name content after s e =
       },
       omega (arith, ap length t.0.parts, length-append (extension_bytes x) after, length-append name (u32_bytes (length content) ++ content), t.1.0.0),
     )
-
-pub skipped_all : (bytes : List ℕ) → Skipped bytes [] → AreExtensions bytes
-skipped_all bytes s = subst AreExtensions (sym (s.parts ∙ append-nil s.before)) s.extensions
-
-pub skipped_not : (bytes rest : List ℕ) (fault : Fault) → Skipped bytes rest → rest ≢ [] → extension_at rest ≡ Err fault → NoExtensionAt bytes rest fault
-skipped_not bytes rest fault s ne e = record { before = s.before; extensions = s.extensions; parts = s.parts; more = ne; refused = e }
 
 first_extension : (x : Extension) (xs : List Extension) (rest : List ℕ) → ExtensionFits x → extension_at (flat_map extension_bytes (x ∷ xs) ++ rest) ≡ Ok ((x.name, x.content), flat_map extension_bytes xs ++ rest)
 unfolding extension_bytes

@@ -75,9 +75,6 @@ header_of bytes version count rest fits h =
       small = t.1.1.1;
     }
 
-pub rest_is_bytes : (bytes : List ℕ) (version count : ℕ) (rest : List ℕ) → IsBytes bytes → HasHeader bytes version count rest → IsBytes rest
-rest_is_bytes bytes version count rest fits h = (header_of bytes version count rest fits h).rest_fits
-
 abbrev Head : Type 0
 Head = (ℕ × (ℕ × ℕ)) × List ℕ
 

@@ -13,9 +13,6 @@ use Rattle.git_index.specs.WholeFile.{IsWholeFile}
 use Rattle.git_index.specs.declared.index_file.IndexFile.{IndexFile}
 use Rattle.status_index.specs.States.{index_of}
 
-no_zero : ℕ → Type 0
-no_zero b = b ≢ 0
-
 -- Two paths share at least the bytes that one was made of.
 shared_at_least : (xs ys : List ℕ) (k : ℕ) → k ≤ length xs → k ≤ common_len xs (take k xs ++ ys)
 shared_at_least xs ys zero within = omega arith

@@ -3,13 +3,8 @@ use Rattle.std.proofs.Common.{◌≡◌, ℕ, ◌-◌, List, [], length, Option,
 use Rattle.std.specs.Prelude.{is_some}
 use Rattle.std.specs.Option.{option_map}
 use Rattle.std.specs.Io.KnownBytes.{Appends}
-use Rattle.std.proofs.KnownBytes.{Appends-nil}
 use Rattle.git_status.specs.Printing.{IsBegun, IsPrinted}
 use Rattle.git_status.specs.declared.failure.Failure.{Failure}
-
--- nothing was printed
-pub none_begun : (text : List ℕ) (known : Option (List ℕ)) → IsBegun text known known
-none_begun text known = record { printed = []; grew = Appends-nil known; beginning = (text, refl) }
 
 -- all of it was printed
 pub all_begun : (text : List ℕ) (old new : Option (List ℕ)) → Appends old new text → IsBegun text old new

@@ -18,7 +18,7 @@ use Rattle.std.proofs.lemmas.Bool.Decides.{same_from_decides, Decides-eqb}
 use Rattle.std.proofs.lemmas.List.Sums.{suffix_len_is}
 use Rattle.std.proofs.lemmas.Slice.Eq.{bytes_eq-Decides}
 use Rattle.status_base.specs.Paths.{is_slash}
-use Rattle.status_base.specs.ListedNodes.{Listing, directory_of, file_name_of, later_or, stat_named, named_in}
+use Rattle.status_base.specs.ListedNodes.{Listing, directory_of, file_name_of, later_or, stat_named}
 use Rattle.status_base.specs.ListingTable.{Names, Table, named, known, is_empty, needs_none, IsPutUnless, IsGrown, AreNamesOf, IsOf}
 use Rattle.status_base.specs.MemoryTree.{PathMap}
 use Rattle.status_base.specs.PathTables.{keyed, map_of}
@@ -161,11 +161,6 @@ named_empty : (names : Option Names) (name : List ℕ) → is_empty name ≡ tru
 named_empty names [] h = refl
 named_empty names (b ∷ name) h = let no : false ≡ true = h in cc
 
-named_in-empty : (listing : Listing) (name : List ℕ) → is_empty name ≡ true → None ≡ named_in listing name
-named_in-empty None name h = refl
-named_in-empty (Some es) [] h = refl
-named_in-empty (Some es) (b ∷ name) h = let no : false ≡ true = h in cc
-
 -- an empty name isn't looked up
 pub named_none : (names : Option Names) (name : List ℕ) → (length name == 0) ≡ true → None ≡ named name names
 named_none names name h = named_empty names name (sym (empty_is name) ∙ h)
@@ -194,30 +189,11 @@ split_none path none = ends_at path 0 (omega arith) none (λ some. absurd (omega
 
 -- ---- tables
 
--- the stats that a table has are those of the listings
-pub known_listed : (listing : List ℕ → Listing) (directory name : List ℕ) (table : Table) (names : Names) → IsOf listing table
-    → paths.get table directory ≡ Some names → named name (Some names) ≡ named_in (listing directory) name
-known_listed listing directory name table names of is = (subst (λ (o : Option Names). IfSome o (AreNamesOf (listing directory))) is (of directory)) name
-
 pub empty-IsOf : (listing : List ℕ → Listing) → IsOf listing paths.empty
 empty-IsOf listing directory = subst (λ (o : Option Names). IfSome o (AreNamesOf (listing directory))) (sym (paths.get-empty (slice_cmp nat_cmp) directory)) tt
 
 pub put_here : (m : Table) (k : List ℕ) (names : Names) → paths.get (paths.insert m k names) k ≡ Some names
 put_here m k names = paths.get-insert nat_list_cmp_total m k names k ∙ ap (λ b. cond b (Some names) (paths.get m k)) (tied_self k)
-
--- a look-up of an empty file name
-pub grown_empty : (path name : List ℕ) (table : Table) → name ≡ file_name_of path → (length name == 0) ≡ true → IsGrown path table table
-grown_empty path name table is h =
-    subst (λ (b : Bool). IsPutUnless (b || is_some (paths.get table (directory_of path))) (directory_of path) table table) (sym (ap is_empty (sym is) ∙ sym (empty_is name) ∙ h)) refl
-
-true_or : (a : Bool) → (a || true) ≡ true
-true_or true = refl
-true_or false = refl
-
--- a look-up in a directory that was listed
-pub grown_kept : (path directory : List ℕ) (table : Table) (names : Names) → directory ≡ directory_of path → paths.get table directory ≡ Some names → IsGrown path table table
-grown_kept path directory table names at is =
-    subst (λ (b : Bool). IsPutUnless b (directory_of path) table table) (sym (ap (λ (o : Option Names). is_empty (file_name_of path) || is_some o) (ap (paths.get table) (sym at) ∙ is) ∙ true_or (is_empty (file_name_of path)))) refl
 
 -- a look-up that lists
 pub grown_listed : (path directory name : List ℕ) (old new : Table) (names : Names) → directory ≡ directory_of path → name ≡ file_name_of path

@@ -4,7 +4,7 @@ use Rattle.std.proofs.lemmas.List.{length-append, append-nil, append_assoc}
 use Rattle.std.proofs.lemmas.List.Elements.{All-nil, All-append, All-push}
 use Rattle.std.proofs.lemmas.Bool.{cases_Bool}
 use Rattle.status_board.specs.Numbers.{times, after_last}
-use Rattle.status_board.specs.Seats.{BoardId, SeatState, fresh, drawn_of, barred_of, reported_of}
+use Rattle.status_board.specs.Seats.{BoardId, SeatState, drawn_of, barred_of, reported_of}
 use Rattle.status_board.specs.declared.worker.Finished.{Finished}
 use Rattle.status_board.specs.declared.crew.Gathered.{Gathered}
 use Rattle.status_board.specs.declared.worker.Worked.{Worked}
@@ -49,22 +49,8 @@ module _ {O : Type 0} where
     abbrev Given : Finished O → Type 0
     Given f = gives f.number f.out
 
-    pub accounts_start : (board : BoardId) (s : SeatState) (fs : List (Finished O)) → s ≡ fresh board → fs ≡ [] → Accounts gives short [] s fs
-    accounts_start board s fs is nil = record {
-      drawn = λ n. let d : times n s.drawn ≡ 0 = ap (λ (u : SeatState). times n u.drawn) is in let b : times n s.barred ≡ 0 = ap (λ (u : SeatState). times n u.barred) is in let o : length (outs_at n fs) ≡ 0 = ap (λ (gs : List (Finished O)). length (outs_at n gs)) nil in omega arith;
-      reported = ap (λ (u : SeatState). u.reported) is ∙ sym (ap (shorts_of short) nil);
-      each = subst (λ (gs : List (Finished O)). All Given gs) (sym nil) (All-nil Given);
-    }
-
     pub accounts_same : (s t : SeatState) (pending : List ℕ) (fs : List (Finished O)) → t ≡ s → Accounts gives short pending s fs → Accounts gives short pending t fs
     accounts_same s t pending fs is a = subst (λ (u : SeatState). Accounts gives short pending u fs) (sym is) a
-
-    pub worked_end : (board : BoardId) (s : SeatState) (worked : Worked O) → worked.seat ≡ record s { done = true } → s.board ≡ board → Accounts gives short [] s worked.finished.items → IsWorked gives short board worked
-    worked_end board s worked is of_board a = record {
-      board_is = ap (λ (u : SeatState). u.board) is ∙ of_board;
-      done = ap (λ (u : SeatState). u.done) is;
-      accounts = subst (λ (u : SeatState). Accounts gives short [] u worked.finished.items) (sym is) (record { drawn = a.drawn; reported = a.reported; each = a.each });
-    }
 
     pub accounts_drawn : (s t : SeatState) (n : ℕ) (fs : List (Finished O)) → t ≡ record s { drawn = s.drawn ++ n ∷ [] } → Accounts gives short [] s fs → Accounts gives short (n ∷ []) t fs
     accounts_drawn s t n fs is a = record {

@@ -29,9 +29,6 @@ same_from_path a b h = (bytes_eq-Decides a.path b.path).1 h
 pub same_back : (a b : IndexEntry) → same_path a b ≡ true → same_path b a ≡ true
 same_back a b h = same_from_path b a (sym (path_same a b h))
 
-pub same_other : (a b : IndexEntry) → same_path a b ≡ false → same_path b a ≡ false
-same_other a b h = false_from_ne_true (same_path b a) (λ t. let u = same_back b a t in cc)
-
 nat_less : (a b : ℕ) → nat_cmp a b ≡ Less → a < b
 nat_less a b h = grind (arith, nat_tests)
 

@@ -39,12 +39,6 @@ all_specified true true c d m t = refl
 all_specified true false c d m t = absurd (cc)
 all_specified false b c d m t = absurd (cc)
 
-pub all_submodule : (a b c d : Bool) → IsTrue (all_modelled a b c d) → IsTrue c
-all_submodule true true true d t = refl
-all_submodule true true false d t = absurd (cc)
-all_submodule true false c d t = absurd (cc)
-all_submodule false b c d t = absurd (cc)
-
 pub all_listings : (a b c d : Bool) → IsTrue (all_modelled a b c d) → IsTrue d
 all_listings true true true d t = t
 all_listings true true false d t = absurd (cc)

@@ -78,10 +78,6 @@ is_some_find : {X : Type 0} (p : X → Bool) (xs : List X) → is_some (find p x
 is_some_find p [] = refl
 is_some_find p (x ∷ xs) = is_some_found (p x) x (find p xs) (list_any p xs) (is_some_find p xs)
 
-any_map : {X Y : Type 0} (f : X → Y) (p : Y → Bool) (xs : List X) → list_any p (map f xs) ≡ list_any (λ x. p (f x)) xs
-any_map f p [] = refl
-any_map f p (x ∷ xs) = ap (λ (b : Bool). p (f x) || b) (any_map f p xs)
-
 any_kept : {X : Type 0} (p : X → Bool) (x : X) (b : Bool) (xs : List X) (c : Bool) → list_any p xs ≡ c → list_any p (cond b (x ∷ xs) xs) ≡ ((b && p x) || c)
 any_kept p x true xs c h = ap (λ (t : Bool). p x || t) h
 any_kept p x false xs c h = h

@@ -22,11 +22,6 @@ use Rattle.status_call.specs.WorkInOrder.{IsShortage, IsUnderWay, IsReportedWork
 use Rattle.status_call.proofs.Dones.{done_none, done_more, sums_fit}
 use Rattle.status_call.proofs.Feeding.{reports_none, reports_more}
 
--- If a flag was seen, there is one.
-pub not_set : {X : Type 0} (o : Option X) (b : Bool) → (o ≡ None → b ≡ false) → b ≡ true → is_some o ≡ false → ⊥
-not_set None b h seen still = let same : b ≡ false = h refl in cc
-not_set (Some x) b h seen still = cc
-
 none_of : {X : Type 0} (o : Option X) → is_some o ≡ false → o ≡ None
 none_of None h = refl
 none_of (Some x) h = cc
@@ -47,29 +42,6 @@ module _ {T U : Type 0} (q : Query T U) (start : ℕ) (es : List IndexEntry) (fr
   pub piece_placed : (count at to : ℕ) (p : Piece T U) → start + length es ≤ count → IsPiece q start es at to p → All (IsPlacedIn count) p.findings.items
   piece_placed count at to p h piece =
       All-weaker (λ f. (start + at ≤ f.entry_index) × (f.entry_index < start + p.reached)) (IsPlacedIn count) (λ f m. omega (arith, m.1, piece.done.high)) p.findings.items piece.done.placed
-
-  -- All is done.
-  pub way_end : (interruptible : Bool) (workers at to : ℕ) (totals : Totals) (old now : List (Visit T U)) → at ≡ to
-      → IsUnderWay q start es from faithful at totals old now → IsReportedWork q start es from faithful interruptible workers to old (Ok (record { totals = totals; interrupted = false })) now
-  way_end interruptible workers at to totals old now e way = record {
-    reported = way.reported;
-    fed = way.fed;
-    ended = record { place = at; done = way.done; reached = λ _. e; uninterrupted = λ _. refl };
-  }
-
-  -- The interrupt flag was seen.
-  pub way_cut : (interruptible : Bool) (workers at to : ℕ) (totals : Totals) (old now : List (Visit T U)) → (interruptible ≡ false → ⊥)
-      → IsUnderWay q start es from faithful at totals old now → IsReportedWork q start es from faithful interruptible workers to old (Ok (record { totals = totals; interrupted = true })) now
-  way_cut interruptible workers at to totals old now still way = record {
-    reported = way.reported;
-    fed = way.fed;
-    ended = record {
-      place = at;
-      done = way.done;
-      reached = λ h. absurd (cc);
-      uninterrupted = λ h. absurd (still h);
-    };
-  }
 
   -- The work couldn't go on.
   pub way_short : (interruptible : Bool) (workers at to : ℕ) (totals : Totals) (e : Error) (old now : List (Visit T U)) → IsShortage workers e

@@ -60,10 +60,6 @@ found_by (faulty f) node = found_fault f
 found_by (not_normal _) node = refused faults.NotNormal
 found_by empty_path node = refused faults.NotNormal
 
--- The node at a path without listings, by the results of `lstat`.
-abbrev pub found_at : (List ℕ → Result Metadata Fault) → List ℕ → Found
-found_at lstat path = found_by (link_check lstat path) (lstat path)
-
 -- The node that the listings know, otherwise the result of `lstat`.
 abbrev pub cached_or : Option Metadata → Result Metadata Fault → Result Metadata Fault
 cached_or (Some n) answered = Ok n

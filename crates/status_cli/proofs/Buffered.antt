@@ -60,10 +60,6 @@ pub failed_added : {T : Type 0} (text lines : List ℕ) (old : Option (List ℕ)
 failed_added text lines old e (Ok v) left new failed why = absurd failed
 failed_added text lines old e (Err f) left new failed why = rw failed why
 
--- memory ran out before anything was added
-pub no_memory : {T : Type 0} (text lines : List ℕ) (known : Option (List ℕ)) (result : Result T Failure) → IsErrAnd result (λ f. f ≡ Memory) → IsAdded text lines known result lines known
-no_memory text lines known result failed = failed_added text lines known Memory result lines known failed (inl (refl, (lines, (text, refl), all_left lines known)))
-
 -- ---- some texts, one after the other, after lines that were there
 
 -- one more was added

@@ -4,7 +4,7 @@ use Rattle.std.specs.List.{flat_map}
 use Rattle.std.specs.Result.{IsErrAnd, IfErr}
 use Rattle.std.proofs.lemmas.List.{map-append}
 use Rattle.std.specs.Io.KnownBytes.{Appends}
-use Rattle.std.proofs.KnownBytes.{Appends-nil, Appends-trans}
+use Rattle.std.proofs.KnownBytes.{Appends-trans}
 use Rattle.status_call.specs.declared.index_as_worktree.apply.ApplyChange.{ApplyChange}
 use Rattle.status_call.specs.declared.index_as_worktree.types.Outcome.{Outcome}
 use Rattle.status_cli.specs.declared.failure.Failure.{Failure}
@@ -28,10 +28,6 @@ use Rattle.status_index.specs.declared.id.ObjectId.{ObjectId}
 use Rattle.status_world.specs.declared.world.event.Comparer.{Comparer}
 use Rattle.status_world.specs.StampedWorld.{compared_by}
 use Rattle.status_cli.proofs.NoThreads.{lone_comparers}
-
--- nothing was printed
-pub none_printed : (text : List ℕ) (known : Option (List ℕ)) → IsBegun text known known
-none_printed text known = record { printed = []; grew = Appends-nil known; beginning = (text, refl) }
 
 -- all of it was printed
 pub all_begun : (text : List ℕ) (old new : Option (List ℕ)) → Appends old new text → IsBegun text old new
@@ -110,11 +106,6 @@ module _ {A B : Type 0} (line : B → List ℕ) (view : A → B) where
   pub begun_next : (xs : List A) (i : ℕ) (done : List A) (x : A) (old mid new : Option (List ℕ)) → take (i + 1) xs ≡ done ++ x ∷ [] → Appends old mid (lines done) → IsBegun (line (view x)) mid new → IsBegun (lines xs) old new
   begun_next xs i done x old mid new next before here =
       rw (lines_whole xs i done x next) (begun_longer (lines done ++ line (view x)) (lines (drop (i + 1) xs)) old new (begun_more (lines done) (line (view x)) old mid new before here))
-
--- what failed printed a beginning
-pub failed_printed : {T : Type 0} (text : List ℕ) (old new : Option (List ℕ)) (failure : Failure) (result : Result T Failure) → IsErrAnd result (λ e. e ≡ failure) → IsBegun text old new → IsUnprinted failure → IsPrinted text old result new
-failed_printed text old new failure (Ok v) failed begun why = absurd failed
-failed_printed text old new failure (Err e) failed begun why = (begun, rw failed why)
 
 pub failed_written : {T : Type 0} (text : List ℕ) (old new : Option (List ℕ)) (failure : Failure) (result : Result T Failure) → IsErrAnd result (λ e. e ≡ failure) → IsBegun text old new → failure ≡ Output → IsWritten text old result new
 failed_written text old new failure (Ok v) failed begun why = absurd failed

@@ -7,9 +7,6 @@ use Rattle.status_index.specs.Probes.{once_more}
 pub record IsHalved (start now left len : ℕ) : Type 0 where
   pub few : (digits : ℕ) → len < 2 ^ digits → (rest : ℕ) × (left < 2 ^ rest) × (now + rest ≤ start + digits)
 
-pub IsHalved-start : (start len : ℕ) → IsHalved start start len len
-IsHalved-start start len = record { few = λ digits l. (digits, l, omega arith) }
-
 next_rest : (rest left next now bound : ℕ) → left < 2 ^ rest → 0 < left → next + next ≤ left → now + rest ≤ bound → (r : ℕ) × (next < 2 ^ r) × (once_more now + r ≤ bound)
 next_rest zero left next now bound l some half within = absurd (omega arith)
 next_rest (suc r) left next now bound l some half within = (r, omega (arith, pow-suc 2 r), omega arith)
@@ -18,6 +15,3 @@ pub IsHalved-next : (start now left next len : ℕ) → 0 < left → next + next
 IsHalved-next start now left next len some half h = record {
   few = λ digits l. let p = h.few digits l in next_rest p.0 left next now (start + digits) p.1 some half p.2;
 }
-
-pub IsHalved-end : (start now left len : ℕ) → IsHalved start now left len → (digits : ℕ) → len < 2 ^ digits → now ≤ start + digits
-IsHalved-end start now left len h digits l = let p = h.few digits l in omega (arith, p.2)

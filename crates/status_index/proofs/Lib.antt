@@ -1,4 +1,3 @@
-pub mod Absences
 pub mod EmptyBlob
 pub mod Halvings
 pub mod Indexes

@@ -68,10 +68,6 @@ members_onto-push : (xs : List (List ℕ × Json)) (k : List ℕ) (j : Json) (ms
 members_onto-push [] k j ms = refl
 members_onto-push (x ∷ xs) k j ms = ap (member x.0 x.1) (members_onto-push xs k j ms)
 
-pub no_member_before : (r : Option (MembersOf × List Token)) → r ≡ parse_map (members_onto []) r
-no_member_before None = refl
-no_member_before (Some p) = refl
-
 pub one_more_member : (xs : List (List ℕ × Json)) (k : List ℕ) (j : Json) (r : Option (MembersOf × List Token)) → parse_map (members_onto xs) (parse_map (member k j) r) ≡ parse_map (members_onto (xs ++ (k, j) ∷ [])) r
 one_more_member xs k j None = refl
 one_more_member xs k j (Some p) = ap (λ ms. Some (ms, p.1)) (members_onto-push xs k j p.0)

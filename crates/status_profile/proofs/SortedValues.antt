@@ -80,6 +80,3 @@ Adds-none w = record { before = refl; tokens = sym (append-nil w.tokens) }
 
 pub Adds-then : {u v w : Written} {ts us : List Token} → Adds u v ts → Adds v w us → Adds u w (ts ++ us)
 Adds-then {u} {ts = ts} {us = us} a b = record { before = b.before ∙ a.before; tokens = b.tokens ∙ ap (λ xs. xs ++ us) a.tokens ∙ append_assoc u.tokens ts us }
-
-pub Adds-one : {u v : Written} {t : Token} → v.before ≡ u.before → v.tokens ≡ u.tokens ++ t ∷ [] → Adds u v (t ∷ [])
-Adds-one b t = record { before = b; tokens = t }

@@ -8,7 +8,7 @@ use Rattle.std.specs.declared.cmp.Ordering.{Ordering}
 use Rattle.std.specs.declared.cmp.Ordering.TheVariants.{Less, Equal, Greater}
 use Rattle.std.proofs.lemmas.Bool.{false≢true}
 use Rattle.std.proofs.lemmas.List.{append-nil, append_assoc, drop-drop, drop_all, map-append, length-drop, get_or-drop, get_or_read}
-use Rattle.std.proofs.lemmas.List.Elements.{All-nil, All-head, All-push, All-same, All-drop, All-weaker, filter-append}
+use Rattle.std.proofs.lemmas.List.Elements.{All-head, All-push, All-same, All-drop, All-weaker, filter-append}
 use Rattle.std.proofs.lemmas.List.Kept.{IsSortedBy-push}
 use Rattle.std.proofs.lemmas.List.Sorted.{ranks_by, sorted_far}
 use Rattle.status_rewrites.proofs.Lists.{zip-nil, filter_none, drop_read}
@@ -73,15 +73,6 @@ module _ {A K P : Type 0} (R : K → K → Ordering) (o : IsTotalOrder R) (f : A
     -- No element that is left is below a matched one.
     pub low : All (λ m. All (λ z. is_lt (R (f z) (f m.0)) ≡ false) (drop g gone)) matched
     pub rest : (k : K) → of_key_first k matched ++ zip (of_key k (drop g gone)) (of_key k (drop c came)) ≡ zip (of_key k gone) (of_key k came)
-
-  pub joined_none : (gone came : List A) → Joined gone came 0 0 []
-  joined_none gone came = record {
-    matched = [];
-    are = refl;
-    by_key = λ k d from within. absurd (omega arith);
-    low = All-nil (λ m. All (λ z. is_lt (R (f z) (f m.0)) ≡ false) (drop 0 gone));
-    rest = λ k. refl;
-  }
 
   next_low : (gone : List A) (g : ℕ) (m : A) → All (λ z. is_lt (R (f z) (f m)) ≡ false) (drop g gone) → All (λ z. is_lt (R (f z) (f m)) ≡ false) (drop (g + 1) gone)
   next_low gone g m h =

@@ -308,12 +308,3 @@ paired_none removed walked is_made_of xs places e = record {
   places_are = e ∙ places_free xs;
   bag = λ f. ap (sum_by (weight f)) e ∙ free_weighs f xs;
 }
-
--- The positions of a pair for which there is room are in range.
-pub fits_within : {I : Type 0} (removed walked : I → Bool) (places : List (Place I)) (p : Pair) → fits removed walked places p ≡ true → (p.source < length places) × (p.destination < length places)
-fits_within removed walked places p h =
-    let outer = and_parts (not (p.source == p.destination) && passes (may_go removed p.copy) (slice_get places p.source)) (passes (is_free walked) (slice_get places p.destination)) h in
-    let inner = and_parts (not (p.source == p.destination)) (passes (may_go removed p.copy) (slice_get places p.source)) outer.0 in
-    let a = passes_there (may_go removed p.copy) (slice_get places p.source) inner.1 in
-    let b = passes_there (is_free walked) (slice_get places p.destination) outer.1 in
-    (slice_get_within places p.source a.0 a.1, slice_get_within places p.destination b.0 b.1)

@@ -63,9 +63,6 @@ module _ (decide : Decide) where
   abbrev pub reports_from : ℕ → List IndexEntry → List Reported
   reports_from n es = flat_map (λ p. reported_by p.0 p.1.path (decide p.1)) (enumerate_from n es)
 
-  abbrev IsChangedAt : List ℕ → List IndexEntry → Type 0
-  IsChangedAt p es = IsSomeAnd (entry_at p es) (λ e. IsChangeVerdict (decide e))
-
   paths-cons : (n : ℕ) (e : IndexEntry) (es : List IndexEntry) → paths_of (reports_from n (e ∷ es)) ≡ paths_of (reported_by n e.path (decide e)) ++ paths_of (reports_from (n + 1) es)
   paths-cons n e es =
       ap (map (λ (x : Reported). x.path)) (filter-append (λ (x : Reported). is_change x.status) (reported_by n e.path (decide e)) (reports_from (n + 1) es))

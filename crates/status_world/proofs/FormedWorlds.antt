@@ -59,10 +59,6 @@ writable w p bytes h =
     let second = orelse_none _ _ first.1 in
     record { good = refuse_none (is_bad_path p) _ first.0; free = refuse_none (is_blocked w p) _ second.0; small = not_large (length bytes) (refuse_none (nat_le 4294967296 (length bytes)) _ second.1) }
 
--- The first of several conditions doesn't hold.
-pub good_first : (b : Bool) (r : Refusal) (others : Option Refusal) → (refuse_if b r orelse others) ≡ None → b ≡ false
-good_first b r others h = refuse_none b r (orelse_none (refuse_if b r) others h).0
-
 -- A run's timestamp isn't after the clock.
 pub runnable : (w : StampedWorld) (run : Run) → refusal_of (run_event run) w ≡ None → IsAtMost run.stamp w.clock
 runnable w run h =

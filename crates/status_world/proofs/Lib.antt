@@ -5,7 +5,6 @@ pub mod EntryLists
 pub mod EntryVerdicts
 pub mod ExactReports
 pub mod Formed
-pub mod FormedParts
 pub mod FormedWorlds
 pub mod Histories
 pub mod KnownContents

@@ -73,9 +73,6 @@ module _ (w : StampedWorld) (c : Comparer) (e : IndexEntry) (n : Placed) (s : Pl
   pub pair_answered : (o : Option RunStatus) × (verdict_at w c e n ≡ Ok o)
   pair_answered = case_ok (verdict_at w c e n) verdict
 
-  pub pair_faultless : (fault : Error) → verdict_at w c e n ≡ Err fault → ⊥
-  pair_faultless fault h = let is : verdict_at w c e n ≡ Ok pair_answered.0 = pair_answered.1 in cc
-
   case_stat : (v : Result (Option RunStatus) Error) → VerdictCase w c e n s known.now v → (t : Stat) → v ≡ Ok (Some (statuses.NeedsUpdate t)) → stat_of n.metadata ≡ Some t
   case_stat v (retyped mode k is) t h = cc
   case_stat v (unchanged k b ht hr is) t h = cc

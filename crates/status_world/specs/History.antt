@@ -28,11 +28,6 @@ abbrev pub after_events : List Event → StampedWorld → StampedWorld
 after_events [] w = w
 after_events (e ∷ es) w = after_events es (after_event e w)
 
--- The plain world after the events.
-abbrev pub plain_after_events : List Event → PlainWorld → PlainWorld
-plain_after_events [] p = p
-plain_after_events (e ∷ es) p = plain_after_events es (plain_after e p)
-
 -- The report of an event: one for a run, none for other events.
 abbrev pub reports_at : Event → StampedWorld → List RunReport
 reports_at (events.Run comparer chunk_size thread_limit stamp) w = report_of w comparer ∷ []
