@@ -1,5 +1,5 @@
 -- The status theorem, from work in order and its end.
-use Rattle.std.proofs.Common.{◌≡◌, ◌≢◌, refl, sym, ap, ◌∙◌, subst, ℕ, ◌+◌, ◌-◌, ◌<◌, ◌≤◌, ◌^◌, ◌⊎◌, inl, inr, Bool, true, false, IsTrue, List, [], ◌∷◌, ◌++◌, length, length-append, take, drop, map, arith, append_assoc, Option, Some, None, Result, Ok, Err}
+use Rattle.std.proofs.Common.{◌≡◌, ◌≢◌, refl, sym, ap, ◌∙◌, subst, ℕ, ◌+◌, ◌-◌, ◌<◌, ◌≤◌, ◌^◌, ◌⊎◌, inl, inr, Bool, IsTrue, List, [], ◌∷◌, ◌++◌, length, length-append, take, drop, map, arith, append_assoc, Option, Some, None, Result, Ok, Err}
 use Rattle.std.specs.Prelude.{AllPairs, slice_get}
 use Rattle.std.specs.List.{slice_index_or}
 use Rattle.std.proofs.lemmas.List.{take-append-drop, append-nil, length-map, length-take, length-drop, get_or-map}
@@ -21,7 +21,7 @@ use Rattle.status_call.specs.Pieces.{IsAsSpecified, IsFaultAt}
 use Rattle.status_call.specs.Outcomes.{outcome_of, skipped_of}
 use Rattle.status_call.specs.Query.{Query}
 use Rattle.status_call.specs.Records.{records_in, records_of, faults_in, first_fault, verdict}
-use Rattle.status_call.specs.StatusOf.{IsThreadless, IsUnspawned}
+use Rattle.status_call.specs.StatusOf.{IsFaultOrMemory, IsThreadless, IsUnspawned}
 use Rattle.status_call.specs.StatusTheorem.{IsBeginning, IsComplete, IsMet, IsStatusOf, IsFirstFault, NeverSpawns, considered_entries, start_of}
 use Rattle.status_call.specs.Visits.{Visit, finding_of, IsFaithful}
 use Rattle.status_call.specs.WorkInOrder.{IsShortage, IsStopped, IsReportedWork}
@@ -54,9 +54,6 @@ map_ascends {T} {U} vs fs e h =
     let second = get_or-map finding_of vs j d (finding_of d) m in
     let r = k i j (finding_of d) l (omega (arith, length-map vs finding_of)) in
     subst (λ (y : Finding T U). (slice_index_or vs i d).entry_index < y.entry_index) second (subst (λ (x : Finding T U). x.entry_index < (slice_index_or (map finding_of vs) j (finding_of d)).entry_index) first r)
-
-true_not_false : (b : Bool) → b ≡ true → b ≡ false → ⊥
-true_not_false b h k = cc
 
 abbrev result_err : Error → Result Outcome Error
 result_err e = Err e
@@ -194,9 +191,9 @@ module _ {T U : Type 0} (q : Query T U) (index : State) (has_flag : Bool) (old n
     reported_in (inl h) = ([], append-nil work.reported ∙ h.0)
     reported_in (inr h) = h.1
 
-    first_fault_at : IsTrue q.modelled → e ≢ Memory → e ≢ SpawnThread → By → IsFirstFault q index (map finding_of work.fed.more) e
-    first_fault_at t other others (inr h) = absurd (no_shortage other others h.0)
-    first_fault_at t other others (inl h) =
+    -- The stop is at the first fault.
+    at_fault : IsTrue q.modelled → e ≢ Memory → (work.reported ≡ stop.found) × (stop.place < length es) × (IsTrue q.modelled → IsFaultAt q es stop.place e) → IsFirstFault q index (map finding_of work.fed.more) e
+    at_fault t other h =
         let m = stop.done.specified t in
         let clear : faults_in q es (take stop.place es) ≡ [] = sym (ap (faults_in q es) (part_front es stop.place)) ∙ m.clear in
         let here = fault_here q es stop.place e other (h.2 t) in
@@ -208,6 +205,10 @@ module _ {T U : Type 0} (q : Query T U) (index : State) (has_flag : Bool) (old n
           here = here;
           records = work.fed.reported ∙ h.0 ∙ m.records ∙ front_records q start es stop.place;
         }
+
+    first_fault_at : IsTrue q.modelled → e ≢ Memory → e ≢ SpawnThread → By → IsFirstFault q index (map finding_of work.fed.more) e
+    first_fault_at t other others (inr h) = absurd (no_shortage other others h.0)
+    first_fault_at t other others (inl h) = at_fault t other h
 
     lone_shortage : workers ≡ 1 → IsShortage workers e → e ≡ SpawnThread → ⊥
     lone_shortage one (inl h) spawned = cc
@@ -230,6 +231,14 @@ module _ {T U : Type 0} (q : Query T U) (index : State) (has_flag : Bool) (old n
       beginning = λ t. subst (λ l. IsBeginning l (records_of q start es)) (sym work.fed.reported) (begins_more work.reported stop.found (records_of q start es) (reported_in stop.by) (found_begins t));
       fits = tt;
     }
+
+    lone_fault : IsTrue q.modelled → workers ≡ 1 → e ≢ Memory → By → first_fault q es ≡ Some e
+    lone_fault t one other (inl h) = (at_fault t other h).first
+    lone_fault t one other (inr h) = absurd (no_shortage other (lone_shortage one h.0) h.0)
+
+    -- With one worker any error but out of memory is the first fault.
+    pub status_fault : workers ≡ 1 → IsTrue q.modelled → e ≢ Memory → first_fault q es ≡ Some e
+    status_fault one t other = lone_fault t one other stop.by
 
     -- With one worker no thread is refused.
     pub status_alone : (limit : Option ℕ) → workers ≡ most_workers limit → IsTrue q.modelled → limit ≡ Some 1 → NeverSpawns q → result_err e ≢ Err SpawnThread
@@ -255,6 +264,10 @@ unspawned_along q r same m n limit result alone = subst (λ x. IsUnspawned x m r
 -- The same without threads.
 pub threadless_along : {T U : Type 0} (q r : Query T U) → r ≡ q → (result : Result Outcome Error) → IsThreadless r result → IsThreadless q result
 threadless_along q r same result alone = subst (λ x. IsThreadless x result) same alone
+
+-- The same about faults.
+pub faults_along : {T U : Type 0} (q r : Query T U) → r ≡ q → (index : State) (result : Result Outcome Error) → IsFaultOrMemory r index result → IsFaultOrMemory q index result
+faults_along q r same index result fault = subst (λ x. IsFaultOrMemory x index result) same fault
 
 -- The number of considered entries, and of the others.
 module _ {X Y : Type 0} (all whole : List X) (entries : List Y) (s e : ℕ) (part : part_of all s e ≡ whole) (order : s ≤ e) (inside : e ≤ length entries) (same : length all ≡ length entries) where

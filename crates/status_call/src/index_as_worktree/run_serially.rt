@@ -14,7 +14,7 @@ use std::alloc::Global;
 use std::sync::atomic::AtomicBool;
 
 /// Processes the considered entries in pieces of `chunk` entries, and reports a piece's findings to the collector before
-/// the next piece is processed. Ends early if the interrupt flag is set.
+/// the next piece is processed. Ends early if the interrupt flag is seen set.
 ///
 /// # Errors
 /// The first fault, after the records before it were reported. Out of memory.

@@ -6,7 +6,7 @@ ghost use Rattle.bstr.specs.BStr.{bstr_bytes};
 ghost use Rattle.status_index.specs.Stretch.{part_of};
 ghost use Rattle.status_call.specs.Considered.{considered, considered_start};
 ghost use Rattle.status_call.specs.Outcomes.{outcome_of};
-ghost use Rattle.status_call.specs.StatusOf.{IsThreadless, IsUnspawned};
+ghost use Rattle.status_call.specs.StatusOf.{IsFaultOrMemory, IsThreadless, IsUnspawned};
 ghost use Rattle.status_call.specs.StatusTheorem.{IsMet};
 ghost use Rattle.status_call.specs.Workers.{chunk_size_of};
 
@@ -134,7 +134,8 @@ where
     }
 }
 
-/// Does what `status_by` does in the caller's thread alone, and returns for certain.
+/// Does what `status_by` does in the caller's thread alone, and returns if each function of the interfaces that it calls
+/// returns.
 ///
 /// # Errors
 /// The fault of the first entry that has one, after the records before it were reported. Out of memory, after a
@@ -154,6 +155,7 @@ pub fn status_serially<
     ensures all { IsMet (D.query decider.old) index.now (V.visits collector.old) result (V.visits collector.new) }
     ensures uninterrupted { interrupt.entry ≡ None → IfOk result (λ o. o.interrupted ≡ false) }
     ensures threadless { IsThreadless (D.query decider.old) result }
+    ensures fault { IsFaultOrMemory (D.query decider.old) index.now result }
 {
     let considered = considered_entries(index, decider.common_prefix());
     let chunk = chunk_size_of(chunk_size);

@@ -13,8 +13,9 @@ use status_base::worktree::{Find, Lister, Pathspec, SubmoduleStatus, ToGit, Work
 use status_compare::CompareBlobs;
 use std::alloc::Global;
 
-/// Does what `index_as_worktree` does in the caller's thread alone: it starts no thread, waits for none, and returns for
-/// certain. The options' thread limit isn't used. The records and counts are the same.
+/// Does what `index_as_worktree` does in the caller's thread alone: it starts no thread and waits for none, and it returns
+/// if each function of the interfaces passed returns. The options' thread limit isn't used. If the interfaces are modelled
+/// and the call isn't interrupted, the records and counts are the same.
 ///
 /// # Errors
 /// The fault of the first entry that has one, after the records before it were reported. Out of memory, after a

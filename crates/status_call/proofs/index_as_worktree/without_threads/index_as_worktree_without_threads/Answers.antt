@@ -1,4 +1,4 @@
-use Rattle.status_call.proofs.StatusProof.{met_along, threadless_along}
+use Rattle.status_call.proofs.StatusProof.{faults_along, met_along, threadless_along}
 use Rattle.status_call.proofs.index_as_worktree.without_threads.index_as_worktree_without_threads.Goals as goal
 
 pub returns-clause-all : goal.returns-clause-all
@@ -6,4 +6,5 @@ returns-clause-all g c = met_along _ _ (rw (c.of-inputs.ensures, c.of-settings.e
 
 pub returns-clause-threadless : goal.returns-clause-threadless
 returns-clause-threadless g c =
-    threadless_along _ _ (rw (c.of-inputs.ensures, c.of-settings.ensures) at c.new-decider.ensures) _ c.status_serially.ensures.threadless
+    let query = rw (c.of-inputs.ensures, c.of-settings.ensures) at c.new-decider.ensures in
+    (threadless_along _ _ query _ c.status_serially.ensures.threadless, faults_along _ _ query c.args.index.now _ c.status_serially.ensures.fault)
