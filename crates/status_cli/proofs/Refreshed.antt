@@ -1,13 +1,18 @@
 -- How a refresh ends, by the ends of its parts.
-use Rattle.std.proofs.Common.{◌≡◌, false, ℕ, List, [], ◌++◌, Option, Some, Result, Ok, Err, inl, inr, refl, sym, ap, subst, ◌∙◌}
+use Rattle.std.proofs.Common.{◌≡◌, false, ℕ, zero, suc, List, [], ◌∷◌, ◌++◌, Option, Some, Result, Ok, Err, inl, inr, refl, sym, ap, subst, ◌∙◌}
 use Rattle.std.specs.Prelude.{◌⊎◌, IfErr}
 use Rattle.std.specs.Result.{IsErrAnd}
+use Rattle.std.specs.Str.{IsUtf8}
+use Rattle.std.proofs.lemmas.List.Elements.{All-cons, All-head, All-tail}
 use Rattle.json.specs.Json.{Json, document}
-use Rattle.status_index.specs.Entries.{index_entries}
+use Rattle.status_index.specs.Entries.{IndexEntry, index_entries}
 use Rattle.status_index.specs.States.{backing_of, entries_of, index_of, timestamp_of}
 use Rattle.status_index.specs.declared.stat.Moment.{Moment}
 use Rattle.status_index.specs.declared.state.State.{State}
-use Rattle.status_call.specs.IndexChanges.{applied}
+use Rattle.status_call.specs.IndexChanges.{applied, applied_one, change_at, changed_entry, entry_index_of}
+use Rattle.status_call.specs.declared.index_as_worktree.apply.ApplyChange.{ApplyChange}
+use Rattle.status_call.specs.declared.index_as_worktree.apply.ApplyChange.TheVariants.{NewStat, SetSizeToZero}
+use Rattle.status_profile.specs.Entries.{AreUtf8}
 use Rattle.status_profile.specs.Forms.{is_object}
 use Rattle.status_profile.specs.Profiles.{IsRead, profile_in, profile_values}
 use Rattle.status_profile.specs.Refreshed.{IsUnwritten, refreshed_text}
@@ -24,6 +29,9 @@ use Rattle.status_cli.specs.declared.status.profile_status.Changes.TheVariants.{
 use Rattle.status_cli.specs.Failures.{failure_of_profile}
 use Rattle.status_cli.specs.ProfileStatuses.{IsProfilePrinted}
 use Rattle.status_cli.specs.Refreshes.{IsIndexRefreshed, IsRefreshFailed, IsRefreshed, PrintedStatus}
+
+abbrev has_utf8 : IndexEntry → Type 0
+has_utf8 e = IsUtf8 e.path
 
 -- of what failed for a reason, what holds for that reason holds
 pub err_weaker : {A : Type 0} (r : Result A Failure) (P Q : Failure → Type 0) → ((f : Failure) → P f → Q f) → IsErrAnd r P → IfErr r Q
@@ -46,6 +54,27 @@ no_object_read text p read j is none =
     let one : read.1.0 ≡ j = cc in
     let wrong : Err keys.Hash ≡ Ok (profile_values p) = sym (no_profile Plain j none) ∙ subst (λ d. profile_in Plain d ≡ Ok (profile_values p)) one read.1.2 in
     let never : ⊥ = cc in never
+
+-- if paths are UTF-8, nothing but memory can be missing
+unwritten_memory : (es : List IndexEntry) → AreUtf8 es → (e : ProfileError) → IsUnwritten es e → e ≡ profiles.Memory
+unwritten_memory es utf8 profiles.NotJson h = absurd h
+unwritten_memory es utf8 (profiles.Bad key) h = absurd (h.1 utf8)
+unwritten_memory es utf8 (profiles.Index e) h = absurd h
+unwritten_memory es utf8 profiles.Memory h = refl
+
+-- changes keep paths
+changed_path : (c : ApplyChange) (e : IndexEntry) → (changed_entry c e).path ≡ e.path
+changed_path (NewStat at stat) e = refl
+changed_path (SetSizeToZero at) e = refl
+
+change_utf8 : (c : ApplyChange) (at : ℕ) (es : List IndexEntry) → AreUtf8 es → AreUtf8 (change_at (changed_entry c) at es)
+change_utf8 c at [] all = all
+change_utf8 c zero (e ∷ es) all = All-cons has_utf8 (changed_entry c e) es (subst IsUtf8 (sym (changed_path c e)) (All-head has_utf8 e es all)) (All-tail has_utf8 e es all)
+change_utf8 c (suc at) (e ∷ es) all = All-cons has_utf8 e (change_at (changed_entry c) at es) (All-head has_utf8 e es all) (change_utf8 c at es (All-tail has_utf8 e es all))
+
+applied_utf8 : (cs : List ApplyChange) (es : List IndexEntry) → AreUtf8 es → AreUtf8 (applied cs es)
+applied_utf8 [] es all = all
+applied_utf8 (c ∷ cs) es all = applied_utf8 cs (applied_one c es) (change_utf8 c (entry_index_of c) es all)
 
 -- members of a text that says a profile are read, unless memory runs out
 members_memory : (text : List ℕ) (p : Profile) → IsRead Plain text (Ok p) → (e : ProfileError) → IsTextsRead text (Err e) → e ≡ profiles.Memory
@@ -76,9 +105,11 @@ module _ (text : List ℕ) (old new : Option (List ℕ)) (p : Profile) (read : I
     abbrev status : PrintedStatus text old new
     status = record { profile = p; read = read; changes = refreshed.0; printed = refreshed.1 }
 
-    -- the refreshed text can't be made
-    pub failed_text : (e : ProfileError) → IsUnwritten (index_of index) e → (f : Failure) → f ≡ failure_of_profile e → IsRefreshFailed text old f new
-    failed_text e unwritten f is = inr (status, e, subst (λ es. IsUnwritten es e) refreshed.2 unwritten, is)
+    -- there was no memory for the refreshed text
+    pub failed_text : AreUtf8 (index_of p.index) → (e : ProfileError) → IsUnwritten (index_of index) e → (f : Failure) → f ≡ failure_of_profile e → IsRefreshFailed text old f new
+    failed_text utf8 e unwritten f is =
+        let kept = applied_utf8 refreshed.0 (index_of p.index) utf8 in
+        inr (status, is ∙ ap failure_of_profile (unwritten_memory (applied refreshed.0 (index_of p.index)) kept e (subst (λ es. IsUnwritten es e) refreshed.2 unwritten)))
 
     -- it is made
     pub text_made : (j : Json) → document text ≡ Some j → (bytes : List ℕ) → bytes ≡ refreshed_text j (index_of index) (timestamp_of index) → IsRefreshed text timestamp old new [] bytes
@@ -92,4 +123,4 @@ module _ (text : List ℕ) (timestamp : Moment) (old new : Option (List ℕ)) (b
 
   -- there was no memory for it
   pub text_lost : IsRefreshFailed text old Memory new
-  text_lost = inr (h.0, profiles.Memory, tt, refl)
+  text_lost = inr (h.0, refl)

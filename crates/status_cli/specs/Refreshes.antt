@@ -9,13 +9,12 @@ use Rattle.status_index.specs.declared.state.State.{State}
 use Rattle.status_call.specs.IndexChanges.{applied}
 use Rattle.status_call.specs.declared.index_as_worktree.apply.ApplyChange.{ApplyChange}
 use Rattle.status_profile.specs.Profiles.{IsRead}
-use Rattle.status_profile.specs.Refreshed.{IsUnwritten, refreshed_text}
-use Rattle.status_profile.specs.declared.error.ProfileError.{ProfileError}
+use Rattle.status_profile.specs.Refreshed.{refreshed_text}
 use Rattle.status_profile.specs.declared.options.Kind.TheVariants.{Plain}
 use Rattle.status_profile.specs.declared.profile.Profile.{Profile}
 use Rattle.status_cli.specs.declared.failure.Failure.{Failure}
+use Rattle.status_cli.specs.declared.failure.Failure.TheVariants.{Memory}
 use Rattle.status_cli.specs.declared.status.profile_status.Changes.TheVariants.{Returned}
-use Rattle.status_cli.specs.Failures.{failure_of_profile}
 use Rattle.status_cli.specs.ProfileStatuses.{IsProfilePrinted, IsTextPrinted}
 
 -- a profile's status was printed, and this is its index, with the changes that the status asks for and with this timestamp; or the status
@@ -41,10 +40,6 @@ abbrev pub IsRefreshed : List ℕ → Moment → Option (List ℕ) → Option (L
 IsRefreshed text timestamp old new before after =
     (s : PrintedStatus text old new) × (j : Json) × (document text ≡ Some j) × (after ≡ before ++ refreshed_text j (refreshed_entries s) timestamp)
 
--- the status was printed, but these entries can't be written, for this reason
-abbrev pub IsUnrefreshed : List ℕ → Option (List ℕ) → Failure → Option (List ℕ) → Type 0
-IsUnrefreshed text old f new = (s : PrintedStatus text old new) × (e : ProfileError) × IsUnwritten (refreshed_entries s) e × (f ≡ failure_of_profile e)
-
--- the refresh of a text fails as its status does, or after it
+-- the refresh of a text fails as its status does; or all of its status was printed, and memory ran out
 abbrev pub IsRefreshFailed : List ℕ → Option (List ℕ) → Failure → Option (List ℕ) → Type 0
-IsRefreshFailed text old f new = IsTextPrinted Plain text Returned old (Err f) new ⊎ IsUnrefreshed text old f new
+IsRefreshFailed text old f new = IsTextPrinted Plain text Returned old (Err f) new ⊎ (PrintedStatus text old new × (f ≡ Memory))

@@ -43,7 +43,7 @@ impl LineBuffer {
     /// Adds the line of a record of the entry at this index position.
     ///
     /// # Errors
-    /// Memory runs out, and the line isn't added; or the output can't be written.
+    /// Memory runs out, and at most a beginning of the line is added; or the output can't be written.
     pub fn add_record<T: Drop, U: Drop, O: io::Write>(
         &mut self,
         alloc: Global,
@@ -63,7 +63,7 @@ impl LineBuffer {
     /// Adds the line of an entry of a status with untracked files, renames or sorted lines.
     ///
     /// # Errors
-    /// Memory runs out, and the line isn't added; or the output can't be written.
+    /// Memory runs out, and at most a beginning of the line is added; or the output can't be written.
     pub fn add_entry<T: Drop, U: Drop, O: io::Write>(
         &mut self,
         alloc: Global,
@@ -81,7 +81,7 @@ impl LineBuffer {
     /// Adds the first line of a run of a replay.
     ///
     /// # Errors
-    /// Memory runs out, and the line isn't added; or the output can't be written.
+    /// Memory runs out, and at most a beginning of the line is added; or the output can't be written.
     pub fn add_run<O: io::Write>(&mut self, run: usize, output: &mut O) -> Result<(), Failure>
         ensures { IsAdded (run_line run)
             self.old.lines.items (O.contents output.old) result self.new.lines.items (O.contents output.new) }
@@ -94,7 +94,7 @@ impl LineBuffer {
     /// Adds the line of totals if the profile has the option `counts`.
     ///
     /// # Errors
-    /// Memory runs out, and the line isn't added; or the output can't be written.
+    /// Memory runs out, and at most a beginning of the line is added; or the output can't be written.
     pub fn add_totals<O: io::Write>(
         &mut self,
         outcome: &Outcome,

@@ -2,26 +2,18 @@
 use Rattle.std.proofs.Common.{◌≡◌, ℕ, ◌<◌, zero, suc, List, [], ◌∷◌, length, map, All, false, get_or, refl, subst, ap, ◌∙◌, arith}
 use Rattle.std.proofs.lemmas.List.{get_or-map, length-map}
 use Rattle.std.specs.Str.{IsUtf8}
-use Rattle.serde_json.specs.Data.{Items, no_items, item, array, string}
+use Rattle.serde_json.specs.Data.{Items, no_items, item, array}
 use Rattle.serde_json.specs.View.{items_of}
-use Rattle.serde_json.specs.Written.{has_float, items_have_float, items_text}
+use Rattle.serde_json.specs.Written.{items_text}
 use Rattle.serde_json.proofs.Texts.{print-outline}
 use Rattle.status_index.specs.declared.entry.Entry.{Entry}
 use Rattle.status_index.specs.declared.entry.PathStorage.{PathStorage}
 use Rattle.status_index.specs.Entries.{IndexEntry, index_entries, index_entry}
 use Rattle.status_stored.specs.StoredIndex.{stored_entry}
-use Rattle.status_stored.specs.Words.{flag_words}
 use Rattle.status_profile.specs.Refreshed.{IsUnwritten, index_json}
 use Rattle.status_profile.specs.Sorted.{compact}
 use Rattle.status_profile.specs.declared.error.ProfileError.{ProfileError}
 use Rattle.status_profile.specs.declared.error.ProfileError.TheVariants as errors
-
-no_float : (words : List (List ℕ)) → items_have_float (items_of (map string words)) ≡ false
-no_float [] = refl
-no_float (w ∷ ws) = no_float ws
-
-pub entry_has_no_float : (e : IndexEntry) → has_float (stored_entry e) ≡ false
-entry_has_no_float e = rw (no_float (flag_words e.flags.0))
 
 -- the objects of entries
 abbrev pub entry_items : PathStorage → List Entry → Items

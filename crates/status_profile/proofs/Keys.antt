@@ -21,18 +21,13 @@ use Rattle.status_profile.specs.declared.options.Kind.{Kind}
 use Rattle.status_profile.specs.declared.profile.Profile.{Profile}
 use Rattle.status_profile.specs.Entries.{entries_in}
 use Rattle.status_profile.specs.Failures.{error_of_index, result_under}
-use Rattle.status_profile.specs.Forms.{Reads, is_object, or_default, stamp_in}
+use Rattle.status_profile.specs.Forms.{is_object, or_default, stamp_in}
 use Rattle.status_profile.specs.Held.{AreEntriesRead, HasEntries}
 use Rattle.status_profile.specs.Nodes.{PlaceValue, place_in, place_value}
 use Rattle.status_profile.specs.Options.{OptionValues, options_in}
 use Rattle.status_profile.specs.Parts.{AreParts, AreSaid, ReadsUnder}
 use Rattle.status_profile.specs.Profiles.{IsProfile, IsRead, ProfileValues, profile_from, profile_in}
 use Rattle.status_profile.specs.Words.{hash_in}
-
-pub reads_under : {T A : Type 0} (key : Key) (shown : T → A) (said : Option A) (read : Result T FieldError) (r : Result T ProfileError) → r ≡ result_under key read → Reads shown read said → ReadsUnder key shown r said
-reads_under key shown said (Ok x) r e h = rw e h
-reads_under key shown said (Err Form) r e h = rw e (refl, h)
-reads_under key shown said (Err Memory) r e h = rw e tt
 
 -- the entries that were read are those that the value says
 pub entries_said : (r : Result Entries FieldError) (e : Entries) (said : Option (List IndexEntry)) → result_under keys.Index r ≡ Ok e → AreEntriesRead r said → AreSaid e said

@@ -14,3 +14,4 @@ pub mod SortedValues
 pub mod Stamps
 pub mod Stretches
 pub mod Tokens
+pub mod WrittenIndexes

@@ -1,5 +1,5 @@
 -- A number as it is parsed, and as its digits write it.
-use Rattle.std.proofs.Common.{◌≡◌, ℕ, ◌^◌, ◌<◌, ◌&&◌, List, Bool, true, false, Option, Some, None, Result, Ok, Err, refl, sym, ap, ◌∙◌, if◌then◌else◌}
+use Rattle.std.proofs.Common.{◌≡◌, ◌==◌, ℕ, ◌^◌, ◌<◌, ◌&&◌, List, drop, slice_index_or, Bool, true, false, cond, Option, Some, None, Result, Ok, Err, refl, sym, ap, subst, ◌∙◌, if◌then◌else◌}
 use Rattle.std.specs.Result.{OkIff}
 use Rattle.std.specs.Str.{all_ascii_digits}
 use Rattle.std.specs.Str.Parse.{IsNumeral, ParsesUnsigned, digits_value, without_leading_plus}
@@ -27,11 +27,17 @@ some_if true true false x p q r = cc
 some_if true false c x p q r = cc
 some_if false b c x p q r = cc
 
+-- digits whose number is below 2^32
+pub small_written : (ds : List ℕ) → IsNumeral 10 ds → digits_value 10 ds < 2 ^ 32 → small_number ds ≡ Some (digits_value 10 ds)
+small_written ds numeral small = some_if _ _ _ (digits_value 10 ds) (lt-ltb _ _ numeral.0) (model.from ds numeral.1) (lt-ltb _ _ small)
+
 small_parsed : {E : Type 0} (ds : List ℕ) (r : Result ℕ E) → OkIff r (IsNumeral 10 ds × (digits_value 10 ds < 2 ^ 32)) (digits_value 10 ds) → Parsed r (small_number ds)
-small_parsed ds (Ok n) h =
-    some_if _ _ _ (digits_value 10 ds) (lt-ltb _ _ h.0.0.0) (model.from ds h.0.0.1) (lt-ltb _ _ h.0.1) ∙ ap Some (sym h.1)
+small_parsed ds (Ok n) h = small_written ds h.0.0 h.0.1 ∙ ap Some (sym h.1)
 small_parsed ds (Err e) h =
     none_unless _ _ _ _ (λ p. h ((ltb-true _ _ p.0, model.to ds p.1), ltb-true _ _ p.2))
 
-pub number_parsed : {E : Type 0} (s : List ℕ) (r : Result ℕ E) → ParsesUnsigned 32 10 s r → Parsed r (small_number (without_leading_plus s))
-number_parsed s r h = small_parsed (without_leading_plus s) r h
+-- without a plus, all of a text are its digits
+pub number_parsed : {E : Type 0} (s : List ℕ) (r : Result ℕ E) → (slice_index_or s 0 0 == 43) ≡ false → ParsesUnsigned 32 10 s r → Parsed r (small_number s)
+number_parsed s r plain h =
+    let all : without_leading_plus s ≡ s = ap (λ (plus : Bool). drop (cond plus 1 0) s) plain in
+    small_parsed s r (subst (λ ds. OkIff r (IsNumeral 10 ds × (digits_value 10 ds < 2 ^ 32)) (digits_value 10 ds)) all h)

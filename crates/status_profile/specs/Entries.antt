@@ -1,6 +1,7 @@
 -- The index of a profile.
-use Rattle.std.specs.Prelude.{ℕ, nat_lt, List, codes, Option, Some, None, if◌then◌else◌}
+use Rattle.std.specs.Prelude.{ℕ, nat_lt, List, codes, All, Option, Some, None, if◌then◌else◌}
 use Rattle.std.specs.Int.RustNames.{bit_or}
+use Rattle.std.specs.Str.{IsUtf8}
 use Rattle.json.specs.Json.{Json, Items, no_items, item}
 use Rattle.json.specs.Find.{get, as_array, as_str}
 use Rattle.status_index.specs.declared.mode.Mode.TheVariants as modes
@@ -39,6 +40,10 @@ entry_in j = do
   size ← or_default number_in 0 (get (codes "size") j)
   stat ← stat_in size j
   Some (record { path = path; stat = stat; id = id; flags = record { 0 = bits }; mode = mode })
+
+-- each path is UTF-8
+abbrev pub AreUtf8 : List IndexEntry → Type 0
+AreUtf8 es = All (λ e. IsUtf8 e.path) es
 
 abbrev pub entries_in : Json → Option (List IndexEntry)
 entries_in j = as_array j >>= each entry_in

@@ -2,7 +2,7 @@
 use Rattle.std.specs.Prelude.{◌≡◌, ℕ, ◌^◌, ◌&&◌, nat_lt, List, [], ◌∷◌, length, Bool, true, false, Option, Some, None, is_some, option_and_then, option_map, Result, Ok, Err, ⊤, if◌then◌else◌}
 use Rattle.std.specs.Borrow.{Bor}
 use Rattle.std.specs.Str.{all_ascii_digits}
-use Rattle.std.specs.Str.Parse.{digits_value, without_leading_plus}
+use Rattle.std.specs.Str.Parse.{digits_value}
 use Rattle.json.specs.Json.{Json, null, boolean, number, string, array, object, Items, no_items, item, no_members}
 use Rattle.json.specs.Find.{as_number, as_array, is_null}
 use Rattle.json.specs.Value.{value_view}
@@ -41,9 +41,9 @@ is_numeral digits = nat_lt 0 (length digits) && all_ascii_digits digits
 abbrev pub small_number : List ℕ → Option ℕ
 small_number digits = if is_numeral digits && nat_lt (digits_value 10 digits) (2 ^ 32) then Some (digits_value 10 digits) else None
 
--- a whole number below 2^32, written with no sign, point or exponent (in JSON no number begins with a plus)
+-- a whole number below 2^32, written with no sign, point or exponent
 abbrev pub number_in : Json → Option ℕ
-number_in j = option_and_then (λ s. small_number (without_leading_plus s)) (as_number j)
+number_in j = option_and_then small_number (as_number j)
 
 -- what each item of a list says, if each has the form
 abbrev pub each : {A : Type 0} → (Json → Option A) → Items → Option (List A)

@@ -11,7 +11,7 @@ use Rattle.status_profile.specs.declared.entry.Entry.{Entry}
 use Rattle.status_profile.specs.declared.error.FieldError.{FieldError}
 use Rattle.status_profile.specs.declared.error.FieldError.TheVariants.{Form, Memory}
 use Rattle.status_profile.specs.declared.node.Nodes.{Nodes}
-use Rattle.status_profile.specs.Entries.{entry_in}
+use Rattle.status_profile.specs.Entries.{AreUtf8, entry_in}
 use Rattle.status_profile.specs.Forms.{each}
 use Rattle.status_profile.specs.Nodes.{node_in, node_value}
 
@@ -23,8 +23,9 @@ abbrev pub HasIndex : List IndexEntry → Option IndexError → List IndexEntry 
 HasIndex front None es = front ≡ es
 HasIndex front (Some e) es = IsRefusal es e
 
+-- the index has these entries, or refuses one of them, and the paths that it has are UTF-8
 abbrev pub HasEntries : Entries → List IndexEntry → Type 0
-HasEntries e es = HasIndex (index_of e.index) e.refusal es
+HasEntries e es = HasIndex (index_of e.index) e.refusal es × AreUtf8 (index_of e.index)
 
 -- the entries of these values
 abbrev pub HoldsEntries : Entries → List Json → Type 0

@@ -1,6 +1,5 @@
 -- A profile that is written again with the index that its refresh left.
-use Rattle.std.specs.Prelude.{◌≡◌, ℕ, List, [], ◌∷◌, ◌++◌, map, codes, All, ⊤}
-use Rattle.std.specs.Str.{IsUtf8}
+use Rattle.std.specs.Prelude.{◌≡◌, ℕ, List, [], ◌∷◌, ◌++◌, map, codes, ⊤}
 use Rattle.json.specs.Json.{Json, Members, object, no_members}
 use Rattle.serde_json.specs.Data.{array}
 use Rattle.serde_json.specs.View.{items_of}
@@ -8,6 +7,7 @@ use Rattle.serde_json.specs.Written.{outline}
 use Rattle.status_index.specs.Entries.{IndexEntry}
 use Rattle.status_index.specs.declared.stat.Moment.{Moment}
 use Rattle.status_stored.specs.StoredIndex.{stored_entry, stored_stamp}
+use Rattle.status_profile.specs.Entries.{AreUtf8}
 use Rattle.status_profile.specs.Sorted.{put_member, sorted_members, compact}
 use Rattle.status_profile.specs.declared.error.Key.TheVariants as keys
 use Rattle.status_profile.specs.declared.error.ProfileError.{ProfileError}
@@ -34,6 +34,6 @@ refreshed_text _ es t = []
 -- why an index isn't written: a path isn't UTF-8, or memory ran out
 abbrev pub IsUnwritten : List IndexEntry → ProfileError → Type 0
 IsUnwritten es errors.NotJson = ⊥
-IsUnwritten es (errors.Bad key) = (key ≡ keys.Index) × (All (λ e. IsUtf8 e.path) es → ⊥)
+IsUnwritten es (errors.Bad key) = (key ≡ keys.Index) × (AreUtf8 es → ⊥)
 IsUnwritten es (errors.Index e) = ⊥
 IsUnwritten es errors.Memory = ⊤

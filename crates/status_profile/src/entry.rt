@@ -5,7 +5,7 @@ ghost use Rattle.json.specs.Find.{as_str, get};
 ghost use Rattle.json.specs.Value.{value_view};
 ghost use Rattle.status_index.specs.Entries.{IndexEntry, IsRefusal};
 ghost use Rattle.status_index.specs.States.{index_of, timestamp_of};
-ghost use Rattle.status_profile.specs.Entries.{entry_in, flags_in, stage_in};
+ghost use Rattle.status_profile.specs.Entries.{AreUtf8, entry_in, flags_in, stage_in};
 ghost use Rattle.status_profile.specs.Forms.{Reads, json_at, number_in, or_default};
 ghost use Rattle.status_profile.specs.Held.{HasEntries, entry_value};
 ghost use Rattle.status_profile.specs.Words.{mode_in};
@@ -39,6 +39,7 @@ impl Entries {
     /// The first entry that can't be at its index position.
     pub fn into_index(self, timestamp: Moment) -> Result<State, IndexError>
         ensures ok { IfOk result (λ s. ((es : List IndexEntry) → HasEntries self es → index_of s ≡ es) × (timestamp_of s ≡ timestamp)) }
+        ensures utf8 { IfOk result (λ s. (es : List IndexEntry) → HasEntries self es → AreUtf8 (index_of s)) }
         ensures refused { IfErr result (λ e. (es : List IndexEntry) → HasEntries self es → IsRefusal es e) }
     {
         let Entries { mut index, refusal } = self;

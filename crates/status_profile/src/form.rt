@@ -1,6 +1,6 @@
 //! The forms of values in a profile.
 
-ghost use Rattle.std.specs.Prelude.{◌≡◌, []};
+ghost use Rattle.std.specs.Prelude.{◌≡◌, ◌==◌, [], slice_index_or};
 ghost use Rattle.json.specs.Find.{as_array, as_bool, as_str, get};
 ghost use Rattle.json.specs.Value.{items_view, value_view};
 ghost use Rattle.status_profile.specs.Forms.{Reads, json_at, object_at, object_or_empty};
@@ -27,10 +27,20 @@ pub fn number_of(value: &Value<'_>) -> Result<u32, FieldError>
     let Some(text) = value.as_number() else {
         return Err(FieldError::Form);
     };
+    if has_plus(text) {
+        return Err(FieldError::Form);
+    }
     match text.parse::<u32>() {
         Ok(number) => Ok(number),
         Err(_) => Err(FieldError::Form),
     }
+}
+
+/// Whether a text begins with a plus, which `parse` passes over. No number in JSON text has one.
+fn has_plus(text: &str) -> bool
+    ensures { result ≡ (slice_index_or text.now 0 0 == 43) }
+{
+    text.as_bytes().first() == Some(&b'+')
 }
 
 /// Reads a truth value.

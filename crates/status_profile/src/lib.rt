@@ -3,8 +3,9 @@
 //! Read `profile` and `history` first, then `options`, `entry`, `node` and `event`, what they are made of, and `error`.
 //! `object` reads an object's text member by member, to `members` for a profile, and `items` reads a list item by item, with
 //! one item in memory as a JSON value. `form`, `word` and `stat` have the forms of values. `texts` writes a profile again with
-//! another index, over `compact`, `sorted` and `index_text`. What a text says is defined in `specs`: `Profiles` and
-//! `Histories`, over `Options`, `Entries`, `Nodes`, `Events`, `Forms` and `Words`. `Refreshed` has the text that is written.
+//! another index, over `compact`, `sorted` and `index_text`, and `laws` states that this index is read as the same. What a text
+//! says is defined in `specs`: `Profiles` and `Histories`, over `Options`, `Entries`, `Nodes`, `Events`, `Forms` and `Words`.
+//! `Refreshed` has the text that is written.
 #![tactic(auto)]
 
 mod compact;
@@ -15,6 +16,7 @@ mod form;
 mod history;
 mod index_text;
 mod items;
+pub mod laws;
 mod members;
 mod node;
 mod object;

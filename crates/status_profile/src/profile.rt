@@ -1,10 +1,11 @@
 //! The profile of a status.
 
-ghost use Rattle.std.specs.Prelude.{◌≡◌, ℕ, List, Option, codes, true, option_and_then, option_map};
+ghost use Rattle.std.specs.Prelude.{◌≡◌, ℕ, List, Option, IfOk, codes, true, option_and_then, option_map};
 ghost use Rattle.json.specs.Find.{get};
 ghost use Rattle.json.specs.Json.{Json};
 ghost use Rattle.status_index.specs.declared.id.HashKind.TheVariants.{Sha1};
-ghost use Rattle.status_profile.specs.Entries.{entries_in};
+ghost use Rattle.status_index.specs.States.{index_of};
+ghost use Rattle.status_profile.specs.Entries.{AreUtf8, entries_in};
 ghost use Rattle.status_profile.specs.Failures.{result_under};
 ghost use Rattle.status_profile.specs.Forms.{Reads, is_object, json_at, or_default, stamp_in};
 ghost use Rattle.status_profile.specs.Members.{HasMembers};
@@ -50,7 +51,8 @@ impl Profile {
     /// The text isn't JSON; or a key is missing or has a wrong form: the first such key; or an entry can't be at its index
     /// position: the first such entry. Or memory ran out.
     pub fn from_json(alloc: Global, text: &[u8], kind: Kind) -> Result<Profile, ProfileError>
-        ensures { IsRead kind text.now result }
+        ensures read { IsRead kind text.now result }
+        ensures utf8 { IfOk result (λ profile. AreUtf8 (index_of profile.index)) }
     {
         let Ok(text) = str::from_utf8(text) else {
             return Err(ProfileError::NotJson);
@@ -65,7 +67,8 @@ impl Profile {
 
 /// Makes a profile of its members.
 fn profile_of(alloc: Global, kind: Kind, members: Members<'_>) -> Result<Profile, ProfileError>
-    ensures { (j : Json) → is_object j ≡ true → HasMembers members.entry (λ name. get name j) → IsProfile (profile_in kind j) result }
+    ensures read { (j : Json) → is_object j ≡ true → HasMembers members.entry (λ name. get name j) → IsProfile (profile_in kind j) result }
+    ensures utf8 { (g : List ℕ → Option Json) → HasMembers members.entry g → IfOk result (λ profile. AreUtf8 (index_of profile.index)) }
 {
     let hash = read_hash(&members)?;
     let timestamp = read_timestamp(&members)?;

@@ -39,7 +39,7 @@ stage_back e =
     let fits : stage_of e < 2 ^ 32 = omega arith in
     rw (number_back (stage_of e) fits, lt-ltb (stage_of e) 4 small) refl
 
-mode_back : (mode : Mode) → mode_in (string (mode_digits mode)) ≡ Some mode
+pub mode_back : (mode : Mode) → mode_in (string (mode_digits mode)) ≡ Some mode
 mode_back modes.Dir = refl
 mode_back modes.File = refl
 mode_back modes.FileExecutable = refl
@@ -49,7 +49,7 @@ mode_back modes.Commit = refl
 pairs_back : (digest : List ℕ) → IsBytes digest → decode_pairs 0 (encode_lower digest) ≡ Ok digest
 pairs_back = decode_pairs-encode_with lower_digits IsDigits-lower_digits 0
 
-id_back : (id : ObjectId) → FitsId id → id_in (string (id_digits id)) ≡ Some id
+pub id_back : (id : ObjectId) → FitsId id → id_in (string (id_digits id)) ≡ Some id
 id_back (Sha1 digest) fits =
     let long : length (encode_lower digest) ≡ 40 = omega (arith, length-encode_with lower_digits digest, fits.0) in
     rw (long, pairs_back digest fits.1) refl

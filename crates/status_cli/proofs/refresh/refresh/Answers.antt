@@ -23,7 +23,7 @@ returns-in_err-profile-clause-err g c =
     let old = g.O.Write.contents c.args.output.now in
     let e = c.in_err-profile.field-0.0 in
     let failed = c.from_residual-in_err-profile in
-    let read : IsRead Plain text (Err e) = subst (λ t. IsRead Plain t (Err e)) c.as_slice.ensures.value c.in_err-profile.ensures in
+    let read : IsRead Plain text (Err e) = subst (λ t. IsRead Plain t (Err e)) c.as_slice.ensures.value c.in_err-profile.ensures.read in
     err_weaker failed.result _ _ (λ f is. of_known (λ all. IsRefreshFailed all old f old) _ text c.in_ok-text.ensures.ok (failed_read text old e read f is)) failed.ensures.1
 
 pub returns-in_err-members-clause-err : goal.returns-in_err-members-clause-err
@@ -33,7 +33,7 @@ returns-in_err-members-clause-err g c =
     let old = g.O.Write.contents c.args.output.now in
     let e = c.in_err-members.field-0.0 in
     let failed = c.from_residual-in_err-members in
-    let read : IsRead Plain text (Ok p) = rw c.as_slice.ensures.value at c.in_ok-profile.ensures in
+    let read : IsRead Plain text (Ok p) = rw c.as_slice.ensures.value at c.in_ok-profile.ensures.read in
     let unread : IsTextsRead text (Err e) = subst (λ t. IsTextsRead t (Err e)) c.as_slice-2.ensures.value c.in_err-members.ensures in
     err_weaker failed.result _ _ (λ f is. of_known (λ all. IsRefreshFailed all old f old) _ text c.in_ok-text.ensures.ok (failed_members text old p read e unread f is)) failed.ensures.1
 
@@ -44,7 +44,7 @@ returns-in_err-index-clause-err g c =
     let old = g.O.Write.contents c.args.output.now in let new = g.O.Write.contents c.refresh_index.new.output in
     let e = c.in_err-index.field-0.0 in
     let failed = c.from_residual-in_err-index in
-    let read : IsRead Plain text (Ok p) = rw c.as_slice.ensures.value at c.in_ok-profile.ensures in
+    let read : IsRead Plain text (Ok p) = rw c.as_slice.ensures.value at c.in_ok-profile.ensures.read in
     let printed : IsIndexRefreshed p c.args.timestamp old (Err e) new = subst (λ r. IsIndexRefreshed p c.args.timestamp old r new) c.in_err-index.was c.refresh_index.ensures in
     err_weaker failed.result _ _ (λ f is. of_known (λ all. IsRefreshFailed all old f new) _ text c.in_ok-text.ensures.ok (failed_status text old new p read e f is printed)) failed.ensures.1
 
@@ -55,10 +55,10 @@ returns-in_err-with_index-clause-err g c =
     let old = g.O.Write.contents c.args.output.now in let new = g.O.Write.contents c.refresh_index.new.output in
     let e = c.in_err-with_index.field-0.0 in
     let failed = c.from_residual-in_err-with_index in
-    let read : IsRead Plain text (Ok p) = rw c.as_slice.ensures.value at c.in_ok-profile.ensures in
+    let read : IsRead Plain text (Ok p) = rw c.as_slice.ensures.value at c.in_ok-profile.ensures.read in
     let refreshed : IsIndexRefreshed p c.args.timestamp old (Ok c.in_ok-index.index) new = subst (λ r. IsIndexRefreshed p c.args.timestamp old r new) c.in_ok-index.was c.refresh_index.ensures in
     err_weaker failed.result _ _
-    (λ f is. of_known (λ all. IsRefreshFailed all old f new) _ text c.in_ok-text.ensures.ok (failed_text text old new p read c.args.timestamp c.in_ok-index.index refreshed e c.in_err-with_index.ensures.err f is))
+    (λ f is. of_known (λ all. IsRefreshFailed all old f new) _ text c.in_ok-text.ensures.ok (failed_text text old new p read c.args.timestamp c.in_ok-index.index refreshed c.in_ok-profile.ensures.utf8 e c.in_err-with_index.ensures.err f is))
     failed.ensures.1
 
 pub returns-clause-ok : goal.returns-clause-ok
@@ -68,7 +68,7 @@ returns-clause-ok g c =
     let m = c.in_ok-members.members in
     let old = g.O.Write.contents c.args.output.now in let new = g.O.Write.contents c.refresh_index.new.output in
     let bytes = c.in_ok-with_index.field-0.items in
-    let read : IsRead Plain text (Ok p) = rw c.as_slice.ensures.value at c.in_ok-profile.ensures in
+    let read : IsRead Plain text (Ok p) = rw c.as_slice.ensures.value at c.in_ok-profile.ensures.read in
     let held : IsTextsRead text (Ok m) = subst (λ t. IsTextsRead t (Ok m)) c.as_slice-2.ensures.value c.in_ok-members.ensures in
     let refreshed : IsIndexRefreshed p c.args.timestamp old (Ok c.in_ok-index.index) new = subst (λ r. IsIndexRefreshed p c.args.timestamp old r new) c.in_ok-index.was c.refresh_index.ensures in
     of_known (λ all. IsRefreshed all c.args.timestamp old new [] bytes) _ text c.in_ok-text.ensures.ok
