@@ -23,7 +23,7 @@ import threading
 
 sys.path.insert(0, str(pathlib.Path(__file__).resolve().parent.parent / "tools"))
 
-from quick_runs import Runner
+from support.programs import Runner
 
 FOLDERS, FILES = 10, 20
 FOO = "19102815663d23f8b75a47e7a01965dcdc96468c"

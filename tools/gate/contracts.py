@@ -1,0 +1,297 @@
+#!/usr/bin/env python3
+"""Prints the contracts of the crates: what docs/contracts.txt keeps.
+
+    python3 tools/gate/contracts.py > docs/contracts.txt
+
+First come the exported items, sorted by crate, file and name: functions and methods with their signature and clauses, traits,
+implementations with their ghost members, types with their derives and their public fields or variants, and the names that
+are exported again. Then come the definitions of specs/ that these clauses use, directly or through other definitions. White
+space is folded, and comments, bodies, other attributes and `use` lines are left out. So whoever changes a contract changes
+docs/contracts.txt in the same commit: test_contracts.py compares the two.
+"""
+
+import os
+import re
+import sys
+from dataclasses import dataclass, field
+from pathlib import Path
+
+TOP = Path(__file__).resolve().parents[2]
+# Crates whose functions are called by nobody: they hold tests and examples.
+WITHOUT_CALLERS = ("status_callers", "status_tests")
+STRING = r'b?"(?:\\.|[^"\\])*"'
+# What a scan passes over whole: a string, a character, a lifetime, a comment.
+PASSED = re.compile(rf"{STRING}|b?'(?:\\.[^']*|[^'\\])'|'\w+|//[^\n]*", re.S)
+PAIRS = {"{": "}", "(": ")", "[": "]"}
+CLAUSE = re.compile(r"\b(ensures|requires)\b")
+HEAD = re.compile(
+    r"(?P<pub>pub(?:\((?P<within>[^)]*)\))? +)?(?P<ghost>ghost +)?(?:unsafe +)?(?:const +(?=fn))?"
+    r"(?P<word>fn|struct|enum|trait|impl|type|mod|use|const|static)\b"
+)
+NAME = re.compile(r"[^\W\d][\w'-]*")
+# How a definition's first line begins. A line of a body may begin with `record {`.
+DEFINITION = re.compile(
+    r"\s*(?:(?:abbrev|unfoldable)\s+(?:pub\s+)?|(?:pub\s+)?(?:record|data)\s+(?=[^\s{].*\s:\s)|infix[lr]?\s+\d+\s+)(\S+)"
+)
+
+
+@dataclass(frozen=True)
+class Item:
+    """An item of a file: how it begins, up to its braces or its semicolon, and what its braces hold, if it has any."""
+
+    head: str
+    body: str | None
+    derives: str = ""
+
+
+@dataclass
+class Contracts:
+    """The lines of each exported item and of each definition, by its title."""
+
+    items: dict = field(default_factory=dict)
+    definitions: dict = field(default_factory=dict)
+
+
+def fold(text):
+    """A text on one line."""
+    return " ".join(text.split())
+
+
+def without_comments(text):
+    """A text of Rattle without comments."""
+    return PASSED.sub(lambda it: "" if it[0].startswith("//") else it[0], text)
+
+
+def end_of(text, at):
+    """Returns the position after the bracket that closes the one at a position."""
+    inside, closing = [PAIRS[text[at]]], None
+    at += 1
+    while inside:
+        passed = PASSED.match(text, at)
+        if passed:
+            at = passed.end()
+            continue
+        if text[at] in PAIRS:
+            inside.append(PAIRS[text[at]])
+        elif text[at] == inside[-1]:
+            closing = inside.pop()
+        at += 1
+    assert closing
+    return at
+
+
+def clauses_in(head):
+    """Returns a head without its clauses, and each clause."""
+    clauses, rest, at = [], [], 0
+    while found := CLAUSE.search(head, at):
+        end = end_of(head, head.index("{", found.end()))
+        rest.append(head[at : found.start()])
+        clauses.append(fold(head[found.start() : end]))
+        at = end
+    return fold("".join(rest) + head[at:]), clauses
+
+
+def items_in(text):
+    """Yields the items of a file, a trait or an implementation, in order. Clauses belong to the head."""
+    at, derives = 0, ""
+    while at < len(text):
+        if text[at].isspace():
+            at += 1
+        elif text[at] == "#":
+            end = end_of(text, text.index("[", at))
+            derives += text[at:end] if text.startswith("#[derive", at) else ""
+            at = end
+        else:
+            start, body = at, None
+            while text[at] not in ";{" or CLAUSE.search(clause_word(text, start, at)):
+                passed = PASSED.match(text, at)
+                at = passed.end() if passed else end_of(text, at) if text[at] in PAIRS else at + 1
+            end = at + 1
+            if text[at] == "{":
+                end = end_of(text, at)
+                body = text[at + 1 : end - 1]
+            head = text[start:at]
+            # (a ghost member or a use list ends by a semicolon after its braces)
+            if head.lstrip().startswith(("ghost ", "use ", "pub use ", "pub ghost ")):
+                stop = text.index(";", end - 1 if text[at] == "{" else at)
+                head, body, end = text[start:stop], None, stop + 1
+            yield Item(head, body, derives)
+            at, derives = end, ""
+
+
+def clause_word(text, start, at):
+    """Returns the words right before a brace, back to the last bracket: a clause begins with one of them."""
+    before = text[start:at]
+    return re.split(r"[{}();]", before)[-1] if text[at] == "{" else ""
+
+
+def indented(lines):
+    return ["  " + line for line in lines]
+
+
+def function(head):
+    """Returns the lines of a function: its signature and its clauses."""
+    signature, clauses = clauses_in(head)
+    return [signature, *indented(clauses)]
+
+
+def members(body, only_public):
+    """Returns the lines of the members of a trait or an implementation."""
+    lines = []
+    for item in items_in(body):
+        found = HEAD.match(item.head)
+        if not found or found["word"] == "use":
+            lines += [] if found or "ghost use" in item.head else [fold(item.head)]
+        elif found["word"] == "fn":
+            lines += function(item.head) if not only_public or is_exported(found) else []
+        else:
+            lines.append(fold(item.head))
+    return lines
+
+
+def is_exported(found):
+    return found["pub"] is not None and found["within"] is None
+
+
+def fields(body):
+    """Returns the lines of the public and ghost fields of a struct, or of all variants of an enum."""
+    text = re.sub(r"#\[(?:[^\[\]]|\[[^\]]*\])*\]", "", body)
+    parts, depth, start = [], 0, 0
+    for at, letter in enumerate(text):
+        depth += {"{": 1, "(": 1, "[": 1, "<": 1, "}": -1, ")": -1, "]": -1}.get(letter, 0)
+        depth -= letter == ">" and text[at - 1] not in "-=" and depth > 0
+        if letter == "," and depth == 0:
+            parts.append(text[start:at])
+            start = at + 1
+    return [fold(part) for part in [*parts, text[start:]] if part.strip()]
+
+
+def lines_of(item, found):
+    """Returns the lines of an exported item, or none if it isn't exported."""
+    word, head = found["word"], fold(item.head)
+    if word == "impl":
+        is_of_trait = re.search(r"\bfor\b(?! *<)", re.sub(r"<[^<>]*>", "", head)) is not None
+        lines = members(item.body, only_public=not is_of_trait)
+        return [head, *indented(lines)] if lines or is_of_trait else []
+    if not is_exported(found):
+        return []
+    if word == "fn":
+        return function(item.head)
+    if word == "trait":
+        return [head, *indented(members(item.body, only_public=False))]
+    if word == "use":
+        start, _, names = head.partition("{")
+        return sorted(f"{start}{name.strip()}" for name in names.rstrip("}").split(",") if name.strip()) if names else [head]
+    if word in ("struct", "enum") and item.body is not None:
+        told = fields(item.body)
+        shown = told if word == "enum" else [it for it in told if it.startswith("pub ") or "ghost " in it]
+        return [*([fold(item.derives)] if item.derives else []), head, *indented(shown)]
+    return [head]
+
+
+def title_of(item, found):
+    """Returns the name by which an item is sorted."""
+    if found["word"] == "impl":
+        return fold(item.head)
+    if found["word"] == "use":
+        return "names exported again"
+    return NAME.search(fold(item.head)[found.end() :])[0]
+
+
+def exported(crate, path, text):
+    """Returns the lines of the exported items of a file, by their titles."""
+    items = {}
+    module = path.removeprefix("src/").removesuffix(".rt").removesuffix("/mod").replace("/", "::")
+    for item in items_in(without_comments(re.sub(r"^\s*#!\[.*\]$", "", text, flags=re.M))):
+        found = HEAD.match(item.head)
+        lines = lines_of(item, found) if found else []
+        if lines:
+            items.setdefault(f"{crate}::{module}: {title_of(item, found)}", []).extend(lines)
+    return items
+
+
+# Definitions
+
+
+def definitions_of(text):
+    """Yields the definitions of a file of specs/: their names, and their lines, after those of the module around them."""
+    lines = [line for line in re.sub(r"(^|\s)--(\s[^\n]*)?$", r"\1", text, flags=re.M).split("\n") if line.strip()]
+    around, groups = [], []
+    for line in lines:
+        depth = len(line) - len(line.lstrip())
+        around = [it for it in around if it[0] < depth]
+        words = line.split()
+        if words[0] in ("use", "pub") and words[1:2] != ["record"] and words[0:2] != ["pub", "data"]:
+            if words[0] == "use" or words[1] == "mod":
+                groups.append(None)
+                continue
+        if words[0] == "module":
+            around.append((depth, [line]))
+            groups.append(("module", around[-1][1]))
+        elif begun := DEFINITION.match(line):
+            groups.append((begun[1], [*[it for _, it in around], [line]]))
+        elif groups and groups[-1]:
+            groups[-1][1].append(line) if groups[-1][0] == "module" else groups[-1][1][-1].append(line)
+    for group in groups:
+        if group and group[0] != "module":
+            yield group[0], [fold(line) for part in group[1] for line in part]
+
+
+def key_of(name):
+    """Returns the word by which a line uses a definition: of an operator, as `◌>>=◌`, its first part."""
+    return next(part for part in name.split("◌") if part)
+
+
+def words_of(lines):
+    """Returns the words of these lines that may be names of definitions, with operators."""
+    return {word for line in lines for word in (*NAME.findall(line), *line.split())}
+
+
+def all_definitions(top):
+    """Returns the definitions of specs/, by the words that use them: titles and lines."""
+    found = {}
+    for path in sorted(top.glob("crates/*/specs/**/*.antt")):
+        crate, inside = path.relative_to(top / "crates").parts[0], path.stem
+        for name, text in definitions_of(path.read_text(encoding="utf-8")):
+            title = f"{crate}: {inside}.{name}" + (", its binding" if text[-1].startswith("infix") else "")
+            found.setdefault(key_of(name), []).append((title, text))
+    return found
+
+
+def used(lines, there):
+    """Returns the definitions that these lines use, directly or through others, by their titles."""
+    shown, open_names = {}, words_of(lines)
+    seen = set()
+    while open_names:
+        name = open_names.pop()
+        seen.add(name)
+        for title, text in there.get(name, []):
+            if title not in shown:
+                shown[title] = text
+                open_names |= words_of(text) - seen
+    return shown
+
+
+def contracts(top):
+    """Returns the contracts of a repository's crates."""
+    names = re.findall(r"^(\w+)", (top / "crates.txt").read_text(encoding="utf-8"), re.M)
+    all_items = {}
+    for crate in sorted(set(names) - set(WITHOUT_CALLERS)):
+        for path in sorted((top / "crates" / crate / "src").rglob("*.rt")):
+            inside = path.relative_to(top / "crates" / crate).as_posix()
+            all_items.update(exported(crate, inside, path.read_text(encoding="utf-8")))
+    shown = used([line for lines in all_items.values() for line in lines], all_definitions(top))
+    return Contracts(all_items, shown)
+
+
+def text_of(found):
+    """Returns the text that docs/contracts.txt has."""
+    shown = lambda parts: [f"{title}\n" + "".join(f"  {line}\n" for line in lines) for title, lines in sorted(parts.items())]
+    heads = ("# Exported items\n", "# Definitions that their clauses use\n")
+    return "\n".join([heads[0], *shown(found.items), heads[1], *shown(found.definitions)])
+
+
+if __name__ == "__main__":
+    os.environ.setdefault("PYTHONIOENCODING", "utf-8")
+    sys.stdout.reconfigure(encoding="utf-8")
+    print(text_of(contracts(TOP)), end="")

@@ -1,0 +1,168 @@
+"""Tests that docs/contracts.txt has the contracts of the sources, and of what finds these:
+
+    python3 tools/run_tests.py gate.test_contracts
+"""
+
+import tempfile
+import textwrap
+import unittest
+from pathlib import Path
+
+from gate import contracts
+
+# A crate of one file of code and one of definitions.
+CODE = """
+//! The least of two numbers.
+#![tactic(auto)]
+
+ghost use Rattle.std.specs.Prelude.{◌≡◌, ◌≤◌};
+ghost use Rattle.low.specs.Least.{IsLeast};
+
+use std::fmt;
+
+/// A pair of numbers.
+#[derive(Clone, Copy)]
+pub struct Pair {
+    /// The first.
+    pub first: u32,
+    second: u32,
+    ghost ordered: { first ≤ second },
+}
+
+impl Pair {
+    /// Returns the least { of both }.
+    pub fn least(&self) -> u32
+        requires { 0 ≤ self.now.first }
+        ensures least { IsLeast self.now result }
+        ensures few { result ≤ self.now.first } // "}"
+    {
+        if self.first < self.second { self.first } else { self.second }
+    }
+
+    fn hidden(&self) -> char
+        ensures { result ≡ 0 }
+    {
+        '{'
+    }
+}
+
+pub(crate) fn inner() {}
+"""
+DEFINITIONS = """
+-- The least of a pair.
+use Rattle.std.specs.Prelude.{◌≤◌}
+
+abbrev pub is_first : Pair → Type 0
+is_first p = p.first ≤ p.second -- by order
+
+infixl 10 ◌but◌
+abbrev pub ◌but◌ : Type 0 → Type 0 → Type 0
+a but b = a
+
+abbrev pub copy_of : Pair → Pair
+copy_of p =
+    record {
+      first = p.first;
+      second = p.second;
+    }
+
+abbrev pub IsLeast : Pair → ℕ → Type 0
+IsLeast p n = is_first (copy_of p) but (n ≡ p.first)
+
+abbrev pub unused : ℕ
+unused = 3
+"""
+TEXT = """
+# Exported items
+
+low::lib: Pair
+  #[derive(Clone, Copy)]
+  pub struct Pair
+    pub first: u32
+    ghost ordered: { first ≤ second }
+
+low::lib: impl Pair
+  impl Pair
+    pub fn least(&self) -> u32
+      requires { 0 ≤ self.now.first }
+      ensures least { IsLeast self.now result }
+      ensures few { result ≤ self.now.first }
+
+# Definitions that their clauses use
+
+low: Least.IsLeast
+  abbrev pub IsLeast : Pair → ℕ → Type 0
+  IsLeast p n = is_first (copy_of p) but (n ≡ p.first)
+
+low: Least.copy_of
+  abbrev pub copy_of : Pair → Pair
+  copy_of p =
+  record {
+  first = p.first;
+  second = p.second;
+  }
+
+low: Least.is_first
+  abbrev pub is_first : Pair → Type 0
+  is_first p = p.first ≤ p.second
+
+low: Least.◌but◌
+  abbrev pub ◌but◌ : Type 0 → Type 0 → Type 0
+  a but b = a
+
+low: Least.◌but◌, its binding
+  infixl 10 ◌but◌
+"""
+
+
+def text_of(code, definitions=DEFINITIONS):
+    """Returns the text for a crate with this code."""
+    with tempfile.TemporaryDirectory() as room:
+        top = Path(room)
+        (top / "crates.txt").write_text("# a comment\nlow: bstr\n", encoding="utf-8")
+        for folder, name, text in (("src", "lib.rt", code), ("specs", "Least.antt", definitions)):
+            (top / "crates" / "low" / folder).mkdir(parents=True)
+            (top / "crates" / "low" / folder / name).write_text(text, encoding="utf-8")
+        return contracts.text_of(contracts.contracts(top))
+
+
+class Contracts(unittest.TestCase):
+    maxDiff = None
+
+    def test_the_file_has_those_of_the_sources(self):
+        there = (contracts.TOP / "docs" / "contracts.txt").read_text(encoding="utf-8")
+        found = contracts.text_of(contracts.contracts(contracts.TOP))
+        words = "a contract was changed: python3 tools/gate/contracts.py > docs/contracts.txt, and read the difference"
+        self.assertEqual(found.splitlines(), there.splitlines(), words)
+
+    def test_exported_items_are_shown_with_their_clauses_and_definitions(self):
+        self.assertEqual(text_of(CODE), textwrap.dedent(TEXT).lstrip())
+
+    def test_a_change_of_a_contract_shows(self):
+        for old, new in (
+            ("        ensures few { result ≤ self.now.first }", ""),
+            ("result ≤ self.now.first", "result ≤ self.now.first + 1"),
+            ("requires { 0 ≤", "requires { 1 ≤"),
+            ("ghost ordered: { first ≤ second }", "ghost ordered: { ⊤ }"),
+            ("derive(Clone, Copy)", "derive(Clone)"),
+            ("pub first: u32", "pub first: u64"),
+        ):
+            with self.subTest(old=old):
+                self.assertEqual(CODE.count(old), 1)
+                self.assertNotEqual(text_of(CODE.replace(old, new)), text_of(CODE))
+        for old, new in (
+            ("p.first ≤ p.second", "⊤"),
+            ("second = p.second", "second = 0"),
+            ("a but b = a", "a but b = b"),
+            ("infixl", "infixr"),
+        ):
+            with self.subTest(old=old):
+                self.assertEqual(DEFINITIONS.count(old), 1)
+                self.assertNotEqual(text_of(CODE, DEFINITIONS.replace(old, new)), text_of(CODE))
+
+    def test_what_is_no_contract_does_not_show(self):
+        self.assertEqual(text_of(CODE.replace("self.first < self.second", "true")), text_of(CODE))
+        self.assertEqual(text_of(CODE.replace("/// The first.", "// {")), text_of(CODE))
+        self.assertEqual(text_of(CODE.replace("ensures { result ≡ 0 }", "")), text_of(CODE))
+        self.assertEqual(text_of(CODE.replace("    ensures few", "ensures\n   few")), text_of(CODE))
+        self.assertEqual(text_of(CODE, DEFINITIONS.replace("unused = 3", "unused = 4")), text_of(CODE))

@@ -1,0 +1,234 @@
+"""Tests of the pages' links, examples and words, and of the pictures of their figures:
+
+    python3 tools/run_tests.py gate.test_docs
+
+Words to avoid have ceilings in words.txt. `python3 tools/gate/test_docs.py` prints the places of each.
+"""
+
+import glob
+import os
+import re
+import subprocess
+import sys
+import unittest
+
+TOP = os.path.dirname(os.path.dirname(os.path.dirname(os.path.abspath(__file__))))
+
+
+def text_of(*path):
+    with open(os.path.join(TOP, *path), encoding="utf-8") as file:
+        return file.read()
+
+
+def anchors(page):
+    """Returns the headings of a page as a link names them: in small letters, with dashes and without marks."""
+    headings = re.findall(r"^#+ (.*)$", page, re.M)
+    return {re.sub(r"[^\w\- ]", "", heading.lower()).replace(" ", "-") for heading in headings}
+
+
+def texts_of(*patterns):
+    """Returns the texts of the files that these patterns name, by their paths."""
+    found = [path for pattern in patterns for path in glob.glob(os.path.join(TOP, pattern), recursive=True)]
+    return {path: text_of(path) for path in sorted(os.path.relpath(path, TOP) for path in found)}
+
+
+def pages():
+    """Returns the pages of the repository, by their paths."""
+    return texts_of("README.md", "CONTRIBUTING.md", "docs/*.md")
+
+
+def plain(text):
+    """A text without marks of comments, code and links, on one line."""
+    text = re.sub(r"^\s*-- ?", "", text, flags=re.M)
+    return " ".join(re.sub(r"\[([^\]]*)\]\([^)]*\)", r"\1", text).replace("`", "").split())
+
+
+# Words
+
+
+def lines_of_comments(text, mark):
+    """Yields the comments of a file of code, with the numbers of their lines. `mark` begins a comment."""
+    for number, line in enumerate(text.splitlines(), 1):
+        comment = re.search(rf"(?:^|\s){mark}(?:\s(.*))?$", line)
+        if comment:
+            yield number, comment[1] or ""
+
+
+def paragraphs(lines):
+    """Joins lines of text, with their numbers, into paragraphs, by the number of the first line.
+
+    Code and the targets of links are left out.
+    """
+    texts, fence, first, before = {}, "", None, None
+    for number, line in ((number, line.strip()) for number, line in lines):
+        if line.startswith("```"):
+            fence = "" if fence else line
+        is_text = line and not line.startswith("```") and fence in ("", "```mermaid")
+        is_new = first is None or number != before + 1 or re.match(r"- |\d+\. |\||#", line)
+        if not is_text:
+            first = None
+        elif is_new:
+            first, texts[number] = number, line
+        else:
+            texts[first] += " " + line
+        before = number
+    return {number: re.sub(r"`[^`]*`", "``", re.sub(r"\]\([^)\s]*\)", "]", text)) for number, text in texts.items()}
+
+
+def written():
+    """Returns the paragraphs of all pages and of the comments of all crates, by files and lines."""
+    lines = {path: enumerate(page.splitlines(), 1) for path, page in pages().items()}
+    for ending, mark in (("rt", "//[/!]?"), ("antt", "--")):
+        files = texts_of(*(f"crates/*/{folder}/**/*.{ending}" for folder in ("src", "specs", "proofs")))
+        lines.update({path: lines_of_comments(text, mark) for path, text in files.items()})
+    parts = {path: paragraphs(of_file) for path, of_file in lines.items()}
+    return {f"{path}:{number}": text for path, part in parts.items() for number, text in part.items()}
+
+
+def ceilings():
+    """Returns the rows of words.txt: a ceiling, the words as a regular expression, and a replacement."""
+    lines = [line for line in text_of("tools", "gate", "words.txt").splitlines() if line and not line.startswith("#")]
+    rows = [re.fullmatch(r"(\d+)  +(.*?\S)  +(\S.*)", line).groups() for line in lines]
+    return [(int(most), words, instead) for most, words, instead in rows]
+
+
+def places(words, texts):
+    """Returns a file and a line for each time that these words are written."""
+    return [place for place, text in texts.items() for _ in re.findall(words, text)]
+
+
+class Docs(unittest.TestCase):
+    def test_links_lead_to_files_and_headings(self):
+        for name, page in pages().items():
+            for link in re.findall(r"\]\(([^)\s]+)\)", page):
+                if re.match(r"\w+://", link):
+                    continue
+                with self.subTest(page=name, link=link):
+                    path, _, heading = link.partition("#")
+                    target = os.path.normpath(os.path.join(os.path.dirname(name), path)) if path else name
+                    self.assertTrue(os.path.exists(os.path.join(TOP, target)))
+                    if heading:
+                        self.assertIn(heading, anchors(text_of(target)))
+
+    def test_the_readme_names_each_page(self):
+        named = set(re.findall(r"\]\(docs/([^)#]+\.md)\)", text_of("README.md")))
+        self.assertEqual(named, {os.path.basename(path) for path in pages() if path.startswith("docs/")})
+
+    def test_the_readme_has_the_example_that_is_proved_and_run(self):
+        example = text_of("crates", "status_tests", "src", "example.rt")
+        tested = re.findall(r"^// The example begins\.\n(.*?)^// The example ends\.$", example, re.M | re.S)
+        self.assertEqual(len(tested), 1)
+        self.assertEqual(re.findall(r"^```rust\n(.*?)^```$", text_of("README.md"), re.M | re.S), tested)
+
+    def test_the_examples_for_callers_are_quoted_from_what_is_proved(self):
+        page = text_of("docs", "GUIDE.md")
+        examples = re.findall(r"^```rust\n(.*?)^```$.*?\]\(([^)\s]+)\)", page, re.M | re.S)
+        self.assertGreater(len(examples), 0)
+        self.assertEqual(len(examples), page.count("```rust"))
+        for example, link in examples:
+            with self.subTest(link=link, example=example):
+                path = os.path.normpath(os.path.join("docs", link))
+                self.assertRegex(path, r"^crates/status_callers/src/")
+                self.assertIn("\n" + example, "\n" + text_of(path))
+
+    def test_each_note_on_proofs_has_code_of_the_file_that_is_linked_before_it(self):
+        page = text_of("docs", "PROVING.md")
+        for note in re.split(r"^### ", page, flags=re.M)[1:]:
+            parts = re.split(r"^```\w+\n(.*?)^```$", note, flags=re.M | re.S)
+            with self.subTest(note=note.partition("\n")[0]):
+                self.assertGreater(len(parts), 1)
+            for before, code in zip(parts[::2], parts[1::2]):
+                with self.subTest(code=code):
+                    link = re.findall(r"\]\((\.\./crates/[^)\s]+)\):\n\n$", before)
+                    self.assertEqual(len(link), 1)
+                    self.assertIn("\n" + code, "\n" + text_of("docs", *link))
+
+    def test_each_crate_begins_with_its_sentence(self):
+        lines = re.findall(r"^(\w+):", text_of("crates.txt"), re.M)
+        shown = re.findall(r"^\| `(\w+)` \| (.*) \|$", text_of("docs", "ARCHITECTURE.md"), re.M)
+        self.assertEqual([name for name, _ in shown if name in lines], lines)
+        for name, sentence in shown:
+            with self.subTest(crate=name):
+                root = "lib.rt" if os.path.exists(os.path.join(TOP, "crates", name, "src", "lib.rt")) else "main.rt"
+                first = re.match(r"((?://! .*\n)+)", text_of("crates", name, "src", root)).group(1)
+                self.assertEqual(" ".join(first.replace("//! ", "").split()), sentence)
+
+    def test_the_files_of_a_change_are_there(self):
+        page = text_of("docs", "ARCHITECTURE.md")
+        table = page[page.index("|Change|Files|") :].partition("\n\n")[0]
+        rows = re.findall(r"^\|[^|]*\|(`[^|]*)\|[^|]*\|$", table, re.M)
+        self.assertEqual(len(rows), table.count("\n") - 1)
+        folder = ""
+        for files in rows:
+            for path in re.findall(r"`([^`]+\.\w+)`", files):
+                with self.subTest(files=files, path=path):
+                    top = path.split("/")[0] in ("docs", "tests", "tools", "bench", "README.md")
+                    inside = path if top or "/" not in path else os.path.join("crates", path)
+                    places = [inside, os.path.join(folder, path)]
+                    there = [place for place in places if os.path.isfile(os.path.join(TOP, place))]
+                    self.assertNotEqual(there, [])
+                    folder = os.path.dirname(there[0])
+
+    def test_the_definitions_are_in_the_files_that_are_named(self):
+        page = text_of("docs", "PROOFS.md")
+        parts = re.findall(r"^### (\w+)\n(.*?)(?=^##|\Z)", page, re.M | re.S)
+        there = {path.split(os.sep)[-2] for path in glob.glob(os.path.join(TOP, "crates", "*", "specs"))}
+        self.assertEqual({crate for crate, _ in parts}, there - {"status_callers"})
+        for crate, part in parts:
+            for files, words in re.findall(r"^\| (`[^|]*?) \| ([^|]*) \|", part, re.M):
+                with self.subTest(crate=crate, files=files):
+                    names = re.findall(r"`(\w+)`", files)
+                    texts = [text_of("crates", crate, "specs", name + ".antt") for name in names]
+                    for word in re.findall(r"`(\w+)`", words):
+                        self.assertRegex("\n".join(texts), rf"\b{word}\b")
+
+    def test_the_definitions_have_the_same_sentences_in_specs(self):
+        page = text_of("docs", "PROOFS.md")
+        rows = 0
+        for crate, part in re.findall(r"^### (\w+)\n(.*?)(?=^##|\Z)", page, re.M | re.S):
+            for files, sentence in re.findall(r"^\| (`[^|]*?) \| [^|]* \| ([^|]*?) \|", part, re.M):
+                names = re.findall(r"`(\w+)`", files)
+                texts = [text_of("crates", crate, "specs", name + ".antt") for name in names]
+                with self.subTest(crate=crate, files=files, sentence=sentence):
+                    self.assertIn(plain(sentence), plain("\n".join(texts)))
+                rows += 1
+        self.assertGreater(rows, 100)
+
+    def test_the_pictures_have_the_figures_of_the_page(self):
+        command = [sys.executable, os.path.join(TOP, "bench", "plot.py"), "--check"]
+        ran = subprocess.run(command, capture_output=True, text=True)
+        self.assertEqual((ran.returncode, ran.stderr), (0, ""))
+
+
+class Words(unittest.TestCase):
+    def test_words_to_avoid_are_written_no_more_often(self):
+        texts = written()
+        for most, words, instead in ceilings():
+            there = places(words, texts)
+            with self.subTest(words=words):
+                message = f"at {len(there)} places, and at most {most}; write: {instead}"
+                self.assertLessEqual(len(there), most, message)
+            if len(there) < most:
+                print(f"tools/gate/words.txt: lower {most} to {len(there)}: {words}")
+
+    def test_comments_are_found(self):
+        text = "//! One\nfn f() {} // two\n    /// three\nlet url = \"https://four\";\n//\n"
+        self.assertEqual(list(lines_of_comments(text, "//[/!]?")), [(1, "One"), (2, "two"), (3, "three"), (5, "")])
+        self.assertEqual(list(lines_of_comments("-- one\nx = y --z\n--\n", "--")), [(1, "one"), (3, "")])
+
+    def test_paragraphs_are_joined_without_code(self):
+        page = "want\nof `want of` memory\n\n```rust\nwhere the\n```\n- [one](want)\n  two\n- three\n```mermaid\nfour\n```\n"
+        joined = {1: "want of `` memory", 7: "- [one] two", 9: "- three", 11: "four"}
+        self.assertEqual(paragraphs(enumerate(page.splitlines(), 1)), joined)
+        self.assertEqual(paragraphs([(1, "one"), (3, "two"), (4, "three")]), {1: "one", 3: "two three"})
+
+    def test_words_to_avoid_are_found_wherever_they_are(self):
+        texts = {"a:1": "Just where it stands, stands it.", "b:2": "It understands."}
+        self.assertEqual(places(r"\bstands\b", texts), ["a:1", "a:1"])
+
+
+if __name__ == "__main__":
+    everything = written()
+    for limit, expression, _ in ceilings():
+        for place in places(expression, everything) if limit else []:
+            print(f"{expression}: {place}")

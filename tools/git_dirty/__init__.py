@@ -1,0 +1,1 @@
+"""Tests of git_dirty, whose results are compared with git's."""

@@ -1,0 +1,304 @@
+"""The entries that `git dirty --refresh` writes, and that no file is read afterwards:
+
+    python3 tools/run_tests.py git_dirty.test_refresh
+"""
+
+import os
+import subprocess
+import time
+from pathlib import Path
+
+from git_dirty.case import CRLF
+from git_dirty.refreshing import Refresh
+from support.programs import GIT_DIRTY
+from support.repositories import THEN
+
+
+class Entries(Refresh):
+    """What a refresh changes in the index file."""
+
+    def fill(self):
+        """Adds entries of all kinds, and changes some of their files."""
+        for name in "cejrstuvwx":
+            self.write(name, "foo")
+        os.symlink("foo", self.path("l"))
+        self.git("add", ".")
+        self.commit()
+        self.settle()
+        self.git("update-index", "--assume-unchanged", "u")
+        self.write("w", "bars")
+        self.touch("u", "l", "s")
+        os.remove(self.path("v"))
+        os.chmod(self.path("x"), 0o755)
+        os.remove(self.path("t"))
+        os.symlink("foo", self.path("t"))
+
+    def make_racy(self):
+        """Changes `r`, and touches nothing else that is racy, such as `c`, so that only the index's time shows it."""
+        self.git("config", "core.trustctime", "false")
+        self.write("r", "bar")
+        self.set_time(THEN, "r")
+        os.utime(self.place(), (THEN, THEN))
+
+    def test_each_version_and_kind_of_ids(self):
+        for kind in ("sha1", "sha256"):
+            for version in (2, 3, 4):
+                with self.subTest(kind=kind, version=version):
+                    self.make(f"{kind}-{version}", kind)
+                    self.write("a", "foo")
+                    self.write("d/b", "foo")
+                    self.fill()
+                    self.git("update-index", "--index-version", str(max(version, 2)))
+                    if version != 2:
+                        self.git("update-index", "--skip-worktree", "j")
+                        self.touch("j")
+                    self.make_racy()
+                    self.assertEqual(self.read()[7], version)
+                    old, new = self.assert_refreshes_as_git(" M r\n T t\n D v\n M w\n M x\n")
+                    self.assertNotEqual(old, new)
+                    end = len(self.git("hash-object", "a").strip()) // 2
+                    self.assertEqual(new[new.index(b"TREE") : -end], old[old.index(b"TREE") : -end])
+                    self.assertRegex(self.entries(), r"\tr\n(?:  \w.*\n)*?.*size: 0\b")
+
+    def test_extensions_are_kept(self):
+        self.fill()
+        self.git("update-index", "--untracked-cache")
+        self.git("config", "index.threads", "2")
+        self.make_racy()
+        old, new = self.assert_refreshes_as_git(" M r\n T t\n D v\n M w\n M x\n")
+        for name in (b"TREE", b"UNTR"):
+            self.assertEqual(new[new.index(name) : -20], old[old.index(name) : -20])
+
+    def test_offsets_of_entries(self):
+        """Git writes them for several threads. In version 4 the names of the new file are shorter, so the offsets are wrong. Git
+        sees that, and reads the entries without them."""
+        names = ["a", "d/b", *(f"long name {number}" for number in range(8))]
+        for version in (2, 3, 4):
+            for words in (["index.threads=4"], ["index.recordEndOfIndexEntries=true", "index.threads=1"]):
+                with self.subTest(version=version, words=words):
+                    self.make(f"{version} {words[0]}")
+                    self.add(*names)
+                    self.settle()
+                    self.git("update-index", *(["--skip-worktree", "a"] if version == 3 else []))
+                    settings = [word for setting in words for word in ("-c", setting)]
+                    self.git(*settings, "update-index", "--index-version", str(max(version, 2)), "--force-write-index")
+                    has_offsets, old = "index.threads=4" in words, self.read()
+                    self.assertEqual((old[7], b"EOIE" in old, b"IEOT" in old), (version, True, has_offsets))
+                    self.touch(*names)
+                    self.git("config", "index.threads", "4")
+                    old, new = self.assert_refreshes_as_git(as_long=version < 4 or not has_offsets)
+                    self.assertEqual(new[new.index(b"EOIE") : -20], old[old.index(b"EOIE") : -20])
+
+    def test_conflicts(self):
+        found = self.blob()
+        rows = "".join(f"100644 {found} {stage}\t{name}\n" for name, stages in (("p", "123"), ("q", "13")) for stage in stages)
+        self.git("update-index", "--index-info", stdin=rows.encode())
+        self.write("p", "foo")
+        self.assert_refreshes_as_git("UU p\nDU q\n")
+
+    def test_flags_and_entries_to_add(self):
+        for name in ("i", "k"):
+            self.write(name, "foo")
+        self.git("add", "-N", "i")
+        self.git("add", "k")
+        self.git("update-index", "--skip-worktree", "k")
+        self.touch("k")
+        self.assert_refreshes_as_git(" A i\n")
+
+    def test_submodules(self):
+        self.make_module("m")
+        self.git("add", "m")
+        self.touch("m")
+        self.assert_refreshes_as_git()
+        self.commit(folder="m")
+        self.touch("a")
+        self.set_time(THEN, "a")
+        self.assert_refreshes_as_git(" M m\n")
+
+    def test_numbers_of_a_stat(self):
+        """Times before 1970 and after 2106 are stored as 32 bits, and those that count as late are racy."""
+        self.git("config", "core.trustctime", "false")
+        for second in (-5, 0, 1, 2**31 - 1, 2**31, 2**32 - 1, 2**32 + 5):
+            with self.subTest(second):
+                nanos = second * 10**9 + 999_999_999
+                os.utime(self.path("a"), ns=(nanos, nanos))
+                self.assert_refreshes_as_git()
+                self.assertTrue(self.is_stored("a"))
+                self.write("a", "bar")
+                os.utime(self.path("a"), ns=(nanos, nanos))
+                # It is only seen if the time counts as late.
+                self.assert_as_git("" if second % 2**32 < THEN else " M a\n")
+                self.write("a", "foo")
+
+    def test_a_racy_entry_that_is_unchanged_is_settled(self):
+        self.make("racy")
+        self.add("a")
+        nanos = os.stat(self.path("a")).st_mtime_ns
+        os.utime(self.place(), ns=(nanos, nanos))
+        self.wait()
+        self.assertEqual(self.counts(), (1, 1, 1, 1))
+        self.assert_refreshes_as_git()
+        self.assertEqual(self.counts(), (1, 0, 0, 0))
+
+    def test_only_the_entries_of_paths_are_refreshed(self):
+        old, nanos = self.read(), self.nanos()
+        for path, words in (("a", ["a"]), ("d/b", ["d"]), ("d/b", ["d/b", "nothing"])):
+            self.put(old, nanos=nanos)
+            self.git("add", "--refresh", path)
+            wanted = self.entries()
+            self.put(old, nanos=nanos)
+            self.assert_ends(self.refresh(*words), b"")
+            self.assertEqual(self.entries(), wanted)
+        self.put(old, nanos=nanos)
+        stat = self.stat()
+        self.assert_ends(self.refresh("nothing"), b"")
+        self.assertEqual(self.stat(), stat)
+
+    def test_a_racy_change_outside_of_paths_stays_visible(self):
+        for words in (["a"], ["a", "d"], ["-q", "a"]):
+            with self.subTest(words):
+                self.make("-".join(words) + "-racy")
+                self.add("a", "d/b", "r")
+                self.settle()
+                self.touch("a", "d/b")
+                self.make_racy()
+                self.assertEqual(self.refresh(*words).returncode, 0)
+                self.assertLess(self.counts(*words[-1:])[1], 2)
+                self.assert_as_git(" M r\n")
+                self.assertIn(b"AM r\n", self.git("status", "--porcelain"))
+
+    def test_quiet(self):
+        self.assertEqual(self.counts()[1], 2)
+        self.assert_quiet(self.refresh("-q"), 0)
+        self.assertEqual(self.counts(), (2, 0, 0, 0))
+        # All entries are compared, since the racy ones have to be.
+        names = [f"b/{number:03}" for number in range(200)]
+        self.add(*names, "r")
+        self.settle()
+        self.write("a", "bars")
+        self.make_racy()
+        self.touch("b/199")
+        self.assert_quiet(self.refresh("-q", "--threads", "1"), 1)
+        self.assert_as_git(" M a\n M r\n")
+        self.assertEqual(self.counts()[2:], (0, 0))
+
+    def test_the_counts_are_printed_too(self):
+        ran = self.refresh("--stats")
+        self.assertEqual((ran.returncode, ran.stdout), (0, b""))
+        self.assertRegex(ran.stderr, rb"\Agit dirty: 2 entries, .* 2 files read .* 2 with an old stat\n\Z")
+
+
+class Settled(Refresh):
+    """After a refresh no file is read."""
+
+    # The status of git, which writes no index, and that of the program.
+    STATUS, DIRTY = ["git", "--no-optional-locks", "status", "--porcelain"], [GIT_DIRTY, "--threads", "2"]
+    SOURCE = Path(__file__).with_name("log_opens.c")
+
+    def opened(self, *command, lines=b""):
+        """Returns the files of the worktree that a command opens, each as often as it does. The command prints these lines."""
+        log = os.path.join(self.room, "log")
+        self.put(b"", log)
+        ran = self.run_in(command, LD_PRELOAD=self.library, OPENS_LOG=log)
+        self.assertEqual((ran.stdout, ran.stderr, ran.returncode in (0, 1)), (lines, b"", True))
+        paths = [line.removeprefix(self.top + "/") for line in self.read(log).decode().splitlines()]
+        self.assertIn(".git/index", paths)
+        in_worktree = [path for path in paths if not path.startswith((".git/", "/"))]
+        return sorted(path for path in in_worktree if os.path.isfile(self.path(path)))
+
+    def assert_settled(self):
+        self.assertEqual(self.counts()[1:], (0, 0, 0))
+        self.assertEqual(self.git("diff-files"), b"")
+        lines = self.run_in(self.STATUS).stdout
+        self.assertEqual((self.opened(*self.STATUS, lines=lines), self.opened(*self.DIRTY)), ([], []))
+
+    def test_a_refresh_settles_touched_files(self):
+        self.assertEqual(self.counts(), (2, 2, 0, 2))
+        self.assert_ends(self.refresh(), b"")
+        self.assert_settled()
+
+    def test_a_copy_of_a_repository(self):
+        self.git("update-index", "--refresh")
+        self.commit()
+        copy = os.path.join(self.room, "copy")
+        subprocess.run(["cp", "-a", self.top, copy], check=True)
+        self.top = copy
+        self.assertEqual(self.counts(), (2, 2, 0, 2))
+        self.assert_refreshes_as_git()
+        self.assert_settled()
+
+    def test_a_copy_of_many_files(self):
+        """All are read before the refresh, each once by it, and none afterwards."""
+        names = [f"{folder}/{number}" for folder in ("e", "e/f", "g h", "é") for number in range(50)]
+        for name in names:
+            self.write(name, name)
+        os.chmod(self.path("e/1"), 0o755)
+        self.write(".git/info/attributes", "g* text\n")
+        os.symlink("foo", self.path("l"))
+        self.git("add", ".")
+        self.commit()
+        self.settle()
+        self.assert_settled()
+        copy = os.path.join(self.room, "copy")
+        subprocess.run(["cp", "-a", self.top, copy], check=True)
+        self.top, names = copy, sorted(["a", "d/b", *names])
+        self.assertEqual(self.opened(*self.STATUS), names)
+        for words in ([], ["--refresh"]):
+            self.assertEqual(self.opened(*self.DIRTY, *words), names)
+        self.assert_settled()
+        self.assertEqual(self.opened(*self.DIRTY, "--refresh"), [])
+        # A file that is changed is read as long as its size is that in the index.
+        self.write("e/1", "e/0")
+        self.assertEqual(self.opened(*self.STATUS, lines=b" M e/1\n"), ["e/1"])
+        self.assertEqual(self.opened(*self.DIRTY, "--refresh", lines=b" M e/1\n"), ["e/1"])
+
+    def test_attribute_files_are_read_alone(self):
+        for name in (".gitattributes", "e/.gitattributes"):
+            self.write(name, "*.txt text\n")
+        self.git("add", ".")
+        for name in ("e/f.txt", "g.txt"):
+            self.write(name, CRLF)
+        self.git("add", ".")
+        self.commit()
+        self.settle()
+        names, attributes = self.git("ls-files").decode().split(), [".gitattributes", "e/.gitattributes"]
+        self.touch(*names)
+        # They are compared too.
+        self.assertEqual(self.opened(*self.STATUS), sorted(names + attributes))
+        self.assertEqual(self.opened(*self.DIRTY, "--refresh"), sorted(names + attributes))
+        self.assertEqual((self.opened(*self.STATUS), self.opened(*self.DIRTY)), ([], attributes))
+
+    def test_nothing_is_written_if_nothing_needs_it(self):
+        self.refresh()
+        self.write("a", "bars")
+        stat = self.stat()
+        for words in ([], ["-q"], ["a"], ["--stats"]):
+            self.assertEqual(self.refresh(*words).returncode, 1)
+            self.assertEqual(self.stat(), stat)
+        # Then it doesn't matter that the lock can't be taken.
+        self.write(".git/index.lock", "x")
+        self.assert_ends(self.refresh(), b" M a\n")
+        os.remove(self.path(".git/index.lock"))
+        os.chmod(self.path(".git"), 0o555)
+        self.addCleanup(os.chmod, self.path(".git"), 0o755)
+        self.assert_ends(self.refresh(), b" M a\n")
+        self.assertEqual(self.stat(), stat)
+
+    def test_a_repository_without_an_index(self):
+        os.remove(self.place())
+        self.assert_ends(self.refresh(), b"")
+        self.assertFalse(os.path.exists(self.place()))
+
+    def test_an_edit_during_the_refresh_is_seen_afterwards(self):
+        """The file's time doesn't show it, and is before the index is written, but not before the refresh began."""
+        self.add_many()
+        self.git("config", "core.trustctime", "false")
+        second = int(time.time()) + 1
+        self.set_time(second, "a")
+        child, reader = self.start()
+        self.write("a", "bar")
+        self.set_time(second, "a")
+        time.sleep(second + 1.05 - time.time())
+        self.assertEqual(self.end(child, reader), (1, ""))
+        self.assert_as_git(" M a\n", "a")
+        self.assertIn(b"AM a\n", self.git("status", "--porcelain"))

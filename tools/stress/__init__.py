@@ -1,0 +1,1 @@
+"""Scripts that run the programs over drawn, mutated or starved input, with the tests that run a part of each."""

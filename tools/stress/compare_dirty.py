@@ -1,0 +1,101 @@
+#!/usr/bin/env python3
+"""Compares the lines of git_dirty with those of git's status, over drawn repositories.
+
+    python3 tools/stress/compare_dirty.py --seeds 1000 [--first 0] [--keep FOLDER]
+
+draw_repositories.py draws the repository of each seed. The program is run over its top with one thread, and for parts of
+the seeds with four threads, with -z, with -q, from a folder of the worktree, and with paths. Each run has to print the
+lines of `git status --porcelain -uno --no-renames --ignore-submodules=dirty`, as `as_dirty` changes them, and nothing else
+but notes where git prints warnings. The program's own exit status has to be 1 if there is a line, and otherwise 0.
+
+The environment's GIT_DIRTY names the built program; without it that of this checkout is run. Each difference is printed
+with its seed, and the exit status is 1 if there is one, and 2 if the seeds can't be run. With --keep the repositories that
+differ stay there.
+"""
+
+import collections
+import os
+import re
+import shutil
+import sys
+import tempfile
+
+sys.path.insert(0, os.path.dirname(os.path.dirname(os.path.abspath(__file__))))
+
+from stress.draw_repositories import Drawing, drawn
+from stress.seeds import main
+from support.programs import GIT_DIRTY, Runner, room_of_memory
+from support.repositories import as_dirty, status_words
+
+# How many repositories are made before their worktrees are edited.
+PART = 25
+# What the program may print to standard error if git prints warnings there, and otherwise.
+NOTES, NOTHING = rb"\A(git dirty: note: [^\n]*\n)*\Z", rb"\A\Z"
+
+
+class Comparer:
+    """Runs git and the program over one drawn repository."""
+
+    def __init__(self, git, program, drawing):
+        self.git, self.program, self.drawing = git, program, drawing
+        self.top = drawing.top
+
+    def lines(self, folder, *words):
+        """Returns git's lines as the program prints them, and what it may print to standard error. git has to succeed."""
+        ended = self.git.run(status_words(folder, *words), self.drawing.environment)
+        if ended.status != 0 or ended.fault and self.drawing.IS_EDITED:
+            raise RuntimeError(f"git {words} in {folder}: {ended.text()}")
+        return as_dirty(ended.out, b"\0" if "-z" in words else b"\n"), NOTES if ended.fault else NOTHING
+
+    def runs(self):
+        """Yields the arguments of runs, and what git prints for each."""
+        top, drawing, chance = self.top, self.drawing, self.drawing.chance
+        lines = self.lines(top)
+        yield ["-C", top, "--threads", "1"], lines
+        if not drawing.IS_EDITED:
+            return
+        if chance(0.4):
+            yield ["-C", top, "--threads", "4"], lines
+        if chance(0.3):
+            yield ["-C", top, "-z"], self.lines(top, "-z")
+        if chance(0.3):
+            yield ["-q", "-C", top], lines
+        folder = drawing.some_folder()
+        inside = os.path.join(top, folder)
+        if chance(0.3):
+            yield ["-C", inside], self.lines(inside)
+        if chance(0.5):
+            words = [*(["-z"] if chance(0.3) else []), "--", *drawing.some_paths(folder)]
+            yield ["-C", inside, *words], self.lines(inside, *words)
+
+    def differences(self):
+        """Yields how each run that differs does."""
+        for words, (lines, notes) in self.runs():
+            ended = self.program.run(words, self.drawing.environment)
+            printed = b"" if "-q" in words else lines
+            is_same = (ended.status, ended.out) == (int(lines != b""), printed) and re.search(notes, ended.fault)
+            if not is_same:
+                drawn_by = "; ".join(self.drawing.notes)
+                yield f"seed {self.drawing.seed}, {words}: {ended.text()}\n  git: {printed!r}\n  drawn: {drawn_by}"
+
+
+def compared(seeds, keep=None, kind=Drawing, program=GIT_DIRTY):
+    """Compares the repositories of some seeds. Returns the differences, and how many lines of each kind git has."""
+    found, columns = [], collections.Counter()
+    room_at = tempfile.TemporaryDirectory(dir=keep or room_of_memory())
+    with room_at as room, Runner(shutil.which("git") or "git", 20) as git, Runner(program, 20) as ours:
+        for drawing in drawn(kind, seeds, room):
+            comparer = Comparer(git, ours, drawing)
+            lines = comparer.lines(drawing.top)[0].split(b"\n")[:-1]
+            columns.update(line[:2].decode() for line in lines)
+            columns["files"] += len(drawing.paths)
+            differences = [*comparer.differences()]
+            found += differences
+            if differences and keep:
+                # A file that is moved to another device would be another.
+                os.rename(drawing.top, os.path.join(keep, str(drawing.seed)))
+    return found, columns
+
+
+if __name__ == "__main__":
+    main(compared, 1000, PART, GIT_DIRTY)

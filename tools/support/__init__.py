@@ -1,0 +1,1 @@
+"""What scripts and tests share: the built programs, repositories, index files, and profiles."""
