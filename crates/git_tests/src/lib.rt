@@ -1,7 +1,10 @@
-//! Tests of git's attribute files, with values from git.
+//! Tests of git's attribute files and index files, with values from git.
 //!
-//! `attributes` tests their lines and patterns, and what git stores of contents. Its `mod.rt` says where to begin.
+//! `attributes` tests lines and patterns of attribute files, and what git stores of contents; `index_file` reads and
+//! writes index files. Each folder's `mod.rt` says where to begin.
 #![tactic(auto)]
 
 #[cfg(test)]
 mod attributes;
+#[cfg(test)]
+mod index_file;

@@ -1,6 +1,29 @@
-//! Interfaces and calls as a caller writes them.
+//! Tests of what no clause states, and README's example.
 //!
-//! It has no test, since all of it would be proved again with one.
+//! Begin at `example`. Each folder tests a layer, from the bottom up: `board`, `index`, `base`, `compare`, `call`,
+//! `walk`, `joined` (with renames and copies), `world` (with the stored index) and `cli`. Its `mod.rt` says where to
+//! begin. `support` has what several of them use.
 #![tactic(auto)]
 
-pub mod callers;
+#[cfg(test)]
+mod base;
+#[cfg(test)]
+mod board;
+#[cfg(test)]
+mod call;
+#[cfg(test)]
+mod cli;
+#[cfg(test)]
+mod compare;
+#[cfg(test)]
+mod example;
+#[cfg(test)]
+mod index;
+#[cfg(test)]
+mod joined;
+#[cfg(test)]
+mod support;
+#[cfg(test)]
+mod walk;
+#[cfg(test)]
+mod world;

@@ -101,7 +101,7 @@ fn has_state(
 }
 
 #[test]
-fn lines_give_states_as_in_git(rt: HostRuntime) -> Result<(), Fail> {
+fn lines_assign_states_as_in_git(rt: HostRuntime) -> Result<(), Fail> {
     for (text, path, name, want) in &ROWS {
         assert!(rt;
             has_state(rt.alloc(), text.as_bytes(), path, name, want)?,

@@ -1,8 +1,0 @@
-//! Tests of the program's commands over bytes in memory, and of lines that no profile causes.
-//!
-//! Begin at `commands`. The lines that a profile causes are tested by the rows of `tools/rows`, with the built program.
-
-mod commands;
-mod failures;
-mod lines;
-mod writers;

@@ -1,5 +1,0 @@
-use Rattle.status_call.proofs.IndexChanges.{status_inside}
-use Rattle.status_tests.proofs.callers.statuses.report_to.Goals as goal
-
-pub returns-clause-inside : goal.returns-clause-inside
-returns-clause-inside g c = λ none. status_inside _ _ _ _ _ c.index_as_worktree.ensures.all none

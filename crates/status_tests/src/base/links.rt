@@ -1,0 +1,171 @@
+//! The check of paths that lead through links: each form of result, and that the counted calls of `lstat` are made.
+
+use crate::support::nodes::metadata;
+use bstr::{BStr, BString};
+use status_base::stack::SymlinkCheck;
+use status_base::worktree::{Fault, Metadata, NodeKind, ReadBytes, Worktree};
+use std::alloc::{AllocError, Global};
+use std::process::Abort;
+use std::sync::atomic::{AtomicUsize, Ordering};
+use std::test::Fail;
+
+/// A path, and the result of `lstat` there.
+type Answer = (&'static str, Result<NodeKind, Fault>);
+
+/// The results of `lstat`. It returns `NotFound` for any other path.
+const ANSWERS: [Answer; 6] = [
+    ("a", Ok(NodeKind::Directory)),
+    ("a/b", Ok(NodeKind::Directory)),
+    ("a/e", Ok(NodeKind::Directory)),
+    ("f", Ok(NodeKind::File)),
+    ("f/x", Err(Fault::NotADirectory)),
+    ("l", Ok(NodeKind::Link)),
+];
+
+/// The same for a directory whose name begins with that of a link.
+const ALIKE: [Answer; 2] = [("a", Ok(NodeKind::Link)), ("ab", Ok(NodeKind::Directory))];
+
+/// A worktree with these results of `lstat`. It counts the calls.
+#[derive(Drop)]
+struct Counted<'a> {
+    answers: &'static [Answer],
+    looks: &'a AtomicUsize,
+}
+
+#[derive(Drop)]
+struct NoFile;
+
+impl ReadBytes for NoFile {
+    fn read_bytes(&mut self, _buffer: &mut [u8]) -> Result<usize, Fault> {
+        Err(Fault::Other(0))
+    }
+}
+
+impl<'a> Worktree for Counted<'a> {
+    ghost use Rattle.std.specs.Prelude.{false, Err};
+    ghost use Rattle.status_index.specs.declared.fault.Fault.TheVariants.{NotFound};
+
+    type File = NoFile;
+
+    ghost modelled = { λ _. false };
+
+    ghost lstat_of = { λ _ _. Err NotFound };
+
+    ghost open_of = { λ _ _. Err NotFound };
+
+    ghost target_of = { λ _ _. Err NotFound };
+
+    fn lstat(&self, path: BStr<'_>) -> Result<Metadata, Fault> {
+        self.looks.fetch_add(1, Ordering::SeqCst);
+        for (name, answer) in self.answers {
+            if name.as_bytes() == path.as_bytes() {
+                return answer.map(metadata);
+            }
+        }
+        Err(Fault::NotFound)
+    }
+
+    fn open(&self, _path: BStr<'_>) -> Result<NoFile, Fault> {
+        Err(Fault::NotFound)
+    }
+
+    fn read_link(&self, _path: BStr<'_>, _target: &mut Vec<u8>) -> Result<(), Fault> {
+        Err(Fault::NotFound)
+    }
+}
+
+/// A path, whether a directory above it may be absent, the result of a check below the root `r`, and how often it has
+/// called `lstat` by then.
+type Row = (&'static str, bool, &'static str, u64);
+
+/// The paths that one check is called with, in order.
+const ROWS: [Row; 18] = [
+    ("a", false, "Ok(\"r/a\")", 0),
+    // It calls `lstat` for `a` and `a/b`; for nothing new; for `a/e`.
+    ("a/b/c", false, "Ok(\"r/a/b/c\")", 2),
+    ("a/b/d", false, "Ok(\"r/a/b/d\")", 2),
+    ("a/e/f", false, "Ok(\"r/a/e/f\")", 3),
+    // A path that isn't normal is refused before any call of `lstat`.
+    ("", false, "Err(EmptyPath)", 3),
+    ("a/b/../c", false, "Err(NotNormal { component: \"..\" })", 3),
+    ("./a", false, "Err(NotNormal { component: \".\" })", 3),
+    ("a//b", false, "Err(NotNormal { component: \"\" })", 3),
+    // It calls `lstat` for directories, and not for the path itself.
+    ("l", false, "Ok(\"r/l\")", 3),
+    ("l/x", false, "Err(ThroughLink { prefix: \"l\" })", 4),
+    ("l", false, "Ok(\"r/l\")", 4),
+    ("f/x/y", false, "Err(Fault(NotADirectory))", 6),
+    ("f/x", false, "Ok(\"r/f/x\")", 6),
+    ("a/x", false, "Ok(\"r/a/x\")", 7),
+    ("q/x", false, "Err(Fault(NotFound))", 8),
+    ("a/y", false, "Ok(\"r/a/y\")", 9),
+    ("p/x", true, "Ok(\"r/p/x\")", 10),
+    ("l/x", true, "Err(ThroughLink { prefix: \"l\" })", 11),
+];
+
+/// The same for the worktree with a directory `ab` and a link `a`.
+const ALIKE_ROWS: [Row; 2] = [
+    ("ab/x", false, "Ok(\"r/ab/x\")", 1),
+    ("a/x", false, "Err(ThroughLink { prefix: \"a\" })", 2),
+];
+
+/// Returns the result of a check for a path, as a text. If `may_be_absent`, the path may lead to nothing.
+fn answer(
+    alloc: Global,
+    check: &mut SymlinkCheck,
+    worktree: &Counted<'_>,
+    path: &str,
+    may_be_absent: bool,
+) -> Result<String, AllocError> {
+    let path = BStr::from(path);
+    let answer = if may_be_absent {
+        check.verified_path_allow_nonexisting(worktree, path)
+    } else {
+        check.verified_path(worktree, path)
+    };
+    format!(in alloc; "{answer:?}")
+}
+
+/// Returns whether a check has the result of a row, counts as many calls of `lstat` as were made, and keeps its root.
+fn is_row(
+    alloc: Global,
+    check: &mut SymlinkCheck,
+    worktree: &Counted<'_>,
+    row: &Row,
+) -> Result<bool, AllocError> {
+    let (path, may_be_absent, want, looks) = *row;
+    let found = answer(alloc, check, worktree, path, may_be_absent)?;
+    let made = worktree.looks.load(Ordering::SeqCst) as u64;
+    let is_counted = check.looks() == looks && made == looks;
+    Ok(found.as_str() == want && is_counted && check.root() == BStr::from("r"))
+}
+
+// Asserts the results of one check below the root `r`, for paths in order.
+fn assert_rows<R: AllocGlobal + Abort>(
+    rt: &R,
+    answers: &'static [Answer],
+    rows: &[Row],
+) -> Result<(), AllocError> {
+    let looks = AtomicUsize::new(0);
+    let worktree = Counted {
+        answers,
+        looks: &looks,
+    };
+    let root = BString::from_slice(rt.alloc(), "r")?;
+    let mut check = SymlinkCheck::new(rt.alloc(), root);
+    for row in rows {
+        assert!(rt;
+            is_row(rt.alloc(), &mut check, &worktree, row)?,
+            "at {}",
+            row.0
+        );
+    }
+    Ok(())
+}
+
+#[test]
+fn lstat_is_called_once_for_each_directory(rt: HostRuntime) -> Result<(), Fail> {
+    assert_rows(&rt, &ANSWERS, &ROWS)?;
+    assert_rows(&rt, &ALIKE, &ALIKE_ROWS)?;
+    Ok(())
+}

@@ -1,0 +1,79 @@
+//! A status with listings of a folder of the disk.
+
+use crate::call::inputs::{EntryRow, index};
+use crate::call::reports::{Says, Wanted, are_records, is_taken, read};
+use crate::call::statuses::listed_status;
+use crate::support::contents::Content;
+use crate::support::folders::{FolderNode, fill, own_folder};
+use gix_status::index::Mode;
+use gix_status::index_as_worktree::{Options, Outcome};
+use gix_status::worktree::DiskWorktree;
+use status_callers::listers::FolderLister;
+use status_callers::statuses::options;
+use std::fs;
+use std::path::Path;
+use std::sync::Wait;
+use std::test::Fail;
+use std::thread::Threads;
+
+/// Two files, one of them in a directory.
+const NODES: [(&str, FolderNode<'static>); 3] = [
+    ("test.txt", FolderNode::Staged("foo")),
+    ("subdir", FolderNode::Folder),
+    ("subdir/nested.txt", FolderNode::Staged("bars")),
+];
+
+/// Nothing is at the first two paths. At the others are a directory, a file with other content, and an unchanged file.
+const ENTRIES: [EntryRow<'static>; 5] = [
+    ("Test.txt", 0, Mode::File, Content::Foo),
+    ("gone", 0, Mode::File, Content::Foo),
+    ("subdir", 0, Mode::File, Content::Foo),
+    ("subdir/nested.txt", 0, Mode::File, Content::Foo),
+    ("test.txt", 0, Mode::File, Content::Foo),
+];
+
+const RECORDS: [Wanted<'static>; 4] = [
+    (0, "Test.txt", Says::Removed),
+    (1, "gone", Says::Removed),
+    (2, "subdir", Says::Removed),
+    (3, "subdir/nested.txt", Says::Changed(Content::Bars)),
+];
+
+// Returns whether a folder has the expected status, with listings or without, and `lstat` is called on entries' paths
+// so often.
+fn is_right<R: AllocGlobal + Threads + Wait>(
+    rt: &R,
+    system: &HostRuntime,
+    root: &str,
+    fscache: bool,
+    lstats: usize,
+) -> Result<bool, Fail> {
+    let index = index(rt.alloc(), &ENTRIES)?;
+    let worktree = DiskWorktree::new(system, Path::new(root))?;
+    let lister = FolderLister { rt: system, root };
+    let options = Options {
+        fscache,
+        ..options()
+    };
+    let report = listed_status(rt, &index, &worktree, lister, options);
+    let wanted = Outcome {
+        symlink_metadata_calls: lstats,
+        ..read(5, 1, 4)
+    };
+    Ok(are_records(&report.records, &RECORDS) && is_taken(&report.answer, &wanted))
+}
+
+#[test]
+fn a_listed_folder_has_the_same_status(rt: HostRuntime) -> Result<(), Fail> {
+    let folder = own_folder(&rt, "a_listed_folder")?;
+    fill(&rt, folder.as_str(), &NODES)?;
+    // With listings, `lstat` is called only on paths that are in no listing.
+    for (fscache, lstats) in [(false, 5), (true, 2)] {
+        assert!(rt;
+            is_right(&rt, &rt, folder.as_str(), fscache, lstats)?,
+            "{fscache}"
+        );
+    }
+    fs::remove_dir_all(&rt, folder.as_str())?;
+    Ok(())
+}

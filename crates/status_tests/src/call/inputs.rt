@@ -1,0 +1,46 @@
+//! Short forms for indexes and worktrees.
+
+use crate::support::contents::Content;
+use crate::support::nodes::new_node;
+use crate::support::stats::{LATER, STAGED, WRITTEN, stat};
+use bstr::BStr;
+use gix_status::index::{Flags, IndexError, Mode, State};
+use gix_status::worktree::{MemoryWorktree, NodeKind, TreeError};
+use std::alloc::Global;
+
+/// The path of an entry, its stage, its mode, and the content that it was staged with.
+pub type EntryRow<'a> = (&'a str, u32, Mode, Content);
+
+/// Returns a plain entry of the content `foo`.
+pub fn foo_entry(path: &str) -> EntryRow<'_> {
+    (path, 0, Mode::File, Content::Foo)
+}
+
+/// Returns the index of these entries, each of which has a size of three bytes.
+pub fn index(alloc: Global, entries: &[EntryRow<'_>]) -> Result<State, IndexError> {
+    let mut index = State::new(alloc, WRITTEN);
+    for (path, stage, mode, content) in entries {
+        let flags = Flags::from_stage(*stage);
+        index.push_entry(stat(STAGED), content.id(), flags, *mode, BStr::from(*path))?;
+    }
+    Ok(index)
+}
+
+/// The path of a node, its kind, its bytes, the length that `lstat` reports, and the second of its last change, if that
+/// is known.
+pub type NodeRow<'a> = (&'a str, NodeKind, &'a [u8], u64, Option<u32>);
+
+/// Returns a file that was written after the entries were staged.
+pub fn later_file<'a>(path: &'a str, bytes: &'a [u8]) -> NodeRow<'a> {
+    (path, NodeKind::File, bytes, bytes.len() as u64, Some(LATER))
+}
+
+/// Returns the worktree of these nodes.
+pub fn worktree(alloc: Global, nodes: &[NodeRow<'_>]) -> Result<MemoryWorktree, TreeError> {
+    let mut worktree = MemoryWorktree::new(alloc);
+    for (path, kind, bytes, len, mtime) in nodes {
+        let node = new_node(alloc, *kind, *bytes, *len, *mtime)?;
+        worktree.put(BStr::from(*path), node)?;
+    }
+    Ok(worktree)
+}

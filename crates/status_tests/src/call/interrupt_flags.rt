@@ -1,0 +1,148 @@
+//! How far a status gets with an interrupt flag.
+
+use crate::call::runs::{End, Paths, Row, SetBy, is_right};
+use crate::call::side_effects::OnLstat;
+use gix_status::worktree::Fault;
+use std::test::Fail;
+
+/// How far a status gets with a flag.
+static FLAGS: [Row; 10] = [
+    Row {
+        name: "a flag that is set from the start ends it at once",
+        entries: 2,
+        paths: Paths::Changed,
+        closed: &[],
+        chunk_size: 0,
+        thread_limit: None,
+        set_by: SetBy::Caller,
+        on_lstat: OnLstat::Nothing,
+        records: 0,
+        end: End::Interrupted,
+        calls: ("0000", 0, 0),
+    },
+    Row {
+        name: "a piece ends after the entry at which the flag is seen",
+        entries: 5,
+        paths: Paths::Changed,
+        closed: &[],
+        chunk_size: 5,
+        thread_limit: Some(1),
+        set_by: SetBy::Worktree,
+        on_lstat: OnLstat::SetsFlag("0002"),
+        records: 3,
+        end: End::Interrupted,
+        calls: ("0002", 1, 1),
+    },
+    Row {
+        name: "no later piece is begun",
+        entries: 4,
+        paths: Paths::Changed,
+        closed: &[("0002", Fault::PermissionDenied)],
+        chunk_size: 1,
+        thread_limit: Some(1),
+        set_by: SetBy::Worktree,
+        on_lstat: OnLstat::SetsFlag("0000"),
+        records: 1,
+        end: End::Interrupted,
+        calls: ("0002", 0, 0),
+    },
+    Row {
+        name: "with one worker, a flag that the collector sets ends it after the piece",
+        entries: 10,
+        paths: Paths::Changed,
+        closed: &[],
+        chunk_size: 3,
+        thread_limit: Some(1),
+        set_by: SetBy::Collector,
+        on_lstat: OnLstat::Nothing,
+        records: 3,
+        end: End::Interrupted,
+        calls: ("0003", 0, 0),
+    },
+    Row {
+        name: "with two, after the round, which has eight pieces of each",
+        entries: 40,
+        paths: Paths::Gone,
+        closed: &[],
+        chunk_size: 2,
+        thread_limit: Some(2),
+        set_by: SetBy::Collector,
+        on_lstat: OnLstat::Nothing,
+        records: 32,
+        end: End::Interrupted,
+        calls: ("0032", 0, 0),
+    },
+    Row {
+        name: "a chunk size of 0 is one of 500",
+        entries: 501,
+        paths: Paths::Gone,
+        closed: &[],
+        chunk_size: 0,
+        thread_limit: Some(1),
+        set_by: SetBy::Collector,
+        on_lstat: OnLstat::Nothing,
+        records: 500,
+        end: End::Interrupted,
+        calls: ("0500", 0, 0),
+    },
+    Row {
+        name: "without a limit there are four workers",
+        entries: 40,
+        paths: Paths::Gone,
+        closed: &[],
+        chunk_size: 1,
+        thread_limit: None,
+        set_by: SetBy::Collector,
+        on_lstat: OnLstat::Nothing,
+        records: 32,
+        end: End::Interrupted,
+        calls: ("0032", 0, 0),
+    },
+    Row {
+        name: "a limit of 0 is none",
+        entries: 40,
+        paths: Paths::Gone,
+        closed: &[],
+        chunk_size: 1,
+        thread_limit: Some(0),
+        set_by: SetBy::Collector,
+        on_lstat: OnLstat::Nothing,
+        records: 32,
+        end: End::Interrupted,
+        calls: ("0032", 0, 0),
+    },
+    Row {
+        name: "a flag that stays unset interrupts nothing",
+        entries: 20,
+        paths: Paths::Gone,
+        closed: &[],
+        chunk_size: 1,
+        thread_limit: Some(1),
+        set_by: SetBy::Nobody,
+        on_lstat: OnLstat::Nothing,
+        records: 20,
+        end: End::Whole,
+        calls: ("0019", 1, 0),
+    },
+    Row {
+        name: "a flag that stays unset, and three workers",
+        entries: 20,
+        paths: Paths::Gone,
+        closed: &[],
+        chunk_size: 1,
+        thread_limit: Some(3),
+        set_by: SetBy::Nobody,
+        on_lstat: OnLstat::Nothing,
+        records: 20,
+        end: End::Whole,
+        calls: ("0019", 1, 0),
+    },
+];
+
+#[test]
+fn a_flag_ends_a_status(rt: HostRuntime) -> Result<(), Fail> {
+    for row in &FLAGS {
+        assert!(rt; is_right(&rt, row)?, "{}", row.name);
+    }
+    Ok(())
+}

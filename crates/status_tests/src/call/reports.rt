@@ -1,0 +1,137 @@
+//! Statuses by ids, and checks of their reports.
+
+use crate::support::contents::Content;
+use crate::support::stats::{LATER, STAGED, stat};
+use gix_status::index::{ObjectId, State};
+use gix_status::index_as_worktree::traits::HashEq;
+use gix_status::index_as_worktree::{Change, EntryStatus, Error, Options, Outcome, Record};
+use gix_status::worktree::{Fault, Worktree};
+use status_callers::statuses::{StatusReport, options, request_with, status_of};
+use std::sync::Wait;
+use std::thread::Threads;
+
+/// Calls the status by ids for all paths without a filter, with pieces of so many entries and at most so many workers.
+pub fn status_by_pieces<'index, R: AllocGlobal + Threads + Wait, W: Worktree + Sync>(
+    rt: &R,
+    index: &'index State,
+    worktree: &W,
+    chunk_size: usize,
+    workers: usize,
+) -> StatusReport<'index, ObjectId, ()>
+where
+    W::File: Send,
+{
+    let options = Options {
+        chunk_size,
+        thread_limit: Some(workers),
+        ..options()
+    };
+    let request = request_with(rt.alloc(), options);
+    status_of(rt, index, worktree, HashEq, request, None)
+}
+
+/// The status of an entry whose executability doesn't change, and whose size isn't set to 0.
+#[derive(Clone, Copy)]
+pub enum Says {
+    /// No file is there.
+    Removed,
+    /// The file has another content.
+    Changed(Content),
+    /// The file has the same content of three bytes, and was written after the entry was staged.
+    Updated,
+    /// The file has the same content of three bytes, and was written when the entry was staged.
+    Racy,
+}
+
+/// The index position of a record, its path, and its status.
+pub type Wanted<'a> = (usize, &'a str, Says);
+
+/// Returns whether these are all the records of a status.
+pub fn are_records(records: &[Record<'_, ObjectId, ()>], wanted: &[Wanted<'_>]) -> bool {
+    if records.len() != wanted.len() {
+        return false;
+    }
+    for (record, (place, path, says)) in records.iter().zip(wanted) {
+        if !is_at(record, *place, *path) || !is_said(&record.status, *says) {
+            return false;
+        }
+    }
+    true
+}
+
+/// Returns whether a record is of the entry at this index position and path.
+pub fn is_at<T, U>(record: &Record<'_, T, U>, place: usize, path: &str) -> bool {
+    record.entry_index == place && record.relative_path.as_bytes() == path.as_bytes()
+}
+
+fn is_said(status: &EntryStatus<ObjectId, ()>, says: Says) -> bool {
+    match says {
+        Says::Removed => is_removed(status),
+        Says::Changed(content) => is_changed(status, &content.id()),
+        Says::Updated => {
+            matches!(status, EntryStatus::NeedsUpdate(found) if *found == stat(LATER))
+        }
+        Says::Racy => {
+            matches!(status, EntryStatus::NeedsUpdate(found) if *found == stat(STAGED))
+        }
+    }
+}
+
+/// Returns whether a status reports that no file is there.
+pub fn is_removed<T, U>(status: &EntryStatus<T, U>) -> bool {
+    matches!(status, EntryStatus::Change(Change::Removed))
+}
+
+/// Returns whether a status reports nothing but other content, with this result of its comparer.
+pub fn is_changed<T: PartialEq, U>(status: &EntryStatus<T, U>, content: &T) -> bool {
+    match status {
+        EntryStatus::Change(
+            Change::Modification {
+                executable_bit_changed: false,
+                content_change: Some(found),
+                set_entry_stat_size_zero: false,
+            },
+        ) => *found == *content,
+        _ => false,
+    }
+}
+
+/// Returns the outcome of a status that calls `lstat` for so many entries, and reads no file.
+pub fn found(entries: usize) -> Outcome {
+    Outcome {
+        entries_to_process: entries,
+        entries_processed: entries,
+        symlink_metadata_calls: entries,
+        ..Outcome::default()
+    }
+}
+
+/// Returns the outcome of a status that calls `lstat` for so many entries, and reads so many files with so many bytes
+/// in all.
+pub fn read(entries: usize, files: usize, bytes: u64) -> Outcome {
+    Outcome {
+        worktree_files_read: files,
+        worktree_bytes: bytes,
+        ..found(entries)
+    }
+}
+
+/// Returns whether a status succeeded with this outcome.
+pub fn is_taken(answer: &Result<Outcome, Error>, wanted: &Outcome) -> bool {
+    match answer {
+        Ok(outcome) => *outcome == *wanted,
+        Err(_) => false,
+    }
+}
+
+/// Returns whether a status failed by this fault of a worktree or a filter. Two faults have errors of their own.
+pub fn is_failed_by(answer: &Result<Outcome, Error>, fault: Fault) -> bool {
+    match answer {
+        Err(Error::IllformedUtf8) => fault == Fault::IllformedUtf8,
+        Err(Error::Memory) => fault == Fault::Memory,
+        Err(Error::Io(found)) => {
+            *found == fault && fault != Fault::IllformedUtf8 && fault != Fault::Memory
+        }
+        _ => false,
+    }
+}

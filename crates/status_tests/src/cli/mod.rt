@@ -1,0 +1,9 @@
+//! Tests of the program's commands over bytes in memory, and of lines that no profile causes.
+//!
+//! Begin at `commands`. The lines that a profile causes are tested by `tools/status_program/rows`, with the built program.
+
+mod commands;
+mod failures;
+mod lines;
+mod outputs;
+mod writers;
