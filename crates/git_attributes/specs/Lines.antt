@@ -67,15 +67,15 @@ said_by folder front text None = rule_of folder front text
 said_by folder front text (Some name) = macro_of name text
 
 -- A line begins with a pattern, or with `[attr]` and the name of a macro.
-abbrev pub said_of : List ℕ → List ℕ → List ℕ → Option Line
-said_of folder front text = said_by folder front text (macro_name front)
+abbrev pub line_with_front : List ℕ → List ℕ → List ℕ → Option Line
+line_with_front folder front text = said_by folder front text (macro_name front)
 
 abbrev pub plain_line_at : List ℕ → List ℕ → Option Line
-plain_line_at folder text = option_and_then (λ found. said_of folder found.0 found.1) (word_at text)
+plain_line_at folder text = option_and_then (λ found. line_with_front folder found.0 found.1) (word_at text)
 
 abbrev pub by_quotes : List ℕ → List ℕ → Option (List ℕ × List ℕ) → Option Line
 by_quotes folder text None = plain_line_at folder text
-by_quotes folder text (Some found) = said_of folder found.0 found.1
+by_quotes folder text (Some found) = line_with_front folder found.0 found.1
 
 -- A line has a pattern, which may be in quotes, and assignments; or a macro. Comments, empty lines and those of 2,048 bytes or more say
 -- nothing. A NUL ends a line.

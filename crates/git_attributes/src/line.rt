@@ -1,7 +1,7 @@
 //! Lines of attribute files.
 
 ghost use Rattle.std.specs.Prelude.{◌≡◌, IfOk, map, option_map};
-ghost use Rattle.git_attributes.specs.Lines.{ends_in_slash, has_slash, line_at, macro_name, macro_of, pattern_of, plain_line_at, rule_of, said_of, without_slash};
+ghost use Rattle.git_attributes.specs.Lines.{ends_in_slash, has_slash, line_at, macro_name, macro_of, pattern_of, plain_line_at, rule_of, line_with_front, without_slash};
 ghost use Rattle.git_attributes.specs.Views.{line_view, macro_view, part_of, rule_view};
 
 use crate::assignment::{Assignment, assignments_of, is_name};
@@ -137,13 +137,13 @@ fn macro_name(text: &[u8]) -> Option<&[u8]>
 }
 
 /// Returns what a line says that begins with this pattern or macro.
-fn said_of<'a>(
+fn line_with_front<'a>(
     alloc: Global,
     folder: &'a [u8],
     front: &[u8],
     text: &'a [u8],
 ) -> Result<Option<Line<'a>>, AllocError>
-    ensures { IfOk result (λ found. option_map line_view found ≡ said_of folder.now front.now text.now) }
+    ensures { IfOk result (λ found. option_map line_view found ≡ line_with_front folder.now front.now text.now) }
 {
     match macro_name(front) {
         Some(name) => macro_of(alloc, name, text),
@@ -162,7 +162,7 @@ fn plain_line_of<'a>(
     let Some((word, rest)) = word_of(text) else {
         return Ok(None);
     };
-    said_of(alloc, folder, word, rest)
+    line_with_front(alloc, folder, word, rest)
 }
 
 /// Returns what a line says, up to a NUL. None for a comment, an empty or an overlong line, and one that git can't read.
@@ -180,7 +180,7 @@ pub(crate) fn line_of<'a>(
     }
     if begins_with(b'"', text) {
         if let Some((pattern, rest)) = unquoted(alloc, &text[1..])? {
-            return said_of(alloc, folder, &pattern, rest);
+            return line_with_front(alloc, folder, &pattern, rest);
         }
     }
     plain_line_of(alloc, folder, text)

@@ -7,7 +7,7 @@ use Rattle.std.proofs.lemmas.Bool.Decides.{eqb_tells}
 use Rattle.std.proofs.lemmas.Grind.{flat_map-append}
 use Rattle.status_index.specs.declared.entry.Entry.{Entry}
 use Rattle.status_index.specs.declared.entry.PathStorage.{PathStorage}
-use Rattle.status_index.specs.Entries.{IndexEntry, entry_at, index_entry, path_in, said_of}
+use Rattle.status_index.specs.Entries.{IndexEntry, entry_at, index_entry, path_in, entry_of_fields}
 use Rattle.git_index.specs.RawEntry.{RawEntry, raw_bytes, short_len}
 use Rattle.git_index.specs.Paths.{entries_after, path_after, AllFollow, Follows}
 use Rattle.git_index.specs.File.{AreExtensions, header_bytes, IsChecksum, IsFileOf, content_bytes, is_version}
@@ -91,7 +91,7 @@ pub entries_back : (version : ℕ) (before : List ℕ) (es : List IndexEntry) �
 entries_back version before [] = refl
 entries_back version before (e ∷ es) =
     let r : RawEntry = raw_after version before e in
-    ap (λ (p : List ℕ). said_of p r.stat r.id (record { 0 = r.flags }) r.mode ∷ entries_after version p (raw_entries version e.path es)) (path_back version before e)
+    ap (λ (p : List ℕ). entry_of_fields p r.stat r.id (record { 0 = r.flags }) r.mode ∷ entries_after version p (raw_entries version e.path es)) (path_back version before e)
     ∙ ap (λ (zs : List IndexEntry). e ∷ zs) (entries_back version e.path es)
 
 follows : (version : ℕ) (before : List ℕ) (e : IndexEntry) → Follows version before (raw_after version before e)

@@ -1,6 +1,6 @@
 -- The paths of a file's entries: in version 4 each begins as the one before.
 use Rattle.std.specs.Prelude.{◌≡◌, ℕ, ◌-◌, ◌≤◌, ◌==◌, List, [], ◌∷◌, ◌++◌, length, take, if◌then◌else◌, ⊤}
-use Rattle.status_index.specs.Entries.{IndexEntry, said_of}
+use Rattle.status_index.specs.Entries.{IndexEntry, entry_of_fields}
 use Rattle.git_index.specs.RawEntry.{RawEntry, short_len}
 
 -- The path of an entry, after the entry with this path.
@@ -9,7 +9,7 @@ path_after version before r = if version == 4 then take (length before - r.strip
 
 -- The entry as an index has it.
 abbrev pub entry_after : ℕ → List ℕ → RawEntry → IndexEntry
-entry_after version before r = said_of (path_after version before r) r.stat r.id (record { 0 = r.flags }) r.mode
+entry_after version before r = entry_of_fields (path_after version before r) r.stat r.id (record { 0 = r.flags }) r.mode
 
 -- The entries as an index has them, after the entry with this path.
 abbrev pub entries_after : ℕ → List ℕ → List RawEntry → List IndexEntry

@@ -1,7 +1,7 @@
 -- An index of entries of a file, and why the next entry can't be in it.
 use Rattle.std.specs.Prelude.{◌≡◌, ◌≢◌, ℕ, List, [], ◌∷◌, ◌++◌, length, ⊤}
 use Rattle.status_index.specs.declared.state.IndexError.TheVariants as index
-use Rattle.status_index.specs.Entries.{IndexEntry, IsRefusal, said_of}
+use Rattle.status_index.specs.Entries.{IndexEntry, IsRefusal, entry_of_fields}
 use Rattle.git_index.specs.declared.fault.IndexFileError.{IndexFileError}
 use Rattle.git_index.specs.declared.fault.IndexFileError.TheVariants as errors
 use Rattle.git_index.specs.RawEntry.{RawEntry, short_len}
@@ -15,7 +15,7 @@ pub record IsViewOf (version : ℕ) (rs : List RawEntry) (es : List IndexEntry) 
 
 -- An entry with this path.
 abbrev pub named_entry : RawEntry → List ℕ → IndexEntry
-named_entry r path = said_of path r.stat r.id (record { 0 = r.flags }) r.mode
+named_entry r path = entry_of_fields path r.stat r.id (record { 0 = r.flags }) r.mode
 
 -- Why the entry at a position, with this path, can't be the next of an index.
 abbrev pub IsNextRefusal : List IndexEntry → RawEntry → List ℕ → ℕ → IndexFileError → Type 0

@@ -10,7 +10,7 @@ use Rattle.git_status.specs.Lines.{differs}
 use Rattle.status_call.specs.Inputs.{settings}
 use Rattle.status_call.specs.Query.{Query}
 use Rattle.status_call.specs.Records.{fault_by, faults_in, record_by, records_in, verdict}
-use Rattle.status_call.specs.StatusTheorem.{IsComplete, IsMet, considered_entries, start_of}
+use Rattle.status_call.specs.StatusTheorem.{IsComplete, IsStatusReport, considered_entries, start_of}
 use Rattle.status_call.specs.Visits.{Visit, finding_of}
 use Rattle.status_call.specs.declared.index_as_worktree.inputs.Settings.{Settings as StatusSettings}
 use Rattle.status_call.specs.declared.index_as_worktree.types.EntryStatus.{EntryStatus}
@@ -19,7 +19,7 @@ use Rattle.status_call.specs.declared.index_as_worktree.types.Outcome.{Outcome}
 use Rattle.status_compare.specs.declared.error.Error.{Error}
 use Rattle.status_index.specs.Entries.{IndexEntry}
 use Rattle.status_index.specs.declared.state.State.{State}
-use Rattle.git_status.specs.Runs.{CleanLaw, HasNoDifference, IsEnded, IsReport, IsRun, IsStatusRun, is_difference}
+use Rattle.git_status.specs.Runs.{CleanLaw, HasNoDifference, IsCommandEnd, IsReport, IsCommandRun, IsStatusRun, is_difference}
 use Rattle.git_status.specs.declared.asked.Settings.{Settings}
 use Rattle.git_status.specs.declared.dirty.Report.{Report}
 
@@ -74,7 +74,7 @@ module _ {T U : Type 0} where
       (ap (list_any found_difference) (sym complete.records) ∙ any_mapped finding_of found_difference visits ∙ none)
       (first_none _ complete.no_fault)
 
-  met_clean : (q : Query T U) (index : State) (visits : List (Visit T U)) (answer : Result Outcome Error) (r : Report) → IsTrue q.modelled → IsMet q index [] answer visits → IsReport visits answer r → r.dirty ≡ false
+  met_clean : (q : Query T U) (index : State) (visits : List (Visit T U)) (answer : Result Outcome Error) (r : Report) → IsTrue q.modelled → IsStatusReport q index [] answer visits → IsReport visits answer r → r.dirty ≡ false
       → All (λ e. HasNoDifference (verdict q (considered_entries q index) e)) (considered_entries q index)
   met_clean q index visits answer r modelled met report clean =
       let complete = subst (λ a. IfOk a (λ o. o.interrupted ≡ false → IsComplete q index (map finding_of met.more) o)) report.outcome (met.complete modelled) in
@@ -85,12 +85,12 @@ module _ {T U : Type 0} where
       → All (λ e. HasNoDifference (verdict q (considered_entries q index) e)) (considered_entries q index)
   run_clean q index s old r new modelled run clean = met_clean q index run.visits run.answer r modelled run.computed.met (reported run.visits run.answer run.ended) clean
     where
-      reported : (visits : List (Visit T U)) (answer : Result Outcome Error) → IsEnded s.lines visits answer old (Ok r) new → IsReport visits answer r
+      reported : (visits : List (Visit T U)) (answer : Result Outcome Error) → IsCommandEnd s.lines visits answer old (Ok r) new → IsReport visits answer r
       reported visits answer (inl found) = found.1
       reported visits answer (inr failed) = absurd failed
 
   pub clean_law : (query : LineEnds → StatusSettings → Query T U) (are_files : State → List File → Type 0) (s : Settings) (bytes : List ℕ) → CleanLaw query are_files s bytes
-  unfolding IsRun
+  unfolding IsCommandRun
   clean_law query are_files s bytes modelled old new exit =
       let read = exit.2.0 in let asked = settings s.options read.index in
       (read, run_clean (query read.converting.filter asked) read.index s old exit.0 new (modelled read.converting.filter asked) exit.2.1 exit.1)

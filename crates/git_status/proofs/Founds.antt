@@ -22,7 +22,7 @@ use Rattle.status_call.specs.declared.index_as_worktree.types.Outcome.{Outcome}
 use Rattle.status_compare.specs.declared.error.Error.{Error}
 use Rattle.status_index.specs.declared.state.State.{State}
 use Rattle.git_status.specs.Refreshes.{IsFileRefreshed, IsFoundIn, IsFoundRun, IsIndexFound, IsRefresh, IsRefreshedFile, IsUnrefreshed}
-use Rattle.git_status.specs.Runs.{Converting, IsComputed, IsEnded, IsRun, IsStatusRun, ReadFile}
+use Rattle.git_status.specs.Runs.{Converting, IsComputed, IsCommandEnd, IsCommandRun, IsStatusRun, ReadFile}
 use Rattle.git_status.specs.declared.asked.Settings.{Settings}
 use Rattle.git_status.specs.declared.dirty.Report.{Report}
 use Rattle.git_status.specs.declared.failure.Failure.{Failure}
@@ -39,25 +39,25 @@ not_empty (x ∷ xs) n len none nil = absurd (cc)
 module _ {T U : Type 0} where
   -- the changes were found
   pub found_run : (said : Said) (query : Query T U) (index : State) (s : Settings) (visits : List (Visit T U)) (answer : Result Outcome Error) (old : Option (List ℕ)) (found : Found) (new : Option (List ℕ))
-      → IsComputed query index s answer visits → IsEnded s.lines visits answer old (Ok found.report) new → IsFoundIn said visits found → IsFoundRun said query index s old (Ok found) new
+      → IsComputed query index s answer visits → IsCommandEnd s.lines visits answer old (Ok found.report) new → IsFoundIn said visits found → IsFoundRun said query index s old (Ok found) new
   found_run said query index s visits answer old found new computed ended kept = (record { visits = visits; answer = answer; computed = computed; ended = ended }, kept)
 
   -- the counts of skipped entries have a sum that fits
   pub skipped_fits : (query : Query T U) (index : State) (s : Settings) (visits : List (Visit T U)) (answer : Result Outcome Error) (old : Option (List ℕ)) (r : Report) (new : Option (List ℕ))
-      → IsComputed query index s answer visits → IsEnded s.lines visits answer old (Ok r) new → skipped_of r.outcome < 2 ^ 64
+      → IsComputed query index s answer visits → IsCommandEnd s.lines visits answer old (Ok r) new → skipped_of r.outcome < 2 ^ 64
   skipped_fits query index s visits answer old r new computed (inl ended) = subst (λ a. IfOk a (λ o. skipped_of o < 2 ^ 64)) ended.1.outcome computed.met.fits
   skipped_fits query index s visits answer old r new computed (inr failed) = absurd failed
 
   -- the status has no report
   pub unfound_run : (said : Said) (query : Query T U) (index : State) (s : Settings) (visits : List (Visit T U)) (answer : Result Outcome Error) (old : Option (List ℕ)) (f : Failure) (result : Result Found Failure) (new : Option (List ℕ))
-      → IsComputed query index s answer visits → IsEnded s.lines visits answer old (Err f) new → IsErrAnd result (λ e. e ≡ f) → IsFoundRun said query index s old result new
+      → IsComputed query index s answer visits → IsCommandEnd s.lines visits answer old (Err f) new → IsErrAnd result (λ e. e ≡ f) → IsFoundRun said query index s old result new
   unfound_run said query index s visits answer old f (Ok found) new computed ended failed = absurd failed
   unfound_run said query index s visits answer old f (Err e) new computed ended failed =
       inl (subst (λ e. IsStatusRun query index s old (Err e) new) (sym failed) (status_run query index s visits answer old (Err f) new computed ended))
 
   -- memory ran out after it
   pub late_run : (said : Said) (query : Query T U) (index : State) (s : Settings) (visits : List (Visit T U)) (answer : Result Outcome Error) (old : Option (List ℕ)) (r : Report) (result : Result Found Failure) (new : Option (List ℕ))
-      → IsComputed query index s answer visits → IsEnded s.lines visits answer old (Ok r) new → IsErrAnd result (λ e. e ≡ Memory) → IsFoundRun said query index s old result new
+      → IsComputed query index s answer visits → IsCommandEnd s.lines visits answer old (Ok r) new → IsErrAnd result (λ e. e ≡ Memory) → IsFoundRun said query index s old result new
   late_run said query index s visits answer old r (Ok found) new computed ended failed = absurd failed
   late_run said query index s visits answer old r (Err e) new computed ended failed = inr (r, status_run query index s visits answer old (Ok r) new computed ended, failed)
 
@@ -124,7 +124,7 @@ module _ {T U : Type 0} where
     failed_by : (f : Failure) (new : Option (List ℕ)) → IsIndexFound query are_files index s old (Err f) new → IsUnrefreshed query are_files s bytes old f new
     unfolding IsIndexFound
     failed_by f new (inl run) = unrefreshed f new run.0 run.1
-    failed_by f new (inr early) = inl (subst (λ after. IsRun query are_files s bytes old (Err f) after) (sym early.1) (early_run query are_files s bytes old (Err f) early.0))
+    failed_by f new (inr early) = inl (subst (λ after. IsCommandRun query are_files s bytes old (Err f) after) (sym early.1) (early_run query are_files s bytes old (Err f) early.0))
 
     pub unrefreshed_file : (f : Failure) (result : Result RefreshedFile Failure) (new : Option (List ℕ)) → IsIndexFound query are_files index s old (Err f) new → IsErrAnd result (λ e. e ≡ f) → IsRefresh query are_files s bytes old result new
     unfolding IsRefresh

@@ -8,7 +8,7 @@ use Rattle.git_attributes.specs.Files.{Said}
 use Rattle.status_call.specs.IndexChanges.{AreInside, changes_of}
 use Rattle.status_call.proofs.IndexChanges.{asked, changes_inside, kept_none, kept_some}
 use Rattle.status_call.specs.Query.{Query}
-use Rattle.status_call.specs.StatusTheorem.{IsMet}
+use Rattle.status_call.specs.StatusTheorem.{IsStatusReport}
 use Rattle.status_call.specs.Visits.{IsFaithful, Visit}
 use Rattle.status_call.specs.declared.index_as_worktree.apply.ApplyChange.{ApplyChange}
 use Rattle.status_call.specs.declared.index_as_worktree.types.Outcome.{Outcome}
@@ -50,7 +50,7 @@ module _ {T U : Type 0} (said : Said) (vs : List (Visit T U)) (v : Visit T U) wh
 
 module _ {T U : Type 0} where
   -- the changes that are kept are of entries of the index
-  pub kept_inside : (said : Said) (q : Query T U) (index : State) (result : Result Outcome Error) (vs : List (Visit T U)) → IsMet q index [] result vs → AreInside (kept_changes said vs) (index_of index)
+  pub kept_inside : (said : Said) (q : Query T U) (index : State) (result : Result Outcome Error) (vs : List (Visit T U)) → IsStatusReport q index [] result vs → AreInside (kept_changes said vs) (index_of index)
   kept_inside said q index result vs met =
       changes_inside index (filter (λ v. not (is_left_out said v)) vs)
       (All-filter (λ v. not (is_left_out said v)) (IsFaithful (entries_of index) (backing_of index)) vs (subst (λ vs. All (IsFaithful (entries_of index) (backing_of index)) vs) (sym met.grew) met.faithful))

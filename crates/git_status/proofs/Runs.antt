@@ -11,8 +11,8 @@ use Rattle.git_index.specs.declared.fault.IndexFileError.{IndexFileError}
 use Rattle.git_index.specs.declared.fault.IndexFileError.TheVariants as index
 use Rattle.status_call.specs.Inputs.{settings}
 use Rattle.status_call.specs.Query.{Query}
-use Rattle.status_call.specs.StatusOf.{IsUnspawned}
-use Rattle.status_call.specs.StatusTheorem.{IsMet}
+use Rattle.status_call.specs.StatusOf.{OneThreadSpawnsNone}
+use Rattle.status_call.specs.StatusTheorem.{IsStatusReport}
 use Rattle.status_call.specs.Visits.{Visit}
 use Rattle.status_call.specs.declared.index_as_worktree.inputs.Settings.{Settings as StatusSettings}
 use Rattle.status_call.specs.declared.index_as_worktree.types.Outcome.{Outcome}
@@ -21,7 +21,7 @@ use Rattle.status_index.specs.Entries.{IndexEntry, IsIndex}
 use Rattle.status_index.specs.States.{index_of, timestamp_of}
 use Rattle.status_index.specs.declared.state.State.{State}
 use Rattle.git_status.specs.Failures.{failure_of_index}
-use Rattle.git_status.specs.Runs.{IsComputed, IsEnded, IsIndexRun, IsRun, IsStatusRun, ReadFile}
+use Rattle.git_status.specs.Runs.{IsComputed, IsCommandEnd, IsIndexRun, IsCommandRun, IsStatusRun, ReadFile}
 use Rattle.git_status.specs.declared.asked.Settings.{Settings}
 use Rattle.git_status.specs.declared.dirty.Report.{Report}
 use Rattle.git_status.specs.declared.failure.Failure.{Failure}
@@ -30,17 +30,17 @@ use Rattle.git_status.specs.declared.failure.Failure.TheVariants.{Memory}
 module _ {T U : Type 0} where
   -- a status that was reported to an empty list
   pub computed_from : (query : Query T U) (index : State) (s : Settings) (start visits : List (Visit T U)) (answer : Result Outcome Error)
-      → start ≡ [] → IsMet query index start answer visits → (is_some s.lines ≡ true → IfOk answer (λ o. o.interrupted ≡ false)) → IsUnspawned query s.options.thread_limit answer
+      → start ≡ [] → IsStatusReport query index start answer visits → (is_some s.lines ≡ true → IfOk answer (λ o. o.interrupted ≡ false)) → OneThreadSpawnsNone query s.options.thread_limit answer
       → IsComputed query index s answer visits
   computed_from query index s start visits answer empty met whole alone = record {
-    met = subst (λ first. IsMet query index first answer visits) empty met;
+    met = subst (λ first. IsStatusReport query index first answer visits) empty met;
     whole = whole;
     alone = alone;
   }
 
   -- a status that was computed, and how the command ended
   pub status_run : (query : Query T U) (index : State) (s : Settings) (visits : List (Visit T U)) (answer : Result Outcome Error) (old : Option (List ℕ)) (result : Result Report Failure) (new : Option (List ℕ))
-      → IsComputed query index s answer visits → IsEnded s.lines visits answer old result new → IsStatusRun query index s old result new
+      → IsComputed query index s answer visits → IsCommandEnd s.lines visits answer old result new → IsStatusRun query index s old result new
   status_run query index s visits answer old result new computed ended = record { visits = visits; answer = answer; computed = computed; ended = ended }
 
   -- an index whose line ends are converted, and its status
@@ -59,33 +59,33 @@ module _ {T U : Type 0} where
 
   -- a file that was read, and the status of its index
   pub file_run : (query : LineEnds → StatusSettings → Query T U) (are_files : State → List File → Type 0) (s : Settings) (bytes : List ℕ) (old : Option (List ℕ)) (result : Result Report Failure) (new : Option (List ℕ)) (read : ReadFile are_files s bytes)
-      → IsStatusRun (query read.converting.filter (settings s.options read.index)) read.index s old result new → IsRun query are_files s bytes old result new
-  unfolding IsRun
+      → IsStatusRun (query read.converting.filter (settings s.options read.index)) read.index s old result new → IsCommandRun query are_files s bytes old result new
+  unfolding IsCommandRun
   file_run query are_files s bytes old (Ok r) new read run = (read, run)
   file_run query are_files s bytes old (Err f) new read run = inl (read, run)
 
   -- a file that was refused
   pub refused_run : (query : LineEnds → StatusSettings → Query T U) (are_files : State → List File → Type 0) (s : Settings) (bytes : List ℕ) (known : Option (List ℕ)) (result : Result Report Failure) (error : IndexFileError)
       → IsFileRefusal s.kind bytes error → ((es : List IndexEntry) → IsIndexFile s.kind bytes es → IsIndex es → error ≡ index.Memory)
-      → IsErrAnd result (λ f. f ≡ failure_of_index error) → IsRun query are_files s bytes known result known
-  unfolding IsRun
+      → IsErrAnd result (λ f. f ≡ failure_of_index error) → IsCommandRun query are_files s bytes known result known
+  unfolding IsCommandRun
   refused_run query are_files s bytes known (Ok r) error refusal valid failed = absurd failed
   refused_run query are_files s bytes known (Err f) error refusal valid failed = inr (record { error = error; refusal = refusal; valid = valid; failure = failed; unchanged = refl })
 
   -- memory ran out before the status
   pub early_run : (query : LineEnds → StatusSettings → Query T U) (are_files : State → List File → Type 0) (s : Settings) (bytes : List ℕ) (known : Option (List ℕ)) (result : Result Report Failure)
-      → IsErrAnd result (λ f. f ≡ Memory) → IsRun query are_files s bytes known result known
+      → IsErrAnd result (λ f. f ≡ Memory) → IsCommandRun query are_files s bytes known result known
   early_run query are_files s bytes known result failed = refused_run query are_files s bytes known result index.Memory (record { applies = tt; passes = tt }) (λ es file valid. refl) failed
 
   -- the status of an index that was read
   pub read_run : (query : LineEnds → StatusSettings → Query T U) (are_files : State → List File → Type 0) (s : Settings) (bytes : List ℕ) (old : Option (List ℕ)) (result : Result Report Failure) (new : Option (List ℕ)) (index : State) (version : ℕ) (extensions : List ℕ)
       → IsFileOf s.kind bytes version (index_of index) extensions → timestamp_of index ≡ s.timestamp
-      → IsIndexRun query are_files index s old result new → IsRun query are_files s bytes old result new
+      → IsIndexRun query are_files index s old result new → IsCommandRun query are_files s bytes old result new
   unfolding IsIndexRun
   read_run query are_files s bytes old result new index version extensions file time (inl run) =
       file_run query are_files s bytes old result new (record { index = index; version = version; extensions = extensions; file = file; time = time; converting = run.0 }) run.1
   read_run query are_files s bytes old result new index version extensions file time (inr early) =
-      subst (λ after. IsRun query are_files s bytes old result after) (sym early.1) (early_run query are_files s bytes old result early.0)
+      subst (λ after. IsCommandRun query are_files s bytes old result after) (sym early.1) (early_run query are_files s bytes old result early.0)
 
 -- nothing isn't something
 pub none_not_some : {A : Type 0} (x : Option A) → x ≡ None → is_some x ≡ true → ⊥

@@ -9,7 +9,7 @@ use Rattle.git_attributes.specs.Files.{File}
 use Rattle.git_attributes.specs.declared.line_ends.LineEnds.{LineEnds}
 use Rattle.status_call.specs.Inputs.{settings}
 use Rattle.status_call.specs.Query.{Query}
-use Rattle.status_call.specs.StatusTheorem.{IsComplete, IsMet}
+use Rattle.status_call.specs.StatusTheorem.{IsComplete, IsStatusReport}
 use Rattle.status_call.specs.Visits.{IsFaithful, Visit, finding_of}
 use Rattle.status_call.specs.declared.index_as_worktree.inputs.Settings.{Settings as StatusSettings}
 use Rattle.status_call.specs.declared.index_as_worktree.types.Outcome.{Outcome}
@@ -19,7 +19,7 @@ use Rattle.status_index.specs.States.{backing_of, entries_of, index_of}
 use Rattle.status_index.specs.declared.state.State.{State}
 use Rattle.git_status.specs.Differences.{LinesLaw, difference_lines, entry_line, finding_line}
 use Rattle.git_status.specs.Lines.{status_line, visit_line, visit_lines}
-use Rattle.git_status.specs.Runs.{IsEnded, IsRun, IsStatusRun, printed_text}
+use Rattle.git_status.specs.Runs.{IsCommandEnd, IsCommandRun, IsStatusRun, printed_text}
 use Rattle.git_status.specs.declared.asked.Settings.{Settings}
 use Rattle.git_status.specs.declared.dirty.Report.{Report}
 use Rattle.git_status.specs.declared.lines.LineStyle.{LineStyle}
@@ -39,7 +39,7 @@ module _ {T U : Type 0} (style : LineStyle) (index : State) where
       ∙ ap (λ lines. finding_line style (index_of index) (finding_of v) ++ lines) (all_lines vs (All-tail (IsFaithful (entries_of index) (backing_of index)) v vs faithful))
 
   -- those of a whole status
-  met_lines : (q : Query T U) (visits : List (Visit T U)) (answer : Result Outcome Error) (o : Outcome) → IsTrue q.modelled → IsMet q index [] answer visits → answer ≡ Ok o → o.interrupted ≡ false
+  met_lines : (q : Query T U) (visits : List (Visit T U)) (answer : Result Outcome Error) (o : Outcome) → IsTrue q.modelled → IsStatusReport q index [] answer visits → answer ≡ Ok o → o.interrupted ≡ false
       → visit_lines style visits ≡ difference_lines style q index
   met_lines q visits answer o modelled met found whole =
       let complete = subst (λ a. IfOk a (λ o. o.interrupted ≡ false → IsComplete q index (map finding_of met.more) o)) found (met.complete modelled) in
@@ -52,13 +52,13 @@ module _ {T U : Type 0} (style : LineStyle) (index : State) where
       let whole = subst (λ a. IfOk a (λ o. o.interrupted ≡ false)) ended.1 (run.computed.whole (ap is_some loud)) in
       subst (λ lines. Appends old new lines) (met_lines q run.visits run.answer r.outcome modelled run.computed.met ended.1 whole) ended.0
     where
-      printed : (visits : List (Visit T U)) (answer : Result Outcome Error) → IsEnded s.lines visits answer old (Ok r) new → Appends old new (visit_lines style visits) × (answer ≡ Ok r.outcome)
+      printed : (visits : List (Visit T U)) (answer : Result Outcome Error) → IsCommandEnd s.lines visits answer old (Ok r) new → Appends old new (visit_lines style visits) × (answer ≡ Ok r.outcome)
       printed visits answer (inl found) = (subst (λ lines. Appends old new (printed_text lines visits)) loud found.0, found.1.outcome)
       printed visits answer (inr failed) = absurd failed
 
 module _ {T U : Type 0} where
   pub lines_law : (query : LineEnds → StatusSettings → Query T U) (are_files : State → List File → Type 0) (s : Settings) (bytes : List ℕ) → LinesLaw query are_files s bytes
-  unfolding IsRun
+  unfolding IsCommandRun
   lines_law query are_files s bytes modelled style loud dirty old new exit =
       let read = exit.2.0 in let asked = settings s.options read.index in
       (read, run_lines style read.index (query read.converting.filter asked) s old exit.0 new (modelled read.converting.filter asked) loud exit.2.1)

@@ -19,7 +19,7 @@ use Rattle.status_index.specs.States.{index_of}
 use Rattle.status_index.specs.declared.id.HashKind.{HashKind}
 use Rattle.status_index.specs.declared.state.State.{State}
 use Rattle.git_status.specs.Kept.{is_whole, kept_changes}
-use Rattle.git_status.specs.Runs.{Converting, IsFileRun, IsRun, IsStatusRun}
+use Rattle.git_status.specs.Runs.{Converting, IsFileRun, IsCommandRun, IsStatusRun}
 use Rattle.git_status.specs.declared.asked.Settings.{Settings}
 use Rattle.git_status.specs.declared.dirty.Report.{Report}
 use Rattle.git_status.specs.declared.failure.Failure.{Failure}
@@ -29,7 +29,7 @@ use Rattle.git_status.specs.declared.refresh.RefreshedFile.{RefreshedFile}
 use Rattle.git_status.specs.declared.refresh.Found.{Found}
 
 -- A file of these entries, written with a checksum unless the old bytes end in zeros in place of one; its index is valid.
-pub record IsRewritten (kind : HashKind) (old : List ℕ) (version : ℕ) (extensions : List ℕ) (es : List IndexEntry) (bytes : List ℕ) : Type 0 where
+pub record IsIndexRewritten (kind : HashKind) (old : List ℕ) (version : ℕ) (extensions : List ℕ) (es : List IndexEntry) (bytes : List ℕ) : Type 0 where
   pub has_checksum : Bool
   pub sum : (has_checksum ≡ false) ↔ (sum_of kind old ≡ replicate (id_len kind) 0)
   pub written : bytes ≡ file_bytes kind version es extensions has_checksum
@@ -39,7 +39,7 @@ pub record IsRewritten (kind : HashKind) (old : List ℕ) (version : ℕ) (exten
 -- The new bytes of an index file, of the same version and with the same extensions, if changes are made. Without changes there are none.
 abbrev pub IsRefreshedFile : HashKind → List ℕ → ℕ → List ℕ → List IndexEntry → List ApplyChange → Option (List ℕ) → Type 0
 IsRefreshedFile kind old version extensions es changes None = changes ≡ []
-IsRefreshedFile kind old version extensions es changes (Some bytes) = (changes ≢ []) × IsRewritten kind old version extensions (applied changes es) bytes
+IsRefreshedFile kind old version extensions es changes (Some bytes) = (changes ≢ []) × IsIndexRewritten kind old version extensions (applied changes es) bytes
 
 module _ {T U : Type 0} where
   -- The changes that a refresh makes by these records, and whether it is whole.
@@ -65,7 +65,7 @@ module _ {T U : Type 0} where
 
   -- The refresh of an index file fails as its status does, or since memory ran out after the status was printed.
   abbrev pub IsUnrefreshed : (LineEnds → StatusSettings → Query T U) → (State → List File → Type 0) → Settings → List ℕ → Option (List ℕ) → Failure → Option (List ℕ) → Type 0
-  IsUnrefreshed query are_files s bytes old f new = IsRun query are_files s bytes old (Err f) new ⊎ ((r : Report) × IsRun query are_files s bytes old (Ok r) new × (f ≡ Memory))
+  IsUnrefreshed query are_files s bytes old f new = IsCommandRun query are_files s bytes old (Err f) new ⊎ ((r : Report) × IsCommandRun query are_files s bytes old (Ok r) new × (f ≡ Memory))
 
   -- The result of a refresh over the bytes of an index file and a worktree.
   unfoldable pub IsRefresh : (LineEnds → StatusSettings → Query T U) → (State → List File → Type 0) → Settings → List ℕ → Option (List ℕ) → Result RefreshedFile Failure → Option (List ℕ) → Type 0

@@ -15,8 +15,8 @@ use Rattle.git_status.specs.declared.lines.LineStyle.{LineStyle}
 use Rattle.status_call.specs.Inputs.{settings}
 use Rattle.status_call.specs.Query.{Query}
 use Rattle.status_call.specs.Records.{verdict}
-use Rattle.status_call.specs.StatusOf.{IsUnspawned}
-use Rattle.status_call.specs.StatusTheorem.{IsMet, considered_entries}
+use Rattle.status_call.specs.StatusOf.{OneThreadSpawnsNone}
+use Rattle.status_call.specs.StatusTheorem.{IsStatusReport, considered_entries}
 use Rattle.status_call.specs.Visits.{Visit}
 use Rattle.status_call.specs.declared.index_as_worktree.inputs.Settings.{Settings as StatusSettings}
 use Rattle.status_call.specs.declared.index_as_worktree.types.EntryStatus.{EntryStatus}
@@ -90,23 +90,23 @@ module _ {T U : Type 0} where
     pub reason : ((f ≡ Memory) × (new ≡ old)) ⊎ ((f ≡ Output) × IsBegun (printed_text lines visits) old new)
 
   -- All lines were printed, and this was found; or they can't be printed.
-  abbrev pub IsEnded : Option LineStyle → List (Visit T U) → Result Outcome Error → Option (List ℕ) → Result Report Failure → Option (List ℕ) → Type 0
-  IsEnded lines visits answer old result new =
+  abbrev pub IsCommandEnd : Option LineStyle → List (Visit T U) → Result Outcome Error → Option (List ℕ) → Result Report Failure → Option (List ℕ) → Type 0
+  IsCommandEnd lines visits answer old result new =
       (Appends old new (printed_text lines visits) × IsFound visits answer result) ⊎ IsErrAnd result (IsPrintFailure lines visits old new)
 
   -- A status of this index was computed by this query, as the status theorem has it; it ends early only if the command is quiet; with one
   -- thread none is refused.
   pub record IsComputed (query : Query T U) (index : State) (s : Settings) (answer : Result Outcome Error) (visits : List (Visit T U)) : Type 0 where
-    pub met : IsMet query index [] answer visits
+    pub met : IsStatusReport query index [] answer visits
     pub whole : is_some s.lines ≡ true → IfOk answer (λ o. o.interrupted ≡ false)
-    pub alone : IsUnspawned query s.options.thread_limit answer
+    pub alone : OneThreadSpawnsNone query s.options.thread_limit answer
 
   -- A status of this index was computed, and the command ended so.
   pub record IsStatusRun (query : Query T U) (index : State) (s : Settings) (old : Option (List ℕ)) (result : Result Report Failure) (new : Option (List ℕ)) : Type 0 where
     pub visits : List (Visit T U)
     pub answer : Result Outcome Error
     pub computed : IsComputed query index s answer visits
-    pub ended : IsEnded s.lines visits answer old result new
+    pub ended : IsCommandEnd s.lines visits answer old result new
 
   -- A status of this index was printed, with line ends converted; or memory ran out before it.
   unfoldable pub IsIndexRun : (LineEnds → StatusSettings → Query T U) → (State → List File → Type 0) → State → Settings → Option (List ℕ) → Result Report Failure → Option (List ℕ) → Type 0
@@ -119,17 +119,17 @@ module _ {T U : Type 0} where
       (read : ReadFile are_files s bytes) × IsStatusRun (query read.converting.filter (settings s.options read.index)) read.index s old result new
 
   -- The result of the command over the bytes of an index file and a worktree.
-  unfoldable pub IsRun : (LineEnds → StatusSettings → Query T U) → (State → List File → Type 0) → Settings → List ℕ → Option (List ℕ) → Result Report Failure → Option (List ℕ) → Type 0
-  IsRun query are_files s bytes old (Ok r) new = IsFileRun query are_files s bytes old (Ok r) new
-  IsRun query are_files s bytes old (Err f) new = IsFileRun query are_files s bytes old (Err f) new ⊎ IsRefusedFile s bytes old f new
+  unfoldable pub IsCommandRun : (LineEnds → StatusSettings → Query T U) → (State → List File → Type 0) → Settings → List ℕ → Option (List ℕ) → Result Report Failure → Option (List ℕ) → Type 0
+  IsCommandRun query are_files s bytes old (Ok r) new = IsFileRun query are_files s bytes old (Ok r) new
+  IsCommandRun query are_files s bytes old (Err f) new = IsFileRun query are_files s bytes old (Err f) new ⊎ IsRefusedFile s bytes old f new
 
   -- With exit status 0 the command found no difference, and with 1 it found one.
   abbrev pub IsExit : (LineEnds → StatusSettings → Query T U) → (State → List File → Type 0) → Settings → List ℕ → Bool → Option (List ℕ) → Option (List ℕ) → Type 0
-  IsExit query are_files s bytes dirty old new = (r : Report) × (r.dirty ≡ dirty) × IsRun query are_files s bytes old (Ok r) new
+  IsExit query are_files s bytes dirty old new = (r : Report) × (r.dirty ≡ dirty) × IsCommandRun query are_files s bytes old (Ok r) new
 
   -- With exit status 2 it failed.
   abbrev pub IsFailedExit : (LineEnds → StatusSettings → Query T U) → (State → List File → Type 0) → Settings → List ℕ → Option (List ℕ) → Option (List ℕ) → Type 0
-  IsFailedExit query are_files s bytes old new = (f : Failure) × IsRun query are_files s bytes old (Err f) new
+  IsFailedExit query are_files s bytes old new = (f : Failure) × IsCommandRun query are_files s bytes old (Err f) new
 
   -- An entry has no difference: it has no record, or one that only asks for a new stat.
   abbrev pub HasNoDifference : Result (Option (EntryStatus T U)) Error → Type 0

@@ -7,7 +7,7 @@ ghost use Rattle.status_call.specs.Inputs.{settings};
 ghost use Rattle.status_call.specs.RecorderVisits.{visit_of};
 ghost use Rattle.git_status.specs.Lines.{visit_lines};
 ghost use Rattle.git_status.specs.Printing.{IsFaultLine};
-ghost use Rattle.git_status.specs.Runs.{IsEnded, IsExit, IsFailedExit, IsFound, IsIndexRun, IsPrintFailure, IsRun, IsStatusRun, is_difference, printed_text};
+ghost use Rattle.git_status.specs.Runs.{IsCommandEnd, IsExit, IsFailedExit, IsFound, IsIndexRun, IsPrintFailure, IsCommandRun, IsStatusRun, is_difference, printed_text};
 
 use crate::asked::{Asked, Question, Settings};
 use crate::failure::Failure;
@@ -152,7 +152,7 @@ pub fn print_file<
 where
     W::File: Send,
     S::Output: Send,
-    ensures { IsRun (⟦<Asked<'a, W, S, P, A> as Question>⟧.query asked.entry) (⟦<Asked<'a, W, S, P, A> as Question>⟧.are_files asked.entry) asked.entry.settings bytes.now (O.contents output.old) result (O.contents output.new) }
+    ensures { IsCommandRun (⟦<Asked<'a, W, S, P, A> as Question>⟧.query asked.entry) (⟦<Asked<'a, W, S, P, A> as Question>⟧.are_files asked.entry) asked.entry.settings bytes.now (O.contents output.old) result (O.contents output.new) }
 {
     let Settings {
         kind,
@@ -236,7 +236,7 @@ pub(crate) fn print_answer<T: Drop, U: Drop, O: io::Write>(
     answer: Result<Outcome, Error>,
     output: &mut O,
 ) -> Result<Report, Failure>
-    ensures { IsEnded lines (map visit_of records.now) answer (O.contents output.old) result (O.contents output.new) }
+    ensures { IsCommandEnd lines (map visit_of records.now) answer (O.contents output.old) result (O.contents output.new) }
 {
     print_lines(alloc, lines, records, output)?;
     found(records, unconverted, answer)

@@ -3,11 +3,12 @@
 //! Each module re-exports items of the crates below.
 #![tactic(auto)]
 
+pub mod index;
 pub mod index_as_worktree;
 pub mod index_as_worktree_with_renames;
 pub mod tracker;
 pub mod walk;
 pub mod worktree;
 
-pub use status_base::{board, fscache, index, stack};
+pub use status_base::{board, fscache, stack};
 pub use status_world::world;

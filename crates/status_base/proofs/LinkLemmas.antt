@@ -18,8 +18,8 @@ use Rattle.status_base.specs.declared.stack.error.StackError.TheVariants as erro
 use Rattle.status_base.specs.Paths.{is_slash, components, directories, directories_below, abnormal_component}
 use Rattle.status_base.specs.LinkCheck.{LinkCheck, Barrier, accepted, not_normal, faulty, decided, barrier_of, leftmost_barrier, check_of_normal, link_check}
 use Rattle.status_base.specs.CheckState.{CheckState, IsClear, IsClearBelow}
-use Rattle.status_base.specs.CheckAnswers.{IsRefused, IsNamed, IsChecked, IsAfterQuery, OnBarred, HasLooked, accepting_absent}
-use Rattle.status_base.specs.Barriers.{IsOfDirectory, IsStop, IsBarredAt, OnReached, on_the_way}
+use Rattle.status_base.specs.CheckAnswers.{IsCheckError, IsNamed, IsChecked, IsAfterQuery, OnBarred, HasLooked, accepting_absent}
+use Rattle.status_base.specs.Barriers.{IsOfDirectory, IsStopAbove, IsBarredAt, OnReached, on_the_way}
 
 one_open : (lstat : List ℕ → Result Metadata Fault) (directory : List ℕ) (slash : Bool) (others : List (List ℕ)) → (IsTrue slash → barrier_of (lstat directory) ≡ None) → leftmost_barrier lstat ((if slash then directory ∷ [] else []) ++ others) ≡ leftmost_barrier lstat others
 one_open lstat directory true others clear = ap (λ (v : Option Barrier). decided directory v (leftmost_barrier lstat others)) (clear refl)
@@ -66,7 +66,7 @@ leftmost_at lstat path at within slash clear =
     let split = directories_split path at (length path) within slash in
     (leftmost_barrier lstat split.0, ap (leftmost_barrier lstat) split.1 ∙ leftmost_open lstat path at (take at path ∷ split.0) clear)
 
-refused_accepted : (rest : LinkCheck) (e : StackError) → IsRefused accepted e → IsRefused rest e
+refused_accepted : (rest : LinkCheck) (e : StackError) → IsCheckError accepted e → IsCheckError rest e
 refused_accepted rest EmptyPath h = absurd (cc)
 refused_accepted rest (NotNormal component) h = absurd (cc)
 refused_accepted rest (ThroughLink prefix) h = absurd (cc)
@@ -75,7 +75,7 @@ refused_accepted rest (errors.Fault f) (inr h) = inr h
 refused_accepted rest Memory h = tt
 
 -- the error of a directory is the same, whatever comes after it
-pub refused_decided : (directory : List ℕ) (barrier : Option Barrier) (rest : LinkCheck) (e : StackError) → IsRefused (decided directory barrier accepted) e → IsRefused (decided directory barrier rest) e
+pub refused_decided : (directory : List ℕ) (barrier : Option Barrier) (rest : LinkCheck) (e : StackError) → IsCheckError (decided directory barrier accepted) e → IsCheckError (decided directory barrier rest) e
 refused_decided directory (Some barrier) rest e h = h
 refused_decided directory None rest e h = refused_accepted rest e h
 
@@ -91,10 +91,10 @@ link_check_abnormal lstat (b ∷ path) component full abnormal = ap (check_of_no
 pub link_check_clear : (lstat : List ℕ → Result Metadata Fault) (path : List ℕ) → 0 < length path → abnormal_component path ≡ None → IsClear lstat path → link_check lstat path ≡ accepted
 link_check_clear lstat path full normal clear = link_check_normal lstat path full normal ∙ leftmost_clear lstat path clear
 
-pub link_check_barred : (lstat : List ℕ → Result Metadata Fault) (path : List ℕ) (stop : Stop) → 0 < length path → abnormal_component path ≡ None → IsStop path stop → IsBarredAt lstat path stop → IsRefused (link_check lstat path) stop.error
+pub link_check_barred : (lstat : List ℕ → Result Metadata Fault) (path : List ℕ) (stop : Stop) → 0 < length path → abnormal_component path ≡ None → IsStopAbove path stop → IsBarredAt lstat path stop → IsCheckError (link_check lstat path) stop.error
 link_check_barred lstat path stop full normal is_stop barred =
     let decides = leftmost_at lstat path stop.at is_stop.within is_stop.slash barred.open_below in
-    let P : LinkCheck → Type 0 = λ check. IsRefused check stop.error in
+    let P : LinkCheck → Type 0 = λ check. IsCheckError check stop.error in
     subst P (sym (link_check_normal lstat path full normal ∙ decides.1)) (refused_decided (take stop.at path) (barrier_of (lstat (take stop.at path))) decides.0 stop.error barred.barred)
 
 named_directory : (path directory : List ℕ) (e : StackError) → Contains (directories path) directory → IsOfDirectory directory e → IsNamed path e
@@ -105,7 +105,7 @@ named_directory path directory (ThroughLink prefix) above h =
 named_directory path directory (errors.Fault f) above h = tt
 named_directory path directory Memory above h = absurd h
 
-pub named_stop : (path : List ℕ) (stop : Stop) → IsStop path stop → IsNamed path stop.error
+pub named_stop : (path : List ℕ) (stop : Stop) → IsStopAbove path stop → IsNamed path stop.error
 named_stop path stop is_stop =
     named_directory path (take stop.at path) stop.error (directories_contain path stop.at is_stop.within is_stop.slash) is_stop.of_directory
 
@@ -158,7 +158,7 @@ on_barred (errors.Fault f) P h = h
 on_barred Memory P h = tt
 
 -- the directories up to the one that bars the way are no more than those above the path
-pub on_the_way-few : (path : List ℕ) (stop : Stop) → IsStop path stop → length (on_the_way path (Some stop)) ≤ length (directories path)
+pub on_the_way-few : (path : List ℕ) (stop : Stop) → IsStopAbove path stop → length (on_the_way path (Some stop)) ≤ length (directories path)
 on_the_way-few path stop is_stop = length-directories path (stop.at + 1) (length path) (omega (arith, is_stop.within))
 
 -- if a directory above a path isn't there, the lenient check accepts the path

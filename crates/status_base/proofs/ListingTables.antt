@@ -19,7 +19,7 @@ use Rattle.std.proofs.lemmas.List.Sums.{suffix_len_is}
 use Rattle.std.proofs.lemmas.Slice.Eq.{bytes_eq-Decides}
 use Rattle.status_base.specs.Paths.{is_slash}
 use Rattle.status_base.specs.ListedNodes.{Listing, directory_of, file_name_of, later_or, stat_named}
-use Rattle.status_base.specs.ListingTable.{Names, Table, named, known, is_empty, needs_none, IsPutUnless, IsGrown, AreNamesOf, IsOf}
+use Rattle.status_base.specs.ListingTable.{Names, Table, stat_of_name, stat_in_table, is_empty, needs_none, IsPutUnless, HasListedOnce, AreNamesOf, HasListedNames}
 use Rattle.status_base.specs.MemoryTree.{PathMap}
 use Rattle.status_base.specs.PathTables.{keyed, map_of}
 use Rattle.status_base.specs.declared.fscache.Stat.{Stat}
@@ -153,16 +153,16 @@ empty_is (b ∷ name) =
     same_from_decides (length (b ∷ name) == 0) false (Decides-eqb (length (b ∷ name)) 0) ((λ t. let no : false ≡ true = t in cc), (λ e. absurd (omega (arith, e))))
 
 -- a name that isn't empty is looked up
-pub named_some : (m : Names) (name : List ℕ) → (length name == 0) ≡ false → paths.get m name ≡ named name (Some m)
+pub named_some : (m : Names) (name : List ℕ) → (length name == 0) ≡ false → paths.get m name ≡ stat_of_name name (Some m)
 named_some m [] h = let no : true ≡ false = sym (empty_is []) ∙ h in cc
 named_some m (b ∷ name) h = refl
 
-named_empty : (names : Option Names) (name : List ℕ) → is_empty name ≡ true → None ≡ named name names
+named_empty : (names : Option Names) (name : List ℕ) → is_empty name ≡ true → None ≡ stat_of_name name names
 named_empty names [] h = refl
 named_empty names (b ∷ name) h = let no : false ≡ true = h in cc
 
 -- an empty name isn't looked up
-pub named_none : (names : Option Names) (name : List ℕ) → (length name == 0) ≡ true → None ≡ named name names
+pub named_none : (names : Option Names) (name : List ℕ) → (length name == 0) ≡ true → None ≡ stat_of_name name names
 named_none names name h = named_empty names name (sym (empty_is name) ∙ h)
 
 -- ---- a path's last slash
@@ -189,15 +189,15 @@ split_none path none = ends_at path 0 (omega arith) none (λ some. absurd (omega
 
 -- ---- tables
 
-pub empty-IsOf : (listing : List ℕ → Listing) → IsOf listing paths.empty
-empty-IsOf listing directory = subst (λ (o : Option Names). IfSome o (AreNamesOf (listing directory))) (sym (paths.get-empty (slice_cmp nat_cmp) directory)) tt
+pub empty-HasListedNames : (listing : List ℕ → Listing) → HasListedNames listing paths.empty
+empty-HasListedNames listing directory = subst (λ (o : Option Names). IfSome o (AreNamesOf (listing directory))) (sym (paths.get-empty (slice_cmp nat_cmp) directory)) tt
 
 pub put_here : (m : Table) (k : List ℕ) (names : Names) → paths.get (paths.insert m k names) k ≡ Some names
 put_here m k names = paths.get-insert nat_list_cmp_total m k names k ∙ ap (λ b. cond b (Some names) (paths.get m k)) (tied_self k)
 
 -- a look-up that lists
 pub grown_listed : (path directory name : List ℕ) (old new : Table) (names : Names) → directory ≡ directory_of path → name ≡ file_name_of path
-    → (length name == 0) ≡ false → paths.get old directory ≡ None → new ≡ paths.insert old directory names → IsGrown path old new
+    → (length name == 0) ≡ false → paths.get old directory ≡ None → new ≡ paths.insert old directory names → HasListedOnce path old new
 grown_listed path directory name old new names at is some none put =
     let no_name : is_empty (file_name_of path) ≡ false = ap is_empty (sym is) ∙ sym (empty_is name) ∙ some in
     let not_kept : is_some (paths.get old (directory_of path)) ≡ false = ap is_some (ap (paths.get old) (sym at) ∙ none) in
@@ -206,14 +206,14 @@ grown_listed path directory name old new names at is some none put =
 
 -- the stat that a table has for a path after the directory was listed
 pub known_put : (path directory name : List ℕ) (old new : Table) (names : Names) → directory ≡ directory_of path → name ≡ file_name_of path
-    → new ≡ paths.insert old directory names → named name (Some names) ≡ known new path
+    → new ≡ paths.insert old directory names → stat_of_name name (Some names) ≡ stat_in_table new path
 known_put path directory name old new names at is put =
-    ap (named name) (sym (put_here old directory names) ∙ ap (λ (m : Table). paths.get m directory) (sym put))
-    ∙ (λ i. named (is i) (paths.get new (at i)))
+    ap (stat_of_name name) (sym (put_here old directory names) ∙ ap (λ (m : Table). paths.get m directory) (sym put))
+    ∙ (λ i. stat_of_name (is i) (paths.get new (at i)))
 
 -- a table of listings with one more
-pub put-IsOf : (listing : List ℕ → Listing) (m : Table) (k : List ℕ) (names : Names) → IsOf listing m → AreNamesOf (listing k) names → IsOf listing (paths.insert m k names)
-put-IsOf listing m k names of are q =
+pub put-HasListedNames : (listing : List ℕ → Listing) (m : Table) (k : List ℕ) (names : Names) → HasListedNames listing m → AreNamesOf (listing k) names → HasListedNames listing (paths.insert m k names)
+put-HasListedNames listing m k names of are q =
     let Is : Option Names → Type 0 = λ o. IfSome o (AreNamesOf (listing q)) in
     subst Is (sym (paths.get-insert nat_list_cmp_total m k names q))
     (elim (tied q k) as (λ b. tied q k ≡ b → Is (cond b (Some names) (paths.get m q))) [

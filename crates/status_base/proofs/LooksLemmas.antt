@@ -15,7 +15,7 @@ use Rattle.status_index.specs.declared.metadata.Metadata.{Metadata}
 use Rattle.status_index.proofs.Stretches.{between}
 use Rattle.status_base.specs.Paths.{is_slash, directories, directories_below, lies_above, new_directories}
 use Rattle.status_base.specs.CheckState.{CheckState}
-use Rattle.status_base.specs.Looks.{AreVerified, IsAscending, LooksLaw, directories_beside}
+use Rattle.status_base.specs.Looks.{AreVerified, AreAscending, LooksLaw, directories_beside}
 
 -- a front that a slash follows is above the path
 above_own : (path : List ℕ) (k : ℕ) → k < length path → IsTrue (is_slash (slice_index path k)) → lies_above (take k path) path ≡ true
@@ -81,7 +81,7 @@ covers_later path earlier q later order less covers d any above =
       | inr before ↦ between (d ++ 47 ∷ []) path q later order (not_greater (slice_cmp nat_cmp q later) less) (covers d before above) above
     ]
 
-looks_along : (modelled : Bool) (lstat : List ℕ → Result Metadata Fault) (qs : List (List ℕ)) (old new : CheckState) (path : List ℕ) (earlier : List (List ℕ)) → old.path ≡ path → All (λ (q : List ℕ). is_gt (slice_cmp nat_cmp path q) ≡ false) qs → IsAscending qs → All (Covers path earlier) qs → AreVerified modelled lstat old qs new → new.looks ≤ old.looks + length (directories_beside earlier qs)
+looks_along : (modelled : Bool) (lstat : List ℕ → Result Metadata Fault) (qs : List (List ℕ)) (old new : CheckState) (path : List ℕ) (earlier : List (List ℕ)) → old.path ≡ path → All (λ (q : List ℕ). is_gt (slice_cmp nat_cmp path q) ≡ false) qs → AreAscending qs → All (Covers path earlier) qs → AreVerified modelled lstat old qs new → new.looks ≤ old.looks + length (directories_beside earlier qs)
 looks_along modelled lstat [] old new path earlier at order ascends covers verified =
     let same : new.looks ≡ old.looks = ap (λ (s : CheckState). s.looks) verified in omega arith
 looks_along modelled lstat (q ∷ qs) old new path earlier at order ascends covers verified =

@@ -10,12 +10,12 @@ use Rattle.status_base.specs.declared.stack.error.StackError.TheVariants as erro
 use Rattle.status_base.specs.Paths.{is_slash, directories, directories_below}
 use Rattle.status_base.specs.LinkCheck.{Barrier, accepted, decided, barrier_of}
 use Rattle.status_base.specs.CheckState.{IsClear, IsClearBelow}
-use Rattle.status_base.specs.CheckAnswers.{IsRefused}
+use Rattle.status_base.specs.CheckAnswers.{IsCheckError}
 
 -- A directory's barrier is returned, or out of memory. None is returned only if the directory doesn't bar the way.
 abbrev pub IsBarrier : List ℕ → Option Barrier → Option StackError → Type 0
 IsBarrier directory barrier None = barrier ≡ None
-IsBarrier directory barrier (Some e) = IsRefused (decided directory barrier accepted) e
+IsBarrier directory barrier (Some e) = IsCheckError (decided directory barrier accepted) e
 
 -- The only errors of a directory are that it is a link and that it has a fault.
 abbrev pub IsOfDirectory : List ℕ → StackError → Type 0
@@ -28,10 +28,10 @@ IsOfDirectory directory Memory = ⊥
 -- No shorter directory bars the way, and the error is that of the directory at which the way is barred.
 pub record IsBarredAt (lstat : List ℕ → Result Metadata Fault) (path : List ℕ) (stop : Stop) : Type 0 where
   pub open_below : IsClearBelow lstat path stop.at
-  pub barred : IsRefused (decided (take stop.at path) (barrier_of (lstat (take stop.at path))) accepted) stop.error
+  pub barred : IsCheckError (decided (take stop.at path) (barrier_of (lstat (take stop.at path))) accepted) stop.error
 
 -- The directory is above the path, and the error is one of that directory.
-pub record IsStop (path : List ℕ) (stop : Stop) : Type 0 where
+pub record IsStopAbove (path : List ℕ) (stop : Stop) : Type 0 where
   pub within : stop.at < length path
   pub slash : IsTrue (is_slash (slice_index path stop.at))
   pub of_directory : IsOfDirectory (take stop.at path) stop.error

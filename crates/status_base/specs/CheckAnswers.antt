@@ -15,17 +15,17 @@ use Rattle.status_base.specs.LinkCheck.{LinkCheck, accepted, empty_path, not_nor
 use Rattle.status_base.specs.CheckState.{CheckState, IsClear}
 
 -- The specified error, or out of memory.
-abbrev pub IsRefused : LinkCheck → StackError → Type 0
-IsRefused check EmptyPath = check ≡ empty_path
-IsRefused check (NotNormal component) = check ≡ not_normal (bstr_bytes component)
-IsRefused check (ThroughLink prefix) = check ≡ through_link (bstr_bytes prefix)
-IsRefused check (errors.Fault f) = (check ≡ faulty f) ⊎ (f ≡ faults.Memory)
-IsRefused check Memory = Unit {0}
+abbrev pub IsCheckError : LinkCheck → StackError → Type 0
+IsCheckError check EmptyPath = check ≡ empty_path
+IsCheckError check (NotNormal component) = check ≡ not_normal (bstr_bytes component)
+IsCheckError check (ThroughLink prefix) = check ≡ through_link (bstr_bytes prefix)
+IsCheckError check (errors.Fault f) = (check ≡ faulty f) ⊎ (f ≡ faults.Memory)
+IsCheckError check Memory = Unit {0}
 
 -- The path if it is accepted, otherwise the specified error, or out of memory.
 abbrev pub IsVerified : LinkCheck → List ℕ → Result BStr StackError → Type 0
 IsVerified check path (Ok answer) = (check ≡ accepted) × (bstr_bytes answer ≡ path)
-IsVerified check path (Err e) = IsRefused check e
+IsVerified check path (Err e) = IsCheckError check e
 
 -- A check returns what a new one would if what it found open still is; the lenient one accepts missing directories. This is for
 -- `verified_path`. An accepted path is returned, joined to the root.
@@ -35,7 +35,7 @@ IsVerifiedBy lstat old path result = IsClear lstat old.path → IsVerified (link
 -- Accepted, the specified error, or out of memory.
 abbrev pub IsChecked : {A : Type 0} → LinkCheck → Result A StackError → Type 0
 IsChecked check (Ok _) = check ≡ accepted
-IsChecked check (Err e) = IsRefused check e
+IsChecked check (Err e) = IsCheckError check e
 
 abbrev pub unless_absent : Fault → LinkCheck
 unless_absent faults.NotFound = accepted

@@ -29,15 +29,15 @@ stat_named name [] = None
 stat_named name (e ∷ es) = later_or (stat_named name es) (if bytes_eq e.0 name then Some e.1 else None)
 
 -- The stat of a name in a listing. An empty name isn't looked up.
-abbrev pub named_in : Listing → List ℕ → Option Stat
-named_in None name = None
-named_in (Some entries) [] = None
-named_in (Some entries) (b ∷ name) = stat_named (b ∷ name) entries
+abbrev pub stat_in_listing : Listing → List ℕ → Option Stat
+stat_in_listing None name = None
+stat_in_listing (Some entries) [] = None
+stat_in_listing (Some entries) (b ∷ name) = stat_named (b ∷ name) entries
 
 -- A listing knows a path by its file name's last entry, as a directory, link or file that isn't executable. The listing is that
 -- of the path's directory.
 abbrev pub listed : (List ℕ → Listing) → List ℕ → Option Stat
-listed listing path = named_in (listing (directory_of path)) (file_name_of path)
+listed listing path = stat_in_listing (listing (directory_of path)) (file_name_of path)
 
 -- The node of a listed stat: a directory, otherwise a link, otherwise a file, which is never executable.
 abbrev pub listed_kind : Bool → Bool → NodeKind

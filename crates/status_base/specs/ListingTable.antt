@@ -1,7 +1,7 @@
 -- A table of the directories that were listed.
 use Rattle.std.specs.Prelude.{◌≡◌, ℕ, Bool, true, false, ◌||◌, List, [], ◌∷◌, Option, Some, None, IfSome, is_some}
 use Rattle.std.specs.FinMap as paths
-use Rattle.status_base.specs.ListedNodes.{Listing, directory_of, file_name_of, named_in}
+use Rattle.status_base.specs.ListedNodes.{Listing, directory_of, file_name_of, stat_in_listing}
 use Rattle.status_base.specs.MemoryTree.{PathMap}
 use Rattle.status_base.specs.declared.fscache.Stat.{Stat}
 
@@ -14,14 +14,14 @@ abbrev pub Table : Type 0
 Table = PathMap Names
 
 -- The stat of a name. An empty name isn't looked up.
-abbrev pub named : List ℕ → Option Names → Option Stat
-named [] names = None
-named (b ∷ name) None = None
-named (b ∷ name) (Some names) = paths.get names (b ∷ name)
+abbrev pub stat_of_name : List ℕ → Option Names → Option Stat
+stat_of_name [] names = None
+stat_of_name (b ∷ name) None = None
+stat_of_name (b ∷ name) (Some names) = paths.get names (b ∷ name)
 
 -- The stat that a table has for a path.
-abbrev pub known : Table → List ℕ → Option Stat
-known table path = named (file_name_of path) (paths.get table (directory_of path))
+abbrev pub stat_in_table : Table → List ℕ → Option Stat
+stat_in_table table path = stat_of_name (file_name_of path) (paths.get table (directory_of path))
 
 abbrev pub is_empty : List ℕ → Bool
 is_empty [] = true
@@ -37,13 +37,13 @@ IsPutUnless true directory old new = new ≡ old
 IsPutUnless false directory old new = (names : Names) × (new ≡ paths.insert old directory names)
 
 -- A path's directory is listed at most once, and not for an empty file name. A look-up lists no other directory.
-abbrev pub IsGrown : List ℕ → Table → Table → Type 0
-IsGrown path old new = IsPutUnless (needs_none old path) (directory_of path) old new
+abbrev pub HasListedOnce : List ℕ → Table → Table → Type 0
+HasListedOnce path old new = IsPutUnless (needs_none old path) (directory_of path) old new
 
 -- These are the names of a listing.
 abbrev pub AreNamesOf : Listing → Names → Type 0
-AreNamesOf listing names = (name : List ℕ) → named name (Some names) ≡ named_in listing name
+AreNamesOf listing names = (name : List ℕ) → stat_of_name name (Some names) ≡ stat_in_listing listing name
 
 -- For each of its directories a table has the names of the directory's listing.
-abbrev pub IsOf : (List ℕ → Listing) → Table → Type 0
-IsOf listing table = (directory : List ℕ) → IfSome (paths.get table directory) (AreNamesOf (listing directory))
+abbrev pub HasListedNames : (List ℕ → Listing) → Table → Type 0
+HasListedNames listing table = (directory : List ℕ) → IfSome (paths.get table directory) (AreNamesOf (listing directory))

@@ -26,13 +26,13 @@ abbrev pub directories_above : List (List ℕ) → List (List ℕ)
 directories_above qs = directories_beside [] qs
 
 -- Paths are in ascending order of their bytes, and no two are equal.
-abbrev pub IsAscending : List (List ℕ) → Type 0
-IsAscending qs = AllPairs (λ a b. slice_cmp nat_cmp a b ≡ Less) qs
+abbrev pub AreAscending : List (List ℕ) → Type 0
+AreAscending qs = AllPairs (λ a b. slice_cmp nat_cmp a b ≡ Less) qs
 
 -- The calls of `lstat` are bounded, and each directory is listed once. A check whose tested path is empty, such as a new one,
 -- calls it at most once for each directory above paths that ascend, if it accepts them all.
 abbrev pub LooksLaw : Bool → (List ℕ → Result Metadata Fault) → CheckState → List (List ℕ) → CheckState → Type 0
-LooksLaw modelled lstat old qs new = old.path ≡ [] → IsAscending qs → AreVerified modelled lstat old qs new → new.looks ≤ old.looks + length (directories_above qs)
+LooksLaw modelled lstat old qs new = old.path ≡ [] → AreAscending qs → AreVerified modelled lstat old qs new → new.looks ≤ old.looks + length (directories_above qs)
 
 -- A directory is above one of the paths.
 abbrev pub StandsAbove : List (List ℕ) → List ℕ → Type 0

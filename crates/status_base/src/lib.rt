@@ -2,13 +2,12 @@
 //! link.
 //!
 //! Read `worktree` first: a module for each interface, and the worktrees and blobs in memory and on the disk. Then
-//! `stack`, the link check, and `fscache`, which caches listings of directories. `index` and `board` re-export the
-//! crates below, under the names that callers use.
+//! `stack`, the link check, and `fscache`, which caches listings of directories. `board` re-exports a module of the crate
+//! below, under the name that callers use.
 #![tactic(auto)]
 
 mod components;
 pub mod fscache;
-pub mod index;
 pub mod stack;
 pub mod worktree;
 

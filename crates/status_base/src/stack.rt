@@ -7,7 +7,7 @@ ghost use Rattle.status_base.specs.LinkCheck.{link_check, barrier_of};
 ghost use Rattle.bstr.specs.Owned.{bstring_bytes};
 ghost use Rattle.status_base.specs.CheckState.{IsClear, IsClearBelow};
 ghost use Rattle.status_index.specs.Content.{saturate};
-ghost use Rattle.status_base.specs.Barriers.{IsWay, IsStop, IsBarrier, IsOfDirectory, looked_at};
+ghost use Rattle.status_base.specs.Barriers.{IsWay, IsStopAbove, IsBarrier, IsOfDirectory, looked_at};
 
 mod error;
 mod front;
@@ -152,7 +152,7 @@ struct Parts {
 impl Parts {
     ghost use Rattle.std.specs.Result.{result_err};
     ghost use Rattle.status_base.specs.Common.{IsCommon};
-    ghost use Rattle.status_base.specs.CheckAnswers.{IsRefused, IsNamed, IsNormal, IsAfterQuery, IsChecked};
+    ghost use Rattle.status_base.specs.CheckAnswers.{IsCheckError, IsNamed, IsNormal, IsAfterQuery, IsChecked};
     ghost use Rattle.status_base.specs.Barriers.{OnReached};
     ghost use Rattle.status_base.specs.CheckParts.{state_of};
 
@@ -268,7 +268,7 @@ fn first_barrier<'p, W: Worktree>(
     looks: &mut u64,
 ) -> Option<Stop<'p>>
     ensures way { IsTrue (W.modelled worktree.now) → IsClearBelow (W.lstat_of worktree.now) path.now from → IsWay (W.lstat_of worktree.now) path.now result }
-    ensures stop { IfSome result (IsStop path.now) }
+    ensures stop { IfSome result (IsStopAbove path.now) }
     ensures behind { IfSome result (λ stop. from ≤ stop.at) }
     ensures looks { looks.old ≤ looks.new }
     ensures few { looks.new ≤ looks.old + looked_at path.now from result }

@@ -12,7 +12,7 @@ use Rattle.bstr.specs.BStr.{bstr_bytes}
 use Rattle.status_base.specs.declared.stack.error.StackError.{StackError}
 use Rattle.status_base.specs.declared.stack.error.StackError.TheVariants as stacks
 use Rattle.status_base.specs.LinkCheck.{LinkCheck, accepted, empty_path, not_normal}
-use Rattle.status_base.specs.CheckAnswers.{IsRefused}
+use Rattle.status_base.specs.CheckAnswers.{IsCheckError}
 use Rattle.status_compare.specs.declared.error.Error.{Error}
 use Rattle.status_compare.specs.declared.error.Error.TheVariants as errors
 use Rattle.status_compare.specs.EntryReadings.{if_modelled}
@@ -78,7 +78,7 @@ site_live check known answered n look verified is live h =
 
 -- A path that isn't normal.
 pub site_odd : (error : StackError) (check : LinkCheck) (node : Result Metadata Fault) (unknown : Bool)
-    → (error ≡ stacks.EmptyPath) ⊎ ((component : BStr) × (error ≡ stacks.NotNormal component)) → IsRefused check error
+    → (error ≡ stacks.EmptyPath) ⊎ ((component : BStr) × (error ≡ stacks.NotNormal component)) → IsCheckError check error
     → IsLook (found_by check node) (is_accepted check && unknown) (Err (errors.Io faults.NotNormal))
 site_odd stacks.EmptyPath check node unknown odd same =
     let found : IsLook (refused faults.NotNormal) false (Err (errors.Io faults.NotNormal)) = inl (faults.NotNormal, refl, refl) in

@@ -18,7 +18,7 @@ use Rattle.status_call.specs.declared.index_as_worktree.types.EntryStatus.TheVar
 use Rattle.status_call.specs.declared.index_as_worktree.types.Outcome.{Outcome}
 use Rattle.status_call.specs.IndexChanges.{AreInside, DifferInStats, applied, applied_one, change_at, change_of, changed_entry, changes_of, entry_index_of}
 use Rattle.status_call.specs.Query.{Query}
-use Rattle.status_call.specs.StatusTheorem.{IsMet}
+use Rattle.status_call.specs.StatusTheorem.{IsStatusReport}
 use Rattle.status_call.specs.Visits.{Visit, IsFaithful}
 
 -- ---- one position
@@ -122,7 +122,7 @@ module _ {T U : Type 0} where
       (changes_inside index vs (All-tail (IsFaithful (entries_of index) (backing_of index)) v vs all))
 
   -- A status asks for no change at a position that the index doesn't have, with a collector that had nothing before.
-  pub status_inside : (q : Query T U) (index : State) (old : List (Visit T U)) (result : Result Outcome Error) (new : List (Visit T U)) → IsMet q index old result new
+  pub status_inside : (q : Query T U) (index : State) (old : List (Visit T U)) (result : Result Outcome Error) (new : List (Visit T U)) → IsStatusReport q index old result new
       → old ≡ [] → AreInside (changes_of new) (index_of index)
   status_inside q index old result new met none =
       let grown : new ≡ met.more = met.grew ∙ ap (λ (l : List (Visit T U)). l ++ met.more) none in

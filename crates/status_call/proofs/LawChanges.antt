@@ -20,7 +20,7 @@ use Rattle.status_call.specs.Laws.{IsDirectoryMode, IsChange, ModificationLaw, E
 use Rattle.status_call.specs.Query.{Query}
 use Rattle.status_call.specs.Status as status
 use Rattle.status_call.specs.Status.{Case, answer, changed, case_of, found, status_of}
-use Rattle.status_call.specs.StatusTable.{Row, gone, refused, in_submodule, added, unstamped, retyped, unchanged, failed, modified, to_update, SameType, trusted, racy, IsCompared, HasChange, IsInRow}
+use Rattle.status_call.specs.StatusTable.{Row, gone, refused, in_submodule, added, unstamped, retyped, unchanged, failed, modified, to_update, SameType, trusted, racy, IsCompared, HasChange, IsTableRow}
 use Rattle.status_call.proofs.LawRows.{row_of}
 use Rattle.status_call.proofs.LawTable.{change_of, case_gone, case_refused, case_in_submodule, case_added, case_unstamped, case_retyped, case_unchanged, status_table}
 
@@ -67,7 +67,7 @@ module _ {T U : Type 0} (q : Query T U) (e : IndexEntry) where
         zero_is = sym size ∙ ap (λ (v : Option T). is_some v && trusted q e s && racy q e s) content;
       }
 
-  modified_in : (r : Row) → IsInRow q e r → (x : Bool) (c : Option T) (zero : Bool) → status_of q e ≡ changed (changes.Modification x c zero) → Modified x c zero
+  modified_in : (r : Row) → IsTableRow q e r → (x : Bool) (c : Option T) (zero : Bool) → status_of q e ≡ changed (changes.Modification x c zero) → Modified x c zero
   modified_in gone i x c zero h = let k : changed {T = T} {U = U} changes.Removed ≡ changed (changes.Modification x c zero) = sym ((status_table q e).gone_row i) ∙ h in cc
   modified_in refused i x c zero h = absurd (not_error {T = T} {U = U} _ x c zero (sym ((status_table q e).refused_row i.0 i.1) ∙ h))
   modified_in in_submodule i x c zero h = absurd (not_submodule {T = T} {U = U} e.path (q.submodule e) x c zero (sym (ap (answer e.path) (case_in_submodule q e i)) ∙ h))
@@ -144,7 +144,7 @@ module _ {T U : Type 0} (q : Query T U) (e : IndexEntry) where
   directory_not_compared n s x mode p =
       no_type_change n x (new_mode q.executable_bit n.kind n.executable) p.same_type (other_at q.symlink q.executable_bit n e.mode n.kind mode p.stamped.present.no_directory)
 
-  unlooked_in : IsDirectoryMode e.mode → (r : Row) → IsInRow q e r → is_compared_case (case_of q e) ≡ false
+  unlooked_in : IsDirectoryMode e.mode → (r : Row) → IsTableRow q e r → is_compared_case (case_of q e) ≡ false
   unlooked_in mode gone h = ap is_compared_case (case_gone q e h)
   unlooked_in mode refused h = ap is_compared_case (case_refused q e h.0 h.1)
   unlooked_in mode in_submodule h = ap is_compared_case (case_in_submodule q e h)

@@ -19,7 +19,7 @@ use Rattle.status_call.specs.Considered.{has_flag}
 use Rattle.status_call.specs.Query.{Query}
 use Rattle.status_call.specs.Status as status
 use Rattle.status_call.specs.Status.{Case, changed, case_of, status_of}
-use Rattle.status_call.specs.StatusTable.{Row, gone, refused, in_submodule, added, unstamped, retyped, unchanged, failed, modified, to_update, check_of, node_of, by_link, on_the_way, at_the_path, by_directory, unnamed, oddly_named, barred, unreadable, IsPresent, IsStamped, SameType, trusted, racy, IsCompared, comparison, HasChange, IsInRow}
+use Rattle.status_call.specs.StatusTable.{Row, gone, refused, in_submodule, added, unstamped, retyped, unchanged, failed, modified, to_update, check_of, node_of, by_link, on_the_way, at_the_path, by_directory, unnamed, oddly_named, barred, unreadable, IsPresent, IsStamped, SameType, trusted, racy, IsCompared, comparison, HasChange, IsTableRow}
 use Rattle.status_call.proofs.LawTable.{change_of, case_gone, case_refused, case_in_submodule, case_added, case_unstamped, case_retyped, case_unchanged, case_compared}
 
 -- The row of a case.
@@ -38,7 +38,7 @@ row_of_case (status.compared false t r s (Ok None)) = to_update
 
 module _ {T U : Type 0} (q : Query T U) (e : IndexEntry) where
   abbrev Covered : Type 0
-  Covered = (r : Row) × IsInRow q e r
+  Covered = (r : Row) × IsTableRow q e r
 
   cover_compared : (n : Metadata) (s : Stat) (x : Bool) → IsCompared q e n s x → (a : Result (Option T) Error) → comparison q e n ≡ a → Covered
   cover_compared n s x p (Err err) h = (failed, (n, (s, (x, (err, (p, h))))))
@@ -95,7 +95,7 @@ module _ {T U : Type 0} (q : Query T U) (e : IndexEntry) where
   cover_check (faulty f) h = cover_way f h (is_absence f) refl
 
   -- An entry is in a row.
-  pub row_of : (r : Row) × IsInRow q e r
+  pub row_of : (r : Row) × IsTableRow q e r
   row_of = cover_check (check_of q e) refl
 
   row_modified : (s : Stat) (x t r : Bool) (c : Option T) → HasChange q e x c → row_of_case {T = T} {U = U} (status.compared x t r s (Ok c)) ≡ modified
@@ -105,7 +105,7 @@ module _ {T U : Type 0} (q : Query T U) (e : IndexEntry) where
   row_modified s false t r None (inl h) = cc
   row_modified s false t r None (inr h) = cc
 
-  in_row : (r : Row) → IsInRow q e r → row_of_case (case_of q e) ≡ r
+  in_row : (r : Row) → IsTableRow q e r → row_of_case (case_of q e) ≡ r
   in_row gone h = ap row_of_case (case_gone q e h)
   in_row refused h = ap row_of_case (case_refused q e h.0 h.1)
   in_row in_submodule h = ap row_of_case (case_in_submodule q e h)
@@ -118,5 +118,5 @@ module _ {T U : Type 0} (q : Query T U) (e : IndexEntry) where
   in_row to_update (n, (s, (p, h))) = ap row_of_case (case_compared q e n s false p (Ok None) h)
 
   -- It is in no other row.
-  pub one_row : (a b : Row) → IsInRow q e a → IsInRow q e b → a ≡ b
+  pub one_row : (a b : Row) → IsTableRow q e a → IsTableRow q e b → a ≡ b
   one_row a b h k = sym (in_row a h) ∙ in_row b k

@@ -21,7 +21,7 @@ use Rattle.status_call.specs.Query.{Query}
 use Rattle.status_call.specs.Records.{verdict, conflict_status}
 use Rattle.status_call.specs.Laws.{IdsLaw, SizesLaw}
 use Rattle.status_call.specs.Status.{answer, status_of, readings, reads_link}
-use Rattle.status_call.specs.StatusTable.{Row, gone, refused, in_submodule, added, unstamped, retyped, unchanged, failed, modified, to_update, IsInRow}
+use Rattle.status_call.specs.StatusTable.{Row, gone, refused, in_submodule, added, unstamped, retyped, unchanged, failed, modified, to_update, IsTableRow}
 use Rattle.status_call.specs.StatusTheorem.{NeverSpawns}
 use Rattle.status_call.proofs.LawRows.{row_of}
 use Rattle.status_call.proofs.LawTable.{status_table, case_in_submodule}
@@ -62,7 +62,7 @@ by_tests false true s c f h = f h
 by_tests false false s c f h = cc
 
 module _ {T U : Type 0} (q : Query T U) (never : NeverSpawns q) where
-  by_row : (e : IndexEntry) (r : Row) → IsInRow q e r → status_of q e ≡ Err SpawnThread → ⊥
+  by_row : (e : IndexEntry) (r : Row) → IsTableRow q e r → status_of q e ≡ Err SpawnThread → ⊥
   by_row e gone i h = let k = sym ((status_table q e).gone_row i) ∙ h in cc
   by_row e refused i h = other_error i.0 (same_error {T = T} {U = U} _ _ (sym ((status_table q e).refused_row i.0 i.1) ∙ h))
   by_row e in_submodule i h = no_submodule {T = T} {U = U} e.path (q.submodule e) (sym (ap (answer e.path) (case_in_submodule q e i)) ∙ h)

@@ -21,10 +21,10 @@ use Rattle.status_call.specs.Pieces.{IsAsSpecified, IsFaultAt}
 use Rattle.status_call.specs.Outcomes.{outcome_of, skipped_of}
 use Rattle.status_call.specs.Query.{Query}
 use Rattle.status_call.specs.Records.{records_in, records_of, faults_in, first_fault, verdict}
-use Rattle.status_call.specs.StatusOf.{IsFaultOrMemory, IsThreadless, IsUnspawned}
-use Rattle.status_call.specs.StatusTheorem.{IsBeginning, IsComplete, IsMet, IsStatusOf, IsFirstFault, NeverSpawns, considered_entries, start_of}
+use Rattle.status_call.specs.StatusOf.{IsFaultOrMemory, IsThreadless, OneThreadSpawnsNone}
+use Rattle.status_call.specs.StatusTheorem.{IsBeginning, IsComplete, IsStatusReport, IsStatusOf, IsFirstFault, NeverSpawns, considered_entries, start_of}
 use Rattle.status_call.specs.Visits.{Visit, finding_of, IsFaithful}
-use Rattle.status_call.specs.WorkInOrder.{IsShortage, IsStopped, IsReportedWork}
+use Rattle.status_call.specs.WorkInOrder.{IsShortage, IsWorkStopped, IsReportedWork}
 use Rattle.status_call.specs.Workers.{most_workers}
 use Rattle.status_call.proofs.Groups.{records-append}
 use Rattle.status_call.proofs.LawRecords.{fault_law}
@@ -157,7 +157,7 @@ module _ {T U : Type 0} (q : Query T U) (index : State) (has_flag : Bool) (old n
         }
 
     -- All considered entries were processed, or the interrupt flag was seen.
-    pub status_ok : IsMet q index old (Ok outcome) new
+    pub status_ok : IsStatusReport q index old (Ok outcome) new
     status_ok = record {
       more = work.fed.more;
       grew = work.fed.grew;
@@ -171,7 +171,7 @@ module _ {T U : Type 0} (q : Query T U) (index : State) (has_flag : Bool) (old n
     }
 
   module _ (workers : ℕ) (e : Error) (work : Work workers (Err e)) where
-    abbrev stop : IsStopped q start es 0 workers work.reported e
+    abbrev stop : IsWorkStopped q start es 0 workers work.reported e
     stop = work.ended
 
     abbrev By : Type 0
@@ -219,7 +219,7 @@ module _ {T U : Type 0} (q : Query T U) (index : State) (has_flag : Bool) (old n
     no_thread t one never (inr h) spawned = lone_shortage one h.0 spawned
 
     -- The work ended.
-    pub status_err : IsMet q index old (Err e) new
+    pub status_err : IsStatusReport q index old (Err e) new
     status_err = record {
       more = work.fed.more;
       grew = work.fed.grew;
@@ -254,12 +254,12 @@ work_kept q r faithful interruptible workers start place whole part old new resu
     (subst (λ x. IsReportedWork x place part 0 faithful interruptible workers (length part) old result new) same work))
 
 -- The theorem, for an equal query.
-pub met_along : {T U : Type 0} (q r : Query T U) → r ≡ q → (index : State) (old : List (Visit T U)) (result : Result Outcome Error) (new : List (Visit T U)) → IsMet r index old result new → IsMet q index old result new
-met_along q r same index old result new met = subst (λ x. IsMet x index old result new) same met
+pub met_along : {T U : Type 0} (q r : Query T U) → r ≡ q → (index : State) (old : List (Visit T U)) (result : Result Outcome Error) (new : List (Visit T U)) → IsStatusReport r index old result new → IsStatusReport q index old result new
+met_along q r same index old result new met = subst (λ x. IsStatusReport x index old result new) same met
 
 -- The same about threads, for an equal limit.
-pub unspawned_along : {T U : Type 0} (q r : Query T U) → r ≡ q → (m n : Option ℕ) → n ≡ m → (result : Result Outcome Error) → IsUnspawned r n result → IsUnspawned q m result
-unspawned_along q r same m n limit result alone = subst (λ x. IsUnspawned x m result) same (subst (λ x. IsUnspawned r x result) limit alone)
+pub unspawned_along : {T U : Type 0} (q r : Query T U) → r ≡ q → (m n : Option ℕ) → n ≡ m → (result : Result Outcome Error) → OneThreadSpawnsNone r n result → OneThreadSpawnsNone q m result
+unspawned_along q r same m n limit result alone = subst (λ x. OneThreadSpawnsNone x m result) same (subst (λ x. OneThreadSpawnsNone r x result) limit alone)
 
 -- The same without threads.
 pub threadless_along : {T U : Type 0} (q r : Query T U) → r ≡ q → (result : Result Outcome Error) → IsThreadless r result → IsThreadless q result

@@ -18,7 +18,7 @@ use Rattle.status_call.specs.PieceReporting.{IsCounted, IsPieceFed}
 use Rattle.status_call.specs.Query.{Query}
 use Rattle.status_call.specs.Rounds.{AreInRow, IsInRow}
 use Rattle.status_call.specs.Visits.{Visit}
-use Rattle.status_call.specs.WorkInOrder.{IsShortage, IsUnderWay, IsReportedWork}
+use Rattle.status_call.specs.WorkInOrder.{IsShortage, IsWorkSoFar, IsReportedWork}
 use Rattle.status_call.proofs.Dones.{done_none, done_more, sums_fit}
 use Rattle.status_call.proofs.Feeding.{reports_none, reports_more}
 
@@ -31,7 +31,7 @@ true_or_false b h k = cc
 
 module _ {T U : Type 0} (q : Query T U) (start : ℕ) (es : List IndexEntry) (from : ℕ) (faithful : Visit T U → Type 0) where
   -- Nothing is done yet.
-  pub way_none : (old : List (Visit T U)) → from ≤ length es → IsUnderWay q start es from faithful from no_totals old old
+  pub way_none : (old : List (Visit T U)) → from ≤ length es → IsWorkSoFar q start es from faithful from no_totals old old
   way_none old inside = record {
     reported = [];
     fed = reports_none faithful old;
@@ -45,7 +45,7 @@ module _ {T U : Type 0} (q : Query T U) (start : ℕ) (es : List IndexEntry) (fr
 
   -- The work couldn't go on.
   pub way_short : (interruptible : Bool) (workers at to : ℕ) (totals : Totals) (e : Error) (old now : List (Visit T U)) → IsShortage workers e
-      → IsUnderWay q start es from faithful at totals old now → IsReportedWork q start es from faithful interruptible workers to old (Err e) now
+      → IsWorkSoFar q start es from faithful at totals old now → IsReportedWork q start es from faithful interruptible workers to old (Err e) now
   way_short interruptible workers at to totals e old now h way = record {
     reported = way.reported;
     fed = way.fed;
@@ -57,7 +57,7 @@ module _ {T U : Type 0} (q : Query T U) (start : ℕ) (es : List IndexEntry) (fr
   no_work interruptible workers to e old inside h =
       way_short interruptible workers from to no_totals e old old h (way_none old inside)
 
-  module _ (interruptible : Bool) (workers end at : ℕ) (totals : Totals) (old now : List (Visit T U)) (way : IsUnderWay q start es from faithful at totals old now) (p : Piece T U) (row : IsInRow q interruptible start es at p) where
+  module _ (interruptible : Bool) (workers end at : ℕ) (totals : Totals) (old now : List (Visit T U)) (way : IsWorkSoFar q start es from faithful at totals old now) (p : Piece T U) (row : IsInRow q interruptible start es at p) where
     -- The work that is done up to the end of a piece.
     done_upto : IsDone q start es from p.reached (way.reported ++ p.findings.items) (plus_totals totals p.totals)
     done_upto = done_more q start es from at p.reached way.reported p.findings.items totals p.totals way.done row.result.piece.done
@@ -80,7 +80,7 @@ module _ {T U : Type 0} (q : Query T U) (start : ℕ) (es : List IndexEntry) (fr
 
     -- A whole piece was reported.
     pub way_more : (new : List (Visit T U)) (o : Progress) (c : Totals) → IsPieceFed faithful p now (Ok o) new → c ≡ plus_totals totals o.totals → o.interrupted ≡ false
-        → (p.end ≡ Whole) × IsUnderWay q start es from faithful p.reached c old new
+        → (p.end ≡ Whole) × IsWorkSoFar q start es from faithful p.reached c old new
     way_more new o c (inl h, fed) sums still = (
       h.0,
       record {
@@ -143,7 +143,7 @@ module _ {T U : Type 0} (q : Query T U) (start : ℕ) (es : List IndexEntry) (fr
     stop_piece new x (inl h) = stop_fault new x h.0 h.1
     stop_piece new x (inr h) = subst (λ (e : Error). IsReportedWork q start es from faithful interruptible workers end old (Err e) new) (sym h.0) (stop_memory new h.1 h.2)
 
-module _ {T U : Type 0} (q : Query T U) (start : ℕ) (es : List IndexEntry) (faithful : Visit T U → Type 0) (interruptible : Bool) (workers most from at to end : ℕ) (totals : Totals) (old now new : List (Visit T U)) (way : IsUnderWay q start es from faithful at totals old now) where
+module _ {T U : Type 0} (q : Query T U) (start : ℕ) (es : List IndexEntry) (faithful : Visit T U → Type 0) (interruptible : Bool) (workers most from at to end : ℕ) (totals : Totals) (old now new : List (Visit T U)) (way : IsWorkSoFar q start es from faithful at totals old now) where
   abbrev Round : Result Progress Error → Type 0
   Round result = IsReportedWork q start es at faithful interruptible workers to now result new
 
@@ -157,7 +157,7 @@ module _ {T U : Type 0} (q : Query T U) (start : ℕ) (es : List IndexEntry) (fa
     round_done = done_more q start es from at round.ended.place way.reported round.reported totals o.totals way.done round.ended.done
 
     -- A round reached its end.
-    pub round_more : o.interrupted ≡ false → IsUnderWay q start es from faithful to (plus_totals totals o.totals) old new
+    pub round_more : o.interrupted ≡ false → IsWorkSoFar q start es from faithful to (plus_totals totals o.totals) old new
     round_more still = record {
       reported = way.reported ++ round.reported;
       fed = reports_more faithful way.reported round.reported old now new way.fed round.fed;
@@ -203,7 +203,7 @@ module _ {T U : Type 0} (q : Query T U) (start : ℕ) (es : List IndexEntry) (fa
 -- A round, after some of its pieces were reported.
 pub record IsMidRound {T U : Type 0} (q : Query T U) (interruptible : Bool) (start : ℕ) (es : List IndexEntry) (faithful : Visit T U → Type 0) (from to : ℕ) (totals : Totals) (old now : List (Visit T U)) (rest : List (Piece T U)) : Type 0 where
   pub at : ℕ
-  pub way : IsUnderWay q start es from faithful at totals old now
+  pub way : IsWorkSoFar q start es from faithful at totals old now
   pub rows : AreInRow q interruptible start es to at rest
 
 -- The first of the pieces that are left, and those after it.

@@ -6,19 +6,19 @@ use Rattle.status_index.specs.declared.metadata.Metadata.{Metadata}
 use Rattle.status_compare.specs.declared.error.Error.{Error}
 use Rattle.status_base.specs.CheckState.{IsClear}
 use Rattle.status_base.specs.ListedNodes.{Listing, known_node}
-use Rattle.status_base.specs.ListingTable.{Table, IsOf}
+use Rattle.status_base.specs.ListingTable.{Table, HasListedNames}
 use Rattle.status_call.specs.EntryParts.{IsLookAt}
 use Rattle.status_call.specs.Modelled.{are_modelled}
 use Rattle.status_call.specs.declared.index_as_worktree.lookup.Look.{Look}
 
 -- A table has the lister's listings, if the lister is modelled.
 abbrev pub Keeps : Bool → (List ℕ → Listing) → Table → Type 0
-Keeps modelled listing table = IsTrue modelled → IsOf listing table
+Keeps modelled listing table = IsTrue modelled → HasListedNames listing table
 
 module _ (asked modelled : Bool) (listing : List ℕ → Listing) (table : Table) (path : List ℕ) where
   -- The node that listings know at a path, if they are used.
-  abbrev pub IsKnown : Result (Option Metadata) AllocError → Type 0
-  IsKnown result = IsTrue (are_modelled asked modelled) → Keeps modelled listing table
+  abbrev pub IsKnownByListings : Result (Option Metadata) AllocError → Type 0
+  IsKnownByListings result = IsTrue (are_modelled asked modelled) → Keeps modelled listing table
       → IfOk result (λ node. node ≡ known_node asked listing path)
 
   -- The look-up of a path by listings and by `lstat`, if no directory above the path that the check keeps is a link or a fault.

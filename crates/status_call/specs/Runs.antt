@@ -19,8 +19,8 @@ abbrev pub IsFaithfulTo : {T U : Type 0} → Considered → Visit T U → Type 0
 IsFaithfulTo c = IsFaithful c.entries.now c.backing.now
 
 -- The records of the considered entries from position `from` on that were reported, and how the work ended.
-abbrev pub IsRun : {T U : Type 0} → Query T U → Considered → Workers → ℕ → ℕ → List (Visit T U)
+abbrev pub IsRoundsReport : {T U : Type 0} → Query T U → Considered → Workers → ℕ → ℕ → List (Visit T U)
     → Result Progress Error → List (Visit T U) → Type 0
-IsRun q c w from to old result new =
+IsRoundsReport q c w from to old result new =
     IsReportedWork q c.start (part_entries c) from (IsFaithfulTo c) (is_some w.interrupt) w.most to
     old result new

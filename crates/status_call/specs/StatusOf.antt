@@ -10,7 +10,7 @@ use Rattle.status_call.specs.declared.index_as_worktree.types.Outcome.{Outcome}
 use Rattle.status_call.specs.Inputs.{settings}
 use Rattle.status_call.specs.Query.{Query}
 use Rattle.status_call.specs.Records.{first_fault}
-use Rattle.status_call.specs.StatusTheorem.{IsMet, NeverSpawns, considered_entries}
+use Rattle.status_call.specs.StatusTheorem.{IsStatusReport, NeverSpawns, considered_entries}
 use Rattle.status_call.specs.Visits.{Visit}
 
 -- No thread is refused, if the comparer never returns that.
@@ -22,8 +22,8 @@ abbrev pub IsFaultOrMemory : {T U : Type 0} → Query T U → State → Result O
 IsFaultOrMemory q index result = IsTrue q.modelled → IfErr result (λ e. e ≢ Memory → first_fault q (considered_entries q index) ≡ Some e)
 
 -- With limit 1 no thread is refused, if the comparer never returns that.
-abbrev pub IsUnspawned : {T U : Type 0} → Query T U → Option ℕ → Result Outcome Error → Type 0
-IsUnspawned q limit result = IsTrue q.modelled → limit ≡ Some 1 → NeverSpawns q → result ≢ Err SpawnThread
+abbrev pub OneThreadSpawnsNone : {T U : Type 0} → Query T U → Option ℕ → Result Outcome Error → Type 0
+OneThreadSpawnsNone q limit result = IsTrue q.modelled → limit ≡ Some 1 → NeverSpawns q → result ≢ Err SpawnThread
 
 module _ {I T U : Type 0} (query : I → Settings → Query T U) (inputs : I) (options : Options)
     (index : State) where
@@ -33,11 +33,11 @@ module _ {I T U : Type 0} (query : I → Settings → Query T U) (inputs : I) (o
   -- The collector's records before and after the call, and the call's result.
   abbrev pub IsStatus : {V : Type 0} → (V → List (Visit T U)) → V → Result Outcome Error → V
       → Type 0
-  IsStatus visits old result new = IsMet query_of index (visits old) result (visits new)
+  IsStatus visits old result new = IsStatusReport query_of index (visits old) result (visits new)
 
   -- With limit 1 no thread is refused, by the interfaces passed and the options.
-  abbrev pub IsAlone : Result Outcome Error → Type 0
-  IsAlone result = IsUnspawned query_of options.thread_limit result
+  abbrev pub OneThreadCallSpawnsNone : Result Outcome Error → Type 0
+  OneThreadCallSpawnsNone result = OneThreadSpawnsNone query_of options.thread_limit result
 
   -- No thread is refused, and any error but out of memory is the first fault, by the interfaces passed and the options.
   abbrev pub IsWithoutThread : Result Outcome Error → Type 0

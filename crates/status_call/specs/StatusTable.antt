@@ -172,17 +172,17 @@ module _ {T U : Type 0} (q : Query T U) (e : IndexEntry) where
         → status_of q e ≡ Ok (Some (statuses.NeedsUpdate s))
 
   -- The entry is in a row.
-  abbrev pub IsInRow : Row → Type 0
-  IsInRow gone = IsGone
-  IsInRow refused = (f : Fault) × IsUnreachable f
-  IsInRow in_submodule = IsInSubmodule
-  IsInRow added = IsAdded
-  IsInRow unstamped = IsUnstamped
-  IsInRow retyped = (mode : Mode) × IsRetyped mode
-  IsInRow unchanged = IsUnchanged
-  IsInRow failed = (n : Metadata) × ((s : Stat) × ((x : Bool) × ((err : Error)
+  abbrev pub IsTableRow : Row → Type 0
+  IsTableRow gone = IsGone
+  IsTableRow refused = (f : Fault) × IsUnreachable f
+  IsTableRow in_submodule = IsInSubmodule
+  IsTableRow added = IsAdded
+  IsTableRow unstamped = IsUnstamped
+  IsTableRow retyped = (mode : Mode) × IsRetyped mode
+  IsTableRow unchanged = IsUnchanged
+  IsTableRow failed = (n : Metadata) × ((s : Stat) × ((x : Bool) × ((err : Error)
       × (IsCompared n s x × (comparison n ≡ Err err)))))
-  IsInRow modified = (n : Metadata) × ((s : Stat) × ((x : Bool) × ((c : Option T)
+  IsTableRow modified = (n : Metadata) × ((s : Stat) × ((x : Bool) × ((c : Option T)
       × (IsCompared n s x × (comparison n ≡ Ok c) × HasChange x c))))
-  IsInRow to_update = (n : Metadata)
+  IsTableRow to_update = (n : Metadata)
       × ((s : Stat) × (IsCompared n s false × (comparison n ≡ Ok None)))

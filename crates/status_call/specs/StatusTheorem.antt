@@ -63,7 +63,7 @@ module _ {T U : Type 0} (q : Query T U) (index : State) where
         ≡ records_in q considered_entries start_of (take place considered_entries)
 
   -- The records that were reported over any worktree, and over one for which all interfaces passed are modelled.
-  pub record IsMet (old : List (Visit T U)) (result : Result Outcome Error)
+  pub record IsStatusReport (old : List (Visit T U)) (result : Result Outcome Error)
       (new : List (Visit T U)) : Type 0 where
     pub more : List (Visit T U)
     pub grew : new ≡ old ++ more

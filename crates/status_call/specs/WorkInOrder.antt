@@ -25,7 +25,7 @@ IsShortage workers e = (e ≡ Memory) ⊎ ((e ≡ SpawnThread) × (1 < workers))
 
 module _ {T U : Type 0} (q : Query T U) (start : ℕ) (es : List IndexEntry) (from : ℕ) where
   -- The work ended: at an entry that has a fault or runs out of memory, or because it couldn't go on.
-  pub record IsStopped (workers : ℕ) (reported : List (Finding T U)) (e : Error) : Type 0 where
+  pub record IsWorkStopped (workers : ℕ) (reported : List (Finding T U)) (e : Error) : Type 0 where
     pub place : ℕ
     pub found : List (Finding T U)
     pub totals : Totals
@@ -35,20 +35,20 @@ module _ {T U : Type 0} (q : Query T U) (start : ℕ) (es : List IndexEntry) (fr
         ⊎ (IsShortage workers e × IsBeginning reported found)
 
   -- The entries up to a position are done: it is `to`, or the interrupt flag was seen there.
-  pub record IsReached (interruptible : Bool) (to : ℕ) (reported : List (Finding T U))
+  pub record IsWorkReached (interruptible : Bool) (to : ℕ) (reported : List (Finding T U))
       (p : Progress) : Type 0 where
     pub place : ℕ
     pub done : IsDone q start es from place reported p.totals
     pub reached : p.interrupted ≡ false → place ≡ to
     pub uninterrupted : interruptible ≡ false → p.interrupted ≡ false
 
-  abbrev pub IsEnded : Bool → ℕ → ℕ → List (Finding T U) → Result Progress Error → Type 0
-  IsEnded interruptible workers to reported (Ok p) = IsReached interruptible to reported p
-  IsEnded interruptible workers to reported (Err e) = IsStopped workers reported e
+  abbrev pub IsWorkEnd : Bool → ℕ → ℕ → List (Finding T U) → Result Progress Error → Type 0
+  IsWorkEnd interruptible workers to reported (Ok p) = IsWorkReached interruptible to reported p
+  IsWorkEnd interruptible workers to reported (Err e) = IsWorkStopped workers reported e
 
   module _ (faithful : Visit T U → Type 0) where
     -- The entries before a position are done and reported.
-    pub record IsUnderWay (at : ℕ) (totals : Totals) (old now : List (Visit T U)) : Type 0 where
+    pub record IsWorkSoFar (at : ℕ) (totals : Totals) (old now : List (Visit T U)) : Type 0 where
       pub reported : List (Finding T U)
       pub fed : Reports faithful reported old now
       pub done : IsDone q start es from at reported totals
@@ -58,7 +58,7 @@ module _ {T U : Type 0} (q : Query T U) (start : ℕ) (es : List IndexEntry) (fr
         (result : Result Progress Error) (new : List (Visit T U)) : Type 0 where
       pub reported : List (Finding T U)
       pub fed : Reports faithful reported old new
-      pub ended : IsEnded interruptible workers to reported result
+      pub ended : IsWorkEnd interruptible workers to reported result
 
 -- The same for all considered entries, by a thread limit.
 pub record IsLimitedWork {T U : Type 0} (q : Query T U) (start : ℕ) (es : List IndexEntry)

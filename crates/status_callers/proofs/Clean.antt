@@ -12,7 +12,7 @@ use Rattle.status_call.specs.declared.index_as_worktree.types.Outcome.{Outcome}
 use Rattle.status_call.specs.Query.{Query}
 use Rattle.status_call.specs.RecorderVisits.{visit_of}
 use Rattle.status_call.specs.Records.{fault_by, faults_in, record_by, records_in, verdict}
-use Rattle.status_call.specs.StatusTheorem.{IsMet, considered_entries, start_of}
+use Rattle.status_call.specs.StatusTheorem.{IsStatusReport, considered_entries, start_of}
 use Rattle.status_call.specs.Visits.{Visit, finding_of}
 use Rattle.status_callers.specs.Clean.{IsClean}
 
@@ -44,7 +44,7 @@ unmapped f xs none = sym (length-map xs f) ∙ ap length none
 
 -- A status of which a recorder has no record, and which wasn't interrupted.
 pub nothing_found : {T U : Type 0} (q : Query T U) (index : State) (o : Outcome) (old : List (Visit T U)) (rs : List (Record T U)) → IsTrue q.modelled → o.interrupted ≡ false
-    → IsMet q index old (Ok o) (map visit_of rs) → old ≡ [] → (length rs == 0) ≡ true → IsClean q index
+    → IsStatusReport q index old (Ok o) (map visit_of rs) → old ≡ [] → (length rs == 0) ≡ true → IsClean q index
 nothing_found q index o old rs modelled whole met new none =
     let complete = met.complete modelled whole in
     let es = considered_entries q index in
@@ -54,7 +54,7 @@ nothing_found q index o old rs modelled whole met new none =
 
 -- And the other way: no considered entry has a status, so a recorder that was new has no record.
 pub nothing_recorded : {T U : Type 0} (q : Query T U) (index : State) (o : Outcome) (old : List (Visit T U)) (rs : List (Record T U)) → IsTrue q.modelled → o.interrupted ≡ false
-    → IsMet q index old (Ok o) (map visit_of rs) → old ≡ [] → IsClean q index → (length rs == 0) ≡ true
+    → IsStatusReport q index old (Ok o) (map visit_of rs) → old ≡ [] → IsClean q index → (length rs == 0) ≡ true
 nothing_recorded q index o old rs modelled whole met new clean =
     let complete = met.complete modelled whole in
     let es = considered_entries q index in

@@ -3,7 +3,7 @@ use Rattle.std.proofs.Common.{◌≡◌, ◌⊎◌, ℕ, List, [], ◌++◌, Opt
 use Rattle.std.specs.Result.{IsErrAnd}
 use Rattle.std.specs.Io.KnownBytes.{Appends}
 use Rattle.std.proofs.KnownBytes.{Appends-nil, Appends-trans}
-use Rattle.status_cli.specs.Buffering.{IsAdded, IsBuffered, IsFinished, IsPartBuffered}
+use Rattle.status_cli.specs.Buffering.{IsTextAdded, IsBuffered, IsFinished, IsPartBuffered}
 use Rattle.status_cli.specs.Printing.{IsBegun, IsPrinted}
 use Rattle.status_cli.specs.declared.failure.Failure.{Failure}
 use Rattle.status_cli.specs.declared.failure.Failure.TheVariants.{Output, Memory}
@@ -56,7 +56,7 @@ failed_more all text rest left last a b c e first (inr (output, begun)) =
     inr (output, begun_longer (all ++ text) rest a c (subst (λ t. IsBegun t a c) whole (begun_more first.printed (left ++ text) a b c first.grew begun)))
 
 -- what failed
-pub failed_added : {T : Type 0} (text lines : List ℕ) (old : Option (List ℕ)) (e : Failure) (result : Result T Failure) (left : List ℕ) (new : Option (List ℕ)) → IsErrAnd result (λ f. f ≡ e) → IsFailedAdd (lines ++ text) old e left new → IsAdded text lines old result left new
+pub failed_added : {T : Type 0} (text lines : List ℕ) (old : Option (List ℕ)) (e : Failure) (result : Result T Failure) (left : List ℕ) (new : Option (List ℕ)) → IsErrAnd result (λ f. f ≡ e) → IsFailedAdd (lines ++ text) old e left new → IsTextAdded text lines old result left new
 failed_added text lines old e (Ok v) left new failed why = absurd failed
 failed_added text lines old e (Err f) left new failed why = rw failed why
 
@@ -69,14 +69,14 @@ added_step lines before text after left last a b c e first more =
 
 -- it couldn't be added
 pub failed_step : {T : Type 0} (lines before text rest all left last : List ℕ) (a b c : Option (List ℕ)) (e : Failure) (result : Result T Failure) → IsErrAnd result (λ f. f ≡ e) → all ≡ (before ++ text) ++ rest
-    → IsBuffered (lines ++ before) a left b → IsFailedAdd (left ++ text) b e last c → IsAdded all lines a result last c
+    → IsBuffered (lines ++ before) a left b → IsFailedAdd (left ++ text) b e last c → IsTextAdded all lines a result last c
 failed_step lines before text rest all left last a b c e result failed same first why =
     let whole : ((lines ++ before) ++ text) ++ rest ≡ lines ++ all =
     append_assoc (lines ++ before) text rest ∙ append_assoc lines before (text ++ rest) ∙ ap (λ t. lines ++ t) (sym (append_assoc before text rest) ∙ sym same) in
     failed_added all lines a e result last c failed (subst (λ t. IsFailedAdd t a e last c) whole (failed_more (lines ++ before) text rest left last a b c e first why))
 
 -- it couldn't be added, and there is a text after it
-pub failed_longer : {T : Type 0} (text rest lines left : List ℕ) (old new : Option (List ℕ)) (e : Failure) (result : Result T Failure) → IsErrAnd result (λ f. f ≡ e) → IsFailedAdd (lines ++ text) old e left new → IsAdded (text ++ rest) lines old result left new
+pub failed_longer : {T : Type 0} (text rest lines left : List ℕ) (old new : Option (List ℕ)) (e : Failure) (result : Result T Failure) → IsErrAnd result (λ f. f ≡ e) → IsFailedAdd (lines ++ text) old e left new → IsTextAdded (text ++ rest) lines old result left new
 failed_longer text rest lines left old new e result failed why =
     failed_step lines [] text rest (text ++ rest) lines left old old new e result failed refl (subst (λ t. IsBuffered t old lines old) (sym (append-nil lines)) (all_left lines old)) why
 
@@ -85,7 +85,7 @@ pub longer : (all more before text rest : List ℕ) → all ≡ (before ++ text)
 longer all more before text rest e = ap (λ t. t ++ more) e ∙ append_assoc (before ++ text) rest more
 
 -- a text and another were added
-pub added_more : {T : Type 0} (lines first second left last : List ℕ) (a b c : Option (List ℕ)) (result : Result T Failure) → IsBuffered (lines ++ first) a left b → IsAdded second left b result last c → IsAdded (first ++ second) lines a result last c
+pub added_more : {T : Type 0} (lines first second left last : List ℕ) (a b c : Option (List ℕ)) (result : Result T Failure) → IsBuffered (lines ++ first) a left b → IsTextAdded second left b result last c → IsTextAdded (first ++ second) lines a result last c
 added_more lines first second left last a b c (Ok v) before more = added_step lines first second (first ++ second) left last a b c refl before more
 added_more {T} lines first second left last a b c (Err e) before why = failed_step {T = T} lines first second [] (first ++ second) left last a b c e (Err e) refl (sym (append-nil (first ++ second))) before why
 
@@ -96,7 +96,7 @@ begun_of : (part text : List ℕ) (old new : Option (List ℕ)) → ((rest : Lis
 begun_of part text old new begins begun = subst (λ t. IsBegun t old new) begins.1 (begun_longer part begins.0 old new begun)
 
 -- what was added to an empty buffer was printed
-pub finished : {T : Type 0} (text left : List ℕ) (old mid new : Option (List ℕ)) (added result : Result T Failure) → IsAdded text [] old added left mid → IsFinished left added mid result new → IsPrinted text old result new
+pub finished : {T : Type 0} (text left : List ℕ) (old mid new : Option (List ℕ)) (added result : Result T Failure) → IsTextAdded text [] old added left mid → IsFinished left added mid result new → IsPrinted text old result new
 finished text left old mid new (Ok v) (Ok w) first last = subst (λ t. Appends old new t) first.whole (Appends-trans old mid new first.printed left first.grew last)
 finished text left old mid new (Ok v) (Err f) first (output, begun) = (subst (λ t. IsBegun t old new) first.whole (begun_more first.printed left old mid new first.grew begun), inl output)
 finished text left old mid new (Err e) (Ok w) first last = absurd last

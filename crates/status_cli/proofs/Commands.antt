@@ -6,8 +6,8 @@ use Rattle.status_compare.specs.declared.error.Error.{Error}
 use Rattle.status_call.specs.declared.index_as_worktree.apply.ApplyChange.{ApplyChange}
 use Rattle.status_call.specs.declared.index_as_worktree.types.Outcome.{Outcome}
 use Rattle.status_call.specs.Query.{Query}
-use Rattle.status_call.specs.StatusOf.{IsUnspawned}
-use Rattle.status_call.specs.StatusTheorem.{IsMet}
+use Rattle.status_call.specs.StatusOf.{OneThreadSpawnsNone}
+use Rattle.status_call.specs.StatusTheorem.{IsStatusReport}
 use Rattle.status_call.specs.Visits.{Visit}
 use Rattle.status_index.specs.declared.id.HashKind.{HashKind}
 use Rattle.status_index.specs.declared.state.State.{State}
@@ -20,7 +20,7 @@ use Rattle.status_cli.specs.declared.failure.Failure.{Failure}
 use Rattle.status_cli.specs.declared.status.profile_status.Changes.{Changes}
 use Rattle.status_cli.specs.declared.status.profile_status.Changes.TheVariants.{Dropped}
 use Rattle.status_cli.specs.Printing.{result_map}
-use Rattle.status_cli.specs.Statuses.{IsJoinedPrinted, IsStatusPrinted, IsEnded, JoinedInputs, answered, closing, visit_lines}
+use Rattle.status_cli.specs.Statuses.{IsJoinedPrinted, IsStatusPrinted, IsPrintEnd, JoinedInputs, answered, closing, visit_lines}
 use Rattle.status_cli.specs.ProfileStatuses.{IsPlacePrinted, IsPrintedOver, IsStatusOver, WorktreeResults, folder_results, folder_walk, tree_results, tree_walk}
 use Rattle.status_cli.proofs.Printed.{printed_status}
 use Rattle.status_index.specs.declared.id.ObjectId.{ObjectId}
@@ -42,7 +42,7 @@ failed_alike (Err d) (Err f) e was h = let same : d ≡ e = cc in same ∙ sym h
 pub done_alike : {A B : Type 0} (r : Result A Failure) (x : A) (y : B) → r ≡ Ok x → AreAlike r (Ok y)
 done_alike r x y e = rw e tt
 
-pub ended_alike : {A B : Type 0} (text : List ℕ) (answer : Result Outcome Failure) (old new : Option (List ℕ)) (r : Result A Failure) (s : Result B Failure) → AreAlike r s → IsEnded text answer old r new → IsEnded text answer old s new
+pub ended_alike : {A B : Type 0} (text : List ℕ) (answer : Result Outcome Failure) (old new : Option (List ℕ)) (r : Result A Failure) (s : Result B Failure) → AreAlike r s → IsPrintEnd text answer old r new → IsPrintEnd text answer old s new
 ended_alike text (Ok o) old new (Ok x) (Ok y) same h = h
 ended_alike text (Err f) old new (Ok x) (Ok y) same h = h
 ended_alike text answer old new (Ok x) (Err f) same h = absurd same
@@ -70,7 +70,7 @@ if_failed (Err e) P Q h = tt
 
 -- a status failed while it was printed, or after it
 pub printed_failed : {U A : Type 0} (view : A → List ApplyChange) (c : Comparer) (query : Query (Option ObjectId) U) (limit : Option ℕ) (index : State) (counts : Bool) (wanted : Changes) (none visits : List (Visit (Option ObjectId) U)) (answer : Result Outcome Error) (old new : Option (List ℕ)) (r : Result A Failure) (P : Failure → Type 0)
-    → IsErrAnd r P → none ≡ [] → IsMet query index none answer visits → IfOk answer (λ o. o.interrupted ≡ false) → query.compared ≡ compared_by c → IsUnspawned query limit answer → IsEnded (visit_lines visits ++ closing counts (answered answer)) (answered answer) old r new
+    → IsErrAnd r P → none ≡ [] → IsStatusReport query index none answer visits → IfOk answer (λ o. o.interrupted ≡ false) → query.compared ≡ compared_by c → OneThreadSpawnsNone query limit answer → IsPrintEnd (visit_lines visits ++ closing counts (answered answer)) (answered answer) old r new
     → IsStatusPrinted query limit index counts wanted old (result_map view r) new
 printed_failed view c query limit index counts wanted none visits answer old new (Ok x) P failed empty met whole by alone ended = absurd failed
 printed_failed {A = A} view c query limit index counts wanted none visits answer old new (Err e) P failed empty met whole by alone ended =

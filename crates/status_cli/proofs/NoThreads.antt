@@ -8,7 +8,7 @@ use Rattle.status_compare.specs.Comparers.{hash_answer, fast_answer, counts_afte
 use Rattle.status_call.specs.declared.index_as_worktree.types.Outcome.{Outcome}
 use Rattle.status_call.specs.Query.{Query}
 use Rattle.status_call.specs.Status.{readings}
-use Rattle.status_call.specs.StatusOf.{IsUnspawned}
+use Rattle.status_call.specs.StatusOf.{OneThreadSpawnsNone}
 use Rattle.status_call.specs.StatusTheorem.{NeverSpawns}
 use Rattle.status_call.proofs.NoThread.{ids_law, sizes_law}
 use Rattle.status_world.specs.declared.world.event.Comparer.{Comparer}
@@ -77,5 +77,5 @@ module _ {U : Type 0} (q : Query (Option ObjectId) U) where
   never_spawns Fast is e n h = without_id_kept _ (sizes_law size_query refl e n) (sym (ap (λ f. f e n.len (readings q e n)) is) ∙ h)
 
   -- with one worker no thread is refused
-  pub lone_comparers : (c : Comparer) → q.compared ≡ compared_by c → (limit : Option ℕ) (answer : Result Outcome Error) → IsUnspawned q limit answer → IsTrue q.modelled → limit ≡ Some 1 → answer ≢ Err SpawnThread
+  pub lone_comparers : (c : Comparer) → q.compared ≡ compared_by c → (limit : Option ℕ) (answer : Result Outcome Error) → OneThreadSpawnsNone q limit answer → IsTrue q.modelled → limit ≡ Some 1 → answer ≢ Err SpawnThread
   lone_comparers c is limit answer alone modelled one = alone modelled one (never_spawns c is)

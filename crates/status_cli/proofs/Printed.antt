@@ -11,8 +11,8 @@ use Rattle.status_cli.specs.declared.failure.Failure.{Failure}
 use Rattle.status_cli.specs.declared.failure.Failure.TheVariants.{Memory, Output}
 use Rattle.status_cli.specs.declared.status.profile_status.Changes.{Changes}
 use Rattle.status_cli.specs.FaultLines.{IsFaultWritten, memory_line}
-use Rattle.status_cli.specs.Printing.{IsBegun, IsPrinted, IsUnprinted, IsWritten}
-use Rattle.status_cli.specs.Statuses.{IsEnded, IsJoinedAnswer, IsJoinedPrinted, IsStatusPrinted, JoinedInputs, answered, closing, entry_lines, joined_answered, returned_changes, visit_lines}
+use Rattle.status_cli.specs.Printing.{IsBegun, IsPrinted, IsUnprinted, IsAllWritten}
+use Rattle.status_cli.specs.Statuses.{IsPrintEnd, IsJoinedAnswer, IsJoinedPrinted, IsStatusPrinted, JoinedInputs, answered, closing, entry_lines, joined_answered, returned_changes, visit_lines}
 use Rattle.status_index.specs.declared.id.HashKind.{HashKind}
 use Rattle.status_index.specs.declared.state.State.{State}
 use Rattle.status_joined.specs.Items.{Reported}
@@ -21,8 +21,8 @@ use Rattle.status_joined.specs.declared.index_as_worktree_with_renames.types.Out
 use Rattle.status_profile.specs.Options.{OptionValues}
 use Rattle.status_compare.specs.declared.error.Error.{Error}
 use Rattle.status_call.specs.Query.{Query}
-use Rattle.status_call.specs.StatusOf.{IsUnspawned}
-use Rattle.status_call.specs.StatusTheorem.{IsMet}
+use Rattle.status_call.specs.StatusOf.{OneThreadSpawnsNone}
+use Rattle.status_call.specs.StatusTheorem.{IsStatusReport}
 use Rattle.status_call.specs.Visits.{Visit}
 use Rattle.status_index.specs.declared.id.ObjectId.{ObjectId}
 use Rattle.status_world.specs.declared.world.event.Comparer.{Comparer}
@@ -58,7 +58,7 @@ begun_longer first second a b some = record {
 }
 
 -- a text that was written was begun
-written_begun : {T : Type 0} (text : List ℕ) (old new : Option (List ℕ)) (result : Result T Failure) → IsWritten text old result new → IsBegun text old new
+written_begun : {T : Type 0} (text : List ℕ) (old new : Option (List ℕ)) (result : Result T Failure) → IsAllWritten text old result new → IsBegun text old new
 written_begun text old new (Ok v) all = all_begun text old new all
 written_begun text old new (Err e) some = some.0
 
@@ -107,46 +107,46 @@ module _ {A B : Type 0} (line : B → List ℕ) (view : A → B) where
   begun_next xs i done x old mid new next before here =
       rw (lines_whole xs i done x next) (begun_longer (lines done ++ line (view x)) (lines (drop (i + 1) xs)) old new (begun_more (lines done) (line (view x)) old mid new before here))
 
-pub failed_written : {T : Type 0} (text : List ℕ) (old new : Option (List ℕ)) (failure : Failure) (result : Result T Failure) → IsErrAnd result (λ e. e ≡ failure) → IsBegun text old new → failure ≡ Output → IsWritten text old result new
+pub failed_written : {T : Type 0} (text : List ℕ) (old new : Option (List ℕ)) (failure : Failure) (result : Result T Failure) → IsErrAnd result (λ e. e ≡ failure) → IsBegun text old new → failure ≡ Output → IsAllWritten text old result new
 failed_written text old new failure (Ok v) failed begun why = absurd failed
 failed_written text old new failure (Err e) failed begun why = (begun, rw failed why)
 
 -- ---- how a status ends
 
 -- a beginning of the first text was printed
-pub ended_early : {T : Type 0} (first second : List ℕ) (answer : Result Outcome Failure) (old new : Option (List ℕ)) (failure : Failure) (result : Result T Failure) → IsErrAnd result (λ e. e ≡ failure) → IsBegun first old new → IsUnprinted failure → IsEnded (first ++ second) answer old result new
+pub ended_early : {T : Type 0} (first second : List ℕ) (answer : Result Outcome Failure) (old new : Option (List ℕ)) (failure : Failure) (result : Result T Failure) → IsErrAnd result (λ e. e ≡ failure) → IsBegun first old new → IsUnprinted failure → IsPrintEnd (first ++ second) answer old result new
 ended_early first second answer old new failure (Ok v) failed begun why = absurd failed
 ended_early first second (Ok o) old new failure (Err e) failed begun why = (begun_longer first second old new begun, rw failed why)
 ended_early first second (Err f) old new failure (Err e) failed begun why = inr (begun_longer first second old new begun, rw failed why)
 
 -- one text was printed, and then the other as the status ended
-pub ended_after : {T : Type 0} (first second : List ℕ) (answer : Result Outcome Failure) (a b c : Option (List ℕ)) (result : Result T Failure) → Appends a b first → IsEnded second answer b result c → IsEnded (first ++ second) answer a result c
+pub ended_after : {T : Type 0} (first second : List ℕ) (answer : Result Outcome Failure) (a b c : Option (List ℕ)) (result : Result T Failure) → Appends a b first → IsPrintEnd second answer b result c → IsPrintEnd (first ++ second) answer a result c
 ended_after first second (Ok o) a b c result grew ended = printed_more first second a b c result grew ended
 ended_after first second (Err f) a b c (Ok v) grew ended = ended
 ended_after first second (Err f) a b c (Err e) grew (inl all) = inl (Appends-trans a b c first second grew all.0, all.1)
 ended_after first second (Err f) a b c (Err e) grew (inr some) = inr (begun_more first second a b c grew some.0, some.1)
 
 -- a failure is passed on
-pub ended_failed : (T : Type 0) {U : Type 0} (text : List ℕ) (answer : Result Outcome Failure) (old new : Option (List ℕ)) (failure : Failure) (result : Result U Failure) → IsErrAnd result (λ e. e ≡ failure) → IsEnded {T = T} text answer old (Err failure) new → IsEnded text answer old result new
+pub ended_failed : (T : Type 0) {U : Type 0} (text : List ℕ) (answer : Result Outcome Failure) (old new : Option (List ℕ)) (failure : Failure) (result : Result U Failure) → IsErrAnd result (λ e. e ≡ failure) → IsPrintEnd {T = T} text answer old (Err failure) new → IsPrintEnd text answer old result new
 ended_failed T text answer old new failure (Ok v) failed ended = absurd failed
 ended_failed T text (Ok o) old new failure (Err e) failed ended = (ended.0, rw failed ended.1)
 ended_failed T text (Err f) old new failure (Err e) failed ended = rw failed ended
 
 -- all was printed, and then memory ran out, or it didn't
-pub ended_then : (T : Type 0) {U : Type 0} (text : List ℕ) (answer : Result Outcome Failure) (old new : Option (List ℕ)) (v : T) (result : Result U Failure) → IfErr result IsUnprinted → IsEnded {T = T} text answer old (Ok v) new → IsEnded text answer old result new
+pub ended_then : (T : Type 0) {U : Type 0} (text : List ℕ) (answer : Result Outcome Failure) (old new : Option (List ℕ)) (v : T) (result : Result U Failure) → IfErr result IsUnprinted → IsPrintEnd {T = T} text answer old (Ok v) new → IsPrintEnd text answer old result new
 ended_then T text (Ok o) old new v (Ok u) why ended = ended
 ended_then T text (Ok o) old new v (Err e) why ended = (all_begun text old new ended, why)
 ended_then T text (Err f) old new v result why ended = absurd ended
 
 -- a status reported to a collector that had no record, and this was printed of it
 pub printed_status : {U : Type 0} (c : Comparer) (query : Query (Option ObjectId) U) (limit : Option ℕ) (index : State) (counts : Bool) (wanted : Changes) (none visits : List (Visit (Option ObjectId) U)) (answer : Result Outcome Error) (old new : Option (List ℕ)) (result : Result (List ApplyChange) Failure)
-    → none ≡ [] → IsMet query index none answer visits → IfOk answer (λ o. o.interrupted ≡ false) → query.compared ≡ compared_by c → IsUnspawned query limit answer → IsEnded (visit_lines visits ++ closing counts (answered answer)) (answered answer) old result new
+    → none ≡ [] → IsStatusReport query index none answer visits → IfOk answer (λ o. o.interrupted ≡ false) → query.compared ≡ compared_by c → OneThreadSpawnsNone query limit answer → IsPrintEnd (visit_lines visits ++ closing counts (answered answer)) (answered answer) old result new
     → IfOk result (λ changes. changes ≡ returned_changes wanted visits) → IsStatusPrinted query limit index counts wanted old result new
 printed_status c query limit index counts wanted none visits answer old new result empty met whole by alone ended returned =
-    record { visits = visits; answer = answer; met = subst (λ start. IsMet query index start answer visits) empty met; whole = whole; alone = lone_comparers query c by limit answer alone; ended = ended; returned = returned }
+    record { visits = visits; answer = answer; met = subst (λ start. IsStatusReport query index start answer visits) empty met; whole = whole; alone = lone_comparers query c by limit answer alone; ended = ended; returned = returned }
 
 pub printed_joined : {T U A : Type 0} (inputs : JoinedInputs T U) (o : OptionValues) (hash : HashKind) (index : State) (none entries : List (Reported T U)) (answer : Result JoinedOutcome JoinedError) (old new : Option (List ℕ)) (result : Result A Failure)
-    → none ≡ [] → IsJoinedAnswer inputs o hash index true none answer entries → IsEnded (entry_lines entries ++ closing o.counts (joined_answered answer)) (joined_answered answer) old result new → IsJoinedPrinted inputs o hash index old result new
+    → none ≡ [] → IsJoinedAnswer inputs o hash index true none answer entries → IsPrintEnd (entry_lines entries ++ closing o.counts (joined_answered answer)) (joined_answered answer) old result new → IsJoinedPrinted inputs o hash index old result new
 printed_joined inputs o hash index none entries answer old new result empty met ended =
     record { entries = entries; answer = answer; met = subst (λ start. IsJoinedAnswer inputs o hash index true start answer entries) empty met; ended = ended }
 

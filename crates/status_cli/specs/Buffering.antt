@@ -18,9 +18,9 @@ IsPartBuffered text old left new = (part : List ℕ) × IsBeginning part text ×
 
 -- a text was added to the lines in a buffer; or memory ran out, and a beginning of the lines and the text is printed or left; or the
 -- output can't be written, and a beginning is printed
-abbrev pub IsAdded : {T : Type 0} → List ℕ → List ℕ → Option (List ℕ) → Result T Failure → List ℕ → Option (List ℕ) → Type 0
-IsAdded text lines old (Ok _) left new = IsBuffered (lines ++ text) old left new
-IsAdded text lines old (Err failure) left new =
+abbrev pub IsTextAdded : {T : Type 0} → List ℕ → List ℕ → Option (List ℕ) → Result T Failure → List ℕ → Option (List ℕ) → Type 0
+IsTextAdded text lines old (Ok _) left new = IsBuffered (lines ++ text) old left new
+IsTextAdded text lines old (Err failure) left new =
     ((failure ≡ Memory) × IsPartBuffered (lines ++ text) old left new) ⊎ ((failure ≡ Output) × IsBegun (lines ++ text) old new)
 
 -- what is left was printed, and a failure to add lines stays; or the output can't be written, and a beginning is printed, of which

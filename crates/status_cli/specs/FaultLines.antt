@@ -21,7 +21,7 @@ use Rattle.status_profile.specs.declared.error.ProfileError.TheVariants as profi
 use Rattle.status_cli.specs.declared.failure.Failure.{Failure}
 use Rattle.status_cli.specs.declared.failure.Failure.TheVariants as failures
 use Rattle.status_cli.specs.Lines.{line, path_text}
-use Rattle.status_cli.specs.Printing.{IsBegun, IsWritten}
+use Rattle.status_cli.specs.Printing.{IsBegun, IsAllWritten}
 
 abbrev pub fault_text : Fault → List ℕ
 fault_text faults.NotFound = codes "not found"
@@ -135,8 +135,8 @@ memory_line = line (codes "out of memory" ∷ [])
 
 -- a line was written; or, if it names a submodule, whose path takes memory, the line that memory ran out
 abbrev pub IsFaultWritten : {T : Type 0} → Bool → List ℕ → Option (List ℕ) → Result T Failure → Option (List ℕ) → Type 0
-IsFaultWritten names text old result new = IsWritten text old result new ⊎ ((names ≡ true) × IsWritten memory_line old result new)
+IsFaultWritten names text old result new = IsAllWritten text old result new ⊎ ((names ≡ true) × IsAllWritten memory_line old result new)
 
 -- a beginning of a failure's line was written; or, if it names a submodule, of the line that memory ran out
-abbrev pub IsReported : List ℕ → Failure → Option (List ℕ) → Option (List ℕ) → Type 0
-IsReported name failure old new = IsBegun (failure_line name failure) old new ⊎ ((names_submodule failure ≡ true) × IsBegun memory_line old new)
+abbrev pub IsFaultReported : List ℕ → Failure → Option (List ℕ) → Option (List ℕ) → Type 0
+IsFaultReported name failure old new = IsBegun (failure_line name failure) old new ⊎ ((names_submodule failure ≡ true) × IsBegun memory_line old new)

@@ -23,9 +23,9 @@ IsPrinted text old (Ok _) new = Appends old new text
 IsPrinted text old (Err failure) new = IsBegun text old new × IsUnprinted failure
 
 -- the output grew by a text; or it can't be written, and it grew by a beginning of it
-abbrev pub IsWritten : {T : Type 0} → List ℕ → Option (List ℕ) → Result T Failure → Option (List ℕ) → Type 0
-IsWritten text old (Ok _) new = Appends old new text
-IsWritten text old (Err failure) new = IsBegun text old new × (failure ≡ Output)
+abbrev pub IsAllWritten : {T : Type 0} → List ℕ → Option (List ℕ) → Result T Failure → Option (List ℕ) → Type 0
+IsAllWritten text old (Ok _) new = Appends old new text
+IsAllWritten text old (Err failure) new = IsBegun text old new × (failure ≡ Output)
 
 -- a result with what is made of its value, or with the same failure
 abbrev pub result_map : {A B : Type 0} → (A → B) → Result A Failure → Result B Failure

@@ -47,7 +47,7 @@ use Rattle.status_cli.specs.declared.status.profile_status.IndexChanges.{IndexCh
 use Rattle.status_cli.specs.declared.status.profile_status.ProfileStatus.{ProfileStatus}
 use Rattle.status_cli.specs.declared.failure.Failure.TheVariants.{Unreadable, Memory}
 use Rattle.status_cli.specs.Failures.{failure_of_node, failure_of_profile}
-use Rattle.status_cli.specs.FaultLines.{IsReported}
+use Rattle.status_cli.specs.FaultLines.{IsFaultReported}
 use Rattle.status_cli.specs.Statuses.{IsJoinedAnswer, IsJoinedPrinted, IsStatusPrinted, JoinedInputs}
 
 -- the results of a worktree, and whether they are specified
@@ -175,8 +175,8 @@ IsPlacePrinted (places.Nodes nodes) hash options index wanted old result new =
     ⊎ ((tree : Tree) × (planted 0 empty_tree (map node_value nodes.items) ≡ Ok tree) × IsPrintedOver (tree_results tree) (tree_walk tree index) hash options index wanted old result new)
 
 -- the changes that are returned with a profile's index
-abbrev pub changes_in : IndexChanges → List ApplyChange
-changes_in r = r.changes.items
+abbrev pub changes_returned : IndexChanges → List ApplyChange
+changes_returned r = r.changes.items
 
 abbrev pub IsProfilePrinted : Profile → Changes → Option (List ℕ) → Result (List ApplyChange) Failure → Option (List ℕ) → Type 0
 IsProfilePrinted p wanted old result new = IsPlacePrinted p.place p.hash p.options p.index wanted old result new
@@ -194,7 +194,7 @@ IsTextPrinted kind text wanted old result new =
 
 -- of a command that ended with exit status 1: a beginning of its failure's line was written, and this holds of what was printed
 abbrev pub IsFailed : (Failure → Type 0) → List ℕ → Option (List ℕ) → Option (List ℕ) → Type 0
-IsFailed Printed name old new = (f : Failure) × Printed f × IsReported name f old new
+IsFailed Printed name old new = (f : Failure) × Printed f × IsFaultReported name f old new
 
 -- the same of a command's text, if that is known: it succeeded, or it failed
 abbrev pub IsTextSucceeded : Kind → Option (List ℕ) → Option (List ℕ) → Option (List ℕ) → Type 0

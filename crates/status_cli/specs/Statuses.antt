@@ -10,7 +10,7 @@ use Rattle.status_call.specs.declared.index_as_worktree.apply.ApplyChange.{Apply
 use Rattle.status_call.specs.declared.index_as_worktree.types.Outcome.{Outcome}
 use Rattle.status_call.specs.IndexChanges.{changes_of}
 use Rattle.status_call.specs.Query.{Query}
-use Rattle.status_call.specs.StatusTheorem.{IsMet}
+use Rattle.status_call.specs.StatusTheorem.{IsStatusReport}
 use Rattle.status_call.specs.Visits.{Visit}
 use Rattle.status_joined.specs.Items.{Reported}
 use Rattle.status_joined.specs.JoinedTheorem.{IsJoinedStatus}
@@ -58,10 +58,10 @@ closing counts (Err _) = []
 
 -- all of a text was printed, and the command succeeds or fails as the answer does; or the output can't be written or memory runs
 -- out, and a beginning was
-abbrev pub IsEnded : {T : Type 0} → List ℕ → Result Outcome Failure → Option (List ℕ) → Result T Failure → Option (List ℕ) → Type 0
-IsEnded text (Ok _) old result new = IsPrinted text old result new
-IsEnded text (Err failure) old (Ok _) new = ⊥
-IsEnded text (Err failure) old (Err e) new = (Appends old new text × (e ≡ failure)) ⊎ (IsBegun text old new × IsUnprinted e)
+abbrev pub IsPrintEnd : {T : Type 0} → List ℕ → Result Outcome Failure → Option (List ℕ) → Result T Failure → Option (List ℕ) → Type 0
+IsPrintEnd text (Ok _) old result new = IsPrinted text old result new
+IsPrintEnd text (Err failure) old (Ok _) new = ⊥
+IsPrintEnd text (Err failure) old (Err e) new = (Appends old new text × (e ≡ failure)) ⊎ (IsBegun text old new × IsUnprinted e)
 
 -- the changes that records ask for, if they are to be returned
 abbrev pub returned_changes : {T U : Type 0} → Changes → List (Visit T U) → List ApplyChange
@@ -74,10 +74,10 @@ returned_changes Dropped visits = []
 pub record IsStatusPrinted {T U : Type 0} (query : Query T U) (limit : Option ℕ) (index : State) (counts : Bool) (wanted : Changes) (old : Option (List ℕ)) (result : Result (List ApplyChange) Failure) (new : Option (List ℕ)) : Type 0 where
   pub visits : List (Visit T U)
   pub answer : Result Outcome Error
-  pub met : IsMet query index [] answer visits
+  pub met : IsStatusReport query index [] answer visits
   pub whole : IfOk answer (λ outcome. outcome.interrupted ≡ false)
   pub alone : IsTrue query.modelled → limit ≡ Some 1 → answer ≢ Err SpawnThread
-  pub ended : IsEnded (visit_lines visits ++ closing counts (answered answer)) (answered answer) old result new
+  pub ended : IsPrintEnd (visit_lines visits ++ closing counts (answered answer)) (answered answer) old result new
   pub returned : IfOk result (λ changes. changes ≡ returned_changes wanted visits)
 
 -- the options of a joined status: its lines are sorted by path if the profile has `sort`, it has the untracked files with
@@ -109,4 +109,4 @@ pub record IsJoinedPrinted {T U A : Type 0} (inputs : JoinedInputs T U) (o : Opt
   pub entries : List (Reported T U)
   pub answer : Result JoinedOutcome JoinedError
   pub met : IsJoinedAnswer inputs o hash index true [] answer entries
-  pub ended : IsEnded (entry_lines entries ++ closing o.counts (joined_answered answer)) (joined_answered answer) old result new
+  pub ended : IsPrintEnd (entry_lines entries ++ closing o.counts (joined_answered answer)) (joined_answered answer) old result new

@@ -3,10 +3,10 @@
 
 ghost use Rattle.std.specs.Prelude.{◌≡◌, ◌∷◌, [], IfOk, codes, decimal, true};
 ghost use Rattle.bstr.specs.BStr.{bstr_bytes};
-ghost use Rattle.status_cli.specs.FaultLines.{IsFaultWritten, IsReported, error_text, failure_line, fault_text, index_error_text, is_submodule_fault};
+ghost use Rattle.status_cli.specs.FaultLines.{IsFaultWritten, IsFaultReported, error_text, failure_line, fault_text, index_error_text, is_submodule_fault};
 ghost use Rattle.status_cli.specs.FaultLines.{joined_error_text, key_text, names_submodule, profile_error_text, refusal_text, submodule_line, tree_error_text, walk_error_text};
 ghost use Rattle.status_cli.specs.Lines.{line};
-ghost use Rattle.status_cli.specs.Printing.{IsWritten};
+ghost use Rattle.status_cli.specs.Printing.{IsAllWritten};
 
 use crate::failure::Failure;
 use crate::lines::push_path;
@@ -28,7 +28,7 @@ impl Failure {
     /// failure of the output nothing is written.
     pub fn report<E: io::Write>(&self, alloc: Global, name: &str, faults: &mut E) -> u8
         ensures status { result ≡ 1 }
-        ensures line { IsReported name.now self.now (E.contents faults.old) (E.contents faults.new) }
+        ensures line { IsFaultReported name.now self.now (E.contents faults.old) (E.contents faults.new) }
     {
         // If the line can't be written, there is nowhere left to report that.
         let _ = self.print(alloc, name, faults);
@@ -78,7 +78,7 @@ impl Failure {
 
 /// Writes the line of a text that isn't a profile.
 fn print_profile_error<E: io::Write>(error: ProfileError, faults: &mut E) -> Result<(), Failure>
-    ensures { IsWritten (line (profile_error_text error ∷ [])) (E.contents faults.old) result (E.contents faults.new) }
+    ensures { IsAllWritten (line (profile_error_text error ∷ [])) (E.contents faults.old) result (E.contents faults.new) }
 {
     match error {
         ProfileError::NotJson => print_parts(&["not JSON\n"], faults),
@@ -90,7 +90,7 @@ fn print_profile_error<E: io::Write>(error: ProfileError, faults: &mut E) -> Res
 
 /// Writes the line of entries that aren't an index.
 fn print_index_error<E: io::Write>(error: IndexError, faults: &mut E) -> Result<(), Failure>
-    ensures { IsWritten (line (codes "bad index: " ∷ index_error_text error ∷ [])) (E.contents faults.old) result (E.contents faults.new) }
+    ensures { IsAllWritten (line (codes "bad index: " ∷ index_error_text error ∷ [])) (E.contents faults.old) result (E.contents faults.new) }
 {
     match error {
         IndexError::EmptyPath { at } => print_bad_entry("empty path at ", at, faults),
@@ -106,7 +106,7 @@ fn print_bad_entry<E: io::Write>(
     at: usize,
     faults: &mut E,
 ) -> Result<(), Failure>
-    ensures { IsWritten (line (codes "bad index: " ∷ words.now ∷ decimal at ∷ [])) (E.contents faults.old) result (E.contents faults.new) }
+    ensures { IsAllWritten (line (codes "bad index: " ∷ words.now ∷ decimal at ∷ [])) (E.contents faults.old) result (E.contents faults.new) }
 {
     let mut digits = Buffer::new();
     print_parts(&["bad index: ", words, digits.format(at), "\n"], faults)
@@ -179,7 +179,7 @@ fn print_joined_error<E: io::Write>(
 
 /// Writes the line of a status whose walk failed.
 fn print_walk_error<E: io::Write>(error: &WalkError, faults: &mut E) -> Result<(), Failure>
-    ensures { IsWritten (line (codes "status failed: " ∷ walk_error_text error.now ∷ [])) (E.contents faults.old) result (E.contents faults.new) }
+    ensures { IsAllWritten (line (codes "status failed: " ∷ walk_error_text error.now ∷ [])) (E.contents faults.old) result (E.contents faults.new) }
 {
     match error {
         WalkError::Fault { fault, .. } => print_fault("walk: ", *fault, faults),
@@ -189,7 +189,7 @@ fn print_walk_error<E: io::Write>(error: &WalkError, faults: &mut E) -> Result<(
 
 /// Writes the line of a status that failed, with these words.
 fn print_failed<E: io::Write>(words: &'static str, faults: &mut E) -> Result<(), Failure>
-    ensures { IsWritten (line (codes "status failed: " ∷ words.now ∷ [])) (E.contents faults.old) result (E.contents faults.new) }
+    ensures { IsAllWritten (line (codes "status failed: " ∷ words.now ∷ [])) (E.contents faults.old) result (E.contents faults.new) }
 {
     print_parts(&["status failed: ", words, "\n"], faults)
 }
@@ -200,7 +200,7 @@ fn print_fault<E: io::Write>(
     fault: Fault,
     faults: &mut E,
 ) -> Result<(), Failure>
-    ensures { IsWritten (line (codes "status failed: " ∷ doing.now ∷ fault_text fault ∷ [])) (E.contents faults.old) result (E.contents faults.new) }
+    ensures { IsAllWritten (line (codes "status failed: " ∷ doing.now ∷ fault_text fault ∷ [])) (E.contents faults.old) result (E.contents faults.new) }
 {
     match fault {
         Fault::NotFound => print_doing(doing, "not found", faults),
@@ -233,7 +233,7 @@ fn print_doing<E: io::Write>(
     words: &'static str,
     faults: &mut E,
 ) -> Result<(), Failure>
-    ensures { IsWritten (line (codes "status failed: " ∷ doing.now ∷ words.now ∷ [])) (E.contents faults.old) result (E.contents faults.new) }
+    ensures { IsAllWritten (line (codes "status failed: " ∷ doing.now ∷ words.now ∷ [])) (E.contents faults.old) result (E.contents faults.new) }
 {
     print_parts(&["status failed: ", doing, words, "\n"], faults)
 }

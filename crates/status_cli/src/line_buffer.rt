@@ -4,7 +4,7 @@ ghost use Rattle.std.specs.Prelude.{◌≡◌, ◌<◌, ◌^◌, []};
 ghost use Rattle.bstr.specs.BStr.{bstr_bytes};
 ghost use Rattle.status_call.specs.Outcomes.{skipped_of};
 ghost use Rattle.status_joined.specs.Entries.{reported_entry};
-ghost use Rattle.status_cli.specs.Buffering.{IsAdded, IsFinished};
+ghost use Rattle.status_cli.specs.Buffering.{IsTextAdded, IsFinished};
 ghost use Rattle.status_cli.specs.Lines.{entry_line, record_line, run_line};
 ghost use Rattle.status_cli.specs.Statuses.{totals_text};
 
@@ -52,7 +52,7 @@ impl LineBuffer {
         status: &EntryStatus<T, U>,
         output: &mut O,
     ) -> Result<(), Failure>
-        ensures { IsAdded (record_line entry_index (bstr_bytes path.entry) status.now)
+        ensures { IsTextAdded (record_line entry_index (bstr_bytes path.entry) status.now)
             self.old.lines.items (O.contents output.old) result self.new.lines.items (O.contents output.new) }
     {
         self.line.clear();
@@ -70,7 +70,7 @@ impl LineBuffer {
         entry: &Entry<'_, T, U>,
         output: &mut O,
     ) -> Result<(), Failure>
-        ensures { IsAdded (entry_line (reported_entry entry.now))
+        ensures { IsTextAdded (entry_line (reported_entry entry.now))
             self.old.lines.items (O.contents output.old) result self.new.lines.items (O.contents output.new) }
     {
         self.line.clear();
@@ -83,7 +83,7 @@ impl LineBuffer {
     /// # Errors
     /// Memory runs out, and at most a beginning of the line is added; or the output can't be written.
     pub fn add_run<O: io::Write>(&mut self, run: usize, output: &mut O) -> Result<(), Failure>
-        ensures { IsAdded (run_line run)
+        ensures { IsTextAdded (run_line run)
             self.old.lines.items (O.contents output.old) result self.new.lines.items (O.contents output.new) }
     {
         self.line.clear();
@@ -102,7 +102,7 @@ impl LineBuffer {
         output: &mut O,
     ) -> Result<(), Failure>
         requires { skipped_of outcome.now < 2 ^ 64 }
-        ensures { IsAdded (totals_text counts outcome.now)
+        ensures { IsTextAdded (totals_text counts outcome.now)
             self.old.lines.items (O.contents output.old) result self.new.lines.items (O.contents output.new) }
     {
         self.line.clear();
@@ -114,7 +114,7 @@ impl LineBuffer {
 
     /// Adds the line that was made.
     fn add_line<O: io::Write>(&mut self, output: &mut O) -> Result<(), Failure>
-        ensures { IsAdded self.old.line.items
+        ensures { IsTextAdded self.old.line.items
             self.old.lines.items (O.contents output.old) result self.new.lines.items (O.contents output.new) }
     {
         self.lines.extend_from_slice(&self.line)?;

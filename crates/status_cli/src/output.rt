@@ -2,8 +2,8 @@
 
 ghost use Rattle.std.specs.Prelude.{◌<◌, ◌^◌, IfOk};
 ghost use Rattle.status_call.specs.Outcomes.{skipped_of};
-ghost use Rattle.status_cli.specs.Printing.{IsWritten, spelled};
-ghost use Rattle.status_cli.specs.Statuses.{IsEnded, closing};
+ghost use Rattle.status_cli.specs.Printing.{IsAllWritten, spelled};
+ghost use Rattle.status_cli.specs.Statuses.{IsPrintEnd, closing};
 
 use crate::failure::Failure;
 use crate::line_buffer::LineBuffer;
@@ -22,7 +22,7 @@ pub fn print_closing<O: io::Write>(
     output: &mut O,
 ) -> Result<(), Failure>
     requires { IfOk answer (λ o. skipped_of o < 2 ^ 64) }
-    ensures { IsEnded (closing counts answer) answer (O.contents output.old) result (O.contents output.new) }
+    ensures { IsPrintEnd (closing counts answer) answer (O.contents output.old) result (O.contents output.new) }
 {
     let outcome = answer?;
     let mut lines = LineBuffer::new(alloc);
@@ -32,7 +32,7 @@ pub fn print_closing<O: io::Write>(
 
 /// Writes these parts, one after the other.
 pub fn print_parts<O: io::Write>(parts: &[&str], output: &mut O) -> Result<(), Failure>
-    ensures { IsWritten (spelled parts.now) (O.contents output.old) result (O.contents output.new) }
+    ensures { IsAllWritten (spelled parts.now) (O.contents output.old) result (O.contents output.new) }
 {
     for part in parts {
         print(part.as_bytes(), output)?;
@@ -42,7 +42,7 @@ pub fn print_parts<O: io::Write>(parts: &[&str], output: &mut O) -> Result<(), F
 
 /// Writes bytes. Only a write that a signal interrupts is tried again.
 pub fn print<O: io::Write>(bytes: &[u8], output: &mut O) -> Result<(), Failure>
-    ensures { IsWritten bytes.now (O.contents output.old) result (O.contents output.new) }
+    ensures { IsAllWritten bytes.now (O.contents output.old) result (O.contents output.new) }
 {
     let mut written = 0;
     // The turns are counted, so that this is known to end.

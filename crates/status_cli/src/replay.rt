@@ -3,7 +3,7 @@
 ghost use Rattle.std.specs.Prelude.{◌≡◌, ◌⊎◌, All, IfErr, IfOk, IfSome, None, Some, take};
 ghost use Rattle.status_world.specs.Refusals.{start_refusal};
 ghost use Rattle.status_world.specs.Reports.{HasSum, report_value};
-ghost use Rattle.status_cli.specs.Buffering.{IsAdded};
+ghost use Rattle.status_cli.specs.Buffering.{IsTextAdded};
 ghost use Rattle.status_cli.specs.Printing.{IsPrinted};
 ghost use Rattle.status_cli.specs.Replays.{IsHistoryPrinted, IsNoStart, IsReplayed, IsReplayFailed, IsReplayText, IsStopOf};
 ghost use Rattle.status_cli.specs.Replays.{counted_up, event_count, replay_lines, report_lines, run_lines, start_of};
@@ -147,7 +147,7 @@ fn add_reports<O: io::Write>(
     output: &mut O,
 ) -> Result<(), Failure>
     requires { All HasSum reports.now }
-    ensures { IsAdded (replay_lines counts reports.now)
+    ensures { IsTextAdded (replay_lines counts reports.now)
         lines.old.lines.items (O.contents output.old) result lines.new.lines.items (O.contents output.new) }
 {
     for (at, report) in reports.iter().enumerate() {
@@ -166,7 +166,7 @@ fn add_numbered<O: io::Write>(
     output: &mut O,
 ) -> Result<(), Failure>
     requires { HasSum report.now }
-    ensures { IsAdded (run_lines counts run report.now)
+    ensures { IsTextAdded (run_lines counts run report.now)
         lines.old.lines.items (O.contents output.old) result lines.new.lines.items (O.contents output.new) }
 {
     lines.add_run(run, output)?;
@@ -182,7 +182,7 @@ fn add_report<O: io::Write>(
     output: &mut O,
 ) -> Result<(), Failure>
     requires { HasSum report.now }
-    ensures { IsAdded (report_lines counts (report_value report.now))
+    ensures { IsTextAdded (report_lines counts (report_value report.now))
         lines.old.lines.items (O.contents output.old) result lines.new.lines.items (O.contents output.new) }
 {
     for record in &report.records {

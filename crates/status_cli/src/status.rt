@@ -4,7 +4,7 @@ ghost use Rattle.std.specs.Prelude.{◌≡◌, ◌⊎◌, [], Ok, IfErr, IfOk, I
 ghost use Rattle.status_base.specs.Trees.{empty_tree};
 ghost use Rattle.status_profile.specs.Nodes.{node_value};
 ghost use Rattle.status_cli.specs.Printing.{result_map};
-ghost use Rattle.status_cli.specs.ProfileStatuses.{IsPlacePrinted, IsProfilePrinted, IsProfileShown, IsStatusShown, IsUnplanted, changes_in, planted, results_of};
+ghost use Rattle.status_cli.specs.ProfileStatuses.{IsPlacePrinted, IsProfilePrinted, IsProfileShown, IsStatusShown, IsUnplanted, changes_returned, planted, results_of};
 ghost use Rattle.status_cli.specs.ProfileStatuses.{IsTextFailed, IsTextPrinted, IsTextSucceeded};
 ghost use Rattle.status_index.specs.States.{index_of};
 ghost use Rattle.status_call.specs.IndexChanges.{AreInside};
@@ -90,7 +90,7 @@ where
     R::Dir: Send,
     ensures inside { IfOk result (λ r. AreInside r.changes.items (index_of r.index)) }
     ensures index { IfOk result (λ r. r.index ≡ profile.index) }
-    ensures printed { IsProfilePrinted profile changes (O.contents output.old) (result_map changes_in result) (O.contents output.new) }
+    ensures printed { IsProfilePrinted profile changes (O.contents output.old) (result_map changes_returned result) (O.contents output.new) }
 {
     let Profile {
         hash,

@@ -10,7 +10,7 @@ ghost use Rattle.status_base.specs.Lawful.{CloneKeeps};
 
 use crate::error::Error;
 use crate::read_data::ReadData;
-use status_base::index::Entry;
+use status_index::Entry;
 use std::alloc::Global;
 
 /// Compares a worktree's file with the blob that an index entry names.

@@ -11,8 +11,8 @@ use crate::read_data::ReadData;
 use crate::reads::Reads;
 use crate::stream::Stream;
 use bstr::BStr;
-use status_base::index::ObjectId;
 use status_base::worktree::{Find, ToGit, ToGitOutcome, Worktree};
+use status_index::ObjectId;
 
 /// Reads one entry's file, as git would store it, and its blob.
 #[derive(Drop)]

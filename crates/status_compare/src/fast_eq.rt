@@ -8,7 +8,7 @@ use crate::compare::CompareBlobs;
 use crate::error::Error;
 use crate::hash_eq::HashEq;
 use crate::read_data::ReadData;
-use status_base::index::Entry;
+use status_index::Entry;
 use std::alloc::Global;
 
 /// Compares by sizes if they show a change, and otherwise by ids. A change is reported without the new id, since the

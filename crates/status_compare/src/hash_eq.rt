@@ -9,9 +9,8 @@ use crate::compare::CompareBlobs;
 use crate::error::Error;
 use crate::read_data::ReadData;
 use crate::stream::Stream;
-use status_base::index::{Entry, HashKind, ObjectId};
 use status_base::worktree::ReadBytes;
-use status_index::{compute_hash, compute_stream_hash};
+use status_index::{Entry, HashKind, ObjectId, compute_hash, compute_stream_hash};
 use std::alloc::Global;
 
 /// Compares by ids: the file is read and hashed, and a change is reported by the id of its new content.

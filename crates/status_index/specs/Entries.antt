@@ -54,8 +54,8 @@ abbrev pub new_entry : NewEntry → IndexEntry
 new_entry e = record { path = bstring_bytes e.path; stat = e.stat; id = e.id; flags = e.flags; mode = e.mode }
 
 -- An entry of these fields.
-abbrev pub said_of : List ℕ → Stat → ObjectId → Flags → Mode → IndexEntry
-said_of path stat id flags mode = record { path = path; stat = stat; id = id; flags = flags; mode = mode }
+abbrev pub entry_of_fields : List ℕ → Stat → ObjectId → Flags → Mode → IndexEntry
+entry_of_fields path stat id flags mode = record { path = path; stat = stat; id = id; flags = flags; mode = mode }
 
 -- Compares by the bytes of the paths, with a proper prefix first, and then by stage.
 abbrev pub entry_cmp : IndexEntry → IndexEntry → Ordering

@@ -81,7 +81,7 @@ impl State {
     ghost use Rattle.std.specs.Ordering.{nat_cmp, ordering_then};
     ghost use Rattle.std.specs.Cmp.Lexicographic.{slice_cmp};
     ghost use Rattle.status_index.specs.FlagBits.{stage_of_bits};
-    ghost use Rattle.status_index.specs.Entries.{IsIndex, IsRefusal, new_entry, said_of, path_in};
+    ghost use Rattle.status_index.specs.Entries.{IsIndex, IsRefusal, new_entry, entry_of_fields, path_in};
     ghost use Rattle.status_index.specs.States.{entries_of, backing_of, timestamp_of, index_of, ChangesAt, with_stat, smudged};
     ghost use Rattle.status_index.specs.Stretch.{IsPrefixed};
 
@@ -174,9 +174,9 @@ impl State {
         mode: Mode,
         path: BStr<'_>,
     ) -> Result<(), IndexError>
-        ensures valid { IsIndex ((index_of self.old) ++ said_of (bstr_bytes path.entry) stat id flags mode ∷ []) → IfErr result (λ e. e ≡ IndexError.Memory) }
-        ensures ok { OnOk result ((index_of self.new) ≡ (index_of self.old) ++ said_of (bstr_bytes path.entry) stat id flags mode ∷ []) }
-        ensures refused { IfErr result (IsRefusal ((index_of self.old) ++ said_of (bstr_bytes path.entry) stat id flags mode ∷ [])) }
+        ensures valid { IsIndex ((index_of self.old) ++ entry_of_fields (bstr_bytes path.entry) stat id flags mode ∷ []) → IfErr result (λ e. e ≡ IndexError.Memory) }
+        ensures ok { OnOk result ((index_of self.new) ≡ (index_of self.old) ++ entry_of_fields (bstr_bytes path.entry) stat id flags mode ∷ []) }
+        ensures refused { IfErr result (IsRefusal ((index_of self.old) ++ entry_of_fields (bstr_bytes path.entry) stat id flags mode ∷ [])) }
         ensures unchanged { OnErr result ((index_of self.new) ≡ index_of self.old) }
         ensures timestamp { timestamp_of self.new ≡ timestamp_of self.old }
     {
@@ -197,8 +197,8 @@ impl State {
     /// Checks whether an entry of this path may be appended. It is compared only with the last entry, since the entries
     /// are a valid index.
     fn check_next(&self, id: ObjectId, flags: Flags, path: &[u8]) -> Result<(), IndexError>
-        ensures ok { (stat : Stat) (mode : Mode) → OnOk result (IsIndex ((index_of self.now) ++ said_of path.now stat id flags mode ∷ [])) }
-        ensures refused { (stat : Stat) (mode : Mode) → IfErr result (IsRefusal ((index_of self.now) ++ said_of path.now stat id flags mode ∷ [])) }
+        ensures ok { (stat : Stat) (mode : Mode) → OnOk result (IsIndex ((index_of self.now) ++ entry_of_fields path.now stat id flags mode ∷ [])) }
+        ensures refused { (stat : Stat) (mode : Mode) → IfErr result (IsRefusal ((index_of self.now) ++ entry_of_fields path.now stat id flags mode ∷ [])) }
     {
         let at = self.entries.len();
         if path.is_empty() {

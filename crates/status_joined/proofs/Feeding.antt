@@ -32,17 +32,17 @@ module _ {T U : Type 0} where
       (first.0 ∷ rest.0, (first.1, rest.1))
 
   -- The front of all entries was reported, and these are left.
-  pub record IsUnderWay (entries : List (Rewritten (Item T U))) (old now : List (Reported T U)) (left : List (Rewritten (Item T U))) : Type 0 where
+  pub record IsReportedSoFar (entries : List (Rewritten (Item T U))) (old now : List (Reported T U)) (left : List (Rewritten (Item T U))) : Type 0 where
     pub front : List (Rewritten (Item T U))
     pub passed : List (Reported T U)
     pub reported : AreReported front passed
     pub grew : now ≡ old ++ passed
     pub whole : front ++ left ≡ entries
 
-  pub none_reported : (entries : List (Rewritten (Item T U))) (old : List (Reported T U)) → IsUnderWay entries old old entries
+  pub none_reported : (entries : List (Rewritten (Item T U))) (old : List (Reported T U)) → IsReportedSoFar entries old old entries
   none_reported entries old = record { front = []; passed = []; reported = tt; grew = sym (append-nil old); whole = refl }
 
-  pub one_more : (entries : List (Rewritten (Item T U))) (old now next : List (Reported T U)) (entry : Rewritten (Item T U)) (before left : List (Rewritten (Item T U))) → before ≡ entry ∷ left → IsUnderWay entries old now before → (t : Reported T U) × IsReported entry t × (next ≡ now ++ t ∷ []) → IsUnderWay entries old next left
+  pub one_more : (entries : List (Rewritten (Item T U))) (old now next : List (Reported T U)) (entry : Rewritten (Item T U)) (before left : List (Rewritten (Item T U))) → before ≡ entry ∷ left → IsReportedSoFar entries old now before → (t : Reported T U) × IsReported entry t × (next ≡ now ++ t ∷ []) → IsReportedSoFar entries old next left
   one_more entries old now next entry before left step h one = record {
     front = h.front ++ entry ∷ [];
     passed = h.passed ++ one.0 ∷ [];
@@ -55,15 +55,15 @@ module _ {T U : Type 0} where
   all_behind P [] ys h = h
   all_behind P (x ∷ xs) ys h = all_behind P xs ys (All-tail P x (xs ++ ys) h)
 
-  all_left : (P : Rewritten (Item T U) → Type 0) (entries : List (Rewritten (Item T U))) (old now : List (Reported T U)) (left : List (Rewritten (Item T U))) → IsUnderWay entries old now left → All P entries → All P left
+  all_left : (P : Rewritten (Item T U) → Type 0) (entries : List (Rewritten (Item T U))) (old now : List (Reported T U)) (left : List (Rewritten (Item T U))) → IsReportedSoFar entries old now left → All P entries → All P left
   all_left P entries old now left h all = all_behind P h.front left (subst (All P) (sym h.whole) all)
 
   -- A fact of all entries is a fact of the next.
-  pub holds_next : (P : Rewritten (Item T U) → Type 0) (entries : List (Rewritten (Item T U))) (old now : List (Reported T U)) (entry : Rewritten (Item T U)) (before left : List (Rewritten (Item T U))) → before ≡ entry ∷ left → IsUnderWay entries old now before → All P entries → P entry
+  pub holds_next : (P : Rewritten (Item T U) → Type 0) (entries : List (Rewritten (Item T U))) (old now : List (Reported T U)) (entry : Rewritten (Item T U)) (before left : List (Rewritten (Item T U))) → before ≡ entry ∷ left → IsReportedSoFar entries old now before → All P entries → P entry
   holds_next P entries old now entry before left step h all =
       All-head P entry left (subst (All P) step (all_left P entries old now before h all))
 
-  pub all_reported : (entries : List (Rewritten (Item T U))) (old now : List (Reported T U)) (left : List (Rewritten (Item T U))) → left ≡ [] → IsUnderWay entries old now left → (ts : List (Reported T U)) × AreReported entries ts × (now ≡ old ++ ts)
+  pub all_reported : (entries : List (Rewritten (Item T U))) (old now : List (Reported T U)) (left : List (Rewritten (Item T U))) → left ≡ [] → IsReportedSoFar entries old now left → (ts : List (Reported T U)) × AreReported entries ts × (now ≡ old ++ ts)
   all_reported entries old now left none h =
       let whole : h.front ≡ entries = sym (append-nil h.front) ∙ ap (λ (l : List (Rewritten (Item T U))). h.front ++ l) (sym none) ∙ h.whole in
       (h.passed, subst (λ xs. AreReported xs h.passed) whole h.reported, h.grew)
@@ -75,7 +75,7 @@ module _ {T U : Type 0} where
   as_many (x ∷ xs) (t ∷ ts) h = ap (λ n. suc n) (as_many xs ts h.1)
 
   -- A front was reported, and nothing after it, though an entry was left.
-  pub reported_until : (entries : List (Rewritten (Item T U))) (old now after : List (Reported T U)) (entry : Rewritten (Item T U)) (left rest : List (Rewritten (Item T U))) → left ≡ entry ∷ rest → All (IsLed is_walked) entries → IsUnderWay entries old now left → after ≡ now → (ts : List (Reported T U)) × AreReported entries ts × ((n : ℕ) × (n < length ts) × (after ≡ old ++ take n ts))
+  pub reported_until : (entries : List (Rewritten (Item T U))) (old now after : List (Reported T U)) (entry : Rewritten (Item T U)) (left rest : List (Rewritten (Item T U))) → left ≡ entry ∷ rest → All (IsLed is_walked) entries → IsReportedSoFar entries old now left → after ≡ now → (ts : List (Reported T U)) × AreReported entries ts × ((n : ℕ) × (n < length ts) × (after ≡ old ++ take n ts))
   reported_until entries old now after entry left behind step led h same =
       let rest = may_report_all left (all_left (IsLed is_walked) entries old now left h led) in
       let some : length rest.0 ≡ suc (length behind) = as_many left rest.0 rest.1 ∙ ap length step in

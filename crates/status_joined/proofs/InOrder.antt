@@ -15,8 +15,8 @@ use Rattle.std.proofs.lemmas.Simd.{map-map}
 use Rattle.status_index.specs.declared.id.HashKind.{HashKind}
 use Rattle.status_rewrites.specs.declared.rewritten.Rewritten.{Rewritten}
 use Rattle.status_rewrites.specs.declared.rewritten.Rewritten.TheVariants.{Alone, Rewrite}
-use Rattle.status_rewrites.specs.AfterRewrites.{after_rewrites, coming, pairs_of, standing, staying}
-use Rattle.status_rewrites.specs.Parts.{goes}
+use Rattle.status_rewrites.specs.AfterRewrites.{after_rewrites, pair_to, pairs_of, entries_here, item_left}
+use Rattle.status_rewrites.specs.Parts.{renames_from}
 use Rattle.status_rewrites.specs.declared.tracker.Pair.{Pair}
 use Rattle.status_rewrites.proofs.Lists.{IsSortedBy-map}
 use Rattle.status_joined.specs.Feeding.{AreReported}
@@ -32,9 +32,9 @@ module _ {I K : Type 0} (key : I → K) where
   place_key (Rewrite source x copy) = key x
 
   abbrev standing_at : List (Pair × I) → ℕ × I → List (Rewritten I)
-  standing_at ms e = standing (staying (goes (pairs_of ms) e.0) e.1) (coming ms e.0)
+  standing_at ms e = entries_here (item_left (renames_from (pairs_of ms) e.0) e.1) (pair_to ms e.0)
 
-  all_more : (P : K → Type 0) (n : ℕ) (x : I) (m : Option (Pair × I)) (rest : List (Rewritten I)) → P (key x) → All P (map place_key rest) → All P (map place_key (standing (staying n x) m ++ rest))
+  all_more : (P : K → Type 0) (n : ℕ) (x : I) (m : Option (Pair × I)) (rest : List (Rewritten I)) → P (key x) → All P (map place_key rest) → All P (map place_key (entries_here (item_left n x) m ++ rest))
   all_more P (suc n) x m rest h others = others
   all_more P zero x None rest h others = All-cons P (key x) (map place_key rest) h others
   all_more P zero x (Some m) rest h others = All-cons P (key x) (map place_key rest) h others
@@ -42,11 +42,11 @@ module _ {I K : Type 0} (key : I → K) where
   all_after : (P : K → Type 0) (ms : List (Pair × I)) (n : ℕ) (xs : List I) → All P (map key xs) → All P (map place_key (flat_map (standing_at ms) (enumerate_from n xs)))
   all_after P ms n [] h = All-nil P
   all_after P ms n (x ∷ xs) h =
-      all_more P (goes (pairs_of ms) n) x (coming ms n) (flat_map (standing_at ms) (enumerate_from (n + 1) xs))
+      all_more P (renames_from (pairs_of ms) n) x (pair_to ms n) (flat_map (standing_at ms) (enumerate_from (n + 1) xs))
       (All-head P (key x) (map key xs) h) (all_after P ms (n + 1) xs (All-tail P (key x) (map key xs) h))
 
   module _ (R : K → K → Type 0) where
-    pairs_more : (n : ℕ) (x : I) (m : Option (Pair × I)) (rest : List (Rewritten I)) → All (R (key x)) (map place_key rest) → AllPairs R (map place_key rest) → AllPairs R (map place_key (standing (staying n x) m ++ rest))
+    pairs_more : (n : ℕ) (x : I) (m : Option (Pair × I)) (rest : List (Rewritten I)) → All (R (key x)) (map place_key rest) → AllPairs R (map place_key rest) → AllPairs R (map place_key (entries_here (item_left n x) m ++ rest))
     pairs_more (suc n) x m rest h others = others
     pairs_more zero x None rest h others = AllPairs-cons R (key x) (map place_key rest) h others
     pairs_more zero x (Some m) rest h others = AllPairs-cons R (key x) (map place_key rest) h others
@@ -57,7 +57,7 @@ module _ {I K : Type 0} (key : I → K) where
     pairs_after ms n (x ∷ xs) h =
         let first : All (R (key x)) (map key xs) = λ k d within. h zero (suc k) d (omega arith) (omega arith) in
         let others : AllPairs R (map key xs) = λ i j d below within. h (suc i) (suc j) d (omega arith) (omega arith) in
-        pairs_more (goes (pairs_of ms) n) x (coming ms n) (flat_map (standing_at ms) (enumerate_from (n + 1) xs))
+        pairs_more (renames_from (pairs_of ms) n) x (pair_to ms n) (flat_map (standing_at ms) (enumerate_from (n + 1) xs))
         (all_after (R (key x)) ms (n + 1) xs first) (pairs_after ms (n + 1) xs others)
 
 module _ {K : Type 0} (cmp : K → K → Ordering) where

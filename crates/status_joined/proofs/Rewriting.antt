@@ -6,7 +6,7 @@ use Rattle.std.proofs.lemmas.List.Filters.{length-filter_both}
 use Rattle.std.proofs.lemmas.List.Sums.{length-filter}
 use Rattle.status_index.specs.declared.fault.Fault.TheVariants.{Memory}
 use Rattle.status_index.specs.declared.id.HashKind.{HashKind}
-use Rattle.status_rewrites.specs.AfterRewrites.{IsAnswer, IsRewritten}
+use Rattle.status_rewrites.specs.AfterRewrites.{IsRewriteAnswer, IsRewritten}
 use Rattle.status_rewrites.specs.Entries.{IsLed, map_rewritten}
 use Rattle.status_rewrites.specs.Lawful.{AreLawful}
 use Rattle.status_rewrites.specs.declared.refused.Refused.{Refused}
@@ -62,14 +62,14 @@ module _ {T U : Type 0} (ids : Identifying) (kind : HashKind) (tracks : List Cha
       specified = subst (λ cs. tracks cs track_empty (Ok ps)) seen reported
 
       -- The tracker's pairs break a rule.
-      refused_fault_of : (e : Refused) → IsAnswer (λ x. is_removed (item_of x)) (λ x. is_walked (item_of x)) is_made_of xs ps (Err e) → IsRewritingFault ids kind tracks track_empty list (error_of_refused e)
+      refused_fault_of : (e : Refused) → IsRewriteAnswer (λ x. is_removed (item_of x)) (λ x. is_walked (item_of x)) is_made_of xs ps (Err e) → IsRewritingFault ids kind tracks track_empty list (error_of_refused e)
       refused_fault_of (refusals.BadPair at) bad =
           (map item_of xs, (identified, inr (ps, (specified, bad_pair_mapped item_of (λ x. is_removed (item_of x)) (λ x. is_walked (item_of x)) is_removed is_walked (λ x. refl) (λ x. refl) xs ps at bad))))
       refused_fault_of refusals.Memory bad = tt
 
-      pub refused_fault : (pairs : List Pair) → pairs ≡ ps → (e : Refused) → IsAnswer (λ x. is_removed (item_of x)) (λ x. is_walked (item_of x)) is_made_of xs pairs (Err e) → IsRewritingFault ids kind tracks track_empty list (error_of_refused e)
+      pub refused_fault : (pairs : List Pair) → pairs ≡ ps → (e : Refused) → IsRewriteAnswer (λ x. is_removed (item_of x)) (λ x. is_walked (item_of x)) is_made_of xs pairs (Err e) → IsRewritingFault ids kind tracks track_empty list (error_of_refused e)
       refused_fault pairs are e bad =
-          refused_fault_of e (subst (λ qs. IsAnswer (λ x. is_removed (item_of x)) (λ x. is_walked (item_of x)) is_made_of xs qs (Err e)) are bad)
+          refused_fault_of e (subst (λ qs. IsRewriteAnswer (λ x. is_removed (item_of x)) (λ x. is_walked (item_of x)) is_made_of xs qs (Err e)) are bad)
 
       module _ (made : (x y : ModificationOrDirwalkEntry T U) → is_made_of x y → item_of y ≡ item_of x) (entries : List (Rewritten (ModificationOrDirwalkEntry T U))) (pairs : List Pair) (are : pairs ≡ ps) (answer : AreLawful (λ x. is_removed (item_of x)) (λ x. is_walked (item_of x)) xs pairs × IsRewritten is_made_of xs pairs entries) where
         answered : AreLawful is_removed is_walked (map item_of xs) ps × IsRewritten (λ (x y : Item T U). y ≡ x) (map item_of xs) ps (map (map_rewritten item_of) entries)

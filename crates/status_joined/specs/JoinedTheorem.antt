@@ -72,12 +72,12 @@ module _ {T U : Type 0} (query : Query T U) (options : Options) (index : State) 
     pub quiet : IfErr result (λ e. (more ≡ []) ⊎ (IsTrue may_fail × ((e ≡ Memory) × IsCutShort more)))
 
 -- The same for a query: its status by the options, its walk if one is wanted, and its ids by their kind.
-abbrev pub IsMetBy : {T U : Type 0} → JoinedQuery T U → Options → State → Bool → List (Reported T U) → Result Outcome Error → List (Reported T U) → Type 0
-IsMetBy q options index may_fail old result new =
+abbrev pub IsJoinedReport : {T U : Type 0} → JoinedQuery T U → Options → State → Bool → List (Reported T U) → Result Outcome Error → List (Reported T U) → Type 0
+IsJoinedReport q options index may_fail old result new =
     IsJoinedStatus (q.status (settings (tracked_options options) index)) options index q.interruptible
     (wanted_walk options.dirwalk (q.walking (index_of index))) (q.identifying options.object_hash) q.pairs may_fail old result new
 
 -- The joined theorem. This is the clause of the call, by its arguments and by the specification of its collector.
 abbrev pub IsJoined : {W C S O P L K X A T U V : Type 0} → (Inputs W C S O P A L K X → JoinedQuery T U) → Bor W → C → S → O → Context P A L K X → Options → State → Bool → (V → List (Reported T U)) → V → Result Outcome Error → V → Type 0
 IsJoined query worktree compare submodule objects context options index may_fail visits old result new =
-    IsMetBy (query (inputs_of worktree compare submodule objects context)) options index may_fail (visits old) result (visits new)
+    IsJoinedReport (query (inputs_of worktree compare submodule objects context)) options index may_fail (visits old) result (visits new)

@@ -7,7 +7,7 @@ ghost use Rattle.status_joined.specs.Beside.{IsBesideOf};
 use crate::keeper::{FlaggedKeeper, Keeper};
 use crate::kept::Kept;
 use crate::walker::FindBeside;
-use status_base::index::State;
+use status_index::State;
 use status_walk::{Outcome, WalkError};
 use std::alloc::Global;
 use std::sync::atomic::AtomicBool;

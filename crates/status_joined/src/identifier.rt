@@ -5,8 +5,8 @@ ghost use Rattle.status_walk.specs.WalkedNodes.{walked_of};
 ghost use Rattle.status_walk.specs.WorktreeIds.{IsId};
 ghost use Rattle.status_joined.specs.NodeIds.{Identifying, identifying};
 
-use status_base::index::{HashKind, ObjectId};
 use status_base::worktree::{ToGit, Worktree};
+use status_index::{HashKind, ObjectId};
 use status_walk::{DirEntry, IdError, worktree_id};
 use std::alloc::AllocError;
 

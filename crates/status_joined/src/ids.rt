@@ -7,7 +7,7 @@ ghost use Rattle.status_joined.specs.ListItems.{item_of};
 
 use crate::identifier::Identify;
 use crate::item::ModificationOrDirwalkEntry;
-use status_base::index::HashKind;
+use status_index::HashKind;
 use status_walk::IdError;
 use std::alloc::Global;
 

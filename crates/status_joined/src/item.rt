@@ -7,8 +7,8 @@ ghost use Rattle.status_joined.specs.Items.{is_removal, is_removed, is_walked, p
 ghost use Rattle.status_joined.specs.ListItems.{item_of};
 
 use bstr::BStr;
-use status_base::index::{EntryKind, Mode, ObjectId};
 use status_call::index_as_worktree::{Change, EntryStatus, Record};
+use status_index::{EntryKind, Mode, ObjectId};
 use status_rewrites::{ChangeKind, Item};
 use status_walk::{DirEntry, Kind, Status};
 use std::alloc::AllocError;

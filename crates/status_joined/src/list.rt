@@ -9,8 +9,8 @@ ghost use Rattle.status_joined.specs.Lists.{unsorted, IsList};
 use crate::Kept;
 use crate::item::ModificationOrDirwalkEntry;
 use crate::order::put_in_order;
-use status_base::index::{HashKind, ObjectId};
 use status_call::index_as_worktree::Record;
+use status_index::{HashKind, ObjectId};
 use std::alloc::{AllocError, Global};
 
 /// Returns the records followed by the nodes, which have no ids yet.

@@ -3,11 +3,11 @@
 ghost use Rattle.std.specs.Prelude.{is_some};
 ghost use Rattle.status_joined.specs.TrackedHalf.{IsRecorded};
 
-use status_base::index::State;
 use status_call::index_as_worktree::decide::Decide;
 use status_call::index_as_worktree::status_by::status_by;
 use status_call::index_as_worktree::workers::Limits;
 use status_call::index_as_worktree::{Error, Outcome, Recorder};
+use status_index::State;
 use std::alloc::Global;
 use std::sync::Wait;
 use std::sync::atomic::AtomicBool;

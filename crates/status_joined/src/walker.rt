@@ -6,8 +6,8 @@ ghost use Rattle.status_index.specs.States.{index_of};
 ghost use Rattle.status_walk.specs.Walks.{IsWalk};
 ghost use Rattle.status_joined.specs.Walkings.{IsWantedWalker, Walking, walker_of};
 
-use status_base::index::State;
 use status_base::worktree::{Pathspec, Worktree};
+use status_index::State;
 use status_walk::{Delegate, Outcome, Walk, WalkError};
 use std::alloc::AllocError;
 

@@ -3,7 +3,7 @@ use Rattle.std.specs.Prelude.{◌≡◌, ℕ, List, map, Option, Some, None, Res
 use Rattle.json.specs.Json.{Json}
 use Rattle.json.specs.Value.{items_of}
 use Rattle.status_index.specs.declared.state.IndexError.{IndexError}
-use Rattle.status_index.specs.Entries.{IndexEntry, IsRefusal, said_of}
+use Rattle.status_index.specs.Entries.{IndexEntry, IsRefusal, entry_of_fields}
 use Rattle.status_index.specs.States.{index_of}
 use Rattle.status_base.specs.MemoryTree.{Placed}
 use Rattle.status_profile.specs.declared.entry.Entries.{Entries}
@@ -16,7 +16,7 @@ use Rattle.status_profile.specs.Forms.{each}
 use Rattle.status_profile.specs.Nodes.{node_in, node_value}
 
 abbrev pub entry_value : Entry → IndexEntry
-entry_value e = said_of e.path.now e.stat e.id e.flags e.mode
+entry_value e = entry_of_fields e.path.now e.stat e.id e.flags e.mode
 
 -- an index has all of these entries, or one of them is refused for this reason
 abbrev pub HasIndex : List IndexEntry → Option IndexError → List IndexEntry → Type 0

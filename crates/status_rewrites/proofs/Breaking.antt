@@ -4,9 +4,9 @@ use Rattle.std.proofs.lemmas.Bool.{false≢true, cases_lt, and_from}
 use Rattle.std.proofs.lemmas.List.{get_or_push, length_push, take_more}
 use Rattle.status_rewrites.specs.declared.tracker.Pair.{Pair}
 use Rattle.status_rewrites.specs.declared.place.Place.{Place}
-use Rattle.status_rewrites.specs.AfterRewrites.{coming, pairs_of}
+use Rattle.status_rewrites.specs.AfterRewrites.{pair_to, pairs_of}
 use Rattle.status_rewrites.specs.Lawful.{AreLawful, IsBadPair}
-use Rattle.status_rewrites.specs.Parts.{goes, copied, comes}
+use Rattle.status_rewrites.specs.Parts.{renames_from, copies_from, pairs_to}
 use Rattle.status_rewrites.specs.Places.{passes, is_free, may_go, fits}
 use Rattle.status_rewrites.proofs.Counting.{goes_push, goes_there, copied_push, copied_there, comes_push, comes_there, none_coming}
 use Rattle.status_rewrites.proofs.Gets.{get_there}
@@ -27,14 +27,14 @@ module _ {I : Type 0} (removed walked : I → Bool) (apart : (x : I) → removed
       (lawful.inside (length ps) p (omega (arith, length_push ps p)))
 
   -- No item is both a rename's source and a destination.
-  not_both : (i : ℕ) (x : I) → slice_get xs i ≡ Some x → 0 < goes (ps ++ p ∷ []) i → 0 < comes (ps ++ p ∷ []) i → ⊥
+  not_both : (i : ℕ) (x : I) → slice_get xs i ≡ Some x → 0 < renames_from (ps ++ p ∷ []) i → 0 < pairs_to (ps ++ p ∷ []) i → ⊥
   not_both i x h gone reached =
       let part = lawful.each i x h in
       false≢true (sym (apart x (part.goes_removed gone)) ∙ part.comes_walked reached)
 
-  more_come : (p.source ≡ p.destination) → 0 < comes (ps ++ p ∷ []) p.source
+  more_come : (p.source ≡ p.destination) → 0 < pairs_to (ps ++ p ∷ []) p.source
   more_come e =
-      let one : comes (ps ++ p ∷ []) p.source ≡ comes ps p.source + 1 = comes_push ps p p.source ∙ ap (λ b. comes ps p.source + cond b 1 0) (eq-eqb p.destination p.source (sym e)) in
+      let one : pairs_to (ps ++ p ∷ []) p.source ≡ pairs_to ps p.source + 1 = comes_push ps p p.source ∙ ap (λ b. pairs_to ps p.source + cond b 1 0) (eq-eqb p.destination p.source (sym e)) in
       omega (arith, one)
 
   two_at : (c : Bool) → p.copy ≡ c → (x : I) → slice_get xs p.source ≡ Some x → p.source ≡ p.destination → ⊥
@@ -45,31 +45,31 @@ module _ {I : Type 0} (removed walked : I → Bool) (apart : (x : I) → removed
   two_at false e x h same_place =
       not_both p.source x h (omega (arith, goes_there ps p false e)) (more_come same_place)
 
-  fewer_come : (i : ℕ) → comes (ps ++ p ∷ []) i ≡ 0 → coming ms i ≡ None
+  fewer_come : (i : ℕ) → pairs_to (ps ++ p ∷ []) i ≡ 0 → pair_to ms i ≡ None
   fewer_come i h = none_coming ms i (omega (arith, comes_push ps p i, h))
 
   source_goes : (c : Bool) → p.copy ≡ c → (x : I) → slice_get xs p.source ≡ Some x → may_go removed c (place_at ms p.source x) ≡ true
   source_goes true e x h =
       let part = lawful.each p.source x h in
       let alone = part.copied_alone (omega (arith, copied_there ps p true e)) in
-      copies_when removed (goes ps p.source) (copied ps p.source) (coming ms p.source) x
+      copies_when removed (renames_from ps p.source) (copies_from ps p.source) (pair_to ms p.source) x
       (omega (arith, goes_there ps p true e, alone.0)) (fewer_come p.source alone.1)
   source_goes false e x h =
       let part = lawful.each p.source x h in
-      let gone : 0 < goes (ps ++ p ∷ []) p.source = omega (arith, goes_there ps p false e) in
-      let unmade : copied (ps ++ p ∷ []) p.source ≡ 0 = none_from (copied (ps ++ p ∷ []) p.source) (λ some. omega (arith, gone, (part.copied_alone some).0)) in
-      let unreached : comes (ps ++ p ∷ []) p.source ≡ 0 = none_from (comes (ps ++ p ∷ []) p.source) (λ some. not_both p.source x h gone some) in
-      free_when removed (goes ps p.source) (copied ps p.source) (coming ms p.source) x
+      let gone : 0 < renames_from (ps ++ p ∷ []) p.source = omega (arith, goes_there ps p false e) in
+      let unmade : copies_from (ps ++ p ∷ []) p.source ≡ 0 = none_from (copies_from (ps ++ p ∷ []) p.source) (λ some. omega (arith, gone, (part.copied_alone some).0)) in
+      let unreached : pairs_to (ps ++ p ∷ []) p.source ≡ 0 = none_from (pairs_to (ps ++ p ∷ []) p.source) (λ some. not_both p.source x h gone some) in
+      free_when removed (renames_from ps p.source) (copies_from ps p.source) (pair_to ms p.source) x
       (omega (arith, goes_there ps p false e, part.one_goes)) (omega (arith, copied_push ps p p.source, unmade)) (fewer_come p.source unreached) (part.goes_removed gone)
 
   destination_free : (x : I) → slice_get xs p.destination ≡ Some x → is_free walked (place_at ms p.destination x) ≡ true
   destination_free x h =
       let part = lawful.each p.destination x h in
-      let reached : 0 < comes (ps ++ p ∷ []) p.destination = omega (arith, comes_there ps p) in
-      let ungone : goes (ps ++ p ∷ []) p.destination ≡ 0 = none_from (goes (ps ++ p ∷ []) p.destination) (λ some. not_both p.destination x h some reached) in
-      let unmade : copied (ps ++ p ∷ []) p.destination ≡ 0 = none_from (copied (ps ++ p ∷ []) p.destination) (λ some. omega (arith, reached, (part.copied_alone some).1)) in
-      let unreached : comes ps p.destination ≡ 0 = omega (arith, comes_there ps p, part.one_comes) in
-      free_when walked (goes ps p.destination) (copied ps p.destination) (coming ms p.destination) x
+      let reached : 0 < pairs_to (ps ++ p ∷ []) p.destination = omega (arith, comes_there ps p) in
+      let ungone : renames_from (ps ++ p ∷ []) p.destination ≡ 0 = none_from (renames_from (ps ++ p ∷ []) p.destination) (λ some. not_both p.destination x h some reached) in
+      let unmade : copies_from (ps ++ p ∷ []) p.destination ≡ 0 = none_from (copies_from (ps ++ p ∷ []) p.destination) (λ some. omega (arith, reached, (part.copied_alone some).1)) in
+      let unreached : pairs_to ps p.destination ≡ 0 = omega (arith, comes_there ps p, part.one_comes) in
+      free_when walked (renames_from ps p.destination) (copies_from ps p.destination) (pair_to ms p.destination) x
       (omega (arith, goes_push ps p p.destination, ungone)) (omega (arith, copied_push ps p p.destination, unmade)) (none_coming ms p.destination unreached) (part.comes_walked reached)
 
   pub fits_when_lawful : fits removed walked (places_after xs ms) p ≡ true

@@ -20,7 +20,7 @@ use Rattle.status_index.specs.declared.mode.EntryKind.{EntryKind}
 use Rattle.status_index.specs.declared.mode.EntryKind.TheVariants.{Tree, Blob, BlobExecutable, Link, Commit}
 use Rattle.status_rewrites.specs.declared.change.ChangeKind.{ChangeKind}
 use Rattle.status_rewrites.specs.declared.seen.Seen.{Seen}
-use Rattle.status_rewrites.specs.Buckets.{bucket_count, bucket_number, in_bucket, leading_bits, named_in, AreBuckets}
+use Rattle.status_rewrites.specs.Buckets.{bucket_count, bucket_number, in_bucket, leading_bits, changes_named, AreBuckets}
 use Rattle.status_rewrites.specs.TrackedChanges.{Changed}
 use Rattle.status_rewrites.specs.IdentityPairs.{mode_number, key_cmp, may_stand}
 use Rattle.status_rewrites.specs.Joins.{side_of}
@@ -91,21 +91,21 @@ module _ (xs : List Seen) (x : Seen) where
       ∙ ap (λ b. in_bucket number xs ++ cond b (x ∷ []) []) (ne_eqb (bucket_number (changed_of x)) number ne)
       ∙ append-nil (in_bucket number xs)
 
-  each_at : (buckets : List (Vec (Bor Seen))) (bucket : Vec (Bor Seen)) → AreBuckets xs buckets → ((d : Vec (Bor Seen)) → named_in bucket ≡ named_in (slice_index_or buckets (bucket_number (changed_of x)) d) ++ x ∷ []) → (i : ℕ) (d : Vec (Bor Seen)) → i < length buckets → (own : Bool) → (bucket_number (changed_of x) == i) ≡ own → named_in (slice_index_or (set buckets (bucket_number (changed_of x)) bucket) i d) ≡ in_bucket i (xs ++ x ∷ [])
+  each_at : (buckets : List (Vec (Bor Seen))) (bucket : Vec (Bor Seen)) → AreBuckets xs buckets → ((d : Vec (Bor Seen)) → changes_named bucket ≡ changes_named (slice_index_or buckets (bucket_number (changed_of x)) d) ++ x ∷ []) → (i : ℕ) (d : Vec (Bor Seen)) → i < length buckets → (own : Bool) → (bucket_number (changed_of x) == i) ≡ own → changes_named (slice_index_or (set buckets (bucket_number (changed_of x)) bucket) i d) ≡ in_bucket i (xs ++ x ∷ [])
   each_at buckets bucket are more i d within true same =
       let e : bucket_number (changed_of x) ≡ i = eqb-true (bucket_number (changed_of x)) i same in
-      ap named_in (get_or-set_at buckets (bucket_number (changed_of x)) i bucket d (sym e) (omega arith))
+      ap changes_named (get_or-set_at buckets (bucket_number (changed_of x)) i bucket d (sym e) (omega arith))
       ∙ more d
-      ∙ ap (λ k. named_in (slice_index_or buckets k d) ++ x ∷ []) e
+      ∙ ap (λ k. changes_named (slice_index_or buckets k d) ++ x ∷ []) e
       ∙ ap (λ v. v ++ x ∷ []) (are.each i d within)
       ∙ sym (in_own i e)
   each_at buckets bucket are more i d within false other =
       let ne : i ≢ bucket_number (changed_of x) = λ e. true≢false (sym (eq-eqb (bucket_number (changed_of x)) i (sym e)) ∙ other) in
-      ap named_in (get_or-set_other buckets (bucket_number (changed_of x)) i bucket d ne)
+      ap changes_named (get_or-set_other buckets (bucket_number (changed_of x)) i bucket d ne)
       ∙ are.each i d within
       ∙ sym (in_other i (λ e. ne (sym e)))
 
-  dealt_more : (buckets : List (Vec (Bor Seen))) (bucket : Vec (Bor Seen)) → AreBuckets xs buckets → ((d : Vec (Bor Seen)) → named_in bucket ≡ named_in (slice_index_or buckets (bucket_number (changed_of x)) d) ++ x ∷ []) → AreBuckets (xs ++ x ∷ []) (set buckets (bucket_number (changed_of x)) bucket)
+  dealt_more : (buckets : List (Vec (Bor Seen))) (bucket : Vec (Bor Seen)) → AreBuckets xs buckets → ((d : Vec (Bor Seen)) → changes_named bucket ≡ changes_named (slice_index_or buckets (bucket_number (changed_of x)) d) ++ x ∷ []) → AreBuckets (xs ++ x ∷ []) (set buckets (bucket_number (changed_of x)) bucket)
   dealt_more buckets bucket are more = record {
     count = omega (arith, are.count, length-set buckets (bucket_number (changed_of x)) bucket);
     each = λ i d within.
@@ -119,8 +119,8 @@ put_behind xs x buckets n old new r number within names read pushed are =
     (dealt_more xs x buckets new are
     (λ d. ap (map (λ s. s.now)) pushed
     ∙ map_push (λ (s : Bor Seen). s.now) old.items r
-    ∙ ap (λ v. named_in old ++ v ∷ []) names
-    ∙ ap (λ v. named_in v ++ x ∷ []) (get_or_read buckets n old within read d ∙ ap (λ m. slice_index_or buckets m d) number)))
+    ∙ ap (λ v. changes_named old ++ v ∷ []) names
+    ∙ ap (λ v. changes_named v ++ x ∷ []) (get_or_read buckets n old within read d ∙ ap (λ m. slice_index_or buckets m d) number)))
 
 -- A side has one more element, or is unchanged.
 pub side_more : (side : ChangeKind) (track_empty : Bool) (xs : List Seen) (i : ℕ) (d : Seen) → i < length xs → (own : Bool) → may_stand side track_empty (changed_of (slice_index_or xs i d)) ≡ own → side_of side track_empty (take (i + 1) xs) ≡ side_of side track_empty (take i xs) ++ cond own (slice_index_or xs i d ∷ []) []

@@ -16,7 +16,7 @@ use Rattle.std.proofs.lemmas.Result.{on_ok_weaker}
 use Rattle.status_index.specs.BlobId.{id_kind, id_bytes}
 use Rattle.status_index.specs.Orders.{kind_rank, id_cmp}
 use Rattle.status_rewrites.specs.TrackedChanges.{Changed}
-use Rattle.status_rewrites.specs.IdentityPairs.{Placed, mode_number, key_cmp, path_cmp}
+use Rattle.status_rewrites.specs.IdentityPairs.{NumberedChange, mode_number, key_cmp, place_cmp}
 
 id_total : IsTotalOrder id_cmp
 id_total = then_total (on_total (λ i. kind_rank (id_kind i)) nat_cmp_total) (on_total id_bytes nat_list_cmp_total)
@@ -25,9 +25,9 @@ pub key_total : IsTotalOrder key_cmp
 unfolding key_cmp
 key_total = then_total (on_total (λ (c : Changed). mode_number c.mode) nat_cmp_total) (on_total (λ (c : Changed). c.id) id_total)
 
-pub path_total : IsTotalOrder path_cmp
-unfolding path_cmp
-path_total = then_total (on_total (λ (p : Placed). p.1.path) nat_list_cmp_total) (on_total (λ (p : Placed). p.0) nat_cmp_total)
+pub path_total : IsTotalOrder place_cmp
+unfolding place_cmp
+path_total = then_total (on_total (λ (p : NumberedChange). p.1.path) nat_list_cmp_total) (on_total (λ (p : NumberedChange). p.0) nat_cmp_total)
 
 tie_of : (o : Ordering) → (not (is_lt (ordering_reverse o)) && not (is_lt o)) ≡ is_eq o
 tie_of Less = refl

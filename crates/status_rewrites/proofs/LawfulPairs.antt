@@ -14,7 +14,7 @@ use Rattle.status_rewrites.specs.declared.change.ChangeKind.{ChangeKind}
 use Rattle.status_rewrites.specs.declared.change.ChangeKind.TheVariants.{Deletion, Addition}
 use Rattle.status_rewrites.specs.declared.tracker.Pair.{Pair}
 use Rattle.status_rewrites.specs.TrackedChanges.{Changed}
-use Rattle.status_rewrites.specs.IdentityPairs.{Placed, key_cmp, are_alike, is_on, may_stand, row, rename, AreIdentityPairs}
+use Rattle.status_rewrites.specs.IdentityPairs.{NumberedChange, key_cmp, are_alike, is_on, may_stand, row, rename, AreIdentityPairs}
 use Rattle.status_rewrites.specs.Renames.{StandsAt, AreRenames}
 use Rattle.status_rewrites.proofs.Joining.{equal_from}
 use Rattle.status_rewrites.proofs.Keys.{key_total}
@@ -115,23 +115,23 @@ alike_both a b k of_a of_b =
     ap is_eq (key_total.congr a k b (equal_from (key_cmp a k) of_a) ∙ tied_back key_total b k (equal_from (key_cmp b k) of_b))
 
 -- An element of a row: a change of the list, with the row's side and key.
-record IsInRow (xs : List Changed) (side : ChangeKind) (key : Changed) (y : Placed) : Type 0 where
+record IsInRow (xs : List Changed) (side : ChangeKind) (key : Changed) (y : NumberedChange) : Type 0 where
   placed : slice_get xs y.0 ≡ Some y.1
   on : is_on y.1.kind side ≡ true
   like : are_alike y.1 key ≡ true
 
 -- A pair of elements at the same position of two rows.
-record IsMatch (xs : List Changed) (m : Placed × Placed) : Type 0 where
+record IsMatch (xs : List Changed) (m : NumberedChange × NumberedChange) : Type 0 where
   first : slice_get xs m.0.0 ≡ Some m.0.1
   deleted : is_on m.0.1.kind Deletion ≡ true
   second : slice_get xs m.1.0 ≡ Some m.1.1
   added : is_on m.1.1.kind Addition ≡ true
   like : are_alike m.0.1 m.1.1 ≡ true
 
-in_row : (xs : List Changed) (side : ChangeKind) (track_empty : Bool) (key : Changed) (ordered : List Placed) → All (λ y. slice_get xs y.0 ≡ Some y.1) ordered → All (IsInRow xs side key) (row side track_empty key ordered)
+in_row : (xs : List Changed) (side : ChangeKind) (track_empty : Bool) (key : Changed) (ordered : List NumberedChange) → All (λ y. slice_get xs y.0 ≡ Some y.1) ordered → All (IsInRow xs side key) (row side track_empty key ordered)
 in_row xs side track_empty key ordered placed k d within =
-    let may : Placed → Bool = λ y. may_stand side track_empty y.1 in
-    let alike : Placed → Bool = λ y. are_alike y.1 key in
+    let may : NumberedChange → Bool = λ y. may_stand side track_empty y.1 in
+    let alike : NumberedChange → Bool = λ y. are_alike y.1 key in
     record {
       placed = All-filter alike (λ y. slice_get xs y.0 ≡ Some y.1) (filter may ordered) (All-filter may (λ y. slice_get xs y.0 ≡ Some y.1) ordered placed) k d within;
       on = stands_on side track_empty _ (All-filter alike (λ y. may y ≡ true) (filter may ordered) (filter_passes may ordered) k d within);
@@ -139,10 +139,10 @@ in_row xs side track_empty key ordered placed k d within =
     }
 
 -- A fact of the pairs of each key is a fact of all pairs.
-all_from_rows : (Q : Placed × Placed → Type 0) (ms : List (Placed × Placed)) → ((key : Changed) → All Q (filter (λ m. are_alike m.0.1 key) ms)) → All Q ms
+all_from_rows : (Q : NumberedChange × NumberedChange → Type 0) (ms : List (NumberedChange × NumberedChange)) → ((key : Changed) → All Q (filter (λ m. are_alike m.0.1 key) ms)) → All Q ms
 all_from_rows Q [] h = All-nil Q
 all_from_rows Q (m ∷ ms) h =
-    let rest = filter (λ (n : Placed × Placed). are_alike n.0.1 m.0.1) ms in
+    let rest = filter (λ (n : NumberedChange × NumberedChange). are_alike n.0.1 m.0.1) ms in
     let here = All-same Q (m ∷ rest) (cond (are_alike m.0.1 m.0.1) (m ∷ rest) rest) (sym (ap (λ b. cond b (m ∷ rest) rest) (alike_itself m.0.1))) (h m.0.1) in
     All-cons Q m ms (All-head Q m rest here)
     (all_from_rows Q ms (λ key. tail_of Q (are_alike m.0.1 key) m (filter (λ n. are_alike n.0.1 key) ms) (h key)))
@@ -155,7 +155,7 @@ module _ (track_empty : Bool) (xs : List Changed) (pairs : List Pair) (p : AreId
 
   matches_of : (key : Changed) → All (IsMatch xs) (zip (row Deletion track_empty key p.ordered) (row Addition track_empty key p.ordered))
   matches_of key =
-      All-weaker (λ (m : Placed × Placed). IsInRow xs Deletion key m.0 × IsInRow xs Addition key m.1) (IsMatch xs)
+      All-weaker (λ (m : NumberedChange × NumberedChange). IsInRow xs Deletion key m.0 × IsInRow xs Addition key m.1) (IsMatch xs)
       (λ m r. record { first = r.0.placed; deleted = r.0.on; second = r.1.placed; added = r.1.on; like = alike_both m.0.1 m.1.1 key r.0.like r.1.like })
       (zip (row Deletion track_empty key p.ordered) (row Addition track_empty key p.ordered))
       (zip_parts (IsInRow xs Deletion key) (IsInRow xs Addition key) _ _ (in_row xs Deletion track_empty key p.ordered placed) (in_row xs Addition track_empty key p.ordered placed))
@@ -164,21 +164,21 @@ module _ (track_empty : Bool) (xs : List Changed) (pairs : List Pair) (p : AreId
   matches = all_from_rows (IsMatch xs) p.matched (λ key. All-same (IsMatch xs) _ _ (p.each key) (matches_of key))
 
   -- A position is in the list of all changes at most once.
-  once : (i : ℕ) → length (filter (λ (y : Placed). y.0 == i) p.ordered) ≤ 1
+  once : (i : ℕ) → length (filter (λ (y : NumberedChange). y.0 == i) p.ordered) ≤ 1
   once i =
-      let here : Placed → Bool = λ y. y.0 == i in
+      let here : NumberedChange → Bool = λ y. y.0 == i in
       let same : count_by here p.ordered ≡ count_by here (enumerate_from 0 xs) = sum_by-IsPermutation (λ y. cond (here y) 1 0) (enumerate_from 0 xs) p.ordered p.bag in
       omega (arith, length-filter here p.ordered, same, length-filter here (enumerate_from 0 xs), one_place 0 xs i)
 
-  in_row_once : (side : ChangeKind) (key : Changed) (i : ℕ) → length (filter (λ (y : Placed). y.0 == i) (row side track_empty key p.ordered)) ≤ 1
+  in_row_once : (side : ChangeKind) (key : Changed) (i : ℕ) → length (filter (λ (y : NumberedChange). y.0 == i) (row side track_empty key p.ordered)) ≤ 1
   in_row_once side key i =
-      let here : Placed → Bool = λ y. y.0 == i in
-      let may : Placed → Bool = λ y. may_stand side track_empty y.1 in
-      let alike : Placed → Bool = λ y. are_alike y.1 key in
+      let here : NumberedChange → Bool = λ y. y.0 == i in
+      let may : NumberedChange → Bool = λ y. may_stand side track_empty y.1 in
+      let alike : NumberedChange → Bool = λ y. are_alike y.1 key in
       omega (arith, filter_fewer here alike (filter may p.ordered), filter_fewer here may p.ordered, once i)
 
   -- A position is one part of one pair at most.
-  part_once : (part : Placed × Placed → Placed) → All (λ m. (slice_get xs (part m).0 ≡ Some (part m).1) × (are_alike m.0.1 (part m).1 ≡ true)) p.matched → (i : ℕ) → ((key : Changed) → length (filter (λ m. (part m).0 == i) (zip (row Deletion track_empty key p.ordered) (row Addition track_empty key p.ordered))) ≤ 1) → (found : Option Changed) → slice_get xs i ≡ found → length (filter (λ m. (part m).0 == i) p.matched) ≤ 1
+  part_once : (part : NumberedChange × NumberedChange → NumberedChange) → All (λ m. (slice_get xs (part m).0 ≡ Some (part m).1) × (are_alike m.0.1 (part m).1 ≡ true)) p.matched → (i : ℕ) → ((key : Changed) → length (filter (λ m. (part m).0 == i) (zip (row Deletion track_empty key p.ordered) (row Addition track_empty key p.ordered))) ≤ 1) → (found : Option Changed) → slice_get xs i ≡ found → length (filter (λ m. (part m).0 == i) p.matched) ≤ 1
   part_once part are i few None e =
       let none : filter (λ m. (part m).0 == i) p.matched ≡ [] =
       filter_none (λ m. (part m).0 == i) p.matched
@@ -186,8 +186,8 @@ module _ (track_empty : Bool) (xs : List Changed) (pairs : List Pair) (p : AreId
       (λ m a. ne_eqb (part m).0 i (λ same. none-some (part m).1 (sym e ∙ ap (slice_get xs) (sym same) ∙ a.0))) p.matched are) in
       subst (λ v. length v ≤ 1) (sym none) (omega arith)
   part_once part are i few (Some x) e =
-      let here : Placed × Placed → Bool = λ m. (part m).0 == i in
-      let alike : Placed × Placed → Bool = λ m. are_alike m.0.1 x in
+      let here : NumberedChange × NumberedChange → Bool = λ m. (part m).0 == i in
+      let alike : NumberedChange × NumberedChange → Bool = λ m. are_alike m.0.1 x in
       let kept : filter here p.matched ≡ filter here (filter alike p.matched) =
       filter_kept here alike p.matched
       (All-weaker (λ m. (slice_get xs (part m).0 ≡ Some (part m).1) × (are_alike m.0.1 (part m).1 ≡ true)) (λ m. here m ≡ true → alike m ≡ true)
@@ -216,9 +216,9 @@ module _ (track_empty : Bool) (xs : List Changed) (pairs : List Pair) (p : AreId
     one_goes = λ i. subst (λ n. n ≤ 1) (sym (counted (λ q. q.source) i))
         (part_once (λ m. m.0)
         (All-weaker (IsMatch xs) (λ m. (slice_get xs m.0.0 ≡ Some m.0.1) × (are_alike m.0.1 m.0.1 ≡ true)) (λ m k. (k.first, alike_itself m.0.1)) p.matched matches)
-        i (λ key. omega (arith, zip_fewer_first (λ (y : Placed). y.0 == i) (row Deletion track_empty key p.ordered) (row Addition track_empty key p.ordered), in_row_once Deletion key i)) (slice_get xs i) refl);
+        i (λ key. omega (arith, zip_fewer_first (λ (y : NumberedChange). y.0 == i) (row Deletion track_empty key p.ordered) (row Addition track_empty key p.ordered), in_row_once Deletion key i)) (slice_get xs i) refl);
     one_comes = λ i. subst (λ n. n ≤ 1) (sym (counted (λ q. q.destination) i))
         (part_once (λ m. m.1)
         (All-weaker (IsMatch xs) (λ m. (slice_get xs m.1.0 ≡ Some m.1.1) × (are_alike m.0.1 m.1.1 ≡ true)) (λ m k. (k.second, k.like)) p.matched matches)
-        i (λ key. omega (arith, zip_fewer_second (λ (y : Placed). y.0 == i) (row Deletion track_empty key p.ordered) (row Addition track_empty key p.ordered), in_row_once Addition key i)) (slice_get xs i) refl);
+        i (λ key. omega (arith, zip_fewer_second (λ (y : NumberedChange). y.0 == i) (row Deletion track_empty key p.ordered) (row Addition track_empty key p.ordered), in_row_once Addition key i)) (slice_get xs i) refl);
   }

@@ -8,10 +8,10 @@ use Rattle.std.proofs.lemmas.Option.{none-some, same_Some, slice_get-map}
 use Rattle.status_rewrites.specs.declared.tracker.Pair.{Pair}
 use Rattle.status_rewrites.specs.declared.rewritten.Rewritten.{Rewritten}
 use Rattle.status_rewrites.specs.declared.rewritten.Rewritten.TheVariants.{Alone, Rewrite}
-use Rattle.status_rewrites.specs.AfterRewrites.{IsOf, Brings, IsRewritten, coming, pairs_of, parts, standing, staying}
+use Rattle.status_rewrites.specs.AfterRewrites.{IsMovedItem, Brings, IsRewritten, pair_to, pairs_of, parts, entries_here, item_left}
 use Rattle.status_rewrites.specs.Entries.{map_rewritten}
 use Rattle.status_rewrites.specs.Lawful.{IsLawfulAt, AreLawful, IsBadPair}
-use Rattle.status_rewrites.specs.Parts.{goes, copied, comes}
+use Rattle.status_rewrites.specs.Parts.{renames_from, copies_from, pairs_to}
 
 module _ {I J : Type 0} (f : I → J) where
   abbrev mapped_move : Pair × I → Pair × J
@@ -25,17 +25,17 @@ module _ {I J : Type 0} (f : I → J) where
   coming_step true m o = refl
   coming_step false m o = refl
 
-  coming_mapped : (ms : List (Pair × I)) (i : ℕ) → coming (map mapped_move ms) i ≡ option_map mapped_move (coming ms i)
+  coming_mapped : (ms : List (Pair × I)) (i : ℕ) → pair_to (map mapped_move ms) i ≡ option_map mapped_move (pair_to ms i)
   coming_mapped [] i = refl
   coming_mapped (m ∷ ms) i =
       ap (λ o. cond (m.0.destination == i) (Some (mapped_move m)) o) (coming_mapped ms i)
-      ∙ coming_step (m.0.destination == i) m (coming ms i)
+      ∙ coming_step (m.0.destination == i) m (pair_to ms i)
 
-  staying_mapped : (n : ℕ) (x : I) → staying n (f x) ≡ option_map f (staying n x)
+  staying_mapped : (n : ℕ) (x : I) → item_left n (f x) ≡ option_map f (item_left n x)
   staying_mapped zero x = refl
   staying_mapped (suc n) x = refl
 
-  standing_mapped : (o : Option I) (m : Option (Pair × I)) → standing (option_map f o) (option_map mapped_move m) ≡ map (map_rewritten f) (standing o m)
+  standing_mapped : (o : Option I) (m : Option (Pair × I)) → entries_here (option_map f o) (option_map mapped_move m) ≡ map (map_rewritten f) (entries_here o m)
   standing_mapped None m = refl
   standing_mapped (Some x) None = refl
   standing_mapped (Some x) (Some m) = refl
@@ -43,17 +43,17 @@ module _ {I J : Type 0} (f : I → J) where
   module _ (ms : List (Pair × I)) where
     -- The entries at a position.
     abbrev before : ℕ × I → List (Rewritten I)
-    before e = standing (staying (goes (pairs_of ms) e.0) e.1) (coming ms e.0)
+    before e = entries_here (item_left (renames_from (pairs_of ms) e.0) e.1) (pair_to ms e.0)
 
     abbrev behind : ℕ × J → List (Rewritten J)
-    behind e = standing (staying (goes (pairs_of (map mapped_move ms)) e.0) e.1) (coming (map mapped_move ms) e.0)
+    behind e = entries_here (item_left (renames_from (pairs_of (map mapped_move ms)) e.0) e.1) (pair_to (map mapped_move ms) e.0)
 
     each_mapped : (i : ℕ) (x : I) → behind (i, f x) ≡ map (map_rewritten f) (before (i, x))
     each_mapped i x =
-        ap (λ ps. standing (staying (goes ps i) (f x)) (coming (map mapped_move ms) i)) (pairs_mapped ms)
-        ∙ ap (λ m. standing (staying (goes (pairs_of ms) i) (f x)) m) (coming_mapped ms i)
-        ∙ ap (λ o. standing o (option_map mapped_move (coming ms i))) (staying_mapped (goes (pairs_of ms) i) x)
-        ∙ standing_mapped (staying (goes (pairs_of ms) i) x) (coming ms i)
+        ap (λ ps. entries_here (item_left (renames_from ps i) (f x)) (pair_to (map mapped_move ms) i)) (pairs_mapped ms)
+        ∙ ap (λ m. entries_here (item_left (renames_from (pairs_of ms) i) (f x)) m) (coming_mapped ms i)
+        ∙ ap (λ o. entries_here o (option_map mapped_move (pair_to ms i))) (staying_mapped (renames_from (pairs_of ms) i) x)
+        ∙ standing_mapped (item_left (renames_from (pairs_of ms) i) x) (pair_to ms i)
 
     all_mapped : (n : ℕ) (xs : List I) → flat_map behind (enumerate_from n (map f xs)) ≡ map (map_rewritten f) (flat_map before (enumerate_from n xs))
     all_mapped n [] = refl
@@ -90,7 +90,7 @@ module _ {I J : Type 0} (f : I → J) where
   there_from xs i y h = there_from_at (slice_get xs i) y (sym (slice_get-map f xs i) ∙ h)
 
   module _ (is_made_of : I → I → Type 0) (made : (x y : I) → is_made_of x y → f y ≡ f x) (xs : List I) where
-    of_mapped : (c : Bool) (x y : I) → IsOf is_made_of c x y → IsOf (λ (u v : J). v ≡ u) c (f x) (f y)
+    of_mapped : (c : Bool) (x y : I) → IsMovedItem is_made_of c x y → IsMovedItem (λ (u v : J). v ≡ u) c (f x) (f y)
     of_mapped true x y h = made x y h
     of_mapped false x y h = ap f h
 
@@ -135,14 +135,14 @@ module _ {I J : Type 0} (f : I → J) where
       inside = subst (λ n. All (λ (p : Pair). (p.source < n) × (p.destination < n)) ps) (sym (length-map xs f)) h.inside;
       each = λ i y here.
           let was = there_from xs i y here in
-          subst (λ z. IsLawfulAt removed_after walked_after z (goes ps i) (comes ps i) (copied ps i)) was.2
-          (lawful_at was.0 (goes ps i) (comes ps i) (copied ps i) (h.each i was.0 was.1));
+          subst (λ z. IsLawfulAt removed_after walked_after z (renames_from ps i) (pairs_to ps i) (copies_from ps i)) was.2
+          (lawful_at was.0 (renames_from ps i) (pairs_to ps i) (copies_from ps i) (h.each i was.0 was.1));
     }
 
     pub lawful_from_mapped : (ps : List Pair) → AreLawful removed_after walked_after (map f xs) ps → AreLawful removed walked xs ps
     lawful_from_mapped ps h = record {
       inside = subst (λ n. All (λ (p : Pair). (p.source < n) × (p.destination < n)) ps) (length-map xs f) h.inside;
-      each = λ i x here. lawful_from_at x (goes ps i) (comes ps i) (copied ps i) (h.each i (f x) (there_mapped xs i x here));
+      each = λ i x here. lawful_from_at x (renames_from ps i) (pairs_to ps i) (copies_from ps i) (h.each i (f x) (there_mapped xs i x here));
     }
 
     -- The first bad pair is also the first for the mapped items.

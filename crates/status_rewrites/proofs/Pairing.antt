@@ -6,9 +6,9 @@ use Rattle.std.proofs.lemmas.List.Elements.{All-nil, All-push}
 use Rattle.std.proofs.lemmas.Option.{same_Some, slice_get_within}
 use Rattle.status_rewrites.specs.declared.tracker.Pair.{Pair}
 use Rattle.status_rewrites.specs.declared.place.Place.{Place}
-use Rattle.status_rewrites.specs.AfterRewrites.{IsOf, Brings, coming, pairs_of, staying}
+use Rattle.status_rewrites.specs.AfterRewrites.{IsMovedItem, Brings, pair_to, pairs_of, item_left}
 use Rattle.status_rewrites.specs.Lawful.{IsLawfulAt, AreLawful}
-use Rattle.status_rewrites.specs.Parts.{goes, copied, comes}
+use Rattle.status_rewrites.specs.Parts.{renames_from, copies_from, pairs_to}
 use Rattle.status_rewrites.specs.Places.{free, passes, is_free, may_go, fits, left_by, reached_by, AreOf, IsPaired}
 use Rattle.status_rewrites.proofs.Counting.{goes_there, goes_elsewhere, copied_there, copied_elsewhere, comes_there, comes_elsewhere, pairs_push, coming_there, coming_elsewhere, none_comes}
 use Rattle.status_rewrites.proofs.Gets.{same_gets, get_set_same, get_set_other, option_agree}
@@ -32,12 +32,12 @@ pub record HasRoom {I : Type 0} (removed walked : I → Bool) (xs : List I) (ms 
   pub onto : I
   pub onto_is : slice_get xs p.destination ≡ Some onto
   pub two : p.source ≡ p.destination → ⊥
-  pub from_stays : goes (pairs_of ms) p.source ≡ 0
-  pub from_alone : coming ms p.source ≡ None
-  pub from_renamed : p.copy ≡ false → (copied (pairs_of ms) p.source ≡ 0) × (removed from ≡ true)
-  pub onto_stays : goes (pairs_of ms) p.destination ≡ 0
-  pub onto_uncopied : copied (pairs_of ms) p.destination ≡ 0
-  pub onto_alone : coming ms p.destination ≡ None
+  pub from_stays : renames_from (pairs_of ms) p.source ≡ 0
+  pub from_alone : pair_to ms p.source ≡ None
+  pub from_renamed : p.copy ≡ false → (copies_from (pairs_of ms) p.source ≡ 0) × (removed from ≡ true)
+  pub onto_stays : renames_from (pairs_of ms) p.destination ≡ 0
+  pub onto_uncopied : copies_from (pairs_of ms) p.destination ≡ 0
+  pub onto_alone : pair_to ms p.destination ≡ None
   pub onto_walked : walked onto ≡ true
 
 passes_there : {X : Type 0} (test : X → Bool) (o : Option X) → passes test o ≡ true → (a : X) × (o ≡ Some a) × (test a ≡ true)
@@ -53,8 +53,8 @@ room_when_fits removed walked xs ms p h =
     let b = passes_there (is_free walked) (slice_get places p.destination) outer.1 in
     let x = item_there xs ms p.source a.0 a.1 in
     let z = item_there xs ms p.destination b.0 b.1 in
-    let begins = when_goes removed p.copy (goes (pairs_of ms) p.source) (copied (pairs_of ms) p.source) (coming ms p.source) x.0 (ap (may_go removed p.copy) x.2 ∙ a.2) in
-    let ends = when_free walked (goes (pairs_of ms) p.destination) (copied (pairs_of ms) p.destination) (coming ms p.destination) z.0 (ap (is_free walked) z.2 ∙ b.2) in
+    let begins = when_goes removed p.copy (renames_from (pairs_of ms) p.source) (copies_from (pairs_of ms) p.source) (pair_to ms p.source) x.0 (ap (may_go removed p.copy) x.2 ∙ a.2) in
+    let ends = when_free walked (renames_from (pairs_of ms) p.destination) (copies_from (pairs_of ms) p.destination) (pair_to ms p.destination) z.0 (ap (is_free walked) z.2 ∙ b.2) in
     record {
       from = x.0;
       from_is = x.1;
@@ -110,7 +110,7 @@ balanced s0 s1 s2 a b c d x z l r first second ea eb ec ed moved = omega (arith,
 module _ {I : Type 0} (removed walked : I → Bool) (xs : List I) (ms : List (Pair × I)) (p : Pair) (old : AreLawful removed walked xs (pairs_of ms)) (room : HasRoom removed walked xs ms p) where
   abbrev Plays : ℕ → I → Type 0
   Plays i x =
-      IsLawfulAt removed walked x (goes (pairs_of ms ++ p ∷ []) i) (comes (pairs_of ms ++ p ∷ []) i) (copied (pairs_of ms ++ p ∷ []) i)
+      IsLawfulAt removed walked x (renames_from (pairs_of ms ++ p ∷ []) i) (pairs_to (pairs_of ms ++ p ∷ []) i) (copies_from (pairs_of ms ++ p ∷ []) i)
 
   not_onto : (p.destination == p.source) ≡ false
   not_onto = ne_eqb p.destination p.source (λ e. room.two (sym e))
@@ -118,21 +118,21 @@ module _ {I : Type 0} (removed walked : I → Bool) (xs : List I) (ms : List (Pa
   not_from : (p.source == p.destination) ≡ false
   not_from = ne_eqb p.source p.destination room.two
 
-  from_reached : comes (pairs_of ms ++ p ∷ []) p.source ≡ 0
+  from_reached : pairs_to (pairs_of ms ++ p ∷ []) p.source ≡ 0
   from_reached = comes_elsewhere (pairs_of ms) p p.source not_onto ∙ none_comes ms p.source room.from_alone
 
   from_plays : (c : Bool) → p.copy ≡ c → Plays p.source room.from
   from_plays true e =
-      let none : goes (pairs_of ms ++ p ∷ []) p.source ≡ 0 = omega (arith, goes_there (pairs_of ms) p true e, room.from_stays) in
+      let none : renames_from (pairs_of ms ++ p ∷ []) p.source ≡ 0 = omega (arith, goes_there (pairs_of ms) p true e, room.from_stays) in
       lawful_same removed walked room.from _ 0 _ 0 _ _ none from_reached refl (lawful_made removed walked room.from _)
   from_plays false e =
-      let one : goes (pairs_of ms ++ p ∷ []) p.source ≡ 1 = omega (arith, goes_there (pairs_of ms) p false e, room.from_stays) in
-      let none : copied (pairs_of ms ++ p ∷ []) p.source ≡ 0 = omega (arith, copied_there (pairs_of ms) p false e, (room.from_renamed e).0) in
+      let one : renames_from (pairs_of ms ++ p ∷ []) p.source ≡ 1 = omega (arith, goes_there (pairs_of ms) p false e, room.from_stays) in
+      let none : copies_from (pairs_of ms ++ p ∷ []) p.source ≡ 0 = omega (arith, copied_there (pairs_of ms) p false e, (room.from_renamed e).0) in
       lawful_same removed walked room.from _ 1 _ 0 _ 0 one from_reached none (lawful_gone removed walked room.from (room.from_renamed e).1)
 
   onto_plays : Plays p.destination room.onto
   onto_plays =
-      let one : comes (pairs_of ms ++ p ∷ []) p.destination ≡ 1 = omega (arith, comes_there (pairs_of ms) p, none_comes ms p.destination room.onto_alone) in
+      let one : pairs_to (pairs_of ms ++ p ∷ []) p.destination ≡ 1 = omega (arith, comes_there (pairs_of ms) p, none_comes ms p.destination room.onto_alone) in
       lawful_same removed walked room.onto _ 0 _ 1 _ 0
       (goes_elsewhere (pairs_of ms) p p.destination not_from ∙ room.onto_stays) one
       (copied_elsewhere (pairs_of ms) p p.destination not_from ∙ room.onto_uncopied)
@@ -164,25 +164,25 @@ module _ {I : Type 0} (removed walked : I → Bool) (xs : List I) (ms : List (Pa
     abbrev next : List (Pair × I)
     next = ms ++ (p, y) ∷ []
 
-    next_goes : (i : ℕ) → goes (pairs_of next) i ≡ goes (pairs_of ms ++ p ∷ []) i
-    next_goes i = ap (λ qs. goes qs i) (pairs_push ms p y)
+    next_goes : (i : ℕ) → renames_from (pairs_of next) i ≡ renames_from (pairs_of ms ++ p ∷ []) i
+    next_goes i = ap (λ qs. renames_from qs i) (pairs_push ms p y)
 
-    next_copied : (i : ℕ) → copied (pairs_of next) i ≡ copied (pairs_of ms ++ p ∷ []) i
-    next_copied i = ap (λ qs. copied qs i) (pairs_push ms p y)
+    next_copied : (i : ℕ) → copies_from (pairs_of next) i ≡ copies_from (pairs_of ms ++ p ∷ []) i
+    next_copied i = ap (λ qs. copies_from qs i) (pairs_push ms p y)
 
     from_next : (c : Bool) → p.copy ≡ c → left_by c (place_at ms p.source room.from) ≡ place_at next p.source room.from
     from_next true e =
-        let gone : goes (pairs_of next) p.source ≡ goes (pairs_of ms) p.source = omega (arith, next_goes p.source, goes_there (pairs_of ms) p true e) in
-        let made : copied (pairs_of next) p.source ≡ suc (copied (pairs_of ms) p.source) = omega (arith, next_copied p.source, copied_there (pairs_of ms) p true e) in
-        sym (same_place (goes (pairs_of next) p.source) (goes (pairs_of ms) p.source) (copied (pairs_of next) p.source) (suc (copied (pairs_of ms) p.source)) (coming next p.source) (coming ms p.source) room.from gone made (coming_elsewhere ms p y p.source not_onto))
+        let gone : renames_from (pairs_of next) p.source ≡ renames_from (pairs_of ms) p.source = omega (arith, next_goes p.source, goes_there (pairs_of ms) p true e) in
+        let made : copies_from (pairs_of next) p.source ≡ suc (copies_from (pairs_of ms) p.source) = omega (arith, next_copied p.source, copied_there (pairs_of ms) p true e) in
+        sym (same_place (renames_from (pairs_of next) p.source) (renames_from (pairs_of ms) p.source) (copies_from (pairs_of next) p.source) (suc (copies_from (pairs_of ms) p.source)) (pair_to next p.source) (pair_to ms p.source) room.from gone made (coming_elsewhere ms p y p.source not_onto))
     from_next false e =
-        let gone : goes (pairs_of next) p.source ≡ suc (goes (pairs_of ms) p.source) = omega (arith, next_goes p.source, goes_there (pairs_of ms) p false e) in
-        let made : copied (pairs_of next) p.source ≡ copied (pairs_of ms) p.source = omega (arith, next_copied p.source, copied_there (pairs_of ms) p false e) in
-        sym (same_place (goes (pairs_of next) p.source) (suc (goes (pairs_of ms) p.source)) (copied (pairs_of next) p.source) (copied (pairs_of ms) p.source) (coming next p.source) (coming ms p.source) room.from gone made (coming_elsewhere ms p y p.source not_onto))
+        let gone : renames_from (pairs_of next) p.source ≡ suc (renames_from (pairs_of ms) p.source) = omega (arith, next_goes p.source, goes_there (pairs_of ms) p false e) in
+        let made : copies_from (pairs_of next) p.source ≡ copies_from (pairs_of ms) p.source = omega (arith, next_copied p.source, copied_there (pairs_of ms) p false e) in
+        sym (same_place (renames_from (pairs_of next) p.source) (suc (renames_from (pairs_of ms) p.source)) (copies_from (pairs_of next) p.source) (copies_from (pairs_of ms) p.source) (pair_to next p.source) (pair_to ms p.source) room.from gone made (coming_elsewhere ms p y p.source not_onto))
 
     onto_next : reached_by p.copy (Some y) (place_at ms p.destination room.onto) ≡ place_at next p.destination room.onto
     onto_next =
-        sym (same_place (goes (pairs_of next) p.destination) (goes (pairs_of ms) p.destination) (copied (pairs_of next) p.destination) (copied (pairs_of ms) p.destination) (coming next p.destination) (Some (p, y)) room.onto
+        sym (same_place (renames_from (pairs_of next) p.destination) (renames_from (pairs_of ms) p.destination) (copies_from (pairs_of next) p.destination) (copies_from (pairs_of ms) p.destination) (pair_to next p.destination) (Some (p, y)) room.onto
         (next_goes p.destination ∙ goes_elsewhere (pairs_of ms) p p.destination not_from)
         (next_copied p.destination ∙ copied_elsewhere (pairs_of ms) p p.destination not_from)
         (coming_there ms p y room.onto_alone))
@@ -190,7 +190,7 @@ module _ {I : Type 0} (removed walked : I → Bool) (xs : List I) (ms : List (Pa
     other_next : (i : ℕ) → (i ≡ p.source → ⊥) → (i ≡ p.destination → ⊥) → (x : I) → place_at ms i x ≡ place_at next i x
     other_next i n m x =
         let elsewhere : (p.source == i) ≡ false = ne_eqb p.source i (λ e. n (sym e)) in
-        sym (same_place (goes (pairs_of next) i) (goes (pairs_of ms) i) (copied (pairs_of next) i) (copied (pairs_of ms) i) (coming next i) (coming ms i) x
+        sym (same_place (renames_from (pairs_of next) i) (renames_from (pairs_of ms) i) (copies_from (pairs_of next) i) (copies_from (pairs_of ms) i) (pair_to next i) (pair_to ms i) x
         (next_goes i ∙ goes_elsewhere (pairs_of ms) p i elsewhere)
         (next_copied i ∙ copied_elsewhere (pairs_of ms) p i elsewhere)
         (coming_elsewhere ms p y i (ne_eqb p.destination i (λ e. m (sym e)))))
@@ -232,8 +232,8 @@ module _ {I : Type 0} (removed walked : I → Bool) (xs : List I) (ms : List (Pa
     pub done_is : done ≡ places_after xs next
     done_is = same_gets done (places_after xs next) (λ i. get_done i (cases_eq i p.source) (cases_eq i p.destination))
 
-    module _ (is_made_of : I → I → Type 0) (of : IsOf is_made_of p.copy room.from y) (f : I → ℕ) where
-      moved : (c : Bool) → IsOf is_made_of c room.from y → cond c (f room.from) 0 + cond c 0 (f y) ≡ f room.from
+    module _ (is_made_of : I → I → Type 0) (of : IsMovedItem is_made_of p.copy room.from y) (f : I → ℕ) where
+      moved : (c : Bool) → IsMovedItem is_made_of c room.from y → cond c (f room.from) 0 + cond c 0 (f y) ≡ f room.from
       moved true h = omega arith
       moved false h = let e : f y ≡ f room.from = ap f h in omega (arith, e)
 
@@ -241,26 +241,26 @@ module _ {I : Type 0} (removed walked : I → Bool) (xs : List I) (ms : List (Pa
       done_weighs =
           let first = set_weighs (weight f) (places_after xs ms) p.source (place_at ms p.source room.from) (left_by p.copy (place_at ms p.source room.from)) (place_there xs ms p.source room.from room.from_is) in
           let second = set_weighs (weight f) left p.destination (place_at ms p.destination room.onto) (reached_by p.copy (Some y) (place_at ms p.destination room.onto)) onto_left in
-          let from_was = alone_weighs f (goes (pairs_of ms) p.source) (copied (pairs_of ms) p.source) (coming ms p.source) room.from room.from_stays room.from_alone in
-          let from_now = left_weighs f p.copy (goes (pairs_of ms) p.source) (copied (pairs_of ms) p.source) (coming ms p.source) room.from room.from_stays room.from_alone in
-          let onto_was = alone_weighs f (goes (pairs_of ms) p.destination) (copied (pairs_of ms) p.destination) (coming ms p.destination) room.onto room.onto_stays room.onto_alone in
-          let onto_now = reached_weighs f p.copy y (goes (pairs_of ms) p.destination) (copied (pairs_of ms) p.destination) (coming ms p.destination) room.onto room.onto_stays in
+          let from_was = alone_weighs f (renames_from (pairs_of ms) p.source) (copies_from (pairs_of ms) p.source) (pair_to ms p.source) room.from room.from_stays room.from_alone in
+          let from_now = left_weighs f p.copy (renames_from (pairs_of ms) p.source) (copies_from (pairs_of ms) p.source) (pair_to ms p.source) room.from room.from_stays room.from_alone in
+          let onto_was = alone_weighs f (renames_from (pairs_of ms) p.destination) (copies_from (pairs_of ms) p.destination) (pair_to ms p.destination) room.onto room.onto_stays room.onto_alone in
+          let onto_now = reached_weighs f p.copy y (renames_from (pairs_of ms) p.destination) (copies_from (pairs_of ms) p.destination) (pair_to ms p.destination) room.onto room.onto_stays in
           balanced _ _ _ _ _ _ _ _ _ _ _ first second from_was from_now onto_was onto_now (moved p.copy of)
 
-some_of : {I : Type 0} (is_made_of : I → I → Type 0) (c : Bool) (x : I) (o : Option I) → AreOf is_made_of c (Some x) o → (y : I) × (o ≡ Some y) × IsOf is_made_of c x y
+some_of : {I : Type 0} (is_made_of : I → I → Type 0) (c : Bool) (x : I) (o : Option I) → AreOf is_made_of c (Some x) o → (y : I) × (o ≡ Some y) × IsMovedItem is_made_of c x y
 some_of is_made_of false x o h = (x, h, refl)
 some_of is_made_of true x None h = absurd h
 some_of is_made_of true x (Some y) h = (y, refl, h)
 
 item_of : {I : Type 0} (a : Place I) (g k : ℕ) (m : Option (Pair × I)) (x : I) → a ≡ place_of g k m x → g ≡ 0 → a.item ≡ Some x
-item_of {I} a g k m x e none = ap (λ (b : Place I). b.item) e ∙ ap (λ n. staying n x) none
+item_of {I} a g k m x e none = ap (λ (b : Place I). b.item) e ∙ ap (λ n. item_left n x) none
 
 module _ {I : Type 0} (removed walked : I → Bool) (is_made_of : I → I → Type 0) (xs : List I) (ms : List (Pair × I)) (p : Pair) (new : List (Place I)) where
   paired_next : AreLawful removed walked xs (pairs_of ms) → All (Brings is_made_of xs) ms → ((f : I → ℕ) → sum_by (weight f) (places_after xs ms) ≡ sum_by f xs) → HasRoom removed walked xs ms p → IsPaired is_made_of (places_after xs ms) p new → HasPaired removed walked is_made_of xs (pairs_of ms ++ p ∷ []) new
   paired_next old bring bag room w =
       let places = places_after xs ms in
       let from_was : w.from ≡ place_at ms p.source room.from = same_Some w.from (place_at ms p.source room.from) (sym w.from_is ∙ place_there xs ms p.source room.from room.from_is) in
-      let item = item_of w.from (goes (pairs_of ms) p.source) (copied (pairs_of ms) p.source) (coming ms p.source) room.from from_was room.from_stays in
+      let item = item_of w.from (renames_from (pairs_of ms) p.source) (copies_from (pairs_of ms) p.source) (pair_to ms p.source) room.from from_was room.from_stays in
       let got = some_of is_made_of p.copy room.from w.brought (subst (λ o. AreOf is_made_of p.copy o w.brought) item w.brought_is) in
       let onto_was : w.onto ≡ place_at ms p.destination room.onto =
       same_Some w.onto (place_at ms p.destination room.onto)

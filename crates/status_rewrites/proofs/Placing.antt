@@ -4,8 +4,8 @@ use Rattle.std.specs.List.{enumerate_from}
 use Rattle.std.proofs.lemmas.Option.{none-some, same_Some}
 use Rattle.status_rewrites.specs.declared.tracker.Pair.{Pair}
 use Rattle.status_rewrites.specs.declared.place.Place.{Place}
-use Rattle.status_rewrites.specs.AfterRewrites.{coming, pairs_of, staying}
-use Rattle.status_rewrites.specs.Parts.{goes, copied}
+use Rattle.status_rewrites.specs.AfterRewrites.{pair_to, pairs_of, item_left}
+use Rattle.status_rewrites.specs.Parts.{renames_from, copies_from}
 use Rattle.status_rewrites.specs.Places.{free}
 use Rattle.status_rewrites.proofs.Gets.{get_each}
 
@@ -20,10 +20,10 @@ is_copying (Some m) = m.0.copy
 -- The state of an item's position, by the numbers of its renames and copies, and by the pair that comes to it.
 abbrev pub place_of : {I : Type 0} → ℕ → ℕ → Option (Pair × I) → I → Place I
 place_of {I} gone made m x =
-    record { item = staying gone x; arrived = option_map (λ (n : Pair × I). n.1) m; as_copy = is_copying m; kept = is_any made }
+    record { item = item_left gone x; arrived = option_map (λ (n : Pair × I). n.1) m; as_copy = is_copying m; kept = is_any made }
 
 abbrev pub place_at : {I : Type 0} → List (Pair × I) → ℕ → I → Place I
-place_at ms i x = place_of (goes (pairs_of ms) i) (copied (pairs_of ms) i) (coming ms i) x
+place_at ms i x = place_of (renames_from (pairs_of ms) i) (copies_from (pairs_of ms) i) (pair_to ms i) x
 
 abbrev pub places_after : {I : Type 0} → List I → List (Pair × I) → List (Place I)
 places_after {I} xs ms = map (λ (e : ℕ × I). place_at ms e.0 e.1) (enumerate_from 0 xs)

@@ -8,39 +8,39 @@ use Rattle.status_rewrites.specs.declared.refused.Refused.TheVariants.{BadPair, 
 use Rattle.status_rewrites.specs.declared.rewritten.Rewritten.{Rewritten}
 use Rattle.status_rewrites.specs.declared.rewritten.Rewritten.TheVariants.{Alone, Rewrite}
 use Rattle.status_rewrites.specs.Lawful.{AreLawful, IsBadPair}
-use Rattle.status_rewrites.specs.Parts.{goes}
+use Rattle.status_rewrites.specs.Parts.{renames_from}
 
 -- The item that a pair brings to its destination, for its source x: a copy brings a copy of x, a rename x itself.
-abbrev pub IsOf : {I : Type 0} → (I → I → Type 0) → Bool → I → I → Type 0
-IsOf is_made_of true x y = is_made_of x y
-IsOf is_made_of false x y = y ≡ x
+abbrev pub IsMovedItem : {I : Type 0} → (I → I → Type 0) → Bool → I → I → Type 0
+IsMovedItem is_made_of true x y = is_made_of x y
+IsMovedItem is_made_of false x y = y ≡ x
 
 -- A pair with the item that it brings, by its source in the list.
 abbrev pub Brings : {I : Type 0} → (I → I → Type 0) → List I → Pair × I → Type 0
-Brings {I} is_made_of xs m = (x : I) × (slice_get xs m.0.source ≡ Some x) × IsOf is_made_of m.0.copy x m.1
+Brings {I} is_made_of xs m = (x : I) × (slice_get xs m.0.source ≡ Some x) × IsMovedItem is_made_of m.0.copy x m.1
 
 abbrev pub pairs_of : {I : Type 0} → List (Pair × I) → List Pair
 pairs_of {I} ms = map (λ (m : Pair × I). m.0) ms
 
 -- The item that is left at a position, by the number of renames that take it out.
-abbrev pub staying : {I : Type 0} → ℕ → I → Option I
-staying zero x = Some x
-staying (suc n) x = None
+abbrev pub item_left : {I : Type 0} → ℕ → I → Option I
+item_left zero x = Some x
+item_left (suc n) x = None
 
 -- The pair whose destination is a position, with the item that it brings.
-abbrev pub coming : {I : Type 0} → List (Pair × I) → ℕ → Option (Pair × I)
-coming {I} ms i = find (λ (m : Pair × I). m.0.destination == i) ms
+abbrev pub pair_to : {I : Type 0} → List (Pair × I) → ℕ → Option (Pair × I)
+pair_to {I} ms i = find (λ (m : Pair × I). m.0.destination == i) ms
 
 -- The entries at a position, by the item that is left and the pair that comes: none, the item alone, or a rewrite.
-abbrev pub standing : {I : Type 0} → Option I → Option (Pair × I) → List (Rewritten I)
-standing None m = []
-standing (Some x) None = Alone x ∷ []
-standing (Some x) (Some m) = Rewrite m.1 x m.0.copy ∷ []
+abbrev pub entries_here : {I : Type 0} → Option I → Option (Pair × I) → List (Rewritten I)
+entries_here None m = []
+entries_here (Some x) None = Alone x ∷ []
+entries_here (Some x) (Some m) = Rewrite m.1 x m.0.copy ∷ []
 
 -- The list after the rewrites, position by position.
 abbrev pub after_rewrites : {I : Type 0} → List I → List (Pair × I) → List (Rewritten I)
 after_rewrites {I} xs ms =
-    flat_map (λ (e : ℕ × I). standing (staying (goes (pairs_of ms) e.0) e.1) (coming ms e.0)) (enumerate_from 0 xs)
+    flat_map (λ (e : ℕ × I). entries_here (item_left (renames_from (pairs_of ms) e.0) e.1) (pair_to ms e.0)) (enumerate_from 0 xs)
 
 -- The list's items that an entry has: both for a rename, for a copy only its destination.
 abbrev pub parts : {I : Type 0} → Rewritten I → List I
@@ -60,7 +60,7 @@ pub record IsRewritten {I : Type 0} (is_made_of : I → I → Type 0) (xs : List
 
 -- Lawful pairs come to their destinations, no item is lost or doubled; otherwise the first bad pair, or out of memory. Or memory
 -- ran out.
-abbrev pub IsAnswer : {I : Type 0} → (I → Bool) → (I → Bool) → (I → I → Type 0) → List I → List Pair → Result (Vec (Rewritten I)) Refused → Type 0
-IsAnswer removed walked is_made_of xs ps (Ok entries) = AreLawful removed walked xs ps × IsRewritten is_made_of xs ps entries.items
-IsAnswer removed walked is_made_of xs ps (Err (BadPair at)) = IsBadPair removed walked xs ps at
-IsAnswer removed walked is_made_of xs ps (Err Memory) = ⊤
+abbrev pub IsRewriteAnswer : {I : Type 0} → (I → Bool) → (I → Bool) → (I → I → Type 0) → List I → List Pair → Result (Vec (Rewritten I)) Refused → Type 0
+IsRewriteAnswer removed walked is_made_of xs ps (Ok entries) = AreLawful removed walked xs ps × IsRewritten is_made_of xs ps entries.items
+IsRewriteAnswer removed walked is_made_of xs ps (Err (BadPair at)) = IsBadPair removed walked xs ps at
+IsRewriteAnswer removed walked is_made_of xs ps (Err Memory) = ⊤

@@ -30,13 +30,13 @@ abbrev pub in_bucket : ℕ → List Seen → List Seen
 in_bucket number xs = filter (λ s. bucket_number (changed_of s) == number) xs
 
 -- The changes that a bucket refers to.
-abbrev pub named_in : Vec (Bor Seen) → List Seen
-named_in bucket = map (λ s. s.now) bucket.items
+abbrev pub changes_named : Vec (Bor Seen) → List Seen
+changes_named bucket = map (λ s. s.now) bucket.items
 
 -- The buckets of a list, each in the list's order.
 pub record AreBuckets (xs : List Seen) (buckets : List (Vec (Bor Seen))) : Type 0 where
   pub count : length buckets ≡ bucket_count
-  pub each : (i : ℕ) (d : Vec (Bor Seen)) → i < length buckets → named_in (slice_index_or buckets i d) ≡ in_bucket i xs
+  pub each : (i : ℕ) (d : Vec (Bor Seen)) → i < length buckets → changes_named (slice_index_or buckets i d) ≡ in_bucket i xs
 
 -- Pairs followed by those of two buckets.
 pub record IsAppendedJoin (gone came : List Seen) (old new : List Pair) : Type 0 where

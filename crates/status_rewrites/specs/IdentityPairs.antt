@@ -24,8 +24,8 @@ mode_number Tree = 2
 mode_number Commit = 2
 
 -- A change with its position in the list.
-abbrev pub Placed : Type 0
-Placed = ℕ × Changed
+abbrev pub NumberedChange : Type 0
+NumberedChange = ℕ × Changed
 
 -- By type, and then by id.
 unfoldable pub key_cmp : Changed → Changed → Ordering
@@ -36,8 +36,8 @@ abbrev pub are_alike : Changed → Changed → Bool
 are_alike a b = is_eq (key_cmp a b)
 
 -- By path, and at equal paths by position.
-unfoldable pub path_cmp : Placed → Placed → Ordering
-path_cmp a b = ordering_then (slice_cmp nat_cmp a.1.path b.1.path) (nat_cmp a.0 b.0)
+unfoldable pub place_cmp : NumberedChange → NumberedChange → Ordering
+place_cmp a b = ordering_then (slice_cmp nat_cmp a.1.path b.1.path) (nat_cmp a.0 b.0)
 
 abbrev pub is_on : ChangeKind → ChangeKind → Bool
 is_on Deletion Deletion = true
@@ -54,22 +54,22 @@ may_stand side track_empty x =
     is_on x.kind side && not (mode_number x.mode == 2) && not (is_null x.id) && (track_empty || not (is_empty_blob x.id))
 
 -- The changes of one side with the type and id of `key`, in the list's order.
-abbrev pub row : ChangeKind → Bool → Changed → List Placed → List Placed
+abbrev pub row : ChangeKind → Bool → Changed → List NumberedChange → List NumberedChange
 row side track_empty key xs = filter (λ x. are_alike x.1 key) (filter (λ x. may_stand side track_empty x.1) xs)
 
 -- A rename from the first to the second.
-abbrev pub rename : Placed × Placed → Pair
+abbrev pub rename : NumberedChange × NumberedChange → Pair
 rename m = record { source = m.0.0; destination = m.1.0; copy = false }
 
 -- By type and id, the i-th deletion by path, then position, pairs with the i-th addition, unless its id is null, or the empty
 -- blob's without `track_empty`. So each has a pair as long as both sides have one.
 pub record AreIdentityPairs (track_empty : Bool) (xs : List Changed) (pairs : List Pair) : Type 0 where
   -- The changes by path, and at equal paths by position.
-  pub ordered : List Placed
+  pub ordered : List NumberedChange
   pub bag : IsPermutation (enumerate_from 0 xs) ordered
-  pub ascends : IsSorted path_cmp ordered
+  pub ascends : IsSorted place_cmp ordered
   -- The pairs with their changes, by type and id.
-  pub matched : List (Placed × Placed)
+  pub matched : List (NumberedChange × NumberedChange)
   pub are : pairs ≡ map rename matched
   pub by_key : IsSortedBy (λ a b. is_lt (key_cmp a.0.1 b.0.1)) matched
   -- The pairs of each type and id.

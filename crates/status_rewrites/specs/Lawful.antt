@@ -2,7 +2,7 @@
 use Rattle.std.specs.Prelude.{◌≡◌, ℕ, ◌+◌, ◌<◌, ◌≤◌, Bool, true, List, length, take, Some, slice_get}
 use Rattle.std.specs.List.{All}
 use Rattle.status_rewrites.specs.declared.tracker.Pair.{Pair}
-use Rattle.status_rewrites.specs.Parts.{goes, copied, comes}
+use Rattle.status_rewrites.specs.Parts.{renames_from, copies_from, pairs_to}
 
 -- An item has one part at most: one rename's source, one pair's destination, or the source of copies.
 pub record IsLawfulAt {I : Type 0} (removed walked : I → Bool) (x : I) (gone reached made : ℕ) : Type 0 where
@@ -16,7 +16,7 @@ pub record IsLawfulAt {I : Type 0} (removed walked : I → Bool) (x : I) (gone r
 -- range.
 pub record AreLawful {I : Type 0} (removed walked : I → Bool) (xs : List I) (ps : List Pair) : Type 0 where
   pub inside : All (λ p. (p.source < length xs) × (p.destination < length xs)) ps
-  pub each : (i : ℕ) (x : I) → slice_get xs i ≡ Some x → IsLawfulAt removed walked x (goes ps i) (comes ps i) (copied ps i)
+  pub each : (i : ℕ) (x : I) → slice_get xs i ≡ Some x → IsLawfulAt removed walked x (renames_from ps i) (pairs_to ps i) (copies_from ps i)
 
 -- The first n pairs break no rule, and with the next they do.
 pub record IsBadPair {I : Type 0} (removed walked : I → Bool) (xs : List I) (ps : List Pair) (n : ℕ) : Type 0 where

@@ -1,7 +1,7 @@
 //! The list in which each pair is one entry.
 
 ghost use Rattle.std.specs.Prelude.{◌≡◌, ◌<◌, true, IfOk, OnOk, length, map, flat_map, slice_get};
-ghost use Rattle.status_rewrites.specs.AfterRewrites.{IsAnswer};
+ghost use Rattle.status_rewrites.specs.AfterRewrites.{IsRewriteAnswer};
 ghost use Rattle.status_rewrites.specs.Places.{free, fits, passes, is_free, may_go, standing_in, IsPaired};
 
 use crate::Pair;
@@ -95,7 +95,7 @@ pub fn rewrite<I: Item>(
     items: Vec<I>,
     pairs: &[Pair],
 ) -> Result<Vec<Rewritten<I>>, Refused>
-    ensures { IsAnswer I.is_removed I.is_walked I.is_copy items.items pairs.now result }
+    ensures { IsRewriteAnswer I.is_removed I.is_walked I.is_copy items.items pairs.now result }
 {
     let mut places = places_of(alloc, items)?;
     for (at, pair) in pairs.iter().enumerate() {

@@ -3,8 +3,8 @@
 ghost use Rattle.std.specs.Prelude.{◌≡◌, IfOk, OnOk, map, true};
 ghost use Rattle.std.specs.List.{enumerate_from};
 ghost use Rattle.std.specs.List.Sorted.{IsPermutation, IsSorted};
-ghost use Rattle.status_rewrites.specs.IdentityPairs.{mode_number, key_cmp, path_cmp, is_on, is_null, may_stand};
-ghost use Rattle.status_rewrites.specs.SeenItems.{changed_of, standing};
+ghost use Rattle.status_rewrites.specs.IdentityPairs.{mode_number, key_cmp, place_cmp, is_on, is_null, may_stand};
+ghost use Rattle.status_rewrites.specs.SeenItems.{changed_of, numbered};
 ghost use Rattle.status_rewrites.specs.Joins.{AreByKey, HasRows, side_of};
 
 use crate::change::{Change, ChangeKind};
@@ -42,7 +42,7 @@ fn is_null(id: ObjectId) -> bool
 
 /// Reads a change.
 fn see<C: Change>(place: usize, item: &C) -> Seen<'_>
-    ensures { standing result ≡ (place, C.changed item.entry.now) }
+    ensures { numbered result ≡ (place, C.changed item.entry.now) }
 {
     let (id, mode) = item.id_and_entry_mode();
     Seen {
@@ -56,7 +56,7 @@ fn see<C: Change>(place: usize, item: &C) -> Seen<'_>
 
 /// Reads all changes.
 pub(crate) fn see_all<C: Change>(alloc: Global, items: &[C]) -> Result<Vec<Seen<'_>>, AllocError>
-    ensures { IfOk result (λ seen. map standing seen.items ≡ enumerate_from 0 (map C.changed items.entry.now)) }
+    ensures { IfOk result (λ seen. map numbered seen.items ≡ enumerate_from 0 (map C.changed items.entry.now)) }
 {
     let mut seen = Vec::with_capacity(alloc, items.len())?;
     for (place, item) in items.iter().enumerate() {
@@ -66,9 +66,9 @@ pub(crate) fn see_all<C: Change>(alloc: Global, items: &[C]) -> Result<Vec<Seen<
 }
 
 /// Compares by path, and at equal paths by position.
-#[tactic(auto, unfolding(crate::specs::IdentityPairs::path_cmp))]
+#[tactic(auto, unfolding(crate::specs::IdentityPairs::place_cmp))]
 fn path_order(a: &Seen<'_>, b: &Seen<'_>) -> Ordering
-    ensures { result ≡ path_cmp (standing a.now) (standing b.now) }
+    ensures { result ≡ place_cmp (numbered a.now) (numbered b.now) }
 {
     a.path.cmp(b.path).then(a.place.cmp(&b.place))
 }
@@ -86,7 +86,7 @@ pub(crate) fn key_order(a: &Seen<'_>, b: &Seen<'_>) -> Ordering
 /// Sorts by path.
 pub(crate) fn put_in_path_order(seen: &mut Vec<Seen<'_>>) -> Result<(), AllocError>
     ensures bag { IsPermutation seen.old.items seen.new.items }
-    ensures ascends { OnOk result (IsSorted (λ a b. path_cmp (standing a) (standing b)) seen.new.items) }
+    ensures ascends { OnOk result (IsSorted (λ a b. place_cmp (numbered a) (numbered b)) seen.new.items) }
 {
     seen.sort_by(|a, b| path_order(a, b))
 }

@@ -19,7 +19,7 @@ use Rattle.status_index.specs.declared.stat.Time.{Time}
 use Rattle.status_index.specs.BlobId.{id_kind}
 use Rattle.status_index.specs.Entries.{IndexEntry, IsIndex, entry_cmp, stage_of}
 use Rattle.status_stored.specs.Reading.{number_in, time_in, moment_in, stage_in, mode_in, id_in, entry_in, entries_from, index_in}
-use Rattle.status_stored.specs.Storable.{AreKnown, IsKnown, known_entry, Fits32, FitsTime, FitsId, IsStorable, IsStorableIndex}
+use Rattle.status_stored.specs.Storable.{AreKnown, HasKnownBits, known_entry, Fits32, FitsTime, FitsId, IsStorable, IsStorableIndex}
 use Rattle.status_stored.specs.StoredIndex.{stored_number, stored_stamp, stored_time, stored_entry, stored_index}
 use Rattle.status_stored.specs.Words.{mode_digits, id_digits}
 use Rattle.status_stored.proofs.FlagsBack.{flags_back, stage_known}
@@ -88,14 +88,14 @@ index_back es t h = rw (moment_back t h.secs h.nsecs, entries_back es h.entries)
 
 -- ---- known flags
 
-entry_same : (e : IndexEntry) → IsKnown e.flags.0 → known_entry e ≡ e
+entry_same : (e : IndexEntry) → HasKnownBits e.flags.0 → known_entry e ≡ e
 entry_same e known = λ i. record { path = e.path; stat = e.stat; id = e.id; flags = record { 0 = sym known i }; mode = e.mode }
 
 -- Entries whose flags are known stay unchanged.
 pub entries_same : (es : List IndexEntry) → AreKnown es → map known_entry es ≡ es
 entries_same [] known = refl
 entries_same (e ∷ es) known = λ i.
-    entry_same e (All-head (λ x. IsKnown x.flags.0) e es known) i ∷ entries_same es (All-tail (λ x. IsKnown x.flags.0) e es known) i
+    entry_same e (All-head (λ x. HasKnownBits x.flags.0) e es known) i ∷ entries_same es (All-tail (λ x. HasKnownBits x.flags.0) e es known) i
 
 pub index_same : (es : List IndexEntry) (t : Moment) → IsStorableIndex es t → AreKnown es → index_in (stored_index es t) ≡ Some (es, t)
 index_same es t h known = index_back es t h ∙ ap (λ (l : List IndexEntry). Some (l, t)) (entries_same es known)

@@ -7,7 +7,7 @@ use Rattle.status_index.specs.FlagBits.{bits_of_stage}
 use Rattle.status_index.specs.States.{index_of, timestamp_of}
 use Rattle.status_stored.specs.declared.error.ReopenError.TheVariants as errors
 use Rattle.status_stored.specs.RoundTrip.{IsRoundTrip}
-use Rattle.status_stored.specs.Storable.{AreKnown, IsKnown, known_entry, IsNotUtf8At, IsStorableIndex}
+use Rattle.status_stored.specs.Storable.{AreKnown, HasKnownBits, known_entry, IsNotUtf8At, IsStorableIndex}
 use Rattle.status_stored.specs.Reopening.{IsOpeningRefusal}
 use Rattle.status_stored.proofs.Back.{entries_same}
 use Rattle.status_world.specs.declared.world.refusal.Refusal.{Refusal}
@@ -18,8 +18,8 @@ use Rattle.status_world.specs.StampedWorld.{StampedWorld}
 use Rattle.status_world.proofs.EntryVerdicts.{each_entry}
 
 -- Without a flag besides the stage, all flags are known.
-known : (bits : ℕ) → bits ≡ bits_of_stage 0 → IsKnown bits
-known bits none = subst IsKnown (sym none) refl
+known : (bits : ℕ) → bits ≡ bits_of_stage 0 → HasKnownBits bits
+known bits none = subst HasKnownBits (sym none) refl
 
 pub known_flags : (w : StampedWorld) → IsFormed w → AreKnown w.entries
 known_flags w formed k d inside = known _ (each_entry w formed k d inside).formed.flags

@@ -12,12 +12,12 @@ use Rattle.status_stored.specs.Storable.{IsStorable, IsNotUtf8At}
 use Rattle.status_stored.specs.StoredIndex.{stored_entry}
 
 -- The element at a position, and the fact that holds for it.
-pub record Placed {X : Type 0} (P : X → Type 0) (xs : List X) (i : ℕ) : Type 0 where
+pub record ElementAt {X : Type 0} (P : X → Type 0) (xs : List X) (i : ℕ) : Type 0 where
   pub it : X
   pub is : (d : X) → get_or xs i d ≡ it
   pub holds : P it
 
-pub placed : {X : Type 0} (P : X → Type 0) (xs : List X) (i : ℕ) → i < length xs → HoldsAt P xs i → Placed P xs i
+pub placed : {X : Type 0} (P : X → Type 0) (xs : List X) (i : ℕ) → i < length xs → HoldsAt P xs i → ElementAt P xs i
 placed P [] i h holds = absurd (omega arith)
 placed P (x ∷ xs) i h holds =
     record { it = get_or (x ∷ xs) i x; is = λ d. get_or_default (x ∷ xs) i d x h; holds = holds x }

@@ -60,12 +60,12 @@ abbrev pub known_entry : IndexEntry → IndexEntry
 known_entry e = record { path = e.path; stat = e.stat; id = e.id; flags = record { 0 = known_bits e.flags.0 }; mode = e.mode }
 
 -- There are no other bits.
-abbrev pub IsKnown : ℕ → Type 0
-IsKnown bits = bits ≡ known_bits bits
+abbrev pub HasKnownBits : ℕ → Type 0
+HasKnownBits bits = bits ≡ known_bits bits
 
 -- All flags of an index are known.
 abbrev pub AreKnown : List IndexEntry → Type 0
-AreKnown es = All (λ e. IsKnown e.flags.0) es
+AreKnown es = All (λ e. HasKnownBits e.flags.0) es
 
 -- The entry at this position is the first whose path isn't UTF-8.
 pub record IsNotUtf8At (es : List IndexEntry) (at : ℕ) : Type 0 where

@@ -42,13 +42,13 @@ module _ (tree : Tree) (es : List IndexEntry) (included : List ℕ → Bool → 
 
   module _ (keeps : Walked → Bool) (old : List Walked) where
     -- So many nodes were passed, these nodes are left, and these were kept.
-    pub record IsUnderWay (emitted : ℕ) (left : List (Vec ℕ × Node)) (kept : List Walked) : Type 0 where
+    pub record IsWalkSoFar (emitted : ℕ) (left : List (Vec ℕ × Node)) (kept : List Walked) : Type 0 where
       pub rest : found left ≡ drop emitted all
       pub inside : emitted ≤ length all
       pub has : kept ≡ old ++ filter keeps (take emitted all)
       pub fits : emitted + length left < 2 ^ 63
 
-    pub begins : (nodes : List (Vec ℕ × Node)) → placed_entries nodes ≡ paths.entries tree.nodes → length nodes < 2 ^ 63 → IsUnderWay 0 nodes old
+    pub begins : (nodes : List (Vec ℕ × Node)) → placed_entries nodes ≡ paths.entries tree.nodes → length nodes < 2 ^ 63 → IsWalkSoFar 0 nodes old
     begins nodes are short = record {
       rest = ap (filter_map (λ (p : List ℕ × Placed). untracked_at es included p.0 p.1.metadata.kind)) are;
       inside = omega arith;
@@ -56,8 +56,8 @@ module _ (tree : Tree) (es : List IndexEntry) (included : List ℕ → Bool → 
       fits = omega (arith, short);
     }
 
-    module _ (n : ℕ) (x : Vec ℕ × Node) (left : List (Vec ℕ × Node)) (kept new : List Walked) (u : IsUnderWay n (x ∷ left) kept) (k : new ≡ kept ++ filter keeps (option_to_list (out_of x))) where
-      passed_by : (o : Option Walked) → out_of x ≡ o → is_some o ≡ false → IsUnderWay n left new
+    module _ (n : ℕ) (x : Vec ℕ × Node) (left : List (Vec ℕ × Node)) (kept new : List Walked) (u : IsWalkSoFar n (x ∷ left) kept) (k : new ≡ kept ++ filter keeps (option_to_list (out_of x))) where
+      passed_by : (o : Option Walked) → out_of x ≡ o → is_some o ≡ false → IsWalkSoFar n left new
       passed_by None h none = record {
         rest = sym (ap (λ o. cons_option o (found left)) h) ∙ u.rest;
         inside = u.inside;
@@ -66,7 +66,7 @@ module _ (tree : Tree) (es : List IndexEntry) (included : List ℕ → Bool → 
       }
       passed_by (Some w) h none = absurd (true≢false none)
 
-      passed_on_by : (o : Option Walked) → out_of x ≡ o → is_some o ≡ true → IsUnderWay (n + 1) left new
+      passed_on_by : (o : Option Walked) → out_of x ≡ o → is_some o ≡ true → IsWalkSoFar (n + 1) left new
       passed_on_by None h some = absurd (true≢false (sym some))
       passed_on_by (Some w) h some =
           let e : drop n all ≡ w ∷ found left = sym u.rest ∙ ap (λ o. cons_option o (found left)) h in
@@ -81,11 +81,11 @@ module _ (tree : Tree) (es : List IndexEntry) (included : List ℕ → Bool → 
             fits = omega (arith, u.fits);
           }
 
-      pub passed_over : is_some (out_of x) ≡ false → IsUnderWay n left new
+      pub passed_over : is_some (out_of x) ≡ false → IsWalkSoFar n left new
       passed_over = passed_by (out_of x) refl
 
-      pub passed : is_some (out_of x) ≡ true → IsUnderWay (n + 1) left new
+      pub passed : is_some (out_of x) ≡ true → IsWalkSoFar (n + 1) left new
       passed = passed_on_by (out_of x) refl
 
-    pub at_end : (n : ℕ) (kept : List Walked) → IsUnderWay n [] kept → n ≡ length all
+    pub at_end : (n : ℕ) (kept : List Walked) → IsWalkSoFar n [] kept → n ≡ length all
     at_end n kept u = omega (arith, length-drop n all, ap length u.rest, u.inside)

@@ -6,8 +6,8 @@ ghost use Rattle.status_walk.specs.WorktreeIds.{IsId, IsIdOfFile, converted_id, 
 
 use crate::entry::Kind;
 use bstr::BStr;
-use status_base::index::{HashKind, ObjectId, compute_hash, compute_stream_hash};
 use status_base::worktree::{Fault, ToGit, ToGitOutcome, Worktree};
+use status_index::{HashKind, ObjectId, compute_hash, compute_stream_hash};
 use thiserror::Error;
 
 /// Why the id of a node can't be computed.

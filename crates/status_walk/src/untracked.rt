@@ -14,8 +14,8 @@ use crate::delegate::{Action, Delegate};
 use crate::entry::{DirEntry, Kind, Status};
 use crate::walk::{Outcome, Walk, WalkError};
 use bstr::{BStr, BString};
-use status_base::index::{Entry, State};
 use status_base::worktree::{MemoryWorktree, NodeKind, Pathspec};
+use status_index::{Entry, State};
 use std::alloc::{AllocError, Global};
 
 /// Finds the untracked nodes of a worktree in memory: the files, links and other nodes that a pathspec includes, whose
@@ -49,7 +49,7 @@ impl Walk<MemoryWorktree> for UntrackedWalk {
         let mut emitted = 0;
         for (path, node) in worktree.nodes() {
             let path = BStr::new(path.as_slice());
-            match hand_out(self.alloc, index, pathspec, path, node.kind, delegate)? {
+            match emit_untracked(self.alloc, index, pathspec, path, node.kind, delegate)? {
                 None => {}
                 Some(Action::Continue) => emitted += 1,
                 Some(Action::Cancel) => {
@@ -68,7 +68,7 @@ impl Walk<MemoryWorktree> for UntrackedWalk {
 }
 
 /// Passes a node to the delegate if it is untracked. Returns the delegate's action, or None if the node wasn't passed.
-fn hand_out<P: Pathspec, D: Delegate>(
+fn emit_untracked<P: Pathspec, D: Delegate>(
     alloc: Global,
     index: &State,
     pathspec: &P,

@@ -8,8 +8,8 @@ ghost use Rattle.status_walk.specs.declared.walk.WalkError.TheVariants.{Memory};
 
 use crate::delegate::Delegate;
 use bstr::BString;
-use status_base::index::State;
 use status_base::worktree::{Fault, Pathspec, Worktree};
+use status_index::State;
 use std::alloc::AllocError;
 use thiserror::Error;
 

@@ -9,7 +9,7 @@ use Rattle.status_index.specs.Entries.{IndexEntry}
 use Rattle.status_compare.specs.declared.error.Error.{Error}
 use Rattle.status_world.specs.History.{IsIn}
 use Rattle.status_world.specs.Reports.{RunStatus, Reported, is_change, changed_paths}
-use Rattle.status_world.specs.StampedWorld.{StampedWorld, entry_at, reported_by, verdict_in, report_of}
+use Rattle.status_world.specs.StampedWorld.{StampedWorld, entry_of_path, reported_by, verdict_in, report_of}
 use Rattle.status_world.specs.declared.world.event.Comparer.{Comparer}
 use Rattle.status_world.proofs.Pairs.{IsChangeVerdict}
 use Rattle.status_world.proofs.EntryLists.{AreAscending, ascends_tail, ascends_head, none_later}
@@ -87,27 +87,27 @@ module _ (decide : Decide) where
   from_first p e later true t h = inl (sym ((bytes_eq-Decides e.path p).0 (sym t)), h)
   from_first p e later false t h = inr h
 
-  changed_of : (p : List ℕ) (es : List IndexEntry) (n : ℕ) → AreAscending es → IsIn p (paths_of (reports_from n es)) → Changed p (entry_at p es)
+  changed_of : (p : List ℕ) (es : List IndexEntry) (n : ℕ) → AreAscending es → IsIn p (paths_of (reports_from n es)) → Changed p (entry_of_path p es)
   changed_of p [] n ascends h = h
   changed_of p (e ∷ es) n ascends h =
       let here = in_either p (paths_of (reported_by n e.path (decide e))) (paths_of (reports_from (n + 1) es)) (subst (IsIn p) (paths-cons n e es) h) in
-      let parts : ((p ≡ e.path) × IsChangeVerdict (decide e)) ⊎ Changed p (entry_at p es) =
+      let parts : ((p ≡ e.path) × IsChangeVerdict (decide e)) ⊎ Changed p (entry_of_path p es) =
       elim here [
         | inl k ↦ inl (reported_path n e.path p (decide e) k)
         | inr k ↦ inr (changed_of p es (n + 1) (ascends_tail e es ascends) k)
       ] in
-      at_first p e (entry_at p es) (bytes_eq e.path p) refl parts (λ same. subst (λ r. entry_at r es ≡ None) (sym same) (none_later e es (ascends_head e es ascends)))
+      at_first p e (entry_of_path p es) (bytes_eq e.path p) refl parts (λ same. subst (λ r. entry_of_path r es ≡ None) (sym same) (none_later e es (ascends_head e es ascends)))
 
-  of_changed : (p : List ℕ) (es : List IndexEntry) (n : ℕ) → Changed p (entry_at p es) → IsIn p (paths_of (reports_from n es))
+  of_changed : (p : List ℕ) (es : List IndexEntry) (n : ℕ) → Changed p (entry_of_path p es) → IsIn p (paths_of (reports_from n es))
   of_changed p [] n h = h
   of_changed p (e ∷ es) n h =
       subst (IsIn p) (sym (paths-cons n e es))
-      (elim (from_first p e (entry_at p es) (bytes_eq e.path p) refl h) [
+      (elim (from_first p e (entry_of_path p es) (bytes_eq e.path p) refl h) [
         | inl k ↦ in_left p (paths_of (reported_by n e.path (decide e))) (paths_of (reports_from (n + 1) es)) (path_reported n e.path p (decide e) k.0 k.1)
         | inr k ↦ in_right p (paths_of (reported_by n e.path (decide e))) (paths_of (reports_from (n + 1) es)) (of_changed p es (n + 1) k)
       ])
 
 -- A path is among a report's changed paths exactly if its entry's verdict is a change.
 pub changed_at : (w : StampedWorld) (c : Comparer) → AreAscending w.entries → (p : List ℕ)
-    → IsIn p (changed_paths (report_of w c)) ↔ IsSomeAnd (entry_at p w.entries) (λ e. IsChangeVerdict (verdict_in w c e))
+    → IsIn p (changed_paths (report_of w c)) ↔ IsSomeAnd (entry_of_path p w.entries) (λ e. IsChangeVerdict (verdict_in w c e))
 changed_at w c ascends p = (changed_of (verdict_in w c) p w.entries 0 ascends, of_changed (verdict_in w c) p w.entries 0)

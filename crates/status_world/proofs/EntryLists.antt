@@ -17,7 +17,7 @@ use Rattle.status_index.specs.Entries.{IndexEntry}
 use Rattle.status_base.specs.Nodes.{is_bad_path}
 use Rattle.status_call.proofs.Parts.{AllPairs-append}
 use Rattle.status_index.specs.Staging.{with_entry}
-use Rattle.status_world.specs.StampedWorld.{entry_at}
+use Rattle.status_world.specs.StampedWorld.{entry_of_path}
 
 abbrev pub path_cmp : List ℕ → List ℕ → Ordering
 path_cmp = slice_cmp nat_cmp
@@ -88,13 +88,13 @@ module _ (es : List IndexEntry) (p : List ℕ) where
   abbrev above : List IndexEntry
   above = filter (λ e. is_lt (path_cmp p e.path)) es
 
-  at_below : (q : List ℕ) → entry_at q below ≡ cond (is_lt (path_cmp q p)) (entry_at q es) None
+  at_below : (q : List ℕ) → entry_of_path q below ≡ cond (is_lt (path_cmp q p)) (entry_of_path q es) None
   at_below q = find-filter (λ e. bytes_eq e.path q) (λ e. is_lt (path_cmp e.path p)) (is_lt (path_cmp q p)) (λ e h. ap (λ r. is_lt (path_cmp r p)) (sought e q h)) es
 
-  at_above : (q : List ℕ) → entry_at q above ≡ cond (is_lt (path_cmp p q)) (entry_at q es) None
+  at_above : (q : List ℕ) → entry_of_path q above ≡ cond (is_lt (path_cmp p q)) (entry_of_path q es) None
   at_above q = find-filter (λ e. bytes_eq e.path q) (λ e. is_lt (path_cmp p e.path)) (is_lt (path_cmp p q)) (λ e h. ap (λ r. is_lt (path_cmp p r)) (sought e q h)) es
 
-at_new : (new : Option IndexEntry) (p q : List ℕ) → IfSome new (λ e. e.path ≡ p) → entry_at q (option_to_list new) ≡ cond (is_path q p) new None
+at_new : (new : Option IndexEntry) (p q : List ℕ) → IfSome new (λ e. e.path ≡ p) → entry_of_path q (option_to_list new) ≡ cond (is_path q p) new None
 at_new None p q h = none_either (is_path q p)
 at_new (Some e) p q h = ap (λ b. cond b (Some e) None) (test_is e q ∙ ap (is_path q) h)
 
@@ -108,18 +108,18 @@ by_order_of Equal new found = or_none new
 by_order_of Greater new found = refl
 
 -- The entry of a path, in an index in which one path has another entry, or none.
-pub entry_at-with : (es : List IndexEntry) (p : List ℕ) (new : Option IndexEntry) → IfSome new (λ e. e.path ≡ p)
-    → (q : List ℕ) → entry_at q (with_entry es p new) ≡ cond (is_path q p) new (entry_at q es)
-entry_at-with es p new named q =
+pub entry_of_path-with : (es : List IndexEntry) (p : List ℕ) (new : Option IndexEntry) → IfSome new (λ e. e.path ≡ p)
+    → (q : List ℕ) → entry_of_path q (with_entry es p new) ≡ cond (is_path q p) new (entry_of_path q es)
+entry_of_path-with es p new named q =
     let test : IndexEntry → Bool = λ e. bytes_eq e.path q in
-    let front : entry_at q (below es p ++ option_to_list new) ≡ option_or (cond (is_lt (path_cmp q p)) (entry_at q es) None) (cond (is_path q p) new None) =
+    let front : entry_of_path q (below es p ++ option_to_list new) ≡ option_or (cond (is_lt (path_cmp q p)) (entry_of_path q es) None) (cond (is_path q p) new None) =
     find-append test (below es p) (option_to_list new)
-    ∙ ap (λ o. option_or o (entry_at q (option_to_list new))) (at_below es p q)
-    ∙ ap (option_or (cond (is_lt (path_cmp q p)) (entry_at q es) None)) (at_new new p q named) in
+    ∙ ap (λ o. option_or o (entry_of_path q (option_to_list new))) (at_below es p q)
+    ∙ ap (option_or (cond (is_lt (path_cmp q p)) (entry_of_path q es) None)) (at_new new p q named) in
     find-append test (below es p ++ option_to_list new) (above es p)
-    ∙ ap (λ o. option_or o (entry_at q (above es p))) front
-    ∙ ap (option_or (option_or (cond (is_lt (path_cmp q p)) (entry_at q es) None) (cond (is_path q p) new None))) (at_above es p q ∙ ap (λ o. cond (is_lt o) (entry_at q es) None) (nat_list_cmp_total.antisymm p q))
-    ∙ by_order_of (path_cmp q p) new (entry_at q es)
+    ∙ ap (λ o. option_or o (entry_of_path q (above es p))) front
+    ∙ ap (option_or (option_or (cond (is_lt (path_cmp q p)) (entry_of_path q es) None) (cond (is_path q p) new None))) (at_above es p q ∙ ap (λ o. cond (is_lt o) (entry_of_path q es) None) (nat_list_cmp_total.antisymm p q))
+    ∙ by_order_of (path_cmp q p) new (entry_of_path q es)
 
 -- ---- facts of all entries
 
@@ -187,11 +187,11 @@ either_mapped : (f : IndexEntry → IndexEntry) (b : Bool) (e : IndexEntry) (new
 either_mapped f true e new old h = refl
 either_mapped f false e new old h = h
 
-pub entry_at-map : (f : IndexEntry → IndexEntry) → KeepsPaths f → (p : List ℕ) (es : List IndexEntry) → entry_at p (map f es) ≡ option_map f (entry_at p es)
-entry_at-map f kept p [] = refl
-entry_at-map f kept p (e ∷ es) =
-    ap (λ r. cond (bytes_eq r p) (Some (f e)) (entry_at p (map f es))) (kept e)
-    ∙ either_mapped f (bytes_eq e.path p) e (entry_at p (map f es)) (entry_at p es) (entry_at-map f kept p es)
+pub entry_of_path-map : (f : IndexEntry → IndexEntry) → KeepsPaths f → (p : List ℕ) (es : List IndexEntry) → entry_of_path p (map f es) ≡ option_map f (entry_of_path p es)
+entry_of_path-map f kept p [] = refl
+entry_of_path-map f kept p (e ∷ es) =
+    ap (λ r. cond (bytes_eq r p) (Some (f e)) (entry_of_path p (map f es))) (kept e)
+    ∙ either_mapped f (bytes_eq e.path p) e (entry_of_path p (map f es)) (entry_of_path p es) (entry_of_path-map f kept p es)
 
 pub ascending-map : (f : IndexEntry → IndexEntry) → KeepsPaths f → (es : List IndexEntry) → AreAscending es → AreAscending (map f es)
 ascending-map f kept es ascends i j d l m =
@@ -209,13 +209,13 @@ either_some : (P : IndexEntry → Type 0) (b : Bool) (e : IndexEntry) (o : Optio
 either_some P true e o h k = h refl
 either_some P false e o h k = k
 
-pub found_path : (p : List ℕ) (es : List IndexEntry) → IfSome (entry_at p es) (λ e. e.path ≡ p)
+pub found_path : (p : List ℕ) (es : List IndexEntry) → IfSome (entry_of_path p es) (λ e. e.path ≡ p)
 found_path p [] = tt
-found_path p (e ∷ es) = either_some (λ x. x.path ≡ p) (bytes_eq e.path p) e (entry_at p es) (λ t. sought e p t) (found_path p es)
+found_path p (e ∷ es) = either_some (λ x. x.path ≡ p) (bytes_eq e.path p) e (entry_of_path p es) (λ t. sought e p t) (found_path p es)
 
-pub found_holds : (P : IndexEntry → Type 0) (p : List ℕ) (es : List IndexEntry) → All P es → IfSome (entry_at p es) P
+pub found_holds : (P : IndexEntry → Type 0) (p : List ℕ) (es : List IndexEntry) → All P es → IfSome (entry_of_path p es) P
 found_holds P p [] all = tt
-found_holds P p (e ∷ es) all = either_some P (bytes_eq e.path p) e (entry_at p es) (λ t. All-head P e es all) (found_holds P p es (All-tail P e es all))
+found_holds P p (e ∷ es) all = either_some P (bytes_eq e.path p) e (entry_of_path p es) (λ t. All-head P e es all) (found_holds P p es (All-tail P e es all))
 
 pub ascends_tail : (e : IndexEntry) (es : List IndexEntry) → AreAscending (e ∷ es) → AreAscending es
 ascends_tail e es ascends i j d l m = ascends (suc i) (suc j) d (omega arith) (omega arith)
@@ -224,18 +224,18 @@ pub ascends_head : (e : IndexEntry) (es : List IndexEntry) → AreAscending (e �
 ascends_head e es ascends k d l = ascends zero (suc k) d (omega arith) (omega arith)
 
 -- No later entry has the path of an earlier one.
-pub none_later : (e : IndexEntry) (es : List IndexEntry) → All (Precedes e) es → entry_at e.path es ≡ None
+pub none_later : (e : IndexEntry) (es : List IndexEntry) → All (Precedes e) es → entry_of_path e.path es ≡ None
 none_later e [] all = refl
 none_later e (x ∷ es) all =
     let apart : bytes_eq x.path e.path ≡ false = test_is x e.path ∙ ap is_eq (All-head (Precedes e) x es all) in
-    ap (λ b. cond b (Some x) (entry_at e.path es)) apart ∙ none_later e es (All-tail (Precedes e) x es all)
+    ap (λ b. cond b (Some x) (entry_of_path e.path es)) apart ∙ none_later e es (All-tail (Precedes e) x es all)
 
 -- Each entry is the one of its path.
-pub each_found : (es : List IndexEntry) → AreAscending es → All (λ e. entry_at e.path es ≡ Some e) es
+pub each_found : (es : List IndexEntry) → AreAscending es → All (λ e. entry_of_path e.path es ≡ Some e) es
 each_found [] ascends k d l = absurd (omega arith)
-each_found (x ∷ es) ascends zero d l = ap (λ b. cond b (Some x) (entry_at x.path es)) (test_is x x.path ∙ is_path-itself x.path)
+each_found (x ∷ es) ascends zero d l = ap (λ b. cond b (Some x) (entry_of_path x.path es)) (test_is x x.path ∙ is_path-itself x.path)
 each_found (x ∷ es) ascends (suc k) d l =
     let within : k < length es = omega arith in
     let e : IndexEntry = slice_index_or es k d in
     let apart : bytes_eq x.path e.path ≡ false = sym (is_eq-slice_cmp x.path e.path) ∙ ap is_eq (ascends_head x es ascends k d within) in
-    ap (λ b. cond b (Some x) (entry_at e.path es)) apart ∙ each_found es (ascends_tail x es ascends) k d within
+    ap (λ b. cond b (Some x) (entry_of_path e.path es)) apart ∙ each_found es (ascends_tail x es ascends) k d within

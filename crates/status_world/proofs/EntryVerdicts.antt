@@ -32,7 +32,7 @@ use Rattle.status_world.specs.declared.world.event.Comparer.{Comparer}
 use Rattle.status_world.specs.PlainWorld.{Plain}
 use Rattle.status_world.specs.Reports.{RunStatus}
 use Rattle.status_world.specs.Sound.{IsFormed, IsFormedAt, IsFormedEntry, IsFormedNode}
-use Rattle.status_world.specs.StampedWorld.{StampedWorld, node_at, entry_at, query_of, verdict_in, is_stored_kind}
+use Rattle.status_world.specs.StampedWorld.{StampedWorld, node_at, entry_of_path, query_of, verdict_in, is_stored_kind}
 use Rattle.status_world.proofs.EntryLists.{each_found}
 use Rattle.status_world.proofs.Leaves.{present_check}
 use Rattle.status_world.proofs.TreeLaws.{IsMild, mild_check, lstat_node, lstat_none, absence_by}
@@ -42,7 +42,7 @@ use Rattle.status_world.proofs.TreeLaws.{IsMild, mild_check, lstat_node, lstat_n
 pub record IsStagedEntry (w : StampedWorld) (e : IndexEntry) : Type 0 where
   pub was : Plain
   pub staged : paths.get w.staged e.path ≡ Some was
-  pub here : entry_at e.path w.entries ≡ Some e
+  pub here : entry_of_path e.path w.entries ≡ Some e
   pub formed : IsFormedEntry w e was
   pub good : is_bad_path e.path ≡ false
 
@@ -58,7 +58,7 @@ node_of_at w n None (Some s) h = absurd h
 node_of_at w None (Some e) (Some s) h = tt
 node_of_at w (Some n) (Some e) (Some s) h = h.0
 
-pub staged_entry : (w : StampedWorld) → IsFormed w → (e : IndexEntry) → entry_at e.path w.entries ≡ Some e → is_bad_path e.path ≡ false → IsStagedEntry w e
+pub staged_entry : (w : StampedWorld) → IsFormed w → (e : IndexEntry) → entry_of_path e.path w.entries ≡ Some e → is_bad_path e.path ≡ false → IsStagedEntry w e
 staged_entry w formed e here good =
     let at : IsFormedAt w (node_at w e.path) (Some e) (paths.get w.staged e.path) = subst (λ o. IsFormedAt w (node_at w e.path) o (paths.get w.staged e.path)) here (formed.at e.path) in
     let parts = entry_of_at w (node_at w e.path) e (paths.get w.staged e.path) at in
@@ -70,7 +70,7 @@ each_entry w formed k d l = staged_entry w formed _ (each_found w.entries formed
 -- The node at a path is formed: a file or link.
 pub formed_node : (w : StampedWorld) → IsFormed w → (p : List ℕ) (n : Placed) → node_at w p ≡ Some n → IsFormedNode w.clock n
 formed_node w formed p n there =
-    subst (λ o. IfSome o (IsFormedNode w.clock)) there (node_of_at w (node_at w p) (entry_at p w.entries) (paths.get w.staged p) (formed.at p))
+    subst (λ o. IfSome o (IsFormedNode w.clock)) there (node_of_at w (node_at w p) (entry_of_path p w.entries) (paths.get w.staged p) (formed.at p))
 
 -- ---- no entry has a flag or another stage
 

@@ -25,7 +25,7 @@ use Rattle.status_world.specs.StampedWorld.{StampedWorld, is_stored_kind, stored
 use Rattle.status_world.proofs.Moments.{at_most_refl, at_most_trans}
 use Rattle.status_world.proofs.NodeStats.{KnownStat, stat_known}
 use Rattle.status_world.proofs.Pairs.{restored, pair_stat}
-use Rattle.status_world.proofs.Verdicts.{IsMet, verdict_at}
+use Rattle.status_world.proofs.Verdicts.{IsNodeOfEntry, verdict_at}
 
 -- A world with the same kind of ids and executability, whose clock isn't earlier.
 pub record Follows (w w' : StampedWorld) : Type 0 where
@@ -225,7 +225,7 @@ module _ (w : StampedWorld) (u : Moment) (es : List IndexEntry) (e : IndexEntry)
   stored_by (Ok (Some statuses.IntentToAdd)) h = stored_kept
 
 -- An entry that a run stores is formed, with the node at its path.
-pub formed_stored : (w : StampedWorld) (c : Comparer) (e : IndexEntry) (n : Placed) (s : Plain) → IsMet w e n s → IsFormedPair n e
+pub formed_stored : (w : StampedWorld) (c : Comparer) (e : IndexEntry) (n : Placed) (s : Plain) → IsNodeOfEntry w e n s → IsFormedPair n e
     → (u : Moment) (es : List IndexEntry) → IsFormedAt (restored w u es) (Some n) (Some (stored_verdict e (verdict_at w c e n))) (Some s)
 formed_stored w c e n s met pair u es =
     let stored = stored_by w u es e n s met.node met.entry pair (verdict_at w c e n) (pair_stat w c e n s met) in

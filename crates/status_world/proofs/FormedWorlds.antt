@@ -27,7 +27,7 @@ use Rattle.status_call.specs.Records.{first_fault}
 use Rattle.status_world.specs.Refusals.{◌orelse◌, refuse_if, refusal_of, start_refusal, stamp_refusal, fault_refusal, is_blocked, is_regular_file, write_refusal}
 use Rattle.status_world.specs.Sound.{IsFormed, IsFormedAt, IsFormedNode}
 use Rattle.status_world.specs.Events.{run_event}
-use Rattle.status_world.specs.StampedWorld.{StampedWorld, query_of, empty_world, node_at, entry_at, with_node, written, with_executability, stored_node, entry_of, plain_of, is_stored_kind, after_event, stored_verdict}
+use Rattle.status_world.specs.StampedWorld.{StampedWorld, query_of, empty_world, node_at, entry_of_path, with_node, written, with_executability, stored_node, entry_of, plain_of, is_stored_kind, after_event, stored_verdict}
 use Rattle.status_world.proofs.EntryLists.{All-with, ascending-with, ascending-map, normal-map}
 use Rattle.status_world.proofs.EntryVerdicts.{node_of_at, verdict_by}
 use Rattle.status_world.proofs.Formed.{Follows, formed_later, formed_written, formed_removed, formed_changed, formed_staged, formed_stored}
@@ -94,7 +94,7 @@ formed_new kind o x clock timestamp h =
 
 formed_clock : (w : StampedWorld) (c : Moment) → IsAtMost w.clock c → IsFormed w → IsFormed (record w { clock = c })
 formed_clock w c later f = record {
-  at = λ p. formed_later w (record w { clock = c }) (record { kind = refl; executable_bit = refl; clock = later }) (node_at w p) (entry_at p w.entries) (paths.get w.staged p) (f.at p);
+  at = λ p. formed_later w (record w { clock = c }) (record { kind = refl; executable_bit = refl; clock = later }) (node_at w p) (entry_of_path p w.entries) (paths.get w.staged p) (f.at p);
   timestamp = at_most_trans w.timestamp w.clock c f.timestamp later;
   normal = f.normal;
   ascending = f.ascending;
@@ -104,14 +104,14 @@ formed_clock w c later f = record {
 
 -- ---- another node
 
-formed_with_node : (w : StampedWorld) (p : List ℕ) (v : Option Placed) → IsFormed w → IsFormedAt w v (entry_at p w.entries) (paths.get w.staged p)
+formed_with_node : (w : StampedWorld) (p : List ℕ) (v : Option Placed) → IsFormed w → IsFormedAt w v (entry_of_path p w.entries) (paths.get w.staged p)
     → AreLeaves (with_value w.tree.nodes p v) → IsFormed (with_node w p v)
 formed_with_node w p v f here leaves =
     let u : StampedWorld = with_node w p v in
-    let as_before : (q : List ℕ) (n : Option Placed) → IsFormedAt w n (entry_at q w.entries) (paths.get w.staged q) → IsFormedAt u n (entry_at q w.entries) (paths.get w.staged q) =
-    λ q n h. formed_later w u (record { kind = refl; executable_bit = refl; clock = at_most_refl w.clock }) n (entry_at q w.entries) (paths.get w.staged q) h in
+    let as_before : (q : List ℕ) (n : Option Placed) → IsFormedAt w n (entry_of_path q w.entries) (paths.get w.staged q) → IsFormedAt u n (entry_of_path q w.entries) (paths.get w.staged q) =
+    λ q n h. formed_later w u (record { kind = refl; executable_bit = refl; clock = at_most_refl w.clock }) n (entry_of_path q w.entries) (paths.get w.staged q) h in
     record {
-      at = each_with w.tree.nodes p v (λ q n. IsFormedAt u n (entry_at q w.entries) (paths.get w.staged q)) (as_before p v here) (λ q. as_before q (node_at w q) (f.at q));
+      at = each_with w.tree.nodes p v (λ q n. IsFormedAt u n (entry_of_path q w.entries) (paths.get w.staged q)) (as_before p v here) (λ q. as_before q (node_at w q) (f.at q));
       timestamp = f.timestamp;
       normal = f.normal;
       ascending = f.ascending;
@@ -121,7 +121,7 @@ formed_with_node w p v f here leaves =
 
 -- Each node is a file or link.
 stored_kinds : (w : StampedWorld) → IsFormed w → (q : List ℕ) → IfSome (paths.get w.tree.nodes q) (λ m. IsTrue (is_stored_kind m.metadata.kind))
-stored_kinds w f q = kind_of (node_at w q) (node_of_at w (node_at w q) (entry_at q w.entries) (paths.get w.staged q) (f.at q))
+stored_kinds w f q = kind_of (node_at w q) (node_of_at w (node_at w q) (entry_of_path q w.entries) (paths.get w.staged q) (f.at q))
   where
     kind_of : (o : Option Placed) → IfSome o (IsFormedNode w.clock) → IfSome o (λ m. IsTrue (is_stored_kind m.metadata.kind))
     kind_of None h = tt
@@ -136,19 +136,19 @@ formed_put : (w : StampedWorld) (p : List ℕ) (kind : NodeKind) (executable : B
 formed_put w p kind executable bytes stored may f =
     let parts = or_parts (has_file_above w.tree p) (has_below w.tree p) may.free in
     formed_with_node w p (Some (written w.clock kind executable bytes)) f
-    (formed_written w kind executable bytes stored may.small (node_at w p) (entry_at p w.entries) (paths.get w.staged p) (f.at p))
+    (formed_written w kind executable bytes stored may.small (node_at w p) (entry_of_path p w.entries) (paths.get w.staged p) (f.at p))
     (leaves_put w.tree p (written w.clock kind executable bytes) (stored_kinds w f) parts.0 (none_of_both (not (is_some (node_at w p))) (has_below w.tree p) parts.1) f.leaves)
 
 formed_remove : (w : StampedWorld) (p : List ℕ) → IsFormed w → IsFormed (with_node w p None)
 formed_remove w p f =
     formed_with_node w p None f
-    (formed_removed w (node_at w p) (entry_at p w.entries) (paths.get w.staged p) (f.at p))
+    (formed_removed w (node_at w p) (entry_of_path p w.entries) (paths.get w.staged p) (f.at p))
     (leaves_changed w.tree.nodes p None (λ h. cc) f.leaves)
 
 formed_set : (w : StampedWorld) (p : List ℕ) (executable : Bool) → IsFormed w → IsFormed (with_node w p (option_map (with_executability w.clock executable) (node_at w p)))
 formed_set w p executable f =
     formed_with_node w p (option_map (with_executability w.clock executable) (node_at w p)) f
-    (formed_changed w executable (node_at w p) (entry_at p w.entries) (paths.get w.staged p) (f.at p))
+    (formed_changed w executable (node_at w p) (entry_of_path p w.entries) (paths.get w.staged p) (f.at p))
     (leaves_changed w.tree.nodes p _ (had (node_at w p)) f.leaves)
   where
     had : (o : Option Placed) → IsTrue (is_some (option_map (with_executability w.clock executable) o)) → IsTrue (is_some o)
@@ -177,8 +177,8 @@ formed_stage w path good f =
     let as_before : (q : List ℕ) (e : Option IndexEntry) (s : Option Plain) → IsFormedAt w (node_at w q) e s → IsFormedAt u (node_at w q) e s = λ q e s h. formed_later w u stays (node_at w q) e s h in
     record {
       at = each_staged w.entries w.staged p (new_entry_at w p) (option_map plain_of (stored_node (node_at w p))) (λ q e s. IsFormedAt u (node_at w q) e s) (new_named w p)
-          (as_before p (new_entry_at w p) (option_map plain_of (stored_node (node_at w p))) (formed_staged w p (node_at w p) (entry_at p w.entries) (paths.get w.staged p) (f.at p)))
-          (λ q. as_before q (entry_at q w.entries) (paths.get w.staged q) (f.at q));
+          (as_before p (new_entry_at w p) (option_map plain_of (stored_node (node_at w p))) (formed_staged w p (node_at w p) (entry_of_path p w.entries) (paths.get w.staged p) (f.at p)))
+          (λ q. as_before q (entry_of_path q w.entries) (paths.get w.staged q) (f.at q));
       timestamp = f.timestamp;
       normal = All-with (λ e. is_bad_path e.path ≡ false) w.entries p (new_entry_at w p) f.normal (all_mapped w p (λ e. is_bad_path e.path ≡ false) (λ n. good) (stored_node (node_at w p)));
       ascending = ascending-with w.entries p (new_entry_at w p) f.ascending (new_named w p);

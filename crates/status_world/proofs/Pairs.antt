@@ -26,7 +26,7 @@ use Rattle.status_world.specs.StampedWorld.{StampedWorld, query_of, plain_of, st
 use Rattle.status_world.proofs.Answers.{answer_says, staged_empty}
 use Rattle.status_world.proofs.NodeStats.{KnownStat, stat_known}
 use Rattle.status_world.proofs.StatLaws.{agreed_size}
-use Rattle.status_world.proofs.Verdicts.{IsMet, VerdictCase, retyped, unchanged, rewritten, remoded, restamped, verdict_at, comparison_at, trusted_at, racy_at, verdict_case, met_whole}
+use Rattle.status_world.proofs.Verdicts.{IsNodeOfEntry, VerdictCase, retyped, unchanged, rewritten, remoded, restamped, verdict_at, comparison_at, trusted_at, racy_at, verdict_case, met_whole}
 
 -- The verdict is a change.
 abbrev pub IsChangeVerdict : Result (Option RunStatus) Error → Type 0
@@ -54,7 +54,7 @@ no_difference x now was k b none (inl h) = h k
 no_difference x now was k b none (inr (inl h)) = h b
 no_difference x now was k b none (inr (inr h)) = none h
 
-module _ (w : StampedWorld) (c : Comparer) (e : IndexEntry) (n : Placed) (s : Plain) (met : IsMet w e n s) where
+module _ (w : StampedWorld) (c : Comparer) (e : IndexEntry) (n : Placed) (s : Plain) (met : IsNodeOfEntry w e n s) where
   -- The node's stat.
   abbrev known : KnownStat w.clock n
   known = stat_known w.clock n met.node

@@ -13,8 +13,8 @@ use Rattle.status_world.specs.PlainWorld.{with_value}
 use Rattle.status_world.specs.Reports.{RunStatus}
 use Rattle.status_world.specs.Sound.{IsFormed}
 use Rattle.status_index.specs.Staging.{with_entry}
-use Rattle.status_world.specs.StampedWorld.{StampedWorld, node_at, entry_at, stored_verdict, verdict_in}
-use Rattle.status_world.proofs.EntryLists.{is_path, path_of, entry_at-with, entry_at-map, KeepsPaths, found_path, found_holds}
+use Rattle.status_world.specs.StampedWorld.{StampedWorld, node_at, entry_of_path, stored_verdict, verdict_in}
+use Rattle.status_world.proofs.EntryLists.{is_path, path_of, entry_of_path-with, entry_of_path-map, KeepsPaths, found_path, found_holds}
 use Rattle.status_world.proofs.EntryVerdicts.{IsStagedEntry, staged_entry, verdict_by, verdict_is}
 use Rattle.status_world.proofs.TreeLaws.{get-with}
 
@@ -30,12 +30,12 @@ each_with m p v P here others q =
 
 -- Another entry of a path, and another value of a map at it.
 pub each_staged : {A : Type 0} (es : List IndexEntry) (m : PathMap A) (p : List ℕ) (new : Option IndexEntry) (v : Option A) (P : List ℕ → Option IndexEntry → Option A → Type 0)
-    → IfSome new (λ e. e.path ≡ p) → P p new v → ((q : List ℕ) → P q (entry_at q es) (paths.get m q))
-    → (q : List ℕ) → P q (entry_at q (with_entry es p new)) (paths.get (with_value m p v) q)
+    → IfSome new (λ e. e.path ≡ p) → P p new v → ((q : List ℕ) → P q (entry_of_path q es) (paths.get m q))
+    → (q : List ℕ) → P q (entry_of_path q (with_entry es p new)) (paths.get (with_value m p v) q)
 each_staged es m p new v P named here others q =
-    subst (λ o. P q o (paths.get (with_value m p v) q)) (sym (entry_at-with es p new named q))
-    (subst (P q (cond (is_path q p) new (entry_at q es))) (sym (get-with m p v q))
-    (elim (is_path q p) as (λ b. is_path q p ≡ b → P q (cond b new (entry_at q es)) (cond b v (paths.get m q))) [
+    subst (λ o. P q o (paths.get (with_value m p v) q)) (sym (entry_of_path-with es p new named q))
+    (subst (P q (cond (is_path q p) new (entry_of_path q es))) (sym (get-with m p v q))
+    (elim (is_path q p) as (λ b. is_path q p ≡ b → P q (cond b new (entry_of_path q es)) (cond b v (paths.get m q))) [
       | true ↦ λ same. subst (λ r. P r new v) (sym (path_of q p same)) here
       | false ↦ λ apart. others q
     ] refl))
@@ -65,16 +65,16 @@ stored_by w c e = stored_verdict e (verdict_by w c e (node_at w e.path))
 
 -- The entries of a formed world after a run.
 pub each_run : (w : StampedWorld) (c : Comparer) (P : List ℕ → Option IndexEntry → Type 0) → IsFormed w
-    → ((q : List ℕ) → entry_at q w.entries ≡ None → P q None) → ((e : IndexEntry) → IsStagedEntry w e → P e.path (Some (stored_by w c e)))
-    → (q : List ℕ) → P q (entry_at q (map (stored_in w c) w.entries))
+    → ((q : List ℕ) → entry_of_path q w.entries ≡ None → P q None) → ((e : IndexEntry) → IsStagedEntry w e → P e.path (Some (stored_by w c e)))
+    → (q : List ℕ) → P q (entry_of_path q (map (stored_in w c) w.entries))
 each_run w c P formed none some q =
-    subst (P q) (sym (entry_at-map (stored_in w c) (stored_paths w c) q w.entries)) (by_entry (entry_at q w.entries) refl)
+    subst (P q) (sym (entry_of_path-map (stored_in w c) (stored_paths w c) q w.entries)) (by_entry (entry_of_path q w.entries) refl)
   where
-    by_entry : (o : Option IndexEntry) → entry_at q w.entries ≡ o → P q (option_map (stored_in w c) o)
+    by_entry : (o : Option IndexEntry) → entry_of_path q w.entries ≡ o → P q (option_map (stored_in w c) o)
     by_entry None there = none q there
     by_entry (Some e) there =
         let same : e.path ≡ q = subst (λ o. IfSome o (λ (x : IndexEntry). x.path ≡ q)) there (found_path q w.entries) in
         let good : is_bad_path e.path ≡ false = subst (λ o. IfSome o (λ (x : IndexEntry). is_bad_path x.path ≡ false)) there (found_holds (λ x. is_bad_path x.path ≡ false) q w.entries formed.normal) in
-        let staged : IsStagedEntry w e = staged_entry w formed e (ap (λ r. entry_at r w.entries) same ∙ there) good in
+        let staged : IsStagedEntry w e = staged_entry w formed e (ap (λ r. entry_of_path r w.entries) same ∙ there) good in
         subst (λ r. P r (Some (stored_in w c e))) same
         (subst (λ v. P e.path (Some (stored_verdict e v))) (sym (verdict_is w c formed e staged)) (some e staged))

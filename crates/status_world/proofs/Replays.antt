@@ -11,7 +11,7 @@ use Rattle.status_index.specs.declared.stat.Moment.{Moment}
 use Rattle.status_index.specs.declared.stat.Options.{Options}
 use Rattle.status_world.specs.declared.world.event.Event.{Event}
 use Rattle.status_world.specs.declared.world.refusal.Refusal.{Refusal}
-use Rattle.status_world.specs.EventAnswers.{IsStep}
+use Rattle.status_world.specs.EventAnswers.{IsListStep}
 use Rattle.status_world.specs.Events.{contents_of_events}
 use Rattle.status_world.specs.History.{IsIn, AreAccepted, after_events, reports_at, reports_of, plains_of, AreExact, HaveDistinctIds, accepted_count, IsStop, IsReplay}
 use Rattle.status_world.specs.Laws.{MissesNoChange, ReplayLaw}
@@ -53,7 +53,7 @@ pub record AreReplayed (es : List Event) (w now : StampedWorld) (earlier : List 
 pub begun : (w : StampedWorld) (earlier : List RunReport) → earlier ≡ [] → AreReplayed [] w w earlier
 begun w earlier none = record { accepted = tt; world = refl; reported = none }
 
-replayed_more : (es : List Event) (e : Event) (w now after : StampedWorld) (earlier all : List RunReport) → AreReplayed es w now earlier → IsStep e now earlier (Ok tt) after all
+replayed_more : (es : List Event) (e : Event) (w now after : StampedWorld) (earlier all : List RunReport) → AreReplayed es w now earlier → IsListStep e now earlier (Ok tt) after all
     → AreReplayed (es ++ e ∷ []) w after all
 replayed_more es e w now after earlier all so_far step = record {
   accepted = accepted_more es e w so_far.accepted (subst (λ u. refusal_of e u ≡ None) so_far.world step.0);
@@ -63,7 +63,7 @@ replayed_more es e w now after earlier all so_far step = record {
 
 -- One more event, by its position in the list.
 pub one_more : (es : List Event) (n : ℕ) (e : Event) (w now after : StampedWorld) (earlier all : List RunReport) → n < length es → e ≡ slice_index_or es n e
-    → AreReplayed (take n es) w now earlier → IsStep e now earlier (Ok tt) after all → AreReplayed (take (n + 1) es) w after all
+    → AreReplayed (take n es) w now earlier → IsListStep e now earlier (Ok tt) after all → AreReplayed (take (n + 1) es) w after all
 one_more es n e w now after earlier all before here so_far step =
     subst (λ l. AreReplayed l w after all) (sym (take_more es n e before ∙ ap (λ x. take n es ++ x ∷ []) (sym here)))
     (replayed_more (take n es) e w now after earlier all so_far step)
@@ -71,7 +71,7 @@ one_more es n e w now after earlier all before here so_far step =
 -- ---- the end
 
 pub stopped_at : (es : List Event) (n : ℕ) (e : Event) (r : Refusal) (w now after : StampedWorld) (earlier all : List RunReport) → n < length es → e ≡ slice_index_or es n e
-    → AreReplayed (take n es) w now earlier → IsStep e now earlier (Err r) after all → IsReplay w es after all (Some (n, r))
+    → AreReplayed (take n es) w now earlier → IsListStep e now earlier (Err r) after all → IsReplay w es after all (Some (n, r))
 stopped_at es n e r w now after earlier all before here so_far step = record {
   accepted = so_far.accepted;
   world = step.2 ∙ so_far.world;

@@ -15,7 +15,7 @@ use Rattle.status_call.specs.Considered.{considered}
 use Rattle.status_call.specs.Query.{Query}
 use Rattle.status_call.specs.RecorderVisits.{visit_of}
 use Rattle.status_call.specs.Records.{first_fault}
-use Rattle.status_call.specs.StatusTheorem.{IsMet, NeverSpawns}
+use Rattle.status_call.specs.StatusTheorem.{IsStatusReport, NeverSpawns}
 use Rattle.status_call.specs.Visits.{Visit}
 use Rattle.status_call.proofs.NoThread.{ids_law, sizes_law}
 use Rattle.status_world.specs.declared.world.event.Comparer.{Comparer}
@@ -111,7 +111,7 @@ module _ (w : StampedWorld) (c : Comparer) (index : State) (same : index_of inde
   all_considered = considered_all (index_of index) ∙ same
 
   -- An uninterrupted status has no fault, and its records and outcome are the report's.
-  pub answered_report : (rs : List RunRecord) (o : Outcome) → o.interrupted ≡ false → IsMet q index [] (Ok o) (map visit_of rs)
+  pub answered_report : (rs : List RunRecord) (o : Outcome) → o.interrupted ≡ false → IsStatusReport q index [] (Ok o) (map visit_of rs)
       → (first_fault q w.entries ≡ None) × (record { records = map record_value rs; outcome = o } ≡ report_of w c)
   answered_report rs o whole met =
       let complete = met.complete refl whole in
@@ -123,12 +123,12 @@ module _ (w : StampedWorld) (c : Comparer) (index : State) (same : index_of inde
       )
 
   -- An error that isn't for memory or a thread is the first fault.
-  first_error : (e : Error) (visits : RunVisits) → e ≢ errors.Memory → e ≢ errors.SpawnThread → IsMet q index [] (Err e) visits → fault_refusal (first_fault q w.entries) ≡ Some (refusals.Run e)
+  first_error : (e : Error) (visits : RunVisits) → e ≢ errors.Memory → e ≢ errors.SpawnThread → IsStatusReport q index [] (Err e) visits → fault_refusal (first_fault q w.entries) ≡ Some (refusals.Run e)
   first_error e visits memory thread met = ap fault_refusal (subst (λ es. first_fault q es ≡ Some e) all_considered (met.fault refl memory thread).first)
 
 module _ (w : StampedWorld) (run : Run) (index : State) (same : index_of index ≡ w.entries) where
   -- An error is out of memory, a refused thread unless the limit is 1, or the first fault.
-  pub answered_error : (e : Error) (visits : RunVisits) → (run.thread_limit ≡ Some 1 → ◌≡◌ {A = Result Outcome Error} (Err e) (Err errors.SpawnThread) → ⊥) → IsMet (query_of w run.comparer) index [] (Err e) visits
+  pub answered_error : (e : Error) (visits : RunVisits) → (run.thread_limit ≡ Some 1 → ◌≡◌ {A = Result Outcome Error} (Err e) (Err errors.SpawnThread) → ⊥) → IsStatusReport (query_of w run.comparer) index [] (Err e) visits
       → IsRunReport run w (Err (refusals.Run e))
   answered_error errors.Memory visits alone met = tt
   answered_error errors.SpawnThread visits alone met = λ one. alone one refl

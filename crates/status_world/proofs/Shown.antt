@@ -14,7 +14,7 @@ use Rattle.status_world.specs.History.{plain_world_of}
 use Rattle.status_world.specs.PlainWorld.{Plain, PlainWorld, with_value, executable_of_kind, was_executable, with_executable, plain_after}
 use Rattle.status_world.specs.Refusals.{refusal_of, is_regular_file, is_file_kind}
 use Rattle.status_world.specs.Sound.{IsFormed, IsFormedNode}
-use Rattle.status_world.specs.StampedWorld.{StampedWorld, node_at, entry_at, written, is_executable_at, with_executability, stored_node, plain_of, after_event}
+use Rattle.status_world.specs.StampedWorld.{StampedWorld, node_at, entry_of_path, written, is_executable_at, with_executability, stored_node, plain_of, after_event}
 use Rattle.status_world.proofs.EntryLists.{is_path}
 use Rattle.status_world.proofs.EntryVerdicts.{node_of_at}
 use Rattle.status_world.proofs.Formed.{stored_formed}
@@ -113,7 +113,7 @@ shows_after (events.Remove path) w p h f shows = record {
 }
 shows_after (events.Stage path) w p h f shows =
     let at : List ℕ = bstring_bytes path in
-    let node : IfSome (node_at w at) (IsFormedNode w.clock) = node_of_at w (node_at w at) (entry_at at w.entries) (paths.get w.staged at) (f.at at) in
+    let node : IfSome (node_at w at) (IsFormedNode w.clock) = node_of_at w (node_at w at) (entry_of_path at w.entries) (paths.get w.staged at) (f.at at) in
     let same : paths.get p.files at ≡ option_map plain_of (stored_node (node_at w at)) = shows.files at ∙ ap (option_map plain_of) (sym (stored_shown w (node_at w at) node)) in
     record {
       files = shows.files;

@@ -21,7 +21,7 @@ use Rattle.status_world.proofs.Formed.{node_formed, staged_well, stored_formed}
 use Rattle.status_world.proofs.NodeStats.{stat_at, stat_stamped}
 use Rattle.status_world.proofs.Pairs.{restored, HasOwnIds, pair_kept}
 use Rattle.status_world.proofs.StatLaws.{racy_from_at_most, agrees_before}
-use Rattle.status_world.proofs.Verdicts.{IsMet, verdict_at}
+use Rattle.status_world.proofs.Verdicts.{IsNodeOfEntry, verdict_at}
 
 -- ---- a world of the same options and timestamp
 
@@ -125,6 +125,6 @@ at_staged w path (Some n) e s f =
     ((staged_well w path n formed).size, record { bytes = λ _ _ _ _ _. refl })
 
 -- A run, at a path with a node.
-pub at_stored : (w : StampedWorld) (c : Comparer) (e : IndexEntry) (n : Placed) (s : Plain) → IsMet w e n s → HasOwnIds w n s → IsSoundAt w (Some n) (Some e) (Some s)
+pub at_stored : (w : StampedWorld) (c : Comparer) (e : IndexEntry) (n : Placed) (s : Plain) → IsNodeOfEntry w e n s → HasOwnIds w n s → IsSoundAt w (Some n) (Some e) (Some s)
     → (u : Moment) (es : List IndexEntry) → IsSoundAt (restored w u es) (Some n) (Some (stored_verdict e (verdict_at w c e n))) (Some s)
 at_stored w c e n s met own h u es = pair_kept w c e n s met own h.0 h.1 u es

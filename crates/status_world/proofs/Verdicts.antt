@@ -46,7 +46,7 @@ abbrev pub IsExecutableAsked : StampedWorld → Placed → Plain → Type 0
 IsExecutableAsked w n s = IsTrue w.executable_bit × IsExecutableChange (plain_of n) s
 
 -- A formed node at the path of a formed entry, with what was staged there. No fault is planted.
-pub record IsMet (w : StampedWorld) (e : IndexEntry) (n : Placed) (s : Plain) : Type 0 where
+pub record IsNodeOfEntry (w : StampedWorld) (e : IndexEntry) (n : Placed) (s : Plain) : Type 0 where
   pub node : IsFormedNode w.clock n
   pub entry : IsFormedEntry w e s
   pub there : node_at w e.path ≡ Some n
@@ -103,18 +103,18 @@ module _ (w : StampedWorld) (c : Comparer) (e : IndexEntry) (n : Placed) (s : Pl
 
 module _ (w : StampedWorld) (c : Comparer) (e : IndexEntry) (n : Placed) (s : Plain) where
   -- A run reads the whole of a node of the entry's kind.
-  pub met_whole : IsMet w e n s → n.metadata.kind ≡ s.kind → IsWholly n.bytes (reading (query_of w c) e n.metadata)
+  pub met_whole : IsNodeOfEntry w e n s → n.metadata.kind ≡ s.kind → IsWholly n.bytes (reading (query_of w c) e n.metadata)
   met_whole h k =
       whole_reading w c e n s.executable h.unplanted h.there h.node.kind h.node.len
       (h.entry.mode ∙ ap (λ kind. new_mode w.executable_bit kind s.executable) (sym k))
 
-  met_answered : IsMet w e n s → n.metadata.kind ≡ s.kind → Answered (comparison_at w c e n)
+  met_answered : IsNodeOfEntry w e n s → n.metadata.kind ≡ s.kind → Answered (comparison_at w c e n)
   met_answered h k =
       answered c e w.kind n.bytes n.metadata.len (readings (query_of w c) e n.metadata)
       (ap id_kind h.entry.id ∙ kind_of_blob w.kind s.bytes) (met_whole h k)
 
   -- A run's verdict, by cases.
-  pub verdict_case : IsMet w e n s → (now : Stat) → stat_of n.metadata ≡ Some now → VerdictCase w c e n s now (verdict_at w c e n)
+  pub verdict_case : IsNodeOfEntry w e n s → (now : Stat) → stat_of n.metadata ≡ Some now → VerdictCase w c e n s now (verdict_at w c e n)
   verdict_case h now is =
       subst (λ o. VerdictCase w c e n s now (answer e.path (case_of_stat (query_of w c) e n.metadata o))) (sym is)
       (subst (λ mode. VerdictCase w c e n s now (answer e.path (case_of_change (query_of w c) e n.metadata now (mode_change true w.executable_bit mode n.metadata)))) (sym h.entry.mode)

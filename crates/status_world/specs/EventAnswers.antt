@@ -26,9 +26,9 @@ IsChanged event old (Err r) new = IsRefused r event old × (new ≡ old)
 
 -- The same for a write, which puts a node at a path. It is refused if a refusal is due. It may also be refused for memory,
 -- once the paths below its own are looked up.
-abbrev pub IsWritten : {A : Type 0} → List ℕ → List ℕ → Placed → StampedWorld → Result A Refusal → StampedWorld → Type 0
-IsWritten path bytes node old (Ok _) new = (write_refusal old path bytes ≡ None) × (new ≡ with_node old path (Some node))
-IsWritten path bytes node old (Err r) new =
+abbrev pub IsWriteApplied : {A : Type 0} → List ℕ → List ℕ → Placed → StampedWorld → Result A Refusal → StampedWorld → Type 0
+IsWriteApplied path bytes node old (Ok _) new = (write_refusal old path bytes ≡ None) × (new ≡ with_node old path (Some node))
+IsWriteApplied path bytes node old (Err r) new =
     (((r ≡ refusals.Memory) × IsLookedBelow old.tree path) ⊎ (write_refusal old path bytes ≡ Some r)) × (new ≡ old)
 
 -- The refusal of an event whose node can't be put.
@@ -69,7 +69,7 @@ IsRunApplied run old (Ok report) new =
 IsRunApplied run old (Err r) new = IsRefused r (run_event run) old × (new ≡ old)
 
 -- The same for an event of a list: the report of an accepted run is appended to the earlier reports.
-abbrev pub IsStep : Event → StampedWorld → List RunReport → Result (Unit {0}) Refusal → StampedWorld → List RunReport → Type 0
-IsStep event old earlier (Ok _) new all =
+abbrev pub IsListStep : Event → StampedWorld → List RunReport → Result (Unit {0}) Refusal → StampedWorld → List RunReport → Type 0
+IsListStep event old earlier (Ok _) new all =
     (refusal_of event old ≡ None) × (all ≡ earlier ++ reports_at event old) × (new ≡ after_event event old)
-IsStep event old earlier (Err r) new all = IsRefused r event old × (all ≡ earlier) × (new ≡ old)
+IsListStep event old earlier (Err r) new all = IsRefused r event old × (all ≡ earlier) × (new ≡ old)

@@ -89,9 +89,9 @@ start_refusal clock timestamp =
     orelse refuse_if (is_after timestamp clock) refusals.StampLater
 
 -- A run whose timestamp isn't refused.
-abbrev pub IsBegun : Event → StampedWorld → Type 0
-IsBegun (events.Run comparer chunk_size thread_limit stamp) w = stamp_refusal w.clock stamp ≡ None
-IsBegun _ w = ⊥
+abbrev pub IsRunBegun : Event → StampedWorld → Type 0
+IsRunBegun (events.Run comparer chunk_size thread_limit stamp) w = stamp_refusal w.clock stamp ≡ None
+IsRunBegun _ w = ⊥
 
 -- A run that may have more than one worker.
 abbrev pub IsShared : Event → Type 0
@@ -119,8 +119,8 @@ TakesMemory (events.Run comparer chunk_size thread_limit stamp) w = ⊤
 abbrev pub IsRefused : Refusal → Event → StampedWorld → Type 0
 IsRefused refusals.Memory e w = TakesMemory e w
 IsRefused refusals.Interrupted e w = ⊥
-IsRefused (refusals.Run errors.Memory) e w = IsBegun e w
-IsRefused (refusals.Run errors.SpawnThread) e w = IsBegun e w × IsShared e
+IsRefused (refusals.Run errors.Memory) e w = IsRunBegun e w
+IsRefused (refusals.Run errors.SpawnThread) e w = IsRunBegun e w × IsShared e
 IsRefused r e w = refusal_of e w ≡ Some r
 
 -- A refusal that isn't the fault of an entry. A run is then refused only for its timestamp, memory or a thread.

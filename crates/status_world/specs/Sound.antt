@@ -20,7 +20,7 @@ use Rattle.status_call.specs.Status.{is_trusted}
 use Rattle.status_world.specs.declared.world.event.Comparer.TheVariants.{Hash}
 use Rattle.status_world.specs.Moments.{IsAtMost, moment_of}
 use Rattle.status_world.specs.PlainWorld.{Plain}
-use Rattle.status_world.specs.StampedWorld.{StampedWorld, node_at, entry_at, is_stored_kind, query_of}
+use Rattle.status_world.specs.StampedWorld.{StampedWorld, node_at, entry_of_path, is_stored_kind, query_of}
 
 -- A time is known, and isn't after a moment.
 abbrev pub IsKnownBy : Option Time → Moment → Type 0
@@ -64,7 +64,7 @@ IsFormedAt w (Some n) (Some e) (Some s) = IsFormedNode w.clock n × IsFormedEntr
 -- Times are known and not after the clock, nodes are files and links without faults, and entries are as staged.
 -- Every new world is so, and every event keeps it, whether contents with equal ids are equal or not.
 pub record IsFormed (w : StampedWorld) : Type 0 where
-  pub at : (p : List ℕ) → IsFormedAt w (node_at w p) (entry_at p w.entries) (paths.get w.staged p)
+  pub at : (p : List ℕ) → IsFormedAt w (node_at w p) (entry_of_path p w.entries) (paths.get w.staged p)
   pub timestamp : IsAtMost w.timestamp w.clock
   -- The entries' paths are normal, and ascend strictly.
   pub normal : All (λ e. is_bad_path e.path ≡ false) w.entries
@@ -92,4 +92,4 @@ IsSoundAt w _ _ _ = ⊤
 -- The invariant of the history theorem.
 -- The index can be trusted at each path.
 abbrev pub IsSound : StampedWorld → Type 0
-IsSound w = (p : List ℕ) → IsSoundAt w (node_at w p) (entry_at p w.entries) (paths.get w.staged p)
+IsSound w = (p : List ℕ) → IsSoundAt w (node_at w p) (entry_of_path p w.entries) (paths.get w.staged p)

@@ -16,7 +16,7 @@ use Rattle.status_index.specs.declared.stat.Moment.{Moment}
 use Rattle.status_index.specs.declared.stat.Options.{Options as StatOptions}
 use Rattle.status_index.specs.declared.stat.Stat.{Stat}
 use Rattle.status_index.specs.BlobId.{blob_id}
-use Rattle.status_index.specs.Entries.{IndexEntry, said_of}
+use Rattle.status_index.specs.Entries.{IndexEntry, entry_of_fields}
 use Rattle.status_index.specs.FlagBits.{bits_of_stage}
 use Rattle.status_index.specs.Mode.{new_mode}
 use Rattle.status_index.specs.NodeStat.{stat_of}
@@ -140,7 +140,7 @@ zero_stat = record {
 
 -- An entry of stage 0, without flags.
 abbrev pub fresh_entry : List ℕ → Stat → ObjectId → Mode → IndexEntry
-fresh_entry path stat id mode = said_of path stat id (record { 0 = bits_of_stage 0 }) mode
+fresh_entry path stat id mode = entry_of_fields path stat id (record { 0 = bits_of_stage 0 }) mode
 
 -- The entry of a node that is staged.
 abbrev pub entry_of : StampedWorld → List ℕ → Placed → IndexEntry
@@ -152,8 +152,8 @@ abbrev pub with_staged : StampedWorld → IndexEntry → Plain → StampedWorld
 with_staged w e s = record w { entries = with_put w.entries e; staged = paths.insert w.staged e.path s }
 
 -- The entry of a path, if there is one.
-abbrev pub entry_at : List ℕ → List IndexEntry → Option IndexEntry
-entry_at path es = find (λ e. bytes_eq e.path path) es
+abbrev pub entry_of_path : List ℕ → List IndexEntry → Option IndexEntry
+entry_of_path path es = find (λ e. bytes_eq e.path path) es
 
 -- ---- a run
 

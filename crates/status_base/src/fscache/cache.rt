@@ -5,7 +5,7 @@ ghost use Rattle.std.specs.FinMap as paths;
 ghost use Rattle.bstr.specs.BStr.{bstr_bytes};
 ghost use Rattle.std.proofs.Props.{props};
 ghost use Rattle.status_base.specs.ListedNodes.{listed};
-ghost use Rattle.status_base.specs.ListingTable.{known, IsGrown, IsOf};
+ghost use Rattle.status_base.specs.ListingTable.{stat_in_table, HasListedOnce, HasListedNames};
 
 use crate::fscache::{Listings, Stat};
 use crate::worktree::Lister;
@@ -17,7 +17,7 @@ use std::alloc::{AllocError, Global};
 pub struct FsCache<'a, L: Lister> {
     lister: &'a L,
     listings: Listings,
-    ghost kept: { IsTrue (L.modelled lister.now) → IsOf (L.listing lister.now) listings } by { Prim.hlevel props },
+    ghost kept: { IsTrue (L.modelled lister.now) → HasListedNames (L.listing lister.now) listings } by { Prim.hlevel props },
 }
 
 impl<'a, L: Lister> FsCache<'a, L> {
@@ -41,8 +41,8 @@ impl<'a, L: Lister> FsCache<'a, L> {
     /// # Errors
     /// Out of memory. The cache is then unchanged, and the next call asks the lister again.
     pub fn get(&mut self, path: BStr<'_>) -> Result<Option<Stat>, AllocError>
-        ensures known { IfOk result (λ stat. stat ≡ known self.new.listings (bstr_bytes path.entry)) }
-        ensures grown { OnOk result (IsGrown (bstr_bytes path.entry) self.old.listings self.new.listings) }
+        ensures stat_in_table { IfOk result (λ stat. stat ≡ stat_in_table self.new.listings (bstr_bytes path.entry)) }
+        ensures grown { OnOk result (HasListedOnce (bstr_bytes path.entry) self.old.listings self.new.listings) }
         ensures unchanged { OnErr result (self.new.listings ≡ self.old.listings) }
         ensures lister { self.new.lister ≡ self.old.lister }
         ensures listed { IsTrue (L.modelled self.old.lister.now)

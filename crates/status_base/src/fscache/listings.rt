@@ -5,7 +5,7 @@ ghost use Rattle.std.specs.Option.{option_map};
 ghost use Rattle.std.specs.FinMap as paths;
 ghost use Rattle.bstr.specs.BStr.{bstr_bytes};
 ghost use Rattle.status_base.specs.ListedNodes.{directory_of, file_name_of, listed};
-ghost use Rattle.status_base.specs.ListingTable.{known, IsGrown, IsOf};
+ghost use Rattle.status_base.specs.ListingTable.{stat_in_table, HasListedOnce, HasListedNames};
 
 use crate::fscache::Stat;
 use crate::fscache::names::Names;
@@ -54,12 +54,12 @@ impl Listings {
     /// # Errors
     /// Out of memory. The table is then unchanged, and the next call asks the lister again.
     pub fn get<L: Lister>(&mut self, lister: &L, path: BStr<'_>) -> Result<Option<Stat>, AllocError>
-        ensures known { IfOk result (λ stat. stat ≡ known self.new (bstr_bytes path.entry)) }
-        ensures grown { OnOk result (IsGrown (bstr_bytes path.entry) self.old self.new) }
+        ensures stat_in_table { IfOk result (λ stat. stat ≡ stat_in_table self.new (bstr_bytes path.entry)) }
+        ensures grown { OnOk result (HasListedOnce (bstr_bytes path.entry) self.old self.new) }
         ensures unchanged { OnErr result (self.new ≡ self.old) }
-        ensures listed { IsTrue (L.modelled lister.now) → IsOf (L.listing lister.now) self.old
+        ensures listed { IsTrue (L.modelled lister.now) → HasListedNames (L.listing lister.now) self.old
             → IfOk result (λ stat. stat ≡ listed (L.listing lister.now) (bstr_bytes path.entry)) }
-        ensures kept { IsTrue (L.modelled lister.now) → IsOf (L.listing lister.now) self.old → IsOf (L.listing lister.now) self.new }
+        ensures kept { IsTrue (L.modelled lister.now) → HasListedNames (L.listing lister.now) self.old → HasListedNames (L.listing lister.now) self.new }
     {
         let (directory, name) = split_at_last_slash(path.as_bytes());
         if name.is_empty() {

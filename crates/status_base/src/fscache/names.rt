@@ -4,7 +4,7 @@ ghost use Rattle.std.specs.Prelude.{◌≡◌, Some, IfOk, OnOk};
 ghost use Rattle.std.specs.FinMap as paths;
 ghost use Rattle.bstr.specs.Owned.{bstring_bytes};
 ghost use Rattle.status_base.specs.Listing.{entries_of, listing_of};
-ghost use Rattle.status_base.specs.ListingTable.{named, AreNamesOf};
+ghost use Rattle.status_base.specs.ListingTable.{stat_of_name, AreNamesOf};
 
 use crate::fscache::Stat;
 use crate::worktree::Listing;
@@ -47,7 +47,7 @@ impl Names {
 
     /// Returns the stat of a name. An empty name has none, and isn't looked up.
     pub(crate) fn get(&self, name: &[u8]) -> Option<Stat>
-        ensures { result ≡ named name.now (Some self.now) }
+        ensures { result ≡ stat_of_name name.now (Some self.now) }
     {
         if name.is_empty() {
             return None;

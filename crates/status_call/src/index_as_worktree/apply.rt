@@ -8,7 +8,7 @@ ghost use Rattle.status_call.specs.RecorderVisits.{visits_of};
 
 use crate::index_as_worktree::recorder::Recorder;
 use crate::index_as_worktree::types::{Change, EntryStatus};
-use status_base::index::{Stat, State};
+use status_index::{Stat, State};
 use std::alloc::AllocError;
 
 /// A change that a status asks for, of the entry at a position of the index.

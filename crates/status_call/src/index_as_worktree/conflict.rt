@@ -8,7 +8,7 @@ ghost use Rattle.status_call.specs.Conflicts.{IsConflict, conflict_named, is_in_
 
 use crate::index_as_worktree::types::Conflict;
 use bstr::BStr;
-use status_base::index::{Entry, PathStorage};
+use status_index::{Entry, PathStorage};
 
 /// The greatest number of stages of one path in a conflict: base, ours and theirs.
 const MAX_STAGES: usize = 3;

@@ -3,7 +3,7 @@
 ghost use Rattle.std.specs.Prelude.{◌≤◌, length};
 ghost use Rattle.status_index.specs.Entries.{IsIndex, index_entries};
 
-use status_base::index::{Entry, PathStorage};
+use status_index::{Entry, PathStorage};
 
 /// The considered entries: those from position `start` up to `end`, exclusive, of the whole index.
 #[derive(Drop)]

@@ -12,11 +12,11 @@ use crate::index_as_worktree::decide::Decided;
 use crate::index_as_worktree::inputs::{Ask, Inputs, Settings};
 use crate::index_as_worktree::types::{Change, EntryStatus, Error};
 use bstr::BStr;
-use status_base::index::{Entry, Mode, Stat, stat};
 use status_base::worktree::{
     Find, Lister, Metadata, NodeKind, Pathspec, SubmoduleStatus, ToGit, Worktree,
 };
 use status_compare::{CompareBlobs, EntryReader, Reads};
+use status_index::{Entry, Mode, Stat, stat};
 use std::alloc::Global;
 
 /// A comparer's result for an entry.

@@ -8,8 +8,8 @@ ghost use Rattle.status_call.specs.Considered.{is_excluded};
 
 use crate::index_as_worktree::types::{EntryStatus, Error};
 use bstr::BStr;
-use status_base::index::Entry;
 use status_compare::Reads;
+use status_index::Entry;
 use std::alloc::AllocError;
 
 /// The decision of an entry, with the counts of its work.

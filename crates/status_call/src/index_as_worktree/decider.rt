@@ -19,12 +19,12 @@ use crate::index_as_worktree::types::{Change, EntryStatus, Error};
 use bitflags::Flags as _;
 use bstr::{BStr, BString};
 use status_base::fscache::Listings;
-use status_base::index::{Entry, Flags, Stat, mode};
 use status_base::stack::SymlinkCheck;
 use status_base::worktree::{
     ByteText, Find, Lister, Metadata, Pathspec, SubmoduleFault, SubmoduleStatus, ToGit, Worktree,
 };
 use status_compare::CompareBlobs;
+use status_index::{Entry, Flags, Stat, mode};
 use std::alloc::{AllocError, Global};
 
 /// Decides entries over a worktree. It keeps its buffers and listings, so an entry whose stat decides takes no memory,

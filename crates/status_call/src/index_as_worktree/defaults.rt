@@ -2,14 +2,14 @@
 
 ghost use Rattle.std.specs.Prelude.{◌≡◌, IfOk, false};
 ghost use Rattle.status_call.specs.Inputs.{usual};
-ghost use Rattle.status_call.specs.StatusOf.{IsAlone, IsStatus};
+ghost use Rattle.status_call.specs.StatusOf.{OneThreadCallSpawnsNone, IsStatus};
 
 use crate::index_as_worktree::function::index_as_worktree;
 use crate::index_as_worktree::inputs::{Ask, Inputs};
 use crate::index_as_worktree::types::{Context, Error, Options, Outcome, VisitEntry};
-use status_base::index::State;
 use status_base::worktree::{MemoryObjects, NoFilter, NoLister, NoSubmodules, Pathspec, Worktree};
 use status_compare::CompareBlobs;
+use status_index::State;
 use std::alloc::Global;
 use std::sync::Wait;
 use std::thread::Threads;
@@ -46,7 +46,7 @@ where
     ensures all { IsStatus ⟦<Usual<'w, W, C, P> as Ask>⟧.query
         (usual worktree.entry compare pathspec) options index.now V.visits collector.old result collector.new }
     ensures uninterrupted { IfOk result (λ o. o.interrupted ≡ false) }
-    ensures alone { IsAlone ⟦<Usual<'w, W, C, P> as Ask>⟧.query
+    ensures alone { OneThreadCallSpawnsNone ⟦<Usual<'w, W, C, P> as Ask>⟧.query
         (usual worktree.entry compare pathspec) options index.now result }
 {
     let context = Context {

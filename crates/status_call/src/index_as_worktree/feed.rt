@@ -8,7 +8,7 @@ ghost use Rattle.status_call.specs.Visits.{IsFaithful};
 use crate::index_as_worktree::counts::Progress;
 use crate::index_as_worktree::piece::{End, Piece};
 use crate::index_as_worktree::types::{Error, Finding, VisitEntry};
-use status_base::index::{Entry, PathStorage};
+use status_index::{Entry, PathStorage};
 use std::alloc::AllocError;
 
 /// Reports one finding to a collector.

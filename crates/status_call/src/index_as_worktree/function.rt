@@ -2,16 +2,16 @@
 
 ghost use Rattle.std.specs.Prelude.{◌≡◌, None, IfOk, false};
 ghost use Rattle.status_call.specs.Inputs.{inputs_of};
-ghost use Rattle.status_call.specs.StatusOf.{IsAlone, IsStatus};
+ghost use Rattle.status_call.specs.StatusOf.{OneThreadCallSpawnsNone, IsStatus};
 
 use crate::index_as_worktree::decider::Decider;
 use crate::index_as_worktree::inputs::{Ask, Inputs, Settings};
 use crate::index_as_worktree::status_by::status_by;
 use crate::index_as_worktree::types::{Context, Error, Options, Outcome, VisitEntry};
 use crate::index_as_worktree::workers::Limits;
-use status_base::index::State;
 use status_base::worktree::{Find, Lister, Pathspec, SubmoduleStatus, ToGit, Worktree};
 use status_compare::CompareBlobs;
+use status_index::State;
 use std::alloc::Global;
 use std::sync::Wait;
 use std::thread::Threads;
@@ -66,7 +66,7 @@ where
         options index.now V.visits collector.old result collector.new }
     ensures uninterrupted { context.entry.should_interrupt ≡ None
         → IfOk result (λ o. o.interrupted ≡ false) }
-    ensures alone { IsAlone ⟦<Inputs<'w, W, C, S, O, P, T, L> as Ask>⟧.query
+    ensures alone { OneThreadCallSpawnsNone ⟦<Inputs<'w, W, C, S, O, P, T, L> as Ask>⟧.query
         (inputs_of worktree.entry compare submodule objects context.entry) options index.now result }
 {
     let should_interrupt = context.should_interrupt;

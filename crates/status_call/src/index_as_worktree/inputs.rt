@@ -8,9 +8,9 @@ ghost use Rattle.status_call.specs.Query.{Query};
 ghost use Rattle.status_call.specs.declared.index_as_worktree.inputs.Settings.{Settings as StatusSettings};
 
 use crate::index_as_worktree::types::{Capabilities, Context, Options};
-use status_base::index::{Moment, State, stat};
 use status_base::worktree::{Find, Lister, Pathspec, SubmoduleStatus, ToGit, Worktree};
 use status_compare::CompareBlobs;
+use status_index::{Moment, State, stat};
 use std::alloc::AllocError;
 
 /// The settings that a status depends on besides the interfaces: a part of the options, and the index's timestamp.

@@ -7,7 +7,7 @@ ghost use Rattle.status_compare.specs.FastAgrees.{FastAgrees};
 ghost use Rattle.status_call.specs.Laws.{ModificationLaw, UnreadLaw, ExecutableLaw, AscendLaw, CutLaw, FaultLaw, OneConflictLaw, HeadLaw, IdsLaw, SizesLaw, IdReadsLaw, SizeReadsLaw};
 ghost use Rattle.status_call.specs.ListedStatus.{ListingsLaw};
 ghost use Rattle.status_call.specs.Query.{Query};
-ghost use Rattle.status_call.specs.StatusTable.{Row, IsInRow, StatusTable};
+ghost use Rattle.status_call.specs.StatusTable.{Row, IsTableRow, StatusTable};
 
 /// An entry's status is the one of its row in the status table.
 pub fn status_meets_table<T: Drop, U: Drop>()
@@ -16,12 +16,12 @@ pub fn status_meets_table<T: Drop, U: Drop>()
 
 /// Each entry is in a row of the status table.
 pub fn rows_cover<T: Drop, U: Drop>()
-    ensures { (q : Query T U) (e : IndexEntry) → ((r : Row) × IsInRow q e r) }
+    ensures { (q : Query T U) (e : IndexEntry) → ((r : Row) × IsTableRow q e r) }
 {}
 
 /// No entry is in two rows of the status table.
 pub fn rows_exclude<T: Drop, U: Drop>()
-    ensures { (q : Query T U) (e : IndexEntry) (a b : Row) → IsInRow q e a → IsInRow q e b → a ≡ b }
+    ensures { (q : Query T U) (e : IndexEntry) (a b : Row) → IsTableRow q e a → IsTableRow q e b → a ≡ b }
 {}
 
 /// A modification is of the executability, the content or both. It asks for size 0 only with a change of content, and

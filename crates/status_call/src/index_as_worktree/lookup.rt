@@ -4,12 +4,12 @@ ghost use Rattle.std.specs.Prelude.{◌≡◌, ◌&&◌, Bool, IsTrue, Ok, Resul
 ghost use Rattle.bstr.specs.BStr.{bstr_bytes};
 ghost use Rattle.status_base.specs.CheckState.{IsClear};
 ghost use Rattle.status_base.specs.LinkCheck.{LinkCheck};
-ghost use Rattle.status_base.specs.CheckAnswers.{IsRefused};
+ghost use Rattle.status_base.specs.CheckAnswers.{IsCheckError};
 ghost use Rattle.status_index.specs.declared.metadata.Metadata.{Metadata as NodeMetadata};
 ghost use Rattle.status_index.specs.declared.fault.Fault.{Fault as WorktreeFault};
 ghost use Rattle.status_call.specs.EntryParts.{IsLook};
 ghost use Rattle.status_call.specs.Counts.{is_accepted};
-ghost use Rattle.status_call.specs.LookUps.{IsLookUp, IsKnown, Keeps};
+ghost use Rattle.status_call.specs.LookUps.{IsLookUp, IsKnownByListings, Keeps};
 ghost use Rattle.status_call.specs.Status.{found_by, found_fault, found_node};
 
 use crate::index_as_worktree::types::Error;
@@ -84,7 +84,7 @@ fn known_at<L: Lister>(
     listings: &mut Listings,
     path: BStr<'_>,
 ) -> Result<Option<Metadata>, AllocError>
-    ensures known { IsKnown fscache (L.modelled lister.now) (L.listing lister.now) listings.old
+    ensures known { IsKnownByListings fscache (L.modelled lister.now) (L.listing lister.now) listings.old
         (bstr_bytes path.entry) result }
     ensures kept { Keeps (L.modelled lister.now) (L.listing lister.now) listings.old
         → Keeps (L.modelled lister.now) (L.listing lister.now) listings.new }
@@ -118,7 +118,7 @@ fn look_at(node: Metadata, lstat_called: bool) -> Look
 /// A path that isn't normal, a fault other than one of absence, or out of memory.
 fn look_refused(error: StackError<'_>) -> Result<Look, Error>
     ensures { (check : LinkCheck) (node : Result NodeMetadata WorktreeFault) (unknown : Bool)
-        → IsRefused check error.entry
+        → IsCheckError check error.entry
         → IsLook (found_by check node) (is_accepted check && unknown) result }
 {
     match error {

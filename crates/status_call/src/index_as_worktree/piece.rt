@@ -10,7 +10,7 @@ use crate::index_as_worktree::counts::Totals;
 use crate::index_as_worktree::decide::Decide;
 use crate::index_as_worktree::step::next_step;
 use crate::index_as_worktree::types::{EntryStatus, Error, Finding};
-use status_base::index::{Entry, PathStorage};
+use status_index::{Entry, PathStorage};
 use std::alloc::{AllocError, Global};
 use std::sync::atomic::{AtomicBool, Ordering};
 

@@ -6,7 +6,7 @@ ghost use Rattle.status_call.specs.Visits.{Visit, visit};
 
 use crate::index_as_worktree::types::{Change, EntryStatus};
 use bstr::BStr;
-use status_base::index::Entry;
+use status_index::Entry;
 use std::alloc::{AllocError, Global};
 use std::fmt;
 use std::marker::PhantomData;

@@ -2,7 +2,7 @@
 
 ghost use Rattle.std.specs.Prelude.{◌^◌, ◌≤◌, length};
 ghost use Rattle.status_call.specs.Rounds.{AreBounds, bound, last_bound};
-ghost use Rattle.status_call.specs.Runs.{IsRun, part_entries};
+ghost use Rattle.status_call.specs.Runs.{IsRoundsReport, part_entries};
 
 use crate::index_as_worktree::considered::Considered;
 use crate::index_as_worktree::counts::{Progress, Totals};
@@ -43,7 +43,7 @@ where
     D::Content: Send,
     D::Submodule: Send,
     ensures { let c = considered.entry.now in
-        IsRun (D.query decide.now) c workers.entry.now 0 (length (part_entries c))
+        IsRoundsReport (D.query decide.now) c workers.entry.now 0 (length (part_entries c))
         (V.visits collector.old) result (V.visits collector.new) }
 {
     let part = &considered.entries[considered.start..considered.end];
@@ -105,7 +105,7 @@ where
     D::Submodule: Send,
     requires bounds { AreBounds (part_entries considered.now) bounds.now }
     requires few { length bounds.now ≤ 2 ^ 20 }
-    ensures { IsRun (D.query decide.now) considered.entry.now workers.entry.now (bound bounds.now 0)
+    ensures { IsRoundsReport (D.query decide.now) considered.entry.now workers.entry.now (bound bounds.now 0)
         (last_bound bounds.now)
         (V.visits collector.old) result (V.visits collector.new) }
 {

@@ -6,8 +6,8 @@ ghost use Rattle.bstr.specs.BStr.{bstr_bytes};
 ghost use Rattle.status_index.specs.Stretch.{part_of};
 ghost use Rattle.status_call.specs.Considered.{considered, considered_start};
 ghost use Rattle.status_call.specs.Outcomes.{outcome_of};
-ghost use Rattle.status_call.specs.StatusOf.{IsFaultOrMemory, IsThreadless, IsUnspawned};
-ghost use Rattle.status_call.specs.StatusTheorem.{IsMet};
+ghost use Rattle.status_call.specs.StatusOf.{IsFaultOrMemory, IsThreadless, OneThreadSpawnsNone};
+ghost use Rattle.status_call.specs.StatusTheorem.{IsStatusReport};
 ghost use Rattle.status_call.specs.Workers.{chunk_size_of};
 
 use crate::index_as_worktree::considered::Considered;
@@ -18,7 +18,7 @@ use crate::index_as_worktree::run_serially::run_serially;
 use crate::index_as_worktree::types::{Error, Outcome, VisitEntry};
 use crate::index_as_worktree::workers::{Limits, Workers};
 use bstr::BStr;
-use status_base::index::State;
+use status_index::State;
 use std::alloc::Global;
 use std::ops::Range;
 use std::sync::Wait;
@@ -104,9 +104,9 @@ pub fn status_by<
 where
     D::Content: Send,
     D::Submodule: Send,
-    ensures all { IsMet (D.query decider.old) index.now (V.visits collector.old) result (V.visits collector.new) }
+    ensures all { IsStatusReport (D.query decider.old) index.now (V.visits collector.old) result (V.visits collector.new) }
     ensures uninterrupted { interrupt.entry ≡ None → IfOk result (λ o. o.interrupted ≡ false) }
-    ensures alone { IsUnspawned (D.query decider.old) limits.thread_limit result }
+    ensures alone { OneThreadSpawnsNone (D.query decider.old) limits.thread_limit result }
 {
     if limits.thread_limit == Some(1) {
         return status_serially(
@@ -152,7 +152,7 @@ pub fn status_serially<
     chunk_size: usize,
     collector: &mut V,
 ) -> Result<Outcome, Error>
-    ensures all { IsMet (D.query decider.old) index.now (V.visits collector.old) result (V.visits collector.new) }
+    ensures all { IsStatusReport (D.query decider.old) index.now (V.visits collector.old) result (V.visits collector.new) }
     ensures uninterrupted { interrupt.entry ≡ None → IfOk result (λ o. o.interrupted ≡ false) }
     ensures threadless { IsThreadless (D.query decider.old) result }
     ensures fault { IsFaultOrMemory (D.query decider.old) index.now result }

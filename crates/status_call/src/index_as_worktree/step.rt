@@ -16,7 +16,7 @@ use crate::index_as_worktree::decide::{Decide, Decided};
 use crate::index_as_worktree::types::{Conflict, ConflictIndexEntry, EntryStatus, Error};
 use bitflags::Flags as _;
 use bstr::BStr;
-use status_base::index::{Entry, Flags, PathStorage};
+use status_index::{Entry, Flags, PathStorage};
 
 /// The flags that skip an entry: git takes it to be unchanged, or not to be there.
 const SKIP_FLAGS: [Flags; 4] = [

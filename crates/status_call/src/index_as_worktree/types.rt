@@ -6,8 +6,8 @@ ghost use Rattle.status_call.specs.Conflicts.{kept_of};
 
 use crate::index_as_worktree::counts::{Progress, Totals};
 pub use crate::index_as_worktree::recorder::VisitEntry;
-use status_base::index::{Entry, Flags, Mode, ObjectId, Stat, stat};
 pub use status_compare::Error;
+use status_index::{Entry, Flags, Mode, ObjectId, Stat, stat};
 use std::ops::Range;
 use std::sync::atomic::AtomicBool;
 

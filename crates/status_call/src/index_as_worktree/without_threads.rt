@@ -8,9 +8,9 @@ use crate::index_as_worktree::decider::Decider;
 use crate::index_as_worktree::inputs::{Ask, Inputs, Settings};
 use crate::index_as_worktree::status_by::status_serially;
 use crate::index_as_worktree::types::{Context, Error, Options, Outcome, VisitEntry};
-use status_base::index::State;
 use status_base::worktree::{Find, Lister, Pathspec, SubmoduleStatus, ToGit, Worktree};
 use status_compare::CompareBlobs;
+use status_index::State;
 use std::alloc::Global;
 
 /// Does what `index_as_worktree` does in the caller's thread alone: it starts no thread and waits for none, and it returns

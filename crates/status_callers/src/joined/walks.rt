@@ -46,7 +46,7 @@ fn entry(alloc: Global, found: &Found<'_>) -> Result<DirEntry, AllocError> {
 }
 
 /// Passes nodes to a delegate, until that ends the walk.
-pub fn hand_out<D: Delegate>(
+pub fn emit_nodes<D: Delegate>(
     alloc: Global,
     nodes: &[Found<'_>],
     delegate: &mut D,
@@ -89,7 +89,7 @@ impl<'a, W: Worktree> Walk<W> for Passes<'a> {
         _pathspec: &P,
         delegate: &mut D,
     ) -> Result<Outcome, WalkError> {
-        let outcome = hand_out(self.alloc, self.nodes, delegate)?;
+        let outcome = emit_nodes(self.alloc, self.nodes, delegate)?;
         let Some((path, fault)) = self.fault else {
             return Ok(outcome);
         };

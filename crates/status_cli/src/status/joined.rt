@@ -4,7 +4,7 @@ ghost use Rattle.std.specs.Prelude.{◌≡◌, map};
 ghost use Rattle.status_call.specs.Inputs.{usual};
 ghost use Rattle.status_joined.specs.Entries.{reported_entry};
 ghost use Rattle.status_profile.specs.Options.{option_values};
-ghost use Rattle.status_cli.specs.Buffering.{IsAdded};
+ghost use Rattle.status_cli.specs.Buffering.{IsTextAdded};
 ghost use Rattle.status_cli.specs.Printing.{IsPrinted};
 ghost use Rattle.status_cli.specs.ProfileStatuses.{IsJoinedReported, IsJoinedShown, results_of};
 ghost use Rattle.status_cli.specs.Statuses.{entry_lines, joined_answered, joined_options};
@@ -153,7 +153,7 @@ fn add_entries<T: Drop, U: Drop, O: io::Write>(
     entries: &[Entry<'_, T, U>],
     output: &mut O,
 ) -> Result<(), Failure>
-    ensures { IsAdded (entry_lines (map reported_entry entries.now))
+    ensures { IsTextAdded (entry_lines (map reported_entry entries.now))
         lines.old.lines.items (O.contents output.old) result lines.new.lines.items (O.contents output.new) }
 {
     for entry in entries {

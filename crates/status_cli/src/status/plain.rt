@@ -5,7 +5,7 @@ ghost use Rattle.status_index.specs.States.{index_of};
 ghost use Rattle.status_call.specs.IndexChanges.{AreInside, changes_of};
 ghost use Rattle.status_call.specs.Outcomes.{skipped_of};
 ghost use Rattle.status_call.specs.RecorderVisits.{visit_of};
-ghost use Rattle.status_cli.specs.Buffering.{IsAdded};
+ghost use Rattle.status_cli.specs.Buffering.{IsTextAdded};
 ghost use Rattle.status_cli.specs.Printing.{IsPrinted, result_map};
 ghost use Rattle.status_cli.specs.ProfileStatuses.{IsPlainShown, results_of};
 ghost use Rattle.status_cli.specs.Statuses.{answered, visit_lines};
@@ -92,7 +92,7 @@ fn add_records<T: Drop, U: Drop, O: io::Write>(
     records: &[Record<'_, T, U>],
     output: &mut O,
 ) -> Result<(), Failure>
-    ensures { IsAdded (visit_lines (map visit_of records.now))
+    ensures { IsTextAdded (visit_lines (map visit_of records.now))
         lines.old.lines.items (O.contents output.old) result lines.new.lines.items (O.contents output.new) }
 {
     for record in records {

@@ -12,7 +12,7 @@ impl State {
     ghost use Rattle.std.specs.Prelude.{◌≡◌, ◌≢◌, IsOk, IfErr, OnOk, OnErr};
     ghost use Rattle.std.specs.List.{Any, prefix_len};
     ghost use Rattle.bstr.specs.BStr.{bstr_bytes};
-    ghost use Rattle.status_index.specs.Entries.{IsIndex, said_of};
+    ghost use Rattle.status_index.specs.Entries.{IsIndex, entry_of_fields};
     ghost use Rattle.status_index.specs.States.{backing_of, timestamp_of, index_of};
     ghost use Rattle.status_index.specs.Stretch.{is_below, is_up_to};
     ghost use Rattle.status_index.specs.Staging.{IsPutRefusal, with_entry, with_put};
@@ -33,10 +33,10 @@ impl State {
         mode: Mode,
         path: BStr<'_>,
     ) -> Result<(), IndexError>
-        ensures valid { IsIndex (with_put (index_of self.old) (said_of (bstr_bytes path.entry) stat id flags mode)) → IfErr result (λ e. e ≡ IndexError.Memory) }
-        ensures ok { OnOk result ((index_of self.new) ≡ with_put (index_of self.old) (said_of (bstr_bytes path.entry) stat id flags mode)) }
-        ensures refused { IfErr result (IsPutRefusal (index_of self.old) (said_of (bstr_bytes path.entry) stat id flags mode)) }
-        ensures replaces { IsIndex (with_put (index_of self.old) (said_of (bstr_bytes path.entry) stat id flags mode)) → Any (λ e. e.path ≡ bstr_bytes path.entry) (index_of self.old) → IsOk result }
+        ensures valid { IsIndex (with_put (index_of self.old) (entry_of_fields (bstr_bytes path.entry) stat id flags mode)) → IfErr result (λ e. e ≡ IndexError.Memory) }
+        ensures ok { OnOk result ((index_of self.new) ≡ with_put (index_of self.old) (entry_of_fields (bstr_bytes path.entry) stat id flags mode)) }
+        ensures refused { IfErr result (IsPutRefusal (index_of self.old) (entry_of_fields (bstr_bytes path.entry) stat id flags mode)) }
+        ensures replaces { IsIndex (with_put (index_of self.old) (entry_of_fields (bstr_bytes path.entry) stat id flags mode)) → Any (λ e. e.path ≡ bstr_bytes path.entry) (index_of self.old) → IsOk result }
         ensures storage { Any (λ e. e.path ≡ bstr_bytes path.entry) (index_of self.old) → backing_of self.new ≡ backing_of self.old }
         ensures unchanged { OnErr result ((index_of self.new) ≡ index_of self.old) }
         ensures timestamp { timestamp_of self.new ≡ timestamp_of self.old }
@@ -89,9 +89,9 @@ impl State {
     ) -> Result<(), IndexError>
         requires start { start ≡ prefix_len (is_below path.now) (index_of self.now) }
         requires end { end ≡ prefix_len (is_up_to path.now) (index_of self.now) }
-        ensures ok { (stat : Stat) (flags : Flags) (mode : Mode) → OnOk result (IsIndex (with_put (index_of self.now) (said_of path.now stat id flags mode))) }
+        ensures ok { (stat : Stat) (flags : Flags) (mode : Mode) → OnOk result (IsIndex (with_put (index_of self.now) (entry_of_fields path.now stat id flags mode))) }
         ensures certain { IfErr result (λ e. e ≢ IndexError.Memory) }
-        ensures refused { (stat : Stat) (flags : Flags) (mode : Mode) → IfErr result (IsPutRefusal (index_of self.now) (said_of path.now stat id flags mode)) }
+        ensures refused { (stat : Stat) (flags : Flags) (mode : Mode) → IfErr result (IsPutRefusal (index_of self.now) (entry_of_fields path.now stat id flags mode)) }
     {
         if path.is_empty() {
             return Err(IndexError::EmptyPath { at: start });

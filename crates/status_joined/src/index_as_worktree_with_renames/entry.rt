@@ -8,8 +8,8 @@ ghost use Rattle.status_joined.specs.Entries.{reported_entry, reported_source};
 
 use crate::index_as_worktree_with_renames::summary::Summary;
 use bstr::BStr;
-use status_base::index::{self, ObjectId};
 use status_call::index_as_worktree::{Change, EntryStatus};
+use status_index::{self, ObjectId};
 use status_walk::{DirEntry, Status};
 
 /// A difference between the index and the worktree, as a collector gets it.

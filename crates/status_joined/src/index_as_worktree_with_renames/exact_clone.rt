@@ -1,6 +1,6 @@
 //! Values whose clones equal them.
 
-use status_base::index::ObjectId;
+use status_index::ObjectId;
 
 /// A value whose clones equal it. If an entry is copied, its status is reported twice: for the entry and for the copy.
 /// So the values that a comparer and a submodule report have to be such.

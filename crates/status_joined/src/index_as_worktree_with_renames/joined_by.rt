@@ -2,7 +2,7 @@
 
 ghost use Rattle.std.specs.Prelude.{◌≡◌};
 ghost use Rattle.status_joined.specs.Joined.{tracked_options};
-ghost use Rattle.status_joined.specs.JoinedTheorem.{IsMetBy};
+ghost use Rattle.status_joined.specs.JoinedTheorem.{IsJoinedReport};
 
 use crate::identifier::identifier_of;
 use crate::index_as_worktree_with_renames::error::Error;
@@ -13,12 +13,12 @@ use crate::index_as_worktree_with_renames::recorder::VisitEntry;
 use crate::index_as_worktree_with_renames::rewriting::report_list;
 use crate::index_as_worktree_with_renames::types::{Options, Outcome};
 use crate::walker::wanted_walker;
-use status_base::index::State;
 use status_base::worktree::{Find, Lister, Pathspec, SubmoduleStatus, ToGit, Worktree};
 use status_call::index_as_worktree;
 use status_call::index_as_worktree::decider::Decider;
 use status_call::index_as_worktree::inputs::Settings;
 use status_compare::CompareBlobs;
+use status_index::State;
 use status_rewrites::Tracker;
 use status_walk::Walk;
 use std::alloc::Global;
@@ -69,7 +69,7 @@ where
     W::File: Send,
     C::Output: Send + ExactClone + 'index,
     S::Output: Send + ExactClone + 'index,
-    ensures { IsMetBy (⟦<Inputs<'w, W, C, S, O, P, T, L, K, X> as Ask>⟧.query inputs.entry) options index.now
+    ensures { IsJoinedReport (⟦<Inputs<'w, W, C, S, O, P, T, L, K, X> as Ask>⟧.query inputs.entry) options index.now
         V.fails (V.visits collector.old) result (V.visits collector.new) }
 {
     let worktree = inputs.status.worktree;

@@ -15,7 +15,7 @@ use crate::index_as_worktree_with_renames::recorder::VisitEntry;
 use crate::index_as_worktree_with_renames::rewrites::Outcome;
 use crate::index_as_worktree_with_renames::types::Options;
 use crate::{ModificationOrDirwalkEntry, identify};
-use status_base::index::HashKind;
+use status_index::HashKind;
 use status_rewrites::{Pair, Rewrites, Rewritten, Tracker, rewrite};
 use std::alloc::Global;
 

@@ -1,8 +1,8 @@
 //! The options, inputs and outcome of a status with untracked files, renames and copies.
 
 use crate::index_as_worktree_with_renames::rewrites;
-use status_base::index::HashKind;
 use status_call::index_as_worktree;
+use status_index::HashKind;
 use status_rewrites::Rewrites;
 use std::sync::atomic::AtomicBool;
 

@@ -7,9 +7,9 @@ ghost use Rattle.status_base.specs.declared.worktree.objects.FindError.TheVarian
 use crate::support::contents::{BARS, FOO};
 use crate::support::pieces::Piece;
 use bstr::{BStr, BString};
-use status_base::index::{Flags, Mode, Moment, NewEntry, ObjectId, Stat, State};
 use status_base::worktree::{Fault, Find, FindError, Metadata, NoFilter, ToGitOutcome, Worktree};
 use status_compare::{CompareBlobs, EntryReader, Error, FastEq, HashEq, ReadData, Reads, Stream};
+use status_index::{Flags, Mode, Moment, NewEntry, ObjectId, Stat, State};
 use std::alloc::Global;
 use std::io::{ErrorKind, Read};
 

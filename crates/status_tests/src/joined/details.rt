@@ -1,9 +1,9 @@
 //! Details of a record that its line doesn't have.
 
 use crate::support::contents::{BAR, FOO};
-use status_base::index::ObjectId;
 use status_call::index_as_worktree::{Change, EntryStatus};
 use status_callers::joined::walks::Found;
+use status_index::ObjectId;
 use status_joined::index_as_worktree_with_renames::{Entry, RewriteSource, Summary};
 use status_walk::Status;
 

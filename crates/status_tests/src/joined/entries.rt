@@ -4,8 +4,8 @@ use crate::support::contents::{EMPTY, FOO};
 use crate::support::nodes::new_node;
 use crate::support::stats::{LATER, STAGED, WRITTEN, stat};
 use bstr::{BStr, BString};
-use status_base::index::{Flags, IndexError, Mode, NewEntry, ObjectId, Stat, State};
 use status_base::worktree::{MemoryWorktree, Node, NodeKind, TreeError};
+use status_index::{Flags, IndexError, Mode, NewEntry, ObjectId, Stat, State};
 use std::alloc::{AllocError, Global};
 
 /// The entry at a path of an index.

@@ -6,9 +6,9 @@ use crate::joined::entries::{RowEntry, RowNode};
 use crate::joined::interfaces::WalkKind;
 use crate::joined::rows::{PLAIN, REWRITTEN, Row, is_right};
 use crate::support::stats::LISTED_FILE;
-use status_base::index::Mode;
 use status_callers::joined::walks::{B, C, Found, UNTRACKED};
 use status_callers::listers::Directory;
+use status_index::Mode;
 use status_walk::{Kind, Status};
 use std::test::Fail;
 

@@ -2,11 +2,11 @@
 
 use crate::joined::entries::{RowEntry, RowNode, index, worktree};
 use crate::support::faults::Refuses;
-use status_base::index::State;
 use status_base::worktree::{Fault, NoLister, NoSubmodules, Worktree};
 use status_callers::joined::broken::Broken;
 use status_callers::joined::statuses::{JoinedReport, JoinedRequest, report_to};
 use status_callers::joined::walks::{B, C, Found, Passes};
+use status_index::State;
 use status_joined::index_as_worktree_with_renames::{Error, Recorder};
 use status_rewrites::{IdentityTracker, Tracker};
 use status_walk::{Kind, Walk};

@@ -3,7 +3,6 @@
 ghost use Rattle.std.specs.Prelude.{⊤, None};
 
 use bstr::BStr;
-use status_base::index::{Entry, EntryKind, ObjectId, State};
 use status_base::worktree::{
     Fault, MemoryWorktree, Pathspec, SubmoduleFault, SubmoduleStatus, Worktree,
 };
@@ -11,6 +10,7 @@ use status_callers::joined::broken::{Broken, Point};
 use status_callers::joined::trackers::{Answers, PlannedPair};
 use status_callers::joined::walks::{Found, Passes};
 use status_callers::worktrees::Counted;
+use status_index::{Entry, EntryKind, ObjectId, State};
 use status_rewrites::{Change, ChangeKind, IdentityTracker, Pair, Rewrites, Tracker, TrackerError};
 use status_walk::{Delegate, Outcome, UntrackedWalk, Walk, WalkError};
 use std::alloc::Global;

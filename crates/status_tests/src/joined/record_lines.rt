@@ -1,6 +1,6 @@
 //! Records as lines of text.
 
-use status_base::index::ObjectId;
+use status_index::ObjectId;
 use status_joined::index_as_worktree_with_renames::{Entry, Summary};
 use status_walk::Status;
 use std::alloc::{AllocError, Global};

@@ -7,12 +7,12 @@ use crate::joined::interfaces::{
     Asked, Calls, RowSubmodules, RowTracker, RowWalk, TrackerKind, WalkKind, row_worktree,
 };
 use crate::joined::record_lines::lines_of;
-use status_base::index::{HashKind, State};
 use status_base::worktree::{Fault, NoFilter, Worktree};
 use status_callers::joined::broken::Point;
 use status_callers::joined::collectors::Full;
 use status_callers::joined::statuses::{JoinedRequest, options, report_to};
 use status_callers::listers::{Directories, Directory};
+use status_index::{HashKind, State};
 use status_joined::index_as_worktree_with_renames::{Error, Options, Outcome, Recorder};
 use status_rewrites::{Rewrites, Tracker};
 use status_walk::Walk;

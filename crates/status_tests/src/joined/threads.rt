@@ -9,11 +9,11 @@ use crate::joined::record_lines::lines_of;
 use crate::joined::rows::RENAMES;
 use crate::support::turns::{MANY_TURNS, comes};
 use bstr::{BStr, BString};
-use status_base::index::State;
 use status_base::worktree::{Fault, MemoryFile, MemoryWorktree, Metadata, Pathspec, Worktree};
 use status_call::index_as_worktree;
 use status_callers::joined::statuses::{JoinedRequest, joined, options};
-use status_callers::joined::walks::{B, C, Found, UNTRACKED, hand_out};
+use status_callers::joined::walks::{B, C, Found, UNTRACKED, emit_nodes};
+use status_index::State;
 use status_joined::index_as_worktree_with_renames::Options;
 use status_rewrites::{IdentityTracker, Rewrites};
 use status_walk::{Delegate, Outcome, Walk, WalkError};
@@ -132,7 +132,7 @@ impl<'a, W: Worktree> Walk<W> for SetsFlag<'a> {
         _pathspec: &P,
         delegate: &mut E,
     ) -> Result<Outcome, WalkError> {
-        let first = hand_out(self.alloc, &[B], delegate)?;
+        let first = emit_nodes(self.alloc, &[B], delegate)?;
         if first.cancelled {
             return Ok(first);
         }
@@ -143,7 +143,7 @@ impl<'a, W: Worktree> Walk<W> for SetsFlag<'a> {
             });
         }
         self.signals.flag.store(true, Ordering::SeqCst);
-        let rest = hand_out(self.alloc, &[C, D], delegate)?;
+        let rest = emit_nodes(self.alloc, &[C, D], delegate)?;
         Ok(Outcome {
             emitted: first.emitted.saturating_add(rest.emitted),
             cancelled: rest.cancelled,

@@ -1,7 +1,7 @@
 //! Whether an index has a path, or a submodule at it.
 
 use bstr::BStr;
-use status_base::index::State;
+use status_index::State;
 
 /// Returns whether an entry has this path.
 pub(crate) fn is_tracked(index: &State, path: &str) -> bool {

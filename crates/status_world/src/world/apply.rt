@@ -1,7 +1,7 @@
 //! Applies an event.
 
 ghost use Rattle.std.specs.Prelude.{All, IfErr, IfOk, IfSome, [], ◌∷◌, map};
-ghost use Rattle.status_world.specs.EventAnswers.{IsApplied, IsExactEvent, IsStep};
+ghost use Rattle.status_world.specs.EventAnswers.{IsApplied, IsExactEvent, IsListStep};
 ghost use Rattle.status_world.specs.History.{HasDistinctContents};
 ghost use Rattle.status_world.specs.Refusals.{IsNoRunFault};
 ghost use Rattle.status_world.specs.Reports.{HasSum, report_value};
@@ -79,7 +79,7 @@ impl World {
         reports: &mut Vec<Report>,
         event: &Event,
     ) -> Result<(), Refusal>
-        ensures step { IsStep event.now self.old (map report_value reports.old.items) result self.new (map report_value reports.new.items) }
+        ensures step { IsListStep event.now self.old (map report_value reports.old.items) result self.new (map report_value reports.new.items) }
         ensures sums { All HasSum reports.old.items → All HasSum reports.new.items }
     {
         if let Event::Run {

@@ -5,7 +5,7 @@ ghost use Rattle.status_world.specs.declared.world.event.Event.TheVariants.{Tick
 
 use crate::world::refusal::Refusal;
 use crate::world::state::{NANOSECONDS, World};
-use status_base::index::Moment;
+use status_index::Moment;
 
 impl World {
     /// Advances the clock by this number of seconds.

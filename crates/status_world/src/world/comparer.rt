@@ -5,8 +5,8 @@ ghost use Rattle.std.proofs.Common.{ap};
 ghost use Rattle.status_world.specs.StampedWorld.{compared_by, counted_by};
 
 use crate::world::event::Comparer;
-use status_base::index::{Entry, ObjectId};
 use status_compare::{CompareBlobs, Error, FastEq, HashEq, ReadData};
+use status_index::{Entry, ObjectId};
 use std::alloc::Global;
 
 impl CompareBlobs for Comparer {

@@ -1,7 +1,7 @@
 //! The events of a world.
 
 use bstr::BString;
-use status_base::index::Moment;
+use status_index::Moment;
 
 /// How a run compares a file with its entry.
 #[derive(Clone, Copy, Debug, PartialEq, Eq)]

@@ -4,7 +4,7 @@ ghost use Rattle.std.specs.Prelude.{◌≡◌, IfOk, true, is_some};
 ghost use Rattle.bstr.specs.BStr.{bstr_bytes};
 ghost use Rattle.status_base.specs.Nodes.{placed_of};
 ghost use Rattle.status_base.specs.MemoryTree.{is_no_directory_kind};
-ghost use Rattle.status_world.specs.EventAnswers.{IsChanged, IsWritten, tree_refusal};
+ghost use Rattle.status_world.specs.EventAnswers.{IsChanged, IsWriteApplied, tree_refusal};
 ghost use Rattle.status_world.specs.Moments.{stamp_of};
 ghost use Rattle.status_world.specs.StampedWorld.{written, is_executable_at, with_executability, node_at, stored_node};
 ghost use Rattle.status_world.specs.declared.world.event.Event.TheVariants as events;
@@ -12,9 +12,9 @@ ghost use Rattle.status_world.specs.declared.world.event.Event.TheVariants as ev
 use crate::world::refusal::Refusal;
 use crate::world::state::World;
 use bstr::{BStr, BString};
-use status_base::index::{Moment, Time};
 use status_base::worktree::memory::is_bad_path;
 use status_base::worktree::{Node, NodeKind, TreeError};
+use status_index::{Moment, Time};
 use std::alloc::{AllocError, Global};
 
 /// The least number of bytes that is too large for a file or a link's target.
@@ -103,7 +103,7 @@ impl World {
         bytes: &[u8],
     ) -> Result<(), Refusal>
         requires { is_no_directory_kind kind ≡ true }
-        ensures { IsWritten (bstr_bytes path.entry) bytes.now (written self.old.clock kind executable bytes.now) self.old result self.new }
+        ensures { IsWriteApplied (bstr_bytes path.entry) bytes.now (written self.old.clock kind executable bytes.now) self.old result self.new }
     {
         if is_bad_path(path) {
             return Err(Refusal::BadPath);

@@ -7,7 +7,7 @@ ghost use Rattle.status_world.specs.SameIndex.{IsIndexReplaced, IsSameIndex};
 
 use crate::world::refusal::Refusal;
 use crate::world::state::World;
-use status_base::index::{Entry, PathStorage, State};
+use status_index::{Entry, PathStorage, State};
 
 impl World {
     /// Replaces the world's index by `index`, which must have the same entries, with their stats and flags, and the

@@ -4,8 +4,8 @@ ghost use Rattle.std.specs.Prelude.{◌≡◌, IfOk};
 ghost use Rattle.status_world.specs.Reports.{changes_in, report_value};
 
 use bstr::BString;
-use status_base::index::ObjectId;
 use status_call::index_as_worktree::{ApplyChange, EntryStatus, Outcome};
+use status_index::ObjectId;
 use std::alloc::AllocError;
 
 /// A run's record of one entry. If contents are compared by ids alone, a change of content has the new id.

@@ -11,12 +11,12 @@ use crate::world::refusal::Refusal;
 use crate::world::report::{Report, ReportRecord};
 use crate::world::state::{NANOSECONDS, World};
 use bstr::BString;
-use status_base::index::ObjectId;
 use status_base::worktree::AllPaths;
 use status_call::index_as_worktree::{
     ApplyChange, Capabilities, Options, Record, Recorder, apply_changes,
     index_as_worktree_with_defaults,
 };
+use status_index::ObjectId;
 use std::alloc::{AllocError, Global};
 use std::sync::Wait;
 use std::thread::Threads;

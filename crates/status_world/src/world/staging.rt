@@ -13,10 +13,10 @@ use crate::world::refusal::Refusal;
 use crate::world::staged::Staged;
 use crate::world::state::World;
 use bstr::{BStr, BString};
-use status_base::index::mode::mode_of_node;
-use status_base::index::{Flags, Mode, ObjectId, Stat, compute_hash};
 use status_base::worktree::memory::is_bad_path;
 use status_base::worktree::{Node, NodeKind};
+use status_index::mode::mode_of_node;
+use status_index::{Flags, Mode, ObjectId, Stat, compute_hash};
 use std::alloc::{AllocError, Global};
 
 impl World {

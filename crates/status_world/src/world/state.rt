@@ -8,8 +8,8 @@ ghost use Rattle.status_world.specs.StampedWorld.{empty_world};
 
 use crate::world::refusal::Refusal;
 use crate::world::staged::StagedFiles;
-use status_base::index::{HashKind, Moment, State, stat};
 use status_base::worktree::MemoryWorktree;
+use status_index::{HashKind, Moment, State, stat};
 use std::alloc::Global;
 use std::marker::Model;
 

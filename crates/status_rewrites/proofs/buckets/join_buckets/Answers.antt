@@ -1,6 +1,6 @@
 use Rattle.std.proofs.Common.{◌≡◌, ◌<◌, ◌∙◌, ◌++◌, [], subst, sym, ap, map, arith}
 use Rattle.std.proofs.lemmas.List.{map-append}
-use Rattle.status_rewrites.specs.Buckets.{bucket_count, bucket_number, named_in, in_bucket}
+use Rattle.status_rewrites.specs.Buckets.{bucket_count, bucket_number, changes_named, in_bucket}
 use Rattle.status_rewrites.specs.IdentityPairs.{key_cmp}
 use Rattle.status_rewrites.specs.Joins.{alike_in, side_of, rename_of}
 use Rattle.status_rewrites.specs.SeenItems.{changed_of}
@@ -34,9 +34,9 @@ loop-number-preserved c =
     let was = c.loop-number.invariant in
     let put = c.in_ok-append_pairs.ensures in
     let first : map (λ s. s.now) c.deref.result.now ≡ in_bucket at went =
-    ap (map (λ s. s.now)) c.deref.ensures.value ∙ ap named_in c.index.ensures ∙ c.in_ok-gone.ensures.each at _ (omega (arith, c.in_ok-gone.ensures.count)) in
+    ap (map (λ s. s.now)) c.deref.ensures.value ∙ ap changes_named c.index.ensures ∙ c.in_ok-gone.ensures.each at _ (omega (arith, c.in_ok-gone.ensures.count)) in
     let second : map (λ s. s.now) c.deref-in-loop-number.result.now ≡ in_bucket at new =
-    ap (map (λ s. s.now)) c.deref-in-loop-number.ensures.value ∙ ap named_in c.index-in-loop-number.ensures ∙ c.in_ok-came.ensures.each at _ (omega (arith, c.in_ok-came.ensures.count)) in
+    ap (map (λ s. s.now)) c.deref-in-loop-number.ensures.value ∙ ap changes_named c.index-in-loop-number.ensures ∙ c.in_ok-came.ensures.each at _ (omega (arith, c.in_ok-came.ensures.count)) in
     record {
       matched = was.matched ++ put.join.matched;
       are = put.is ∙ ap (λ v. v ++ put.more) was.are ∙ ap (λ v. map rename_of was.matched ++ v) put.join.are ∙ sym (map-append rename_of was.matched put.join.matched);

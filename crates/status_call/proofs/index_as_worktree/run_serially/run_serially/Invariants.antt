@@ -1,14 +1,14 @@
 use Rattle.std.proofs.Common.{◌≡◌, ◌≤◌, ◌-◌, length}
 use Rattle.status_call.specs.Pieces.{IsCut}
 use Rattle.status_call.specs.Runs.{part_entries, IsFaithfulTo}
-use Rattle.status_call.specs.WorkInOrder.{IsUnderWay}
+use Rattle.status_call.specs.WorkInOrder.{IsWorkSoFar}
 use Rattle.status_call.proofs.index_as_worktree.run_serially.run_serially.Given as goal
 
 abbrev pub invariant-loop-at : goal.invariant-loop-at
 invariant-loop-at g l =
     let visits = g.V.VisitEntry.visits in
     record {
-      way : IsUnderWay (g.D.Decide.query l.initial.decide) l.considered.start (part_entries l.considered) 0 (IsFaithfulTo l.considered) l.at l.totals (visits l.initial.collector) (visits l.collector);
+      way : IsWorkSoFar (g.D.Decide.query l.initial.decide) l.considered.start (part_entries l.considered) 0 (IsFaithfulTo l.considered) l.at l.totals (visits l.initial.collector) (visits l.collector);
       same : g.D.Decide.query l.decide ≡ g.D.Decide.query l.initial.decide;
       cut : IsCut (part_entries l.considered) l.at;
       inside : l.at ≤ length l.part;

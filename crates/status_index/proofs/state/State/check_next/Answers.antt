@@ -2,7 +2,7 @@ use Rattle.std.proofs.Common.{◌≡◌, ◌∙◌, sym, ◌<◌, ◌≢◌, [],
 use Rattle.std.proofs.lemmas.List.{length-map}
 use Rattle.std.specs.declared.cmp.Ordering.TheVariants.{Less}
 use Rattle.status_index.specs.BlobId.{id_kind}
-use Rattle.status_index.specs.Entries.{index_entry, said_of, entry_cmp}
+use Rattle.status_index.specs.Entries.{index_entry, entry_of_fields, entry_cmp}
 use Rattle.status_index.specs.States.{entries_of, backing_of, index_of}
 use Rattle.status_index.proofs.Refusals.{IsLast-listed, Less-unless_ge, apart-from_ne, same-from_ne, NotAscending-push, MixedHash-push, IsIndex-push}
 use Rattle.status_index.proofs.state.State.check_next.Goals as goal
@@ -10,7 +10,7 @@ use Rattle.status_index.proofs.state.State.check_next.Goals as goal
 pub returns-then-is_ge-clause-refused : goal.returns-then-is_ge-clause-refused
 returns-then-is_ge-clause-refused c stat mode =
     let s = c.args.self.now in
-    let y = said_of c.args.path.now stat c.args.id c.args.flags mode in
+    let y = entry_of_fields c.args.path.now stat c.args.id c.args.flags mode in
     let item = rw c.deref.ensures.value at c.in-Some.ensures.item in
     let last = IsLast-listed (backing_of s) (entries_of s) c.in-Some.last.now item.3.0 item.3.1 in
     let long : c.len-at.result ≡ length (index_of s) = omega (arith, length-map (entries_of s) (index_entry (backing_of s))) in
@@ -22,7 +22,7 @@ pub returns-then-ne-clause-refused : goal.returns-then-ne-clause-refused
 returns-then-ne-clause-refused c stat mode =
     let s = c.args.self.now in
     let x = index_entry (backing_of s) c.in-Some.last.now in
-    let y = said_of c.args.path.now stat c.args.id c.args.flags mode in
+    let y = entry_of_fields c.args.path.now stat c.args.id c.args.flags mode in
     let item = rw c.deref.ensures.value at c.in-Some.ensures.item in
     let last = IsLast-listed (backing_of s) (entries_of s) c.in-Some.last.now item.3.0 item.3.1 in
     let long : c.len-at.result ≡ length (index_of s) = omega (arith, length-map (entries_of s) (index_entry (backing_of s))) in
@@ -35,7 +35,7 @@ pub returns-clause-ok : goal.returns-clause-ok
 returns-clause-ok c stat mode =
     let s = c.args.self.now in
     let x = index_entry (backing_of s) c.in-Some.last.now in
-    let y = said_of c.args.path.now stat c.args.id c.args.flags mode in
+    let y = entry_of_fields c.args.path.now stat c.args.id c.args.flags mode in
     let item = rw c.deref.ensures.value at c.in-Some.ensures.item in
     let last = IsLast-listed (backing_of s) (entries_of s) c.in-Some.last.now item.3.0 item.3.1 in
     let named : 0 < length y.path = grind arith in

@@ -2,7 +2,7 @@ use Rattle.std.proofs.Common.{◌≡◌, ◌∙◌, sym, ◌<◌, ◌≤◌, inl
 use Rattle.std.specs.List.{Contains}
 use Rattle.std.proofs.lemmas.List.{length-map, nil_from_length}
 use Rattle.status_index.specs.BlobId.{id_kind}
-use Rattle.status_index.specs.Entries.{index_entry, said_of}
+use Rattle.status_index.specs.Entries.{index_entry, entry_of_fields}
 use Rattle.status_index.specs.States.{entries_of, backing_of, index_of}
 use Rattle.status_index.specs.Staging.{with_entry}
 use Rattle.status_index.proofs.Indexes.{index_entry_read}
@@ -22,7 +22,7 @@ returns-in_default-clause-ok c stat flags mode =
     let s = c.args.self.now in
     let es = index_of s in
     let p = c.args.path.now in
-    let x = said_of p stat c.args.id flags mode in
+    let x = entry_of_fields p stat c.args.id flags mode in
     let named : 0 < length p = grind arith in
     let outside = rw c.deref.ensures.value at c.in_default.ensures.lookup in
     let past : length es ≤ c.if-start-gt0.place = omega (arith, outside.3, length-map (entries_of s) (index_entry (backing_of s))) in
@@ -58,7 +58,7 @@ returns-clause-ok c stat flags mode =
     let es = index_of s in
     let p = c.args.path.now in
     let x = index_entry (backing_of s) c.in-Some.other.now in
-    let y = said_of p stat c.args.id flags mode in
+    let y = entry_of_fields p stat c.args.id flags mode in
     let named : 0 < length p = grind arith in
     let item = rw c.deref.ensures.value at c.in-Some.ensures.lookup in
     let k = c.if-start-gt0.place in

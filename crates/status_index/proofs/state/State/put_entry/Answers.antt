@@ -3,7 +3,7 @@ use Rattle.std.specs.List.{insert}
 use Rattle.std.proofs.lemmas.Result.{err_from_is_err_and}
 use Rattle.bstr.specs.BStr.{bstr_bytes}
 use Rattle.status_index.specs.declared.entry.Entry.{Entry}
-use Rattle.status_index.specs.Entries.{IsIndex, said_of, index_entries}
+use Rattle.status_index.specs.Entries.{IsIndex, entry_of_fields, index_entries}
 use Rattle.status_index.specs.States.{index_of}
 use Rattle.status_index.specs.Staging.{IsPutRefusal, with_entry}
 use Rattle.status_index.proofs.Places.{none_at}
@@ -15,7 +15,7 @@ pub returns-in_err-check_put-clause-valid : goal.returns-in_err-check_put-clause
 returns-in_err-check_put-clause-valid c =
     let a = c.args in
     let p = err_from_is_err_and c.from_residual.result c.from_residual.ensures.1 in
-    let x = said_of (bstr_bytes a.path) a.stat a.id a.flags a.mode in
+    let x = entry_of_fields (bstr_bytes a.path) a.stat a.id a.flags a.mode in
     let refused : IsPutRefusal (index_of a.self.now) x c.in_err-check_put.field-0.0 = rw (← c.as_bytes-path.ensures) (c.in_err-check_put.ensures.refused a.stat a.flags a.mode) in
     λ index. rw (p.1, p.2) (Memory-from_with (index_of a.self.now) x c.in_err-check_put.field-0.0 index refused)
 
@@ -39,7 +39,7 @@ invariant_of-self-then-start-end c =
     let e : Entry = record { stat = a.stat; id = a.id; flags = a.flags; mode = a.mode; path = c.in_ok-path.path } in
     let places = rw c.as_bytes-path.ensures at c.places_of-start.ensures in
     let grown = c.in_ok-path.ensures.bytes ∙ ap (λ (p : List ℕ). s.backing.bytes.items ++ p) c.as_bytes-path.ensures in
-    let behind : IsIndex (with_entry (index_of s) path (Some (said_of path a.stat a.id a.flags a.mode))) = rw (← c.as_bytes-path.ensures) (c.in_ok-check_put.ensures.ok a.stat a.flags a.mode) in
+    let behind : IsIndex (with_entry (index_of s) path (Some (entry_of_fields path a.stat a.id a.flags a.mode))) = rw (← c.as_bytes-path.ensures) (c.in_ok-check_put.ensures.ok a.stat a.flags a.mode) in
     let kept = index_entries-kept s.backing c.push.new.self s.entries.items (record { rest = path; same = grown }) s.valid in
     let new = stored-new s.backing s.entries.items path s.valid _ _ places.start places.end c.push.new.self e c.if-start-end.true grown c.in_ok-path.ensures.start c.in_ok-path.ensures.end in
     record { valid = rw (c.insert.ensures.items, c.reserve.ensures.items) (IsIndex-either c.push.new.self _ (insert s.entries.items c.places_of-start.result.0 e) s.entries.items (rw new behind) (rw kept s.valid)) }
@@ -65,7 +65,7 @@ invariant_of-self-2 c =
     let left = c.drop-drain.ensures.items ∙ c.drain.ensures.kept in
     let some : c.places_of-start.result.0 < c.places_of-start.result.1 = omega (arith, c.if-start-end.false) in
     let over = stored-over s.backing s.entries.items path s.valid _ _ places.start places.end old e some (omega arith) c.index_mut-entry.ensures.value refl in
-    let behind : IsIndex (with_entry (index_of s) path (Some (said_of path a.stat a.id a.flags a.mode))) = rw (← c.as_bytes-path.ensures) (c.in_ok-check_put.ensures.ok a.stat a.flags a.mode) in
+    let behind : IsIndex (with_entry (index_of s) path (Some (entry_of_fields path a.stat a.id a.flags a.mode))) = rw (← c.as_bytes-path.ensures) (c.in_ok-check_put.ensures.ok a.stat a.flags a.mode) in
     record { valid = rw (left, over) behind }
 
 pub returns-clause-ok : goal.returns-clause-ok
@@ -96,7 +96,7 @@ returns-then-start-end-clause-storage c =
 pub returns-in_err-check_put-clause-replaces : goal.returns-in_err-check_put-clause-replaces
 returns-in_err-check_put-clause-replaces c =
     let a = c.args in
-    let x = said_of (bstr_bytes a.path) a.stat a.id a.flags a.mode in
+    let x = entry_of_fields (bstr_bytes a.path) a.stat a.id a.flags a.mode in
     let refused : IsPutRefusal (index_of a.self.now) x c.in_err-check_put.field-0.0 = rw (← c.as_bytes-path.ensures) (c.in_err-check_put.ensures.refused a.stat a.flags a.mode) in
     λ index there. absurd (c.in_err-check_put.ensures.certain (Memory-from_with (index_of a.self.now) x c.in_err-check_put.field-0.0 index refused))
 

@@ -1,6 +1,6 @@
 use Rattle.std.proofs.Common.{[], ◌∷◌, ◌++◌, Some, is_some, rules, sym, ap, ◌∙◌}
 use Rattle.std.specs.Str.{IsUtf8}
-use Rattle.status_index.specs.Entries.{IsRefusal, said_of}
+use Rattle.status_index.specs.Entries.{IsRefusal, entry_of_fields}
 use Rattle.status_index.specs.States.{index_of}
 use Rattle.status_profile.specs.Held.{entry_value}
 use Rattle.status_profile.proofs.Held.{accepted_more, held_more, refused_more, refused_now, utf8_more, utf8_same}
@@ -18,7 +18,7 @@ returns-in-Ok-clause-held c =
     let index = c.push_entry.new.self in
     let e = c.in_ok-entry.entry in
     let utf8 : IsUtf8 e.path.now = search rules in
-    let same = ap (λ path. index_of old.index ++ said_of path e.stat e.id e.flags e.mode ∷ []) c.from-path.ensures in
+    let same = ap (λ path. index_of old.index ++ entry_of_fields path e.stat e.id e.flags e.mode ∷ []) c.from-path.ensures in
     let pushed = c.in-Ok.ensures.ok ∙ same in
     held_more old (record { index = index; refusal = old.refusal }) _ (entry_value e) c.in_ok-entry.ensures
     (λ es h. accepted_more (index_of old.index) (index_of index) es old.refusal (entry_value e) (sym c.if-is_some.ensures) pushed h)

@@ -16,14 +16,14 @@ loop-path-init g c =
           (g.D.Delegate.state c.args.delegate.now).keeps (g.D.Delegate.state c.args.delegate.now).kept c.nodes-path-items.result nodes.nodes nodes.fits);
     }
 
-pub hand_out-requires : goal.hand_out-requires
-hand_out-requires g c = c.loop-path.invariant.going
+pub emit_untracked-requires : goal.emit_untracked-requires
+emit_untracked-requires g c = c.loop-path.invariant.going
 
 pub loop-path-preserved-in-None-2 : goal.loop-path-preserved-in-None-2
 loop-path-preserved-in-None-2 g c =
     let u = c.loop-path.invariant in
     let way = rw c.in-Some.ensures.steps at u.way in
-    let answer = rw (c.new-path.ensures, c.as_slice.ensures.value, u.keeps) at c.in_ok-hand_out.ensures in
+    let answer = rw (c.new-path.ensures, c.as_slice.ensures.value, u.keeps) at c.in_ok-emit_untracked.ensures in
     record {
       keeps = answer.keeps;
       going = answer.cancelled ∙ ap is_cancelling c.in-None-2.is;
@@ -37,7 +37,7 @@ pub loop-path-preserved : goal.loop-path-preserved
 loop-path-preserved g c =
     let u = c.loop-path.invariant in
     let way = rw c.in-Some.ensures.steps at u.way in
-    let answer = rw (c.new-path.ensures, c.as_slice.ensures.value, u.keeps) at c.in_ok-hand_out.ensures in
+    let answer = rw (c.new-path.ensures, c.as_slice.ensures.value, u.keeps) at c.in_ok-emit_untracked.ensures in
     let some = c.in-Some-Continue.is ∙ ap Some c.in-Some-Continue.field-0-is in
     record {
       keeps = answer.keeps;
@@ -52,7 +52,7 @@ pub returns-in-Some-Cancel : goal.returns-in-Some-Cancel
 returns-in-Some-Cancel g c =
     let u = c.loop-path.invariant in
     let way = rw c.in-Some.ensures.steps at u.way in
-    let answer = rw (c.new-path.ensures, c.as_slice.ensures.value, u.keeps) at c.in_ok-hand_out.ensures in
+    let answer = rw (c.new-path.ensures, c.as_slice.ensures.value, u.keeps) at c.in_ok-emit_untracked.ensures in
     let some = c.in-Some-Cancel.is ∙ ap Some c.in-Some-Cancel.field-0-is in
     let after = passed _ _ _ _ _ _ _ _ _ _ way answer.kept (sym answer.passed ∙ ap is_some some) in
     record {

@@ -1,8 +1,8 @@
 use Rattle.std.proofs.Common.{sym, ap, subst, ◌∙◌}
 use Rattle.bstr.specs.BStr.{bstr_bytes}
 use Rattle.status_base.specs.ListedNodes.{Listing, directory_of, file_name_of}
-use Rattle.status_base.specs.ListingTable.{AreNamesOf, IsOf}
-use Rattle.status_base.proofs.ListingTables.{grown_listed, known_put, put-IsOf}
+use Rattle.status_base.specs.ListingTable.{AreNamesOf, HasListedNames}
+use Rattle.status_base.proofs.ListingTables.{grown_listed, known_put, put-HasListedNames}
 use Rattle.status_base.proofs.fscache.listings.Listings.get.Goals as goal
 
 pub returns-clause-known : goal.returns-clause-known
@@ -22,4 +22,4 @@ returns-clause-kept g c =
     let listing = g.L.Lister.listing c.args.lister.now in
     λ modelled of.
     let are = subst (λ (l : Listing). AreNamesOf l c.in_ok-names.names) (c.in_ok-list.ensures modelled ∙ ap listing c.new.ensures) c.in_ok-names.ensures in
-    subst (IsOf listing) (sym c.in_ok-put.ensures.ok) (put-IsOf listing c.args.self.now _ c.in_ok-names.names of are)
+    subst (HasListedNames listing) (sym c.in_ok-put.ensures.ok) (put-HasListedNames listing c.args.self.now _ c.in_ok-names.names of are)
