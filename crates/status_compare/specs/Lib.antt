@@ -4,6 +4,7 @@ pub mod EntryReadings
 pub mod Errors
 pub mod FastAgrees
 pub mod FaultKinds
+pub mod NamedComparers
 pub mod Reading
 pub mod Reads
 pub mod StreamCounts

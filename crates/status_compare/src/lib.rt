@@ -1,11 +1,12 @@
 //! How a file of the worktree is compared with the blob of an index entry: readers and comparers.
 //!
 //! Read `compare` first, the interface of a comparer, and `read_data`, what it may read. `hash_eq` compares by ids and
-//! `fast_eq` by sizes first. `entry_reader` reads the file and the blob of one entry, through `stream`, and `reads`
+//! `fast_eq` by sizes first; `comparer` is one of the two, by its name. `entry_reader` reads the file and the blob of one entry, through `stream`, and `reads`
 //! counts that. `error` is why a status fails.
 #![tactic(auto)]
 
 pub mod compare;
+pub mod comparer;
 pub mod entry_reader;
 pub mod error;
 pub mod fast_eq;
@@ -15,6 +16,7 @@ pub mod reads;
 pub mod stream;
 
 pub use compare::CompareBlobs;
+pub use comparer::Comparer;
 pub use entry_reader::EntryReader;
 pub use error::Error;
 pub use fast_eq::FastEq;

@@ -16,11 +16,11 @@ use Rattle.status_compare.specs.Comparers.{changed_id, hash_answer, fast_answer,
 use Rattle.status_compare.specs.FastAgrees.{HasOwnId, IsKeptSize, IsWholly, reports_change}
 use Rattle.status_compare.specs.Reading.{Reading, Readings, fails, streams, target}
 use Rattle.status_compare.proofs.Agree.{agrees}
-use Rattle.status_world.specs.declared.world.event.Comparer.{Comparer}
-use Rattle.status_world.specs.declared.world.event.Comparer.TheVariants.{Hash, Fast}
+use Rattle.status_compare.specs.declared.comparer.Comparer.{Comparer}
+use Rattle.status_compare.specs.declared.comparer.Comparer.TheVariants.{Hash, Fast}
 use Rattle.status_world.specs.PlainWorld.{Plain}
 use Rattle.status_world.specs.Sound.{IsStagedSize}
-use Rattle.status_world.specs.StampedWorld.{compared_by, with_id, without_new_id}
+use Rattle.status_compare.specs.NamedComparers.{compared_by, with_new_id, without_new_id}
 use Rattle.status_world.proofs.NodeStats.{small_size}
 
 -- Ids that pass the test are equal, and equal ids pass it.
@@ -65,7 +65,7 @@ fast_answered false None = (None, refl)
 -- Both comparers succeed for a whole node.
 pub answered : (c : Comparer) (e : IndexEntry) (kind : HashKind) (bytes : List ℕ) (len : ℕ) (m : Readings) → id_kind e.id ≡ kind → IsWholly bytes m.file
     → Answered (compared_by c e len m)
-answered Hash e kind bytes len m one whole = (option_map Some (changed_id e.id (blob_id kind bytes)), ap with_id (hash_whole e kind bytes m.file one whole))
+answered Hash e kind bytes len m one whole = (option_map Some (changed_id e.id (blob_id kind bytes)), ap with_new_id (hash_whole e kind bytes m.file one whole))
 answered Fast e kind bytes len m one whole =
     let by_id = fast_answered (size_decides e len) (changed_id e.id (blob_id kind bytes)) in
     (by_id.0, ap (λ h. without_new_id (if size_decides e len then Ok (Some tt) else answer_without_id h)) (hash_whole e kind bytes m.file one whole) ∙ by_id.1)
@@ -75,7 +75,7 @@ kept_size : (e : IndexEntry) (s : Plain) → length s.bytes < 4294967296 → IsS
 kept_size e s small (inl h) = inl (h ∙ sym (small_size (length s.bytes) small))
 kept_size e s small (inr h) = inr h
 
-reports_with_id : (r : Result (Option ObjectId) Error) → reports_change (with_id r) ≡ reports_change r
+reports_with_id : (r : Result (Option ObjectId) Error) → reports_change (with_new_id r) ≡ reports_change r
 reports_with_id (Ok (Some id)) = refl
 reports_with_id (Ok None) = refl
 reports_with_id (Err err) = refl

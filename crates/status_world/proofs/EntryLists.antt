@@ -15,7 +15,7 @@ use Rattle.std.proofs.lemmas.Map.Text.{is_eq-slice_cmp}
 use Rattle.std.proofs.lemmas.Slice.Eq.{bytes_eq-Decides}
 use Rattle.status_index.specs.Entries.{IndexEntry}
 use Rattle.status_base.specs.Nodes.{is_bad_path}
-use Rattle.status_call.proofs.Parts.{AllPairs-append}
+use Rattle.status_call.proofs.Stretch.{AllPairs-append}
 use Rattle.status_index.specs.Staging.{with_entry}
 use Rattle.status_world.specs.StampedWorld.{entry_of_path}
 

@@ -17,12 +17,13 @@ use Rattle.status_compare.specs.declared.error.Error.{Error}
 use Rattle.status_call.specs.declared.index_as_worktree.types.Change.TheVariants as changes
 use Rattle.status_call.specs.declared.index_as_worktree.types.EntryStatus.TheVariants as statuses
 use Rattle.status_call.specs.Status.{same_bool, is_trusted, readings}
-use Rattle.status_world.specs.declared.world.event.Comparer.{Comparer}
-use Rattle.status_world.specs.declared.world.event.Comparer.TheVariants.{Hash}
+use Rattle.status_compare.specs.declared.comparer.Comparer.{Comparer}
+use Rattle.status_compare.specs.declared.comparer.Comparer.TheVariants.{Hash}
 use Rattle.status_world.specs.PlainWorld.{Plain, Differs, IsExecutableChange}
 use Rattle.status_world.specs.Reports.{RunStatus, is_change}
 use Rattle.status_world.specs.Sound.{IsStagedSize, IsTrustworthy}
-use Rattle.status_world.specs.StampedWorld.{StampedWorld, query_of, plain_of, stored_verdict, compared_by}
+use Rattle.status_world.specs.StampedWorld.{StampedWorld, query_of, plain_of, stored_verdict}
+use Rattle.status_compare.specs.NamedComparers.{compared_by}
 use Rattle.status_world.proofs.Answers.{answer_says, staged_empty}
 use Rattle.status_world.proofs.NodeStats.{KnownStat, stat_known}
 use Rattle.status_world.proofs.StatLaws.{agreed_size}

@@ -18,14 +18,15 @@ use Rattle.status_call.specs.Records.{first_fault}
 use Rattle.status_call.specs.StatusTheorem.{IsStatusReport, NeverSpawns}
 use Rattle.status_call.specs.Visits.{Visit}
 use Rattle.status_call.proofs.NoThread.{ids_law, sizes_law}
-use Rattle.status_world.specs.declared.world.event.Comparer.{Comparer}
+use Rattle.status_compare.specs.declared.comparer.Comparer.{Comparer}
 use Rattle.status_world.specs.declared.world.event.Run.{Run}
 use Rattle.status_world.specs.EventAnswers.{IsRunReport}
-use Rattle.status_world.specs.declared.world.event.Comparer.TheVariants.{Hash, Fast}
+use Rattle.status_compare.specs.declared.comparer.Comparer.TheVariants.{Hash, Fast}
 use Rattle.status_world.specs.declared.world.refusal.Refusal.TheVariants as refusals
 use Rattle.status_world.specs.Refusals.{fault_refusal}
 use Rattle.status_world.specs.Reports.{Reported, record_value}
-use Rattle.status_world.specs.StampedWorld.{StampedWorld, query_of, report_of, with_id, without_new_id}
+use Rattle.status_world.specs.StampedWorld.{StampedWorld, query_of, report_of}
+use Rattle.status_compare.specs.NamedComparers.{with_new_id, without_new_id}
 use Rattle.status_world.proofs.RunReports.{visited, considered_all, complete_records, complete_outcome}
 
 abbrev RunRecord : Type 0
@@ -61,7 +62,7 @@ hash_query w = record {
   counted = λ _ _ m k. Some (counts_after_hash m.file k);
 }
 
-with_id_kept : (r : Result (Option ObjectId) Error) → (r ≡ Err errors.SpawnThread → ⊥) → with_id r ≡ Err errors.SpawnThread → ⊥
+with_id_kept : (r : Result (Option ObjectId) Error) → (r ≡ Err errors.SpawnThread → ⊥) → with_new_id r ≡ Err errors.SpawnThread → ⊥
 with_id_kept (Ok change) f h = cc
 with_id_kept (Err e) f h = f (ap (λ (x : Error). Err x) (ap (λ (r : Result (Option (Option ObjectId)) Error). error_or e r) h))
   where

@@ -17,12 +17,13 @@ use Rattle.status_call.specs.declared.index_as_worktree.types.Change.TheVariants
 use Rattle.status_call.specs.declared.index_as_worktree.types.EntryStatus.TheVariants as statuses
 use Rattle.status_call.specs.Status as status
 use Rattle.status_call.specs.Status.{answer, case_of_stat, case_of_change, case_of_content, is_trusted, readings, reading}
-use Rattle.status_world.specs.declared.world.event.Comparer.{Comparer}
-use Rattle.status_world.specs.declared.world.event.Comparer.TheVariants.{Hash}
+use Rattle.status_compare.specs.declared.comparer.Comparer.{Comparer}
+use Rattle.status_compare.specs.declared.comparer.Comparer.TheVariants.{Hash}
 use Rattle.status_world.specs.PlainWorld.{Plain, IsExecutableChange}
 use Rattle.status_world.specs.Reports.{RunStatus}
 use Rattle.status_world.specs.Sound.{IsFormedNode, IsFormedEntry}
-use Rattle.status_world.specs.StampedWorld.{StampedWorld, node_at, query_of, plain_of, compared_by}
+use Rattle.status_world.specs.StampedWorld.{StampedWorld, node_at, query_of, plain_of}
+use Rattle.status_compare.specs.NamedComparers.{compared_by}
 use Rattle.status_world.proofs.Answers.{Answered, answered, kind_of_blob}
 use Rattle.status_world.proofs.Modes.{ModeCase, other_kind, other_bit, same_mode, mode_case}
 use Rattle.status_world.proofs.Readings.{whole_reading}

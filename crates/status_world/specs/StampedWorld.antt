@@ -24,17 +24,14 @@ use Rattle.status_index.specs.Staging.{with_entry, with_put}
 use Rattle.status_base.specs.MemoryTree.{Placed, PathMap, Tree, lstat_in, open_in, target_in}
 use Rattle.status_base.specs.Trees.{empty_tree}
 use Rattle.status_compare.specs.declared.error.Error.{Error}
-use Rattle.status_compare.specs.declared.reads.Reads.{Reads}
-use Rattle.status_compare.specs.Comparers.{hash_answer, fast_answer, counts_after_hash, counts_after_fast}
-use Rattle.status_compare.specs.Reading.{Readings}
+use Rattle.status_compare.specs.NamedComparers.{compared_by, counted_by}
+use Rattle.status_compare.specs.declared.comparer.Comparer.{Comparer}
 use Rattle.status_call.specs.declared.index_as_worktree.types.Options.{Options}
 use Rattle.status_call.specs.Counts.{counts_in, reads_in}
 use Rattle.status_call.specs.IndexChanges.{change_of, updated_entry}
 use Rattle.status_call.specs.Outcomes.{outcome_of}
 use Rattle.status_call.specs.Query.{Query}
 use Rattle.status_call.specs.Records.{verdict}
-use Rattle.status_world.specs.declared.world.event.Comparer.{Comparer}
-use Rattle.status_world.specs.declared.world.event.Comparer.TheVariants.{Hash, Fast}
 use Rattle.status_world.specs.declared.world.event.Event.{Event}
 use Rattle.status_world.specs.declared.world.event.Event.TheVariants as events
 use Rattle.status_world.specs.Moments.{stamp_of, plus_seconds, plus_nanoseconds}
@@ -156,26 +153,6 @@ abbrev pub entry_of_path : List ℕ → List IndexEntry → Option IndexEntry
 entry_of_path path es = find (λ e. bytes_eq e.path path) es
 
 -- ---- a run
-
--- A comparison by ids: a change has the new id.
-abbrev pub with_id : Result (Option ObjectId) Error → Result (Option (Option ObjectId)) Error
-with_id (Ok change) = Ok (option_map Some change)
-with_id (Err e) = Err e
-
--- A comparison by `FastEq`: a change has no id.
-abbrev pub without_new_id : Result (Option (Unit {0})) Error → Result (Option (Option ObjectId)) Error
-without_new_id (Ok change) = Ok (option_map (λ _. None) change)
-without_new_id (Err e) = Err e
-
--- The result of a run's comparer.
-abbrev pub compared_by : Comparer → IndexEntry → ℕ → Readings → Result (Option (Option ObjectId)) Error
-compared_by Hash e len m = with_id (hash_answer e m.file)
-compared_by Fast e len m = without_new_id (fast_answer e len m.file)
-
--- The reads of a run's comparer.
-abbrev pub counted_by : Comparer → IndexEntry → ℕ → Readings → Reads → Option Reads
-counted_by Hash e len m k = Some (counts_after_hash m.file k)
-counted_by Fast e len m k = Some (counts_after_fast e len m.file k)
 
 -- The options of a run's status: the file system has links, and no listing is used. The query doesn't depend on the thread
 -- limit and the chunk size.

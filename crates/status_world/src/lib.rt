@@ -2,7 +2,7 @@
 //!
 //! Read `event` in `world` first, then `state`, the fields of a world, and `apply`, which applies an event. It does so
 //! by `clock`, `nodes`, `staging` with `staged`, or `run`, or it returns a `refusal`. `history` replays a list of
-//! events, and returns what `replayed` and `report` define. `reopening` replaces the index, and `laws` has the theorem.
+//! events, and returns the world and the reports (`report`). `reopening` replaces the index, and `laws` has the theorem.
 #![tactic(auto)]
 
 pub mod world;

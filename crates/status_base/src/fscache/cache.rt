@@ -41,7 +41,7 @@ impl<'a, L: Lister> FsCache<'a, L> {
     /// # Errors
     /// Out of memory. The cache is then unchanged, and the next call asks the lister again.
     pub fn get(&mut self, path: BStr<'_>) -> Result<Option<Stat>, AllocError>
-        ensures stat_in_table { IfOk result (λ stat. stat ≡ stat_in_table self.new.listings (bstr_bytes path.entry)) }
+        ensures known { IfOk result (λ stat. stat ≡ stat_in_table self.new.listings (bstr_bytes path.entry)) }
         ensures grown { OnOk result (HasListedOnce (bstr_bytes path.entry) self.old.listings self.new.listings) }
         ensures unchanged { OnErr result (self.new.listings ≡ self.old.listings) }
         ensures lister { self.new.lister ≡ self.old.lister }

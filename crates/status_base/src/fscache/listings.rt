@@ -54,7 +54,7 @@ impl Listings {
     /// # Errors
     /// Out of memory. The table is then unchanged, and the next call asks the lister again.
     pub fn get<L: Lister>(&mut self, lister: &L, path: BStr<'_>) -> Result<Option<Stat>, AllocError>
-        ensures stat_in_table { IfOk result (λ stat. stat ≡ stat_in_table self.new (bstr_bytes path.entry)) }
+        ensures known { IfOk result (λ stat. stat ≡ stat_in_table self.new (bstr_bytes path.entry)) }
         ensures grown { OnOk result (HasListedOnce (bstr_bytes path.entry) self.old self.new) }
         ensures unchanged { OnErr result (self.new ≡ self.old) }
         ensures listed { IsTrue (L.modelled lister.now) → HasListedNames (L.listing lister.now) self.old

@@ -1,16 +1,8 @@
 //! The events of a world.
 
 use bstr::BString;
+use status_compare::Comparer;
 use status_index::Moment;
-
-/// How a run compares a file with its entry.
-#[derive(Clone, Copy, Debug, PartialEq, Eq)]
-pub enum Comparer {
-    /// By ids alone, as `HashEq` does.
-    Hash,
-    /// By sizes if these decide, and otherwise by ids, as `FastEq` does.
-    Fast,
-}
 
 /// An event.
 #[derive(Debug, Drop)]

@@ -7,7 +7,7 @@ ghost use Rattle.status_world.specs.Reports.{HasSum, report_value};
 ghost use Rattle.status_world.specs.Sound.{IsFormed};
 
 use crate::world::event::Event;
-use crate::world::replayed::Replay;
+use crate::world::report::Replay;
 use crate::world::state::World;
 use std::alloc::Global;
 use std::sync::Wait;

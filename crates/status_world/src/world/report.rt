@@ -1,8 +1,10 @@
-//! The report of a run.
+//! The report of a run, and the result of a replay.
 
 ghost use Rattle.std.specs.Prelude.{◌≡◌, IfOk};
 ghost use Rattle.status_world.specs.Reports.{changes_in, report_value};
 
+use crate::world::refusal::Refusal;
+use crate::world::state::World;
 use bstr::BString;
 use status_call::index_as_worktree::{ApplyChange, EntryStatus, Outcome};
 use status_index::ObjectId;
@@ -44,4 +46,15 @@ impl Report {
         }
         Ok(changes)
     }
+}
+
+/// The result of a replay.
+#[derive(Drop)]
+pub struct Replay {
+    /// The world after the accepted events.
+    pub world: World,
+    /// The reports of the runs, in order.
+    pub reports: Vec<Report>,
+    /// The position of the event that was refused, if any, and why. No later event was applied.
+    pub stopped: Option<(usize, Refusal)>,
 }

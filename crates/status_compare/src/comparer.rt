@@ -1,13 +1,25 @@
-//! The comparer of a run.
+//! A comparer that is chosen by its name.
 
 ghost use Rattle.std.specs.Prelude.{◌≡◌, Some};
 ghost use Rattle.std.proofs.Common.{ap};
-ghost use Rattle.status_world.specs.StampedWorld.{compared_by, counted_by};
+ghost use Rattle.status_compare.specs.NamedComparers.{compared_by, counted_by};
 
-use crate::world::event::Comparer;
-use status_compare::{CompareBlobs, Error, FastEq, HashEq, ReadData};
+use crate::compare::CompareBlobs;
+use crate::error::Error;
+use crate::fast_eq::FastEq;
+use crate::hash_eq::HashEq;
+use crate::read_data::ReadData;
 use status_index::{Entry, ObjectId};
 use std::alloc::Global;
+
+/// How a file is compared with its entry.
+#[derive(Clone, Copy, Debug, PartialEq, Eq)]
+pub enum Comparer {
+    /// By ids alone, as `HashEq` does.
+    Hash,
+    /// By sizes if these decide, and otherwise by ids, as `FastEq` does.
+    Fast,
+}
 
 impl CompareBlobs for Comparer {
     type Output = Option<ObjectId>;

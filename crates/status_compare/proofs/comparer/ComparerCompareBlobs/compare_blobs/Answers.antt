@@ -1,5 +1,5 @@
 use Rattle.std.proofs.Common.{rules}
-use Rattle.status_world.proofs.world.comparer.ComparerCompareBlobs.compare_blobs.Goals as goal
+use Rattle.status_compare.proofs.comparer.ComparerCompareBlobs.compare_blobs.Goals as goal
 
 pub returns-in_err-change-in-Hash-clause-answer : goal.returns-in_err-change-in-Hash-clause-answer
 returns-in_err-change-in-Hash-clause-answer g c = λ path. let answer = c.in_err-change-in-Hash.ensures.answer path in search rules
