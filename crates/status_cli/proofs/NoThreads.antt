@@ -11,15 +11,15 @@ use Rattle.status_call.specs.Status.{readings}
 use Rattle.status_call.specs.StatusOf.{OneThreadSpawnsNone}
 use Rattle.status_call.specs.StatusTheorem.{NeverSpawns}
 use Rattle.status_call.proofs.NoThread.{ids_law, sizes_law}
-use Rattle.status_world.specs.declared.world.event.Comparer.{Comparer}
-use Rattle.status_world.specs.declared.world.event.Comparer.TheVariants.{Hash, Fast}
-use Rattle.status_world.specs.StampedWorld.{compared_by, with_id, without_new_id}
+use Rattle.status_compare.specs.declared.comparer.Comparer.{Comparer}
+use Rattle.status_compare.specs.declared.comparer.Comparer.TheVariants.{Hash, Fast}
+use Rattle.status_compare.specs.NamedComparers.{compared_by, with_new_id, without_new_id}
 
 error_or : {A : Type 0} → Error → Result A Error → Error
 error_or d (Ok x) = d
 error_or d (Err x) = x
 
-with_id_kept : (r : Result (Option ObjectId) Error) → (r ≡ Err SpawnThread → ⊥) → with_id r ≡ Err SpawnThread → ⊥
+with_id_kept : (r : Result (Option ObjectId) Error) → (r ≡ Err SpawnThread → ⊥) → with_new_id r ≡ Err SpawnThread → ⊥
 unfolding error_or
 with_id_kept (Ok change) f h = cc
 with_id_kept (Err e) f h = f (ap (λ (x : Error). Err x) (ap (λ (r : Result (Option (Option ObjectId)) Error). error_or e r) h))

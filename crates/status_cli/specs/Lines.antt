@@ -11,7 +11,7 @@ use Rattle.status_call.specs.declared.index_as_worktree.types.EntryStatus.TheVar
 use Rattle.status_call.specs.declared.index_as_worktree.types.Outcome.{Outcome}
 use Rattle.status_call.specs.Outcomes.{skipped_of}
 use Rattle.status_call.specs.Visits.{Visit}
-use Rattle.status_stored.specs.Words.{mode_digits}
+use Rattle.status_format.specs.Words.{mode_digits}
 use Rattle.status_joined.specs.Items.{Reported, modification, contents, rewrite, path_of}
 
 -- texts one after the other

@@ -30,7 +30,7 @@ use Rattle.status_joined.specs.declared.index_as_worktree_with_renames.error.Err
 use Rattle.status_joined.specs.declared.index_as_worktree_with_renames.types.Outcome.{Outcome as JoinedOutcome}
 use Rattle.status_walk.specs.Untracked.{untracked_walk}
 use Rattle.status_world.specs.RunStatus.{status_query}
-use Rattle.status_world.specs.StampedWorld.{compared_by, counted_by}
+use Rattle.status_compare.specs.NamedComparers.{compared_by, counted_by}
 use Rattle.status_profile.specs.Nodes.{node_value}
 use Rattle.status_profile.specs.Options.{OptionValues, is_joined, option_values}
 use Rattle.status_profile.specs.Profiles.{IsRead}

@@ -3,7 +3,8 @@ use Rattle.std.proofs.Common.{◌≡◌, Bool, true, not, List, [], ◌∷◌, �
 use Rattle.std.specs.Prelude.{◌||◌}
 use Rattle.json.specs.Json.{Json}
 use Rattle.json.specs.Value.{items_of}
-use Rattle.status_profile.specs.Forms.{◌>>=◌, each}
+use Rattle.status_format.specs.Reads.{◌>>=◌}
+use Rattle.status_profile.specs.Forms.{each}
 use Rattle.status_profile.specs.Steps.{IsMisfit}
 
 pub bind_some : {A B : Type 0} (r : Option A) (k : A → Option B) (b : B) → (r >>= k) ≡ Some b → (a : A) × (r ≡ Some a) × (k a ≡ Some b)

@@ -7,8 +7,8 @@ use Rattle.status_index.specs.declared.state.IndexError.{IndexError}
 use Rattle.status_index.specs.Entries.{IndexEntry, IsRefusal}
 use Rattle.status_index.specs.States.{index_of}
 use Rattle.status_index.proofs.Refusals.{IsRefusal-more}
-use Rattle.status_profile.specs.declared.entry.Entries.{Entries}
-use Rattle.status_profile.specs.Entries.{AreUtf8, entry_in}
+use Rattle.status_profile.specs.declared.entries.Entries.{Entries}
+use Rattle.status_profile.specs.Entries.{AreUtf8, json_entry}
 use Rattle.json.specs.Value.{items_of}
 use Rattle.status_profile.specs.Forms.{each}
 use Rattle.status_profile.specs.Held.{HasIndex, HoldsEntries}
@@ -33,6 +33,6 @@ utf8_more front new x pushed utf8 are = All-same (λ e. IsUtf8 e.path) new (fron
 pub utf8_same : (front new : List IndexEntry) → new ≡ front → AreUtf8 front → AreUtf8 new
 utf8_same front new same are = All-same (λ e. IsUtf8 e.path) new front same are
 
-pub held_more : (old new : Entries) (j : Json) (x : IndexEntry) → entry_in j ≡ Some x → ((es : List IndexEntry) → HasIndex (index_of old.index) old.refusal es → HasIndex (index_of new.index) new.refusal (es ++ x ∷ []))
+pub held_more : (old new : Entries) (j : Json) (x : IndexEntry) → json_entry j ≡ Some x → ((es : List IndexEntry) → HasIndex (index_of old.index) old.refusal es → HasIndex (index_of new.index) new.refusal (es ++ x ∷ []))
     → (AreUtf8 (index_of old.index) → AreUtf8 (index_of new.index)) → (xs : List Json) → HoldsEntries old xs → HoldsEntries new (xs ++ j ∷ [])
-held_more old new j x said more utf8 xs h = (h.0 ++ x ∷ [], each_push entry_in xs h.0 j x h.1 said, (more h.0 h.2.0, utf8 h.2.1))
+held_more old new j x said more utf8 xs h = (h.0 ++ x ∷ [], each_push json_entry xs h.0 j x h.1 said, (more h.0 h.2.0, utf8 h.2.1))

@@ -12,7 +12,8 @@ use Rattle.status_profile.specs.declared.error.ProfileError.{ProfileError}
 use Rattle.status_profile.specs.declared.error.ProfileError.TheVariants as errors
 use Rattle.status_profile.specs.declared.options.HistoryOptions.{HistoryOptions}
 use Rattle.status_profile.specs.Events.{EventValue, stretches_in}
-use Rattle.status_profile.specs.Forms.{is_object, moment_in, or_default}
+use Rattle.status_format.specs.Reads.{or_default}
+use Rattle.status_profile.specs.Forms.{is_object, moment_in}
 use Rattle.status_profile.specs.Histories.{HistoryValues, IsHistory, history_from, history_in}
 use Rattle.status_profile.specs.Options.{history_options_in}
 use Rattle.status_profile.specs.Parts.{ReadsUnder}

@@ -10,9 +10,9 @@ use Rattle.status_index.specs.declared.stat.Moment.{Moment}
 use Rattle.status_index.specs.declared.state.IndexError.{IndexError}
 use Rattle.status_index.specs.declared.state.IndexError.TheVariants as index_errors
 use Rattle.status_index.specs.Entries.{IndexEntry, IsRefusal}
-use Rattle.status_profile.specs.declared.entry.Entries.{Entries}
-use Rattle.status_profile.specs.declared.error.FieldError.{FieldError}
-use Rattle.status_profile.specs.declared.error.FieldError.TheVariants.{Form, Memory}
+use Rattle.status_profile.specs.declared.entries.Entries.{Entries}
+use Rattle.status_format.specs.declared.error.FieldError.{FieldError}
+use Rattle.status_format.specs.declared.error.FieldError.TheVariants.{Form, Memory}
 use Rattle.status_profile.specs.declared.error.Key.{Key}
 use Rattle.status_profile.specs.declared.error.Key.TheVariants as keys
 use Rattle.status_profile.specs.declared.error.ProfileError.{ProfileError}
@@ -21,7 +21,8 @@ use Rattle.status_profile.specs.declared.options.Kind.{Kind}
 use Rattle.status_profile.specs.declared.profile.Profile.{Profile}
 use Rattle.status_profile.specs.Entries.{entries_in}
 use Rattle.status_profile.specs.Failures.{error_of_index, result_under}
-use Rattle.status_profile.specs.Forms.{is_object, or_default, stamp_in}
+use Rattle.status_format.specs.Reads.{or_default}
+use Rattle.status_profile.specs.Forms.{is_object, json_stamp}
 use Rattle.status_profile.specs.Held.{AreEntriesRead, HasEntries}
 use Rattle.status_profile.specs.Nodes.{PlaceValue, place_in, place_value}
 use Rattle.status_profile.specs.Options.{OptionValues, options_in}
@@ -61,7 +62,7 @@ module _ (h : Option HashKind) (t : Option Moment) (o : Option OptionValues) (i 
 
 pub object_profile : (kind : Kind) (j : Json) → is_object j ≡ true → profile_in kind j ≡ profile_from
     (or_default hash_in Sha1 (get (codes "hash") j))
-    (option_and_then stamp_in (get (codes "timestamp") j))
+    (option_and_then json_stamp (get (codes "timestamp") j))
     (options_in kind (get (codes "options") j) (get (codes "folder") j))
     (option_and_then entries_in (get (codes "index") j))
     (place_in (get (codes "folder") j) (get (codes "worktree") j))

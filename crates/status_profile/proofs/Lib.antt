@@ -7,11 +7,9 @@ pub mod Joined
 pub mod Keys
 pub mod Lengths
 pub mod MemberSteps
-pub mod Numbers
 pub mod Puts
 pub mod Renewed
 pub mod SortedValues
-pub mod Stamps
 pub mod Stretches
 pub mod Tokens
 pub mod WrittenIndexes

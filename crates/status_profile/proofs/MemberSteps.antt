@@ -6,23 +6,24 @@ use Rattle.std.proofs.lemmas.Slice.Eq.{bytes_eq-Decides}
 use Rattle.json.specs.Token.{Token}
 use Rattle.json.specs.Json.{Json, Items, Members as MembersOf, null, boolean, number, string, array, object, no_members, member, parse_map}
 use Rattle.json.specs.Find.{as_object, get_member, later_or}
-use Rattle.status_profile.specs.declared.entry.Entries.{Entries}
-use Rattle.status_profile.specs.declared.error.FieldError.{FieldError}
-use Rattle.status_profile.specs.declared.error.FieldError.TheVariants.{Form, Memory}
+use Rattle.status_profile.specs.declared.entries.Entries.{Entries}
+use Rattle.status_format.specs.declared.error.FieldError.{FieldError}
+use Rattle.status_format.specs.declared.error.FieldError.TheVariants.{Form, Memory}
 use Rattle.status_profile.specs.declared.members.Members.{Members}
 use Rattle.status_profile.specs.declared.node.Nodes.{Nodes}
-use Rattle.status_profile.specs.Entries.{entries_in, entry_in}
-use Rattle.status_profile.specs.Forms.{◌>>=◌, Reads, each, is_object}
+use Rattle.status_profile.specs.Entries.{entries_in, json_entry}
+use Rattle.status_format.specs.Reads.{◌>>=◌, Reads}
+use Rattle.status_profile.specs.Forms.{each, is_object}
 use Rattle.status_profile.specs.Held.{AreEntriesRead, HoldsEntries, HoldsNodes, nodes_value}
 use Rattle.status_profile.specs.Members.{AreMembersOf, HasMembers, with_member}
 use Rattle.status_profile.specs.Nodes.{node_in, nodes_in}
 use Rattle.status_profile.specs.Steps.{IsValueRead, with_last}
 use Rattle.status_profile.proofs.Eaches.{each_misfit}
 
-pub entries_read : (js : Option Items) (list : Result Entries FieldError) → IsValueRead HoldsEntries (λ j. is_some (entry_in j)) js list → AreEntriesRead list (js >>= each entry_in)
+pub entries_read : (js : Option Items) (list : Result Entries FieldError) → IsValueRead HoldsEntries (λ j. is_some (json_entry j)) js list → AreEntriesRead list (js >>= each json_entry)
 entries_read None list h = rw h refl
 entries_read (Some js) (Ok e) h = rw (h.same, h.read.1) h.read.2
-entries_read (Some js) (Err Form) h = rw h.same (each_misfit entry_in h.values h.read)
+entries_read (Some js) (Err Form) h = rw h.same (each_misfit json_entry h.values h.read)
 entries_read (Some js) (Err Memory) h = absurd h.read
 
 pub nodes_read : (js : Option Items) (list : Result Nodes FieldError) → IsValueRead HoldsNodes (λ j. is_some (node_in j)) js list → Reads nodes_value list (js >>= each node_in)

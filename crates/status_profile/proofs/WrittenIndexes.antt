@@ -1,7 +1,6 @@
 -- The JSON of an index is read as that index.
 use Rattle.std.proofs.Common.{◌≡◌, ℕ, ◌^◌, ◌<◌, List, [], ◌∷◌, map, Option, Some, None, All, refl, sym, ap, subst, ◌∙◌, arith}
 use Rattle.std.specs.Prelude.{decimal}
-use Rattle.std.specs.Int.RustNames.{bit_or}
 use Rattle.std.proofs.lemmas.Fmt.{decimal_is_IsNumeral}
 use Rattle.std.proofs.lemmas.Bool.{lt-ltb}
 use Rattle.std.proofs.lemmas.List.Elements.{All-head, All-tail}
@@ -12,50 +11,48 @@ use Rattle.status_index.specs.declared.stat.Moment.{Moment}
 use Rattle.status_index.specs.declared.stat.Time.{Time}
 use Rattle.status_index.specs.FlagBits.{bits_of_stage}
 use Rattle.status_index.specs.Entries.{IndexEntry, stage_of}
-use Rattle.status_stored.specs.Reading as stored
 use Rattle.status_stored.specs.Storable.{Fits32, FitsStat, FitsTime, IsStorable, known_bits, known_entry}
 use Rattle.status_stored.specs.StoredIndex.{stored_entry, stored_flags, stored_number, stored_stamp, stored_time}
-use Rattle.status_stored.specs.Words.{flag_named, flag_words}
+use Rattle.status_format.specs.Words.{flag_words}
+use Rattle.status_format.specs.DataFields.{data_atoms}
+use Rattle.status_format.specs.Field.{atom_number, number, number_in, text}
+use Rattle.status_format.specs.JsonFields.{json_atom, json_atoms, json_field, json_fields, number_atom}
+use Rattle.status_format.specs.Reading.{entry_in, flags_from, flags_in, stage_in, stat_in, time_in}
 use Rattle.status_stored.proofs.Back.{id_back, mode_back}
 use Rattle.status_stored.proofs.FlagsBack.{flags_back}
-use Rattle.status_profile.specs.Entries.{entries_in, entry_in, flags_from, flags_in, stage_in}
-use Rattle.status_profile.specs.Forms.{each, number_in, stamp_in, time_in}
+use Rattle.status_profile.specs.Entries.{entries_in, json_entry}
+use Rattle.status_profile.specs.Forms.{each, json_stamp}
 use Rattle.status_profile.specs.Refreshed.{index_json, timestamp_json}
-use Rattle.status_profile.specs.Stats.{stat_in}
-use Rattle.status_profile.proofs.Numbers.{small_written}
+use Rattle.status_format.proofs.Numbers.{small_written}
 
-number_read : (n : ℕ) → Fits32 n → number_in (outline (stored_number n)) ≡ Some n
-number_read n fits =
+atom_read : (n : ℕ) → Fits32 n → json_atom (outline (stored_number n)) ≡ number n
+atom_read n fits =
     let written = decimal_is_IsNumeral n (omega (arith, fits)) in
-    small_written (decimal n) written.0 (subst (λ v. v < 2 ^ 32) (sym written.1) fits) ∙ ap Some written.1
+    ap number_atom (small_written (decimal n) written.0 (subst (λ v. v < 2 ^ 32) (sym written.1) fits) ∙ ap Some written.1)
 
-time_read : (time : Time) → FitsTime time → time_in (outline (stored_time time)) ≡ Some time
-time_read time fits = rw (number_read time.secs fits.secs, number_read time.nsecs fits.nsecs) refl
+number_read : (n : ℕ) → Fits32 n → number_in (json_field (outline (stored_number n))) ≡ Some n
+number_read n fits = ap atom_number (atom_read n fits)
 
-pub timestamp_read : (t : Moment) → Fits32 t.secs → Fits32 t.nsecs → stamp_in (timestamp_json t) ≡ Some t
-timestamp_read t secs nsecs = rw (number_read t.secs secs, number_read t.nsecs nsecs) refl
+time_read : (time : Time) → FitsTime time → time_in (json_field (outline (stored_time time))) ≡ Some time
+time_read time fits = rw (atom_read time.secs fits.secs, atom_read time.nsecs fits.nsecs) refl
 
-stage_read : (e : IndexEntry) → stage_in (outline (stored_number (stage_of e))) ≡ Some (stage_of e)
+pub timestamp_read : (t : Moment) → Fits32 t.secs → Fits32 t.nsecs → json_stamp (timestamp_json t) ≡ Some t
+timestamp_read t secs nsecs = rw (atom_read t.secs secs, atom_read t.nsecs nsecs) refl
+
+stage_read : (e : IndexEntry) → stage_in (json_field (outline (stored_number (stage_of e)))) ≡ Some (stage_of e)
 stage_read e =
     let small : stage_of e < 4 = omega arith in
     rw (number_read (stage_of e) (omega arith), lt-ltb (stage_of e) 4 small) refl
 
 -- words are read as in a stored index
-abbrev ReadAlike : ℕ → List (List ℕ) → Type 0
-ReadAlike bits words = flags_from bits (items_outline (items_of (map string words))) ≡ stored.flags_from bits (items_of (map string words))
+words_read : (words : List (List ℕ)) → json_atoms (items_outline (items_of (map string words))) ≡ data_atoms (items_of (map string words))
+words_read [] = refl
+words_read (w ∷ words) = ap (λ rest. text w ∷ rest) (words_read words)
 
-word_read : (bits : ℕ) (w : List ℕ) (words : List (List ℕ)) → ((more : ℕ) → ReadAlike more words) → (o : Option ℕ) → flag_named w ≡ o → ReadAlike bits (w ∷ words)
-word_read bits w words rest (Some bit) is = rw is (rest (bit_or bits bit))
-word_read bits w words rest None is = rw is refl
+flags_read : (e : IndexEntry) → flags_in (bits_of_stage (stage_of e)) (json_field (outline (stored_flags e.flags.0))) ≡ Some (known_bits e.flags.0)
+flags_read e = ap (flags_from (bits_of_stage (stage_of e))) (words_read (flag_words e.flags.0)) ∙ flags_back e.flags.0
 
-words_read : (bits : ℕ) (words : List (List ℕ)) → ReadAlike bits words
-words_read bits [] = refl
-words_read bits (w ∷ words) = word_read bits w words (λ more. words_read more words) (flag_named w) refl
-
-flags_read : (e : IndexEntry) → flags_in (bits_of_stage (stage_of e)) (outline (stored_flags e.flags.0)) ≡ Some (known_bits e.flags.0)
-flags_read e = words_read (bits_of_stage (stage_of e)) (flag_words e.flags.0) ∙ flags_back e.flags.0
-
-stat_read : (e : IndexEntry) → FitsStat e.stat → stat_in e.stat.size (outline (stored_entry e)) ≡ Some e.stat
+stat_read : (e : IndexEntry) → FitsStat e.stat → stat_in e.stat.size (json_fields (outline (stored_entry e))) ≡ Some e.stat
 unfolding stat_in
 stat_read e fits =
     let stat = e.stat in
@@ -68,7 +65,7 @@ stat_read e fits =
       number_read stat.gid fits.gid,
     ) refl
 
-entry_read : (e : IndexEntry) → IsStorable e → entry_in (outline (stored_entry e)) ≡ Some (known_entry e)
+entry_read : (e : IndexEntry) → IsStorable e → json_entry (outline (stored_entry e)) ≡ Some (known_entry e)
 unfolding entry_in
 entry_read e h =
     rw (
@@ -80,7 +77,7 @@ entry_read e h =
       stat_read e h.stat,
     ) refl
 
-entries_read : (es : List IndexEntry) → All IsStorable es → each entry_in (items_outline (items_of (map stored_entry es))) ≡ Some (map known_entry es)
+entries_read : (es : List IndexEntry) → All IsStorable es → each json_entry (items_outline (items_of (map stored_entry es))) ≡ Some (map known_entry es)
 entries_read [] h = refl
 entries_read (e ∷ es) h =
     let first = entry_read e (All-head IsStorable e es h) in

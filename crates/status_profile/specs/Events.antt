@@ -6,10 +6,11 @@ use Rattle.bstr.specs.Owned.{bstring_bytes}
 use Rattle.json.specs.Json.{Json, Items, no_items, item}
 use Rattle.json.specs.Find.{as_array, as_bool, as_str}
 use Rattle.status_index.specs.declared.stat.Moment.{Moment}
-use Rattle.status_world.specs.declared.world.event.Comparer.{Comparer}
+use Rattle.status_compare.specs.declared.comparer.Comparer.{Comparer}
 use Rattle.status_world.specs.declared.world.event.Event.{Event}
 use Rattle.status_world.specs.declared.world.event.Event.TheVariants as events
-use Rattle.status_profile.specs.Forms.{◌>>=◌, limit_in, moment_in, number_in}
+use Rattle.status_format.specs.Reads.{◌>>=◌}
+use Rattle.status_profile.specs.Forms.{limit_in, moment_in, json_number}
 use Rattle.status_profile.specs.Words.{comparer_in}
 
 -- an event by its values
@@ -53,7 +54,7 @@ four_of (item a (item b js)) = do
   Some ((a, b), more)
 
 abbrev pub number_in_one : Items → Option ℕ
-number_in_one js = one_of js >>= number_in
+number_in_one js = one_of js >>= json_number
 
 abbrev pub path_in_one : Items → Option (List ℕ)
 path_in_one js = one_of js >>= as_str
@@ -76,7 +77,7 @@ abbrev pub run_in : Items → Option EventValue
 run_in js = do
   four ← four_of js
   comparer ← comparer_in four.0.0
-  chunk_size ← number_in four.0.1
+  chunk_size ← json_number four.0.1
   thread_limit ← limit_in four.1.0
   stamp ← moment_in four.1.1
   Some (run comparer chunk_size thread_limit stamp)

@@ -1,13 +1,11 @@
 -- The error of a profile for an error of a part of it.
 use Rattle.std.specs.Prelude.{Result, Ok, Err}
-use Rattle.hex.specs.declared.error.FromHexError.{FromHexError}
-use Rattle.hex.specs.declared.error.FromHexError.TheVariants as digits
 use Rattle.json.specs.declared.error.Error.{Error}
 use Rattle.json.specs.declared.error.Error.TheVariants as json
 use Rattle.status_index.specs.declared.state.IndexError.{IndexError}
 use Rattle.status_index.specs.declared.state.IndexError.TheVariants as index_errors
-use Rattle.status_profile.specs.declared.error.FieldError.{FieldError}
-use Rattle.status_profile.specs.declared.error.FieldError.TheVariants as fields
+use Rattle.status_format.specs.declared.error.FieldError.{FieldError}
+use Rattle.status_format.specs.declared.error.FieldError.TheVariants as fields
 use Rattle.status_profile.specs.declared.error.Key.{Key}
 use Rattle.status_profile.specs.declared.error.ProfileError.{ProfileError}
 use Rattle.status_profile.specs.declared.error.ProfileError.TheVariants.{NotJson, Bad, Index, Memory}
@@ -30,11 +28,6 @@ error_of_index (index_errors.MixedHash at) = Index (index_errors.MixedHash at)
 abbrev pub error_under : Key → FieldError → ProfileError
 error_under key fields.Form = Bad key
 error_under key fields.Memory = Memory
-
--- of hexadecimal digits
-abbrev pub error_of_digits : FromHexError → FieldError
-error_of_digits digits.OutOfMemory = fields.Memory
-error_of_digits _ = fields.Form
 
 -- a field under a key
 abbrev pub result_under : {T : Type 0} → Key → Result T FieldError → Result T ProfileError

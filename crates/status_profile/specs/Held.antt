@@ -3,20 +3,16 @@ use Rattle.std.specs.Prelude.{◌≡◌, ℕ, List, map, Option, Some, None, Res
 use Rattle.json.specs.Json.{Json}
 use Rattle.json.specs.Value.{items_of}
 use Rattle.status_index.specs.declared.state.IndexError.{IndexError}
-use Rattle.status_index.specs.Entries.{IndexEntry, IsRefusal, entry_of_fields}
+use Rattle.status_index.specs.Entries.{IndexEntry, IsRefusal}
 use Rattle.status_index.specs.States.{index_of}
 use Rattle.status_base.specs.MemoryTree.{Placed}
-use Rattle.status_profile.specs.declared.entry.Entries.{Entries}
-use Rattle.status_profile.specs.declared.entry.Entry.{Entry}
-use Rattle.status_profile.specs.declared.error.FieldError.{FieldError}
-use Rattle.status_profile.specs.declared.error.FieldError.TheVariants.{Form, Memory}
+use Rattle.status_profile.specs.declared.entries.Entries.{Entries}
+use Rattle.status_format.specs.declared.error.FieldError.{FieldError}
+use Rattle.status_format.specs.declared.error.FieldError.TheVariants.{Form, Memory}
 use Rattle.status_profile.specs.declared.node.Nodes.{Nodes}
-use Rattle.status_profile.specs.Entries.{AreUtf8, entry_in}
+use Rattle.status_profile.specs.Entries.{AreUtf8, json_entry}
 use Rattle.status_profile.specs.Forms.{each}
 use Rattle.status_profile.specs.Nodes.{node_in, node_value}
-
-abbrev pub entry_value : Entry → IndexEntry
-entry_value e = entry_of_fields e.path.now e.stat e.id e.flags e.mode
 
 -- an index has all of these entries, or one of them is refused for this reason
 abbrev pub HasIndex : List IndexEntry → Option IndexError → List IndexEntry → Type 0
@@ -29,7 +25,7 @@ HasEntries e es = HasIndex (index_of e.index) e.refusal es × AreUtf8 (index_of 
 
 -- the entries of these values
 abbrev pub HoldsEntries : Entries → List Json → Type 0
-HoldsEntries e xs = (es : List IndexEntry) × (each entry_in (items_of xs) ≡ Some es) × HasEntries e es
+HoldsEntries e xs = (es : List IndexEntry) × (each json_entry (items_of xs) ≡ Some es) × HasEntries e es
 
 abbrev pub nodes_value : Nodes → List (List ℕ × Placed)
 nodes_value n = map node_value n.nodes.items

@@ -12,7 +12,8 @@ use Rattle.status_profile.specs.declared.error.ProfileError.TheVariants.{NotJson
 use Rattle.status_profile.specs.declared.history.History.{History}
 use Rattle.status_profile.specs.declared.options.HistoryOptions.{HistoryOptions}
 use Rattle.status_profile.specs.Events.{EventValue, stretch_values, stretches_in}
-use Rattle.status_profile.specs.Forms.{is_object, moment_in, or_default}
+use Rattle.status_format.specs.Reads.{or_default}
+use Rattle.status_profile.specs.Forms.{is_object, moment_in}
 use Rattle.status_profile.specs.Options.{history_options_in}
 use Rattle.status_profile.specs.Profiles.{◌>>=◌, IsNoJson, Says, under}
 use Rattle.status_profile.specs.Words.{hash_in}

@@ -11,7 +11,6 @@ pub mod Parts
 pub mod Profiles
 pub mod Refreshed
 pub mod Sorted
-pub mod Stats
 pub mod Steps
 pub mod Texts
 pub mod Words

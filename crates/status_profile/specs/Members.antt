@@ -7,7 +7,7 @@ use Rattle.json.specs.Find.{get_member, later_or}
 use Rattle.json.specs.Value.{value_view}
 use Rattle.status_profile.specs.declared.members.Members.{Members}
 use Rattle.status_profile.specs.Entries.{entries_in}
-use Rattle.status_profile.specs.Forms.{Reads}
+use Rattle.status_format.specs.Reads.{Reads}
 use Rattle.status_profile.specs.Held.{AreEntriesRead, nodes_value}
 use Rattle.status_profile.specs.Nodes.{nodes_in}
 

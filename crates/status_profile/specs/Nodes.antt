@@ -10,8 +10,10 @@ use Rattle.status_index.specs.declared.metadata.NodeKind.TheVariants.{File}
 use Rattle.status_base.specs.MemoryTree.{Placed}
 use Rattle.status_base.specs.Nodes.{placed_of}
 use Rattle.status_base.specs.declared.worktree.memory.Node.{Node}
-use Rattle.status_profile.specs.Forms.{◌>>=◌, each, or_default}
-use Rattle.status_profile.specs.Stats.{stat_in}
+use Rattle.status_format.specs.Reads.{◌>>=◌, or_default}
+use Rattle.status_profile.specs.Forms.{each}
+use Rattle.status_format.specs.JsonFields.{json_fields}
+use Rattle.status_format.specs.Reading.{stat_in}
 use Rattle.status_profile.specs.Words.{kind_in}
 use Rattle.status_profile.specs.declared.node.Place.{Place}
 use Rattle.status_profile.specs.declared.node.Place.TheVariants as places
@@ -32,7 +34,7 @@ node_in j = do
   kind ← or_default kind_in File (get (codes "kind") j)
   bytes ← bytes_of (get (codes "hex") j) (get (codes "text") j)
   executable ← or_default as_bool false (get (codes "executable") j)
-  stat ← stat_in 0 j
+  stat ← stat_in 0 (json_fields j)
   Some (
     path,
     record {

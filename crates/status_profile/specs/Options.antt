@@ -6,13 +6,14 @@ use Rattle.json.specs.Json.{Json}
 use Rattle.json.specs.Find.{get, as_bool, as_str}
 use Rattle.status_index.specs.declared.stat.Options.{Options as StatOptions}
 use Rattle.status_call.specs.declared.index_as_worktree.types.Options.{Options}
-use Rattle.status_world.specs.declared.world.event.Comparer.{Comparer}
-use Rattle.status_world.specs.declared.world.event.Comparer.TheVariants.{Hash}
+use Rattle.status_compare.specs.declared.comparer.Comparer.{Comparer}
+use Rattle.status_compare.specs.declared.comparer.Comparer.TheVariants.{Hash}
 use Rattle.status_profile.specs.declared.options.HistoryOptions.{HistoryOptions}
 use Rattle.status_profile.specs.declared.options.Kind.{Kind}
 use Rattle.status_profile.specs.declared.options.Kind.TheVariants as kinds
 use Rattle.status_profile.specs.declared.options.ProfileOptions.{ProfileOptions}
-use Rattle.status_profile.specs.Forms.{◌>>=◌, limit_in, number_in, object_or_empty, or_default}
+use Rattle.status_format.specs.Reads.{◌>>=◌, or_default}
+use Rattle.status_profile.specs.Forms.{limit_in, json_number, object_or_empty}
 use Rattle.status_profile.specs.Words.{comparer_in}
 
 -- which parts of stats have to be equal
@@ -37,7 +38,7 @@ unfoldable pub status_options_in : HistoryOptions → Json → Option Options
 status_options_in common o = do
   symlink ← or_default as_bool true (get (codes "symlink") o)
   thread_limit ← or_default limit_in None (get (codes "thread_limit") o)
-  chunk_size ← or_default number_in 0 (get (codes "chunk_size") o)
+  chunk_size ← or_default json_number 0 (get (codes "chunk_size") o)
   Some (record {
     fs = record { symlink = symlink; executable_bit = common.executable_bit };
     thread_limit = thread_limit;

@@ -1,7 +1,7 @@
 -- The parts that the members of a profile say.
 use Rattle.std.specs.Prelude.{◌≡◌, ◌⊎◌, List, Option, Some, None, Result, Ok, Err, ⊤}
 use Rattle.status_index.specs.Entries.{IndexEntry}
-use Rattle.status_profile.specs.declared.entry.Entries.{Entries}
+use Rattle.status_profile.specs.declared.entries.Entries.{Entries}
 use Rattle.status_profile.specs.declared.error.Key.{Key}
 use Rattle.status_profile.specs.declared.error.Key.TheVariants as keys
 use Rattle.status_profile.specs.declared.error.ProfileError.{ProfileError}

@@ -18,7 +18,8 @@ use Rattle.status_profile.specs.declared.error.ProfileError.TheVariants.{NotJson
 use Rattle.status_profile.specs.declared.options.Kind.{Kind}
 use Rattle.status_profile.specs.declared.profile.Profile.{Profile}
 use Rattle.status_profile.specs.Entries.{entries_in}
-use Rattle.status_profile.specs.Forms.{is_object, or_default, stamp_in}
+use Rattle.status_format.specs.Reads.{or_default}
+use Rattle.status_profile.specs.Forms.{is_object, json_stamp}
 use Rattle.status_profile.specs.Nodes.{PlaceValue, place_in, place_value}
 use Rattle.status_profile.specs.Options.{OptionValues, option_values, options_in}
 use Rattle.status_profile.specs.Words.{hash_in}
@@ -66,7 +67,7 @@ profile_in kind j =
     if is_object j
     then profile_from
     (or_default hash_in Sha1 (get (codes "hash") j))
-    (option_and_then stamp_in (get (codes "timestamp") j))
+    (option_and_then json_stamp (get (codes "timestamp") j))
     (options_in kind (get (codes "options") j) (get (codes "folder") j))
     (option_and_then entries_in (get (codes "index") j))
     (place_in (get (codes "folder") j) (get (codes "worktree") j))

@@ -5,14 +5,11 @@ use Rattle.json.specs.Json.{Json}
 use Rattle.json.specs.Find.{as_str}
 use Rattle.status_index.specs.declared.id.HashKind.{HashKind}
 use Rattle.status_index.specs.declared.id.HashKind.TheVariants.{Sha1, Sha256}
-use Rattle.status_index.specs.declared.id.ObjectId.{ObjectId}
 use Rattle.status_index.specs.declared.metadata.NodeKind.{NodeKind}
 use Rattle.status_index.specs.declared.metadata.NodeKind.TheVariants as kinds
-use Rattle.status_index.specs.declared.mode.Mode.{Mode}
-use Rattle.status_stored.specs.Words.{id_named, mode_named}
-use Rattle.status_world.specs.declared.world.event.Comparer.{Comparer}
-use Rattle.status_world.specs.declared.world.event.Comparer.TheVariants.{Hash, Fast}
-use Rattle.status_profile.specs.Forms.{◌>>=◌}
+use Rattle.status_compare.specs.declared.comparer.Comparer.{Comparer}
+use Rattle.status_compare.specs.declared.comparer.Comparer.TheVariants.{Hash, Fast}
+use Rattle.status_format.specs.Reads.{◌>>=◌}
 
 -- how ids are made
 abbrev pub hash_named : List ℕ → Option HashKind
@@ -43,9 +40,3 @@ comparer_in j = as_str j >>= comparer_named
 
 abbrev pub kind_in : Json → Option NodeKind
 kind_in j = as_str j >>= kind_named
-
-abbrev pub mode_in : Json → Option Mode
-mode_in j = as_str j >>= mode_named
-
-abbrev pub id_in : Json → Option ObjectId
-id_in j = as_str j >>= id_named

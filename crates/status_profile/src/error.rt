@@ -1,10 +1,8 @@
 //! Why a profile isn't read.
 
 ghost use Rattle.std.specs.Prelude.{◌≡◌};
-ghost use Rattle.status_profile.specs.Failures.{error_under};
 
 use gix_status::index::IndexError;
-use hex::FromHexError;
 use std::alloc::{AllocError, AllocFailed};
 use std::fmt;
 use thiserror::Error;
@@ -117,63 +115,6 @@ impl From<IndexError> for ProfileError {
         match error {
             IndexError::Memory => ProfileError::Memory,
             error => ProfileError::Index(error),
-        }
-    }
-}
-
-/// Why a field of a profile isn't read.
-#[derive(Clone, Copy, Debug, PartialEq, Eq)]
-pub enum FieldError {
-    /// It is missing, has a wrong form, or asks for something that isn't supported.
-    Form,
-    /// Memory ran out.
-    Memory,
-}
-
-impl FieldError {
-    /// Returns the error of a profile with this field under `key`.
-    pub fn under(self, key: Key) -> ProfileError
-        ensures { result ≡ error_under key self }
-    {
-        match self {
-            FieldError::Form => ProfileError::Bad(key),
-            FieldError::Memory => ProfileError::Memory,
-        }
-    }
-}
-
-impl From<AllocError> for FieldError {
-    ghost use Rattle.std.specs.Prelude.{◌≡◌};
-    ghost use Rattle.status_profile.specs.declared.error.FieldError.TheVariants.{Memory};
-
-    ghost from_gives = { λ _ e. e ≡ Memory };
-
-    fn from(_error: AllocError) -> FieldError {
-        FieldError::Memory
-    }
-}
-
-impl<T: Drop> From<AllocFailed<T>> for FieldError {
-    ghost use Rattle.std.specs.Prelude.{◌≡◌};
-    ghost use Rattle.status_profile.specs.declared.error.FieldError.TheVariants.{Memory};
-
-    ghost from_gives = { λ _ e. e ≡ Memory };
-
-    fn from(_refused: AllocFailed<T>) -> FieldError {
-        FieldError::Memory
-    }
-}
-
-impl From<FromHexError> for FieldError {
-    ghost use Rattle.std.specs.Prelude.{◌≡◌};
-    ghost use Rattle.status_profile.specs.Failures.{error_of_digits};
-
-    ghost from_gives = { λ error e. e ≡ error_of_digits error };
-
-    fn from(error: FromHexError) -> FieldError {
-        match error {
-            FromHexError::OutOfMemory => FieldError::Memory,
-            _ => FieldError::Form,
         }
     }
 }

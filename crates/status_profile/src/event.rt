@@ -6,14 +6,15 @@ ghost use Rattle.json.specs.Find.{as_str};
 ghost use Rattle.json.specs.Value.{items_view, value_view};
 ghost use Rattle.status_profile.specs.Events.{chmod_in, event_named, event_of, event_value, is_reopening};
 ghost use Rattle.status_profile.specs.Events.{four_of, number_in_one, one_of, path_in_one, path_and_text_in, run_in, stretch_values, stretches_in, two_of};
-ghost use Rattle.status_profile.specs.Forms.{Reads};
+ghost use Rattle.status_format.specs.Reads.{Reads};
 
-use crate::error::FieldError;
-use crate::form::{limit_of, list_of, moment_of, number_of, text_of, truth_of};
+use crate::form::{limit_of, list_of, moment_of, text_of, truth_of};
 use crate::word::comparer_of;
 use bstr::BString;
 use gix_status::world::Event;
 use json::Value;
+use status_format::FieldError;
+use status_format::read::number_of;
 use std::alloc::Global;
 use std::mem;
 

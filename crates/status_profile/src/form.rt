@@ -1,14 +1,17 @@
 //! The forms of values in a profile.
 
-ghost use Rattle.std.specs.Prelude.{◌≡◌, ◌==◌, [], slice_index_or};
+ghost use Rattle.std.specs.Prelude.{◌≡◌, []};
 ghost use Rattle.json.specs.Find.{as_array, as_bool, as_str, get};
 ghost use Rattle.json.specs.Value.{items_view, value_view};
-ghost use Rattle.status_profile.specs.Forms.{Reads, json_at, object_at, object_or_empty};
-ghost use Rattle.status_profile.specs.Forms.{limit_in, moment_in, number_in, or_default, stamp_in, time_in};
+ghost use Rattle.status_format.specs.Reads.{Reads};
+ghost use Rattle.status_profile.specs.Forms.{json_at, object_at, object_or_empty};
+ghost use Rattle.status_format.specs.Reads.{or_default};
+ghost use Rattle.status_profile.specs.Forms.{json_number, limit_in, moment_in};
 
-use crate::error::FieldError;
-use gix_status::index::{Moment, Time};
 use json::Value;
+use status_format::FieldError;
+use status_format::read::{number_of, stamp_of};
+use status_index::Moment;
 
 /// Reads a text.
 pub fn text_of<'a>(value: &Value<'a>) -> Result<&'a str, FieldError>
@@ -18,29 +21,6 @@ pub fn text_of<'a>(value: &Value<'a>) -> Result<&'a str, FieldError>
         Some(text) => Ok(text),
         None => Err(FieldError::Form),
     }
-}
-
-/// Reads a whole number below 2^32, written without a point, an exponent or a sign.
-pub fn number_of(value: &Value<'_>) -> Result<u32, FieldError>
-    ensures { Reads (λ n. n) result (number_in (value_view value.now)) }
-{
-    let Some(text) = value.as_number() else {
-        return Err(FieldError::Form);
-    };
-    if has_plus(text) {
-        return Err(FieldError::Form);
-    }
-    match text.parse::<u32>() {
-        Ok(number) => Ok(number),
-        Err(_) => Err(FieldError::Form),
-    }
-}
-
-/// Whether a text begins with a plus, which `parse` passes over. No number in JSON text has one.
-fn has_plus(text: &str) -> bool
-    ensures { result ≡ (slice_index_or text.now 0 0 == 43) }
-{
-    text.as_bytes().first() == Some(&b'+')
 }
 
 /// Reads a truth value.
@@ -61,28 +41,6 @@ pub fn list_of<'v, 'a>(value: &'v Value<'a>) -> Result<&'v [Value<'a>], FieldErr
         Value::Array(items) => Ok(items.as_slice()),
         _ => Err(FieldError::Form),
     }
-}
-
-/// Reads a list of seconds and nanoseconds.
-#[tactic(auto, using(crate::proofs::Stamps::two_in_short, crate::proofs::Stamps::two_in_long))]
-pub fn time_of(value: &Value<'_>) -> Result<Time, FieldError>
-    ensures { Reads (λ t. t) result (time_in (value_view value.now)) }
-{
-    let [secs, nsecs] = list_of(value)? else {
-        return Err(FieldError::Form);
-    };
-    Ok(Time {
-        secs: number_of(secs)?,
-        nsecs: number_of(nsecs)?,
-    })
-}
-
-/// Reads the moment of such a list.
-pub fn stamp_of(value: &Value<'_>) -> Result<Moment, FieldError>
-    ensures { Reads (λ m. m) result (stamp_in (value_view value.now)) }
-{
-    let Time { secs, nsecs } = time_of(value)?;
-    Ok(Moment { secs, nsecs })
 }
 
 /// Reads a moment: a number of seconds, or a list of seconds and nanoseconds.
@@ -120,7 +78,7 @@ pub fn required<'v, 'a>(value: Option<&'v Value<'a>>) -> Result<&'v Value<'a>, F
 
 /// Reads a number, which is 0 if it is missing.
 pub fn number_or_zero(value: Option<&Value<'_>>) -> Result<u32, FieldError>
-    ensures { Reads (λ n. n) result (or_default number_in 0 (json_at value.entry)) }
+    ensures { Reads (λ n. n) result (or_default json_number 0 (json_at value.entry)) }
 {
     match value {
         Some(number) => number_of(number),
@@ -134,16 +92,6 @@ pub fn truth_or(value: Option<&Value<'_>>, default: bool) -> Result<bool, FieldE
 {
     match value {
         Some(truth) => truth_of(truth),
-        None => Ok(default),
-    }
-}
-
-/// Reads a time, or returns `default` if it is missing.
-pub fn time_or(value: Option<&Value<'_>>, default: Time) -> Result<Time, FieldError>
-    ensures { Reads (λ t. t) result (or_default time_in default (json_at value.entry)) }
-{
-    match value {
-        Some(time) => time_of(time),
         None => Ok(default),
     }
 }

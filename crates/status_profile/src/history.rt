@@ -5,13 +5,14 @@ ghost use Rattle.json.specs.Find.{get};
 ghost use Rattle.json.specs.Value.{value_view};
 ghost use Rattle.status_index.specs.declared.id.HashKind.TheVariants.{Sha1};
 ghost use Rattle.status_profile.specs.Events.{stretch_values, stretches_in};
-ghost use Rattle.status_profile.specs.Forms.{Reads, is_object, json_at, moment_in, or_default};
+ghost use Rattle.status_format.specs.Reads.{Reads, or_default};
+ghost use Rattle.status_profile.specs.Forms.{is_object, json_at, moment_in};
 ghost use Rattle.status_profile.specs.Histories.{IsHistory, IsHistoryRead, history_in};
 ghost use Rattle.status_profile.specs.Options.{history_options_in};
 ghost use Rattle.status_profile.specs.Parts.{ReadsUnder};
 ghost use Rattle.status_profile.specs.Words.{hash_in};
 
-use crate::error::{FieldError, Key, ProfileError};
+use crate::error::{Key, ProfileError};
 use crate::event::read_stretches;
 use crate::form::{moment_of, required};
 use crate::options::{HistoryOptions, read_history_options};
@@ -19,6 +20,7 @@ use crate::profile::{hash_or_sha1, under};
 use gix_status::index::{HashKind, Moment};
 use gix_status::world::Event;
 use json::{Scratch, Value};
+use status_format::FieldError;
 use std::alloc::Global;
 
 /// A world's start, and the events in it.

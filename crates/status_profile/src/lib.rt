@@ -1,15 +1,15 @@
 //! Profiles, the program's input: an index, a worktree and options, or a history, read from JSON.
 //!
-//! Read `profile` and `history` first, then `options`, `entry`, `node` and `event`, what they are made of, and `error`.
+//! Read `profile` and `history` first, then `options`, `entries`, `node` and `event`, what they are made of, and `error`.
 //! `object` reads an object's text member by member, to `members` for a profile, and `items` reads a list item by item, with
-//! one item in memory as a JSON value. `form`, `word` and `stat` have the forms of values. `texts` writes a profile again with
-//! another index, over `compact`, `sorted` and `index_text`, and `laws` states that this index is read as the same. What a text
-//! says is defined in `specs`: `Profiles` and `Histories`, over `Options`, `Entries`, `Nodes`, `Events`, `Forms` and `Words`.
-//! `Refreshed` has the text that is written.
+//! one item in memory as a JSON value. `form` and `word` have the forms of values, and the crate status_format those of
+//! entries. `texts` writes a profile again with another index, over `compact`, `sorted` and `index_text`, and `laws` states
+//! that this index is read as the same. What a text says is defined in `specs`: `Profiles` and `Histories`, over `Options`,
+//! `Entries`, `Nodes`, `Events`, `Forms` and `Words`. `Refreshed` has the text that is written.
 #![tactic(auto)]
 
 mod compact;
-mod entry;
+mod entries;
 mod error;
 mod event;
 mod form;
@@ -23,7 +23,6 @@ mod object;
 mod options;
 mod profile;
 mod sorted;
-mod stat;
 mod texts;
 mod word;
 

@@ -5,12 +5,13 @@ ghost use Rattle.json.specs.Json.{Json, Members as MembersOf, no_members, value}
 ghost use Rattle.status_profile.specs.Members.{AreMembersOf, HasMembers, with_member};
 ghost use Rattle.status_profile.specs.Steps.{IsUnread, member_depth, with_last};
 
-use crate::entry::Entries;
-use crate::error::{FieldError, ProfileError};
+use crate::entries::Entries;
+use crate::error::ProfileError;
 use crate::items::{ItemsRead, MEMBER_DEPTH, read_list};
 use crate::node::Nodes;
 use crate::object::FromMembers;
 use json::{Reader, Value};
+use status_format::FieldError;
 use std::alloc::Global;
 
 /// The members of a profile. If a key is repeated, its last member counts. A list that is missing has a wrong form.

@@ -4,19 +4,19 @@ ghost use Rattle.std.specs.Prelude.{Option, option_and_then};
 ghost use Rattle.json.specs.Json.{Json};
 ghost use Rattle.json.specs.Value.{value_view};
 ghost use Rattle.status_index.specs.declared.metadata.NodeKind.TheVariants.{File};
-ghost use Rattle.status_profile.specs.Forms.{Reads, json_at, or_default};
+ghost use Rattle.status_format.specs.Reads.{Reads, or_default};
+ghost use Rattle.status_profile.specs.Forms.{json_at};
 ghost use Rattle.status_profile.specs.Nodes.{bytes_of, digits_in, node_in, node_value, nodes_in, place_in, place_value};
 ghost use Rattle.status_profile.specs.Held.{nodes_value};
 ghost use Rattle.status_profile.specs.Words.{kind_in};
 
-use crate::error::FieldError;
 use crate::form::{required, text_of, text_or_empty, truth_or};
 use crate::items::Items;
-use crate::stat::stat_of;
 use crate::word::kind_of;
 use bstr::BString;
 use gix_status::worktree::{Node, NodeKind};
 use json::Value;
+use status_format::{FieldError, stat_of};
 use std::alloc::Global;
 
 /// The place of a profile's worktree.

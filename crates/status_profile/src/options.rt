@@ -2,21 +2,22 @@
 
 ghost use Rattle.std.specs.Prelude.{◌≡◌, None};
 ghost use Rattle.json.specs.Find.{as_bool};
-ghost use Rattle.status_world.specs.declared.world.event.Comparer.TheVariants.{Hash};
-ghost use Rattle.status_profile.specs.Forms.{Reads, json_at, limit_in, object_at, or_default};
+ghost use Rattle.status_compare.specs.declared.comparer.Comparer.TheVariants.{Hash};
+ghost use Rattle.status_format.specs.Reads.{Reads, or_default};
+ghost use Rattle.status_profile.specs.Forms.{json_at, limit_in, object_at};
 ghost use Rattle.status_profile.specs.Options.{common_options_in, fields_in, history_options_in, if_kind, is_joined};
 ghost use Rattle.status_profile.specs.Options.{option_values, options_in, over_folder, over_place};
 ghost use Rattle.status_profile.specs.Options.{stat_options_in, status_options_in};
 ghost use Rattle.status_profile.specs.Words.{comparer_in};
 
-use crate::error::FieldError;
 use crate::form::{field, limit_of, number_or_zero, object_of, text_or_empty, truth_or};
 use crate::word::comparer_of;
 use bstr::BString;
 use gix_status::index::stat;
 use gix_status::index_as_worktree::{Capabilities, Options};
-use gix_status::world::Comparer;
 use json::Value;
+use status_compare::Comparer;
+use status_format::FieldError;
 use std::alloc::Global;
 
 /// The options of a history, which a status has too.

@@ -7,7 +7,8 @@ ghost use Rattle.status_index.specs.declared.id.HashKind.TheVariants.{Sha1};
 ghost use Rattle.status_index.specs.States.{index_of};
 ghost use Rattle.status_profile.specs.Entries.{AreUtf8, entries_in};
 ghost use Rattle.status_profile.specs.Failures.{result_under};
-ghost use Rattle.status_profile.specs.Forms.{Reads, is_object, json_at, or_default, stamp_in};
+ghost use Rattle.status_format.specs.Reads.{Reads, or_default};
+ghost use Rattle.status_profile.specs.Forms.{is_object, json_at, json_stamp};
 ghost use Rattle.status_profile.specs.Members.{HasMembers};
 ghost use Rattle.status_profile.specs.Nodes.{nodes_in, place_in, place_value};
 ghost use Rattle.status_profile.specs.Held.{nodes_value};
@@ -17,9 +18,9 @@ ghost use Rattle.status_profile.specs.Parts.{AreParts, ReadsUnder};
 ghost use Rattle.status_profile.specs.Profiles.{IsProfile, IsRead, profile_in};
 ghost use Rattle.status_profile.specs.Words.{hash_in};
 
-use crate::entry::Entries;
-use crate::error::{FieldError, Key, ProfileError};
-use crate::form::{required, stamp_of};
+use crate::entries::Entries;
+use crate::error::{Key, ProfileError};
+use crate::form::required;
 use crate::items::ItemsRead;
 use crate::members::Members;
 use crate::node::{Nodes, Place, read_place};
@@ -28,6 +29,8 @@ use crate::options::{Kind, ProfileOptions, read_options};
 use crate::word::hash_of;
 use gix_status::index::{HashKind, Moment, State};
 use json::{Scratch, Value};
+use status_format::FieldError;
+use status_format::read::stamp_of;
 use std::alloc::Global;
 use std::str;
 
@@ -91,7 +94,7 @@ fn read_hash(members: &Members<'_>) -> Result<HashKind, ProfileError>
 
 /// Reads when the index was written.
 fn read_timestamp(members: &Members<'_>) -> Result<Moment, ProfileError>
-    ensures { (g : List ℕ → Option Json) → HasMembers members.now g → ReadsUnder Key.Timestamp (λ m. m) result (option_and_then stamp_in (g (codes "timestamp"))) }
+    ensures { (g : List ℕ → Option Json) → HasMembers members.now g → ReadsUnder Key.Timestamp (λ m. m) result (option_and_then json_stamp (g (codes "timestamp"))) }
 {
     under(Key::Timestamp, stamp_or_none(members.timestamp.as_ref()))
 }
@@ -145,7 +148,8 @@ pub fn under<T: Drop>(key: Key, read: Result<T, FieldError>) -> Result<T, Profil
 {
     match read {
         Ok(value) => Ok(value),
-        Err(error) => Err(error.under(key)),
+        Err(FieldError::Form) => Err(ProfileError::Bad(key)),
+        Err(FieldError::Memory) => Err(ProfileError::Memory),
     }
 }
 
@@ -161,7 +165,7 @@ pub fn hash_or_sha1(value: Option<&Value<'_>>) -> Result<HashKind, FieldError>
 
 /// Reads a stamp, which must be there.
 fn stamp_or_none(value: Option<&Value<'_>>) -> Result<Moment, FieldError>
-    ensures { Reads (λ m. m) result (option_and_then stamp_in (json_at value.entry)) }
+    ensures { Reads (λ m. m) result (option_and_then json_stamp (json_at value.entry)) }
 {
     stamp_of(required(value)?)
 }

@@ -2,17 +2,16 @@
 
 ghost use Rattle.std.specs.Prelude.{◌≡◌};
 ghost use Rattle.json.specs.Value.{value_view};
-ghost use Rattle.status_profile.specs.Forms.{Reads};
-ghost use Rattle.status_profile.specs.Words.{comparer_in, hash_in, id_in, kind_in, mode_in};
+ghost use Rattle.status_format.specs.Reads.{Reads};
+ghost use Rattle.status_profile.specs.Words.{comparer_in, hash_in, kind_in};
 ghost use Rattle.status_profile.specs.Words.{comparer_named, hash_named, kind_named};
 
-use crate::error::FieldError;
 use crate::form::text_of;
-use gix_status::index::{HashKind, Mode, ObjectId};
+use gix_status::index::HashKind;
 use gix_status::worktree::NodeKind;
-use gix_status::world::Comparer;
 use json::Value;
-use status_stored::words::{id_of_word, mode_of_word};
+use status_compare::Comparer;
+use status_format::FieldError;
 
 /// Returns the kind of ids that a word names.
 fn hash_of_word(word: &str) -> Option<HashKind>
@@ -75,26 +74,6 @@ pub fn kind_of(value: &Value<'_>) -> Result<NodeKind, FieldError>
 {
     match kind_of_word(text_of(value)?) {
         Some(kind) => Ok(kind),
-        None => Err(FieldError::Form),
-    }
-}
-
-/// Reads the mode of an entry.
-pub fn mode_of(value: &Value<'_>) -> Result<Mode, FieldError>
-    ensures { Reads (λ m. m) result (mode_in (value_view value.now)) }
-{
-    match mode_of_word(text_of(value)?) {
-        Some(mode) => Ok(mode),
-        None => Err(FieldError::Form),
-    }
-}
-
-/// Reads an id. Its kind follows from the number of hexadecimal digits.
-pub fn id_of(value: &Value<'_>) -> Result<ObjectId, FieldError>
-    ensures { Reads (λ id. id) result (id_in (value_view value.now)) }
-{
-    match id_of_word(text_of(value)?) {
-        Some(id) => Ok(id),
         None => Err(FieldError::Form),
     }
 }

@@ -6,6 +6,5 @@ pub mod Fronts
 pub mod Glued
 pub mod Opened
 pub mod Reopening
-pub mod Stamps
 pub mod Storing
 pub mod Stretches

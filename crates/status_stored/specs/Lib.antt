@@ -5,4 +5,3 @@ pub mod RoundTrip
 pub mod Steps
 pub mod Storable
 pub mod StoredIndex
-pub mod Words

@@ -5,8 +5,8 @@ use Rattle.std.specs.declared.alloc.Global.{Global}
 use Rattle.serde_json.specs.View.{view}
 use Rattle.serde_json.specs.declared.value.Value.{Value}
 use Rattle.status_index.specs.Entries.{IndexEntry}
-use Rattle.status_stored.specs.declared.error.FieldError.{FieldError}
-use Rattle.status_stored.specs.declared.error.FieldError.TheVariants.{Form, Memory}
+use Rattle.status_format.specs.declared.error.FieldError.{FieldError}
+use Rattle.status_format.specs.declared.error.FieldError.TheVariants.{Form, Memory}
 use Rattle.status_stored.specs.declared.error.StoreError.{StoreError}
 use Rattle.status_stored.specs.Storable.{IsStorable, IsStoreRefusal}
 use Rattle.status_stored.specs.StoredIndex.{stored_entry}

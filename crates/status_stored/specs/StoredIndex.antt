@@ -5,7 +5,7 @@ use Rattle.serde_json.specs.View.{items_of}
 use Rattle.status_index.specs.declared.stat.Moment.{Moment}
 use Rattle.status_index.specs.declared.stat.Time.{Time}
 use Rattle.status_index.specs.Entries.{IndexEntry, stage_of}
-use Rattle.status_stored.specs.Words.{mode_digits, flag_words, id_digits}
+use Rattle.status_format.specs.Words.{mode_digits, flag_words, id_digits}
 
 abbrev pub stored_number : ℕ → Data
 stored_number n = number (unsigned n)

@@ -1,10 +1,10 @@
 //! The errors of storing an index, and of reading it back.
 
 ghost use Rattle.std.specs.Prelude.{◌≡◌};
-ghost use Rattle.status_stored.specs.declared.error.FieldError.TheVariants as field_errors;
 ghost use Rattle.status_stored.specs.declared.error.StoreError.TheVariants as store_errors;
 ghost use Rattle.status_stored.specs.Loading.{error_of_index, error_of_field};
 
+use status_format::FieldError;
 use status_index::IndexError;
 use std::alloc::{AllocError, AllocFailed};
 use thiserror::Error;
@@ -90,29 +90,4 @@ pub enum ReopenError {
     /// An allocation failed.
     #[error("Out of memory")]
     Memory,
-}
-
-/// Why a field can't be read, or an entry can't be stored.
-#[derive(Clone, Copy)]
-pub(crate) enum FieldError {
-    /// The field is missing, or has a wrong form. Of an entry to store: its path isn't UTF-8.
-    Form,
-    /// An allocation failed.
-    Memory,
-}
-
-impl From<AllocError> for FieldError {
-    ghost from_gives = { λ _ e. e ≡ field_errors.Memory };
-
-    fn from(_error: AllocError) -> FieldError {
-        FieldError::Memory
-    }
-}
-
-impl<T: Drop> From<AllocFailed<T>> for FieldError {
-    ghost from_gives = { λ _ e. e ≡ field_errors.Memory };
-
-    fn from(_refused: AllocFailed<T>) -> FieldError {
-        FieldError::Memory
-    }
 }

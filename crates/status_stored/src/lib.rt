@@ -1,7 +1,6 @@
 //! The stored index: an index as a JSON value, read back, and histories in which that happens between events.
 //!
-//! Read `words` first, the names of modes, flags and ids. Then read `store` and `load`, with `read` for the fields of
-//! an entry, and `error`. `text` stores an index as JSON text and loads it again, and `laws` states which index is read
+//! Read `store` and `load` first, and `error`. `text` stores an index as JSON text and loads it again, and `laws` states which index is read
 //! back. `replay` replays a history whose index is opened again (`opening`) between events, up to a `stop`.
 #![tactic(auto)]
 
@@ -9,12 +8,10 @@ mod error;
 pub mod laws;
 mod load;
 mod opening;
-mod read;
 mod replay;
 mod stop;
 mod store;
 mod text;
-pub mod words;
 
 pub use error::{LoadError, ReopenError, StoreError};
 pub use load::load_index;

@@ -1,19 +1,22 @@
 //! Stores an index as a JSON value.
 
-ghost use Rattle.std.specs.Prelude.{◌≡◌, ◌<◌, codes, length, IfOk, [], ◌∷◌};
+ghost use Rattle.std.specs.Prelude.{◌≡◌, ◌<◌, ◌++◌, codes, length, map, IfOk, OnOk, [], ◌∷◌};
 ghost use Rattle.std.specs.List.{HoldsAt};
-ghost use Rattle.serde_json.specs.Data.{array, object};
+ghost use Rattle.serde_json.specs.Data.{array, object, string};
 ghost use Rattle.serde_json.specs.View.{view, items_view};
 ghost use Rattle.status_index.specs.Entries.{entry_at, index_entry, index_entries};
 ghost use Rattle.status_index.specs.States.{index_of, timestamp_of};
+ghost use Rattle.status_format.specs.Words.{flag_words, word_in};
 ghost use Rattle.status_stored.specs.Steps.{IsEntryStored, AreStored};
 ghost use Rattle.status_stored.specs.Storable.{Fits32, FitsStat, FitsId, IsOneStored, IsStored};
 ghost use Rattle.status_stored.specs.StoredIndex.{stored_stamp, stored_entry, members_with};
 
-use crate::error::{FieldError, StoreError};
-use crate::words::{flag_values, mode_word};
+use crate::error::StoreError;
+use bitflags::Flags as _;
 use serde_json::{Value, json};
-use status_index::{Entry, Moment, ObjectId, PathStorage, Stat, State};
+use status_format::FieldError;
+use status_format::words::mode_word;
+use status_index::{Entry, Flags, Moment, ObjectId, PathStorage, Stat, State};
 use std::alloc::{AllocError, Global};
 use std::str;
 
@@ -134,6 +137,30 @@ fn entry_value(alloc: Global, entry: &Entry, path: &str) -> Result<Value, AllocE
         "stage": entry.stage_raw(),
         "uid": stat.uid
     })
+}
+
+/// Returns the words of the flags that are set, in the order in which they are written.
+fn flag_values(alloc: Global, flags: Flags) -> Result<Vec<Value>, AllocError>
+    ensures { IfOk result (λ list. map view list.items ≡ map string (flag_words flags.0)) }
+{
+    let mut list = Vec::new(alloc);
+    push_flag(&mut list, flags, Flags::UPTODATE, "uptodate")?;
+    push_flag(&mut list, flags, Flags::SKIP_WORKTREE, "skip-worktree")?;
+    push_flag(&mut list, flags, Flags::ASSUME_VALID, "assume-valid")?;
+    push_flag(&mut list, flags, Flags::FSMONITOR_VALID, "fsmonitor-valid")?;
+    push_flag(&mut list, flags, Flags::INTENT_TO_ADD, "intent-to-add")?;
+    Ok(list)
+}
+
+/// Appends the word of a flag if the flag is set.
+fn push_flag(list: &mut Vec<Value>, flags: Flags, flag: Flags, word: &str) -> Result<(), AllocError>
+    ensures { OnOk result (map view list.new.items ≡ map view list.old.items ++ map string (word_in flags.0 (word.now, flag.0))) }
+{
+    if flags.contains(flag) {
+        let value = Value::try_from_str(*list.allocator(), word)?;
+        list.push(value)?;
+    }
+    Ok(())
 }
 
 /// Returns a list of seconds and nanoseconds.

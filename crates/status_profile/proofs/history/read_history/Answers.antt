@@ -6,7 +6,8 @@ use Rattle.json.specs.Value.{value_view}
 use Rattle.status_index.specs.declared.id.HashKind.TheVariants.{Sha1}
 use Rattle.status_profile.specs.declared.error.Key.TheVariants as keys
 use Rattle.status_profile.specs.Events.{stretch_values, stretches_in}
-use Rattle.status_profile.specs.Forms.{moment_in, or_default}
+use Rattle.status_format.specs.Reads.{or_default}
+use Rattle.status_profile.specs.Forms.{moment_in}
 use Rattle.status_profile.specs.Histories.{history_in}
 use Rattle.status_profile.specs.Options.{history_options_in}
 use Rattle.status_profile.specs.Words.{hash_in}

@@ -5,7 +5,8 @@ use Rattle.json.specs.Find.{get}
 use Rattle.status_index.specs.declared.id.HashKind.TheVariants.{Sha1}
 use Rattle.status_profile.specs.declared.error.Key.TheVariants as keys
 use Rattle.status_profile.specs.Entries.{entries_in}
-use Rattle.status_profile.specs.Forms.{or_default, stamp_in}
+use Rattle.status_format.specs.Reads.{or_default}
+use Rattle.status_profile.specs.Forms.{json_stamp}
 use Rattle.status_profile.specs.Nodes.{place_in}
 use Rattle.status_profile.specs.Options.{option_values, options_in}
 use Rattle.status_profile.specs.Profiles.{profile_in}
@@ -24,7 +25,7 @@ pub returns-in_err-timestamp-clause-read : goal.returns-in_err-timestamp-clause-
 returns-in_err-timestamp-clause-read c = λ j is has.
     let p = err_from_is_err_and c.from_residual-in_err-timestamp.result c.from_residual-in_err-timestamp.ensures.1 in
     let g = λ (name : List ℕ). get name j in
-    rw (p.1, p.2) (key_failed keys.Timestamp (λ m. m) (option_and_then stamp_in (get (codes "timestamp") j)) c.in_err-timestamp.field-0.0 (c.in_err-timestamp.ensures g has) (profile_in c.args.kind j)
+    rw (p.1, p.2) (key_failed keys.Timestamp (λ m. m) (option_and_then json_stamp (get (codes "timestamp") j)) c.in_err-timestamp.field-0.0 (c.in_err-timestamp.ensures g has) (profile_in c.args.kind j)
     (λ failed. object_profile c.args.kind j is ∙ bad_timestamp _ _ _ _ _ c.in_ok-hash.hash (c.in_ok-hash.ensures g has) failed))
 
 pub returns-in_err-options-clause-read : goal.returns-in_err-options-clause-read

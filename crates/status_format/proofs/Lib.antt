@@ -1,0 +1,4 @@
+pub mod JsonValues
+pub mod DataValues
+pub mod Numbers
+pub mod Stamps
