@@ -14,7 +14,7 @@ use Rattle.status_call.specs.declared.index_as_worktree.piece.Piece.{Piece}
 use Rattle.status_call.specs.Pieces.{IsCut, IsThrough}
 use Rattle.status_call.specs.Query.{Query}
 use Rattle.status_call.specs.Rounds.{AreBounds, AreInRow, ArePieces, IsResult, IsPieceEnd, bound, last_bound, is_short}
-use Rattle.status_call.proofs.Parts.{AllPairs-append}
+use Rattle.status_call.proofs.Stretch.{AllPairs-append}
 
 -- Bounds from a position up to another.
 pub record AreGrowing (es : List IndexEntry) (chunk from at : ℕ) (bounds : List ℕ) : Type 0 where

@@ -26,7 +26,7 @@ use Rattle.status_call.specs.StatusTheorem.{IsBeginning, IsComplete, IsStatusRep
 use Rattle.status_call.specs.Visits.{Visit, finding_of, IsFaithful}
 use Rattle.status_call.specs.WorkInOrder.{IsShortage, IsWorkStopped, IsReportedWork}
 use Rattle.status_call.specs.Workers.{most_workers}
-use Rattle.status_call.proofs.Groups.{records-append}
+use Rattle.status_call.proofs.Records.{records-append}
 use Rattle.status_call.proofs.LawRecords.{fault_law}
 use Rattle.status_call.proofs.NoThread.{never_spawned}
 
@@ -232,13 +232,13 @@ module _ {T U : Type 0} (q : Query T U) (index : State) (has_flag : Bool) (old n
       fits = tt;
     }
 
-    lone_fault : IsTrue q.modelled → workers ≡ 1 → e ≢ Memory → By → first_fault q es ≡ Some e
-    lone_fault t one other (inl h) = (at_fault t other h).first
+    lone_fault : IsTrue q.modelled → workers ≡ 1 → e ≢ Memory → By → IsFirstFault q index (map finding_of work.fed.more) e
+    lone_fault t one other (inl h) = at_fault t other h
     lone_fault t one other (inr h) = absurd (no_shortage other (lone_shortage one h.0) h.0)
 
-    -- With one worker any error but out of memory is the first fault.
-    pub status_fault : workers ≡ 1 → IsTrue q.modelled → e ≢ Memory → first_fault q es ≡ Some e
-    status_fault one t other = lone_fault t one other stop.by
+    -- With one worker any error but out of memory is the first fault, with exactly the records before it.
+    pub status_fault : workers ≡ 1 → IsFaultOrMemory q index old (Err e) new
+    status_fault one t other = (work.fed.more, work.fed.grew, lone_fault t one other stop.by)
 
     -- With one worker no thread is refused.
     pub status_alone : (limit : Option ℕ) → workers ≡ most_workers limit → IsTrue q.modelled → limit ≡ Some 1 → NeverSpawns q → result_err e ≢ Err SpawnThread
@@ -266,8 +266,8 @@ pub threadless_along : {T U : Type 0} (q r : Query T U) → r ≡ q → (result 
 threadless_along q r same result alone = subst (λ x. IsThreadless x result) same alone
 
 -- The same about faults.
-pub faults_along : {T U : Type 0} (q r : Query T U) → r ≡ q → (index : State) (result : Result Outcome Error) → IsFaultOrMemory r index result → IsFaultOrMemory q index result
-faults_along q r same index result fault = subst (λ x. IsFaultOrMemory x index result) same fault
+pub faults_along : {T U : Type 0} (q r : Query T U) → r ≡ q → (index : State) (old : List (Visit T U)) (result : Result Outcome Error) (new : List (Visit T U)) → IsFaultOrMemory r index old result new → IsFaultOrMemory q index old result new
+faults_along q r same index old result new fault = subst (λ x. IsFaultOrMemory x index old result new) same fault
 
 -- The number of considered entries, and of the others.
 module _ {X Y : Type 0} (all whole : List X) (entries : List Y) (s e : ℕ) (part : part_of all s e ≡ whole) (order : s ≤ e) (inside : e ≤ length entries) (same : length all ≡ length entries) where

@@ -5,9 +5,10 @@ use Rattle.std.specs.Str.{bytes_eq}
 use Rattle.status_index.specs.declared.flags.Flags.{Flags}
 use Rattle.status_index.specs.declared.flags.TheConstants.Flags.{ASSUME_VALID, FSMONITOR_VALID, SKIP_WORKTREE, UPTODATE}
 use Rattle.status_index.specs.FlagBits.{has_bits}
-use Rattle.status_index.specs.Entries.{IndexEntry, stage_of}
+use Rattle.status_index.specs.Entries.{IndexEntry, index_entries, stage_of}
 use Rattle.status_index.specs.Mode.{is_submodule}
-use Rattle.status_index.specs.Stretch.{is_under}
+use Rattle.status_index.specs.Stretch.{is_under, part_of}
+use Rattle.status_call.specs.declared.index_as_worktree.considered.Considered.{Considered}
 use Rattle.status_call.specs.Query.{Query}
 
 -- Entries whose paths start with the pathspec's prefix, or all if no path does.
@@ -18,6 +19,10 @@ considered prefix es = if list_any (is_under prefix) es then filter (is_under pr
 abbrev pub considered_start : List ℕ → List IndexEntry → ℕ
 considered_start prefix es =
     if list_any (is_under prefix) es then position_or_len (is_under prefix) es else 0
+
+-- The considered entries of a call.
+abbrev pub part_entries : Considered → List IndexEntry
+part_entries c = index_entries c.backing.now (part_of c.entries.now c.start c.end)
 
 -- Whether an entry has a flag.
 abbrev pub has_flag : IndexEntry → Flags → Bool

@@ -1,6 +1,6 @@
 -- The status theorem; with limit 1 only a comparer may report a refused thread. Here it is of a call, by the interfaces passed,
 -- the options and the index.
-use Rattle.std.specs.Prelude.{◌≡◌, ◌≢◌, ℕ, IsTrue, List, Option, Some, Result, Err, IfErr}
+use Rattle.std.specs.Prelude.{◌≡◌, ◌≢◌, ℕ, IsTrue, List, ◌++◌, map, Option, Some, Result, Err, IfErr}
 use Rattle.status_index.specs.declared.state.State.{State}
 use Rattle.status_compare.specs.declared.error.Error.{Error}
 use Rattle.status_compare.specs.declared.error.Error.TheVariants.{Memory, SpawnThread}
@@ -9,17 +9,19 @@ use Rattle.status_call.specs.declared.index_as_worktree.types.Options.{Options}
 use Rattle.status_call.specs.declared.index_as_worktree.types.Outcome.{Outcome}
 use Rattle.status_call.specs.Inputs.{settings}
 use Rattle.status_call.specs.Query.{Query}
-use Rattle.status_call.specs.Records.{first_fault}
-use Rattle.status_call.specs.StatusTheorem.{IsStatusReport, NeverSpawns, considered_entries}
-use Rattle.status_call.specs.Visits.{Visit}
+use Rattle.status_call.specs.StatusTheorem.{IsFirstFault, IsStatusReport, NeverSpawns}
+use Rattle.status_call.specs.Visits.{Visit, finding_of}
 
 -- No thread is refused, if the comparer never returns that.
 abbrev pub IsThreadless : {T U : Type 0} → Query T U → Result Outcome Error → Type 0
 IsThreadless q result = IsTrue q.modelled → NeverSpawns q → result ≢ Err SpawnThread
 
--- Any error but out of memory is the first fault.
-abbrev pub IsFaultOrMemory : {T U : Type 0} → Query T U → State → Result Outcome Error → Type 0
-IsFaultOrMemory q index result = IsTrue q.modelled → IfErr result (λ e. e ≢ Memory → first_fault q (considered_entries q index) ≡ Some e)
+-- Any error but out of memory is the first fault, with exactly the records before it.
+abbrev pub IsFaultOrMemory : {T U : Type 0} → Query T U → State → List (Visit T U)
+    → Result Outcome Error → List (Visit T U) → Type 0
+IsFaultOrMemory {T} {U} q index old result new =
+    IsTrue q.modelled → IfErr result (λ e. e ≢ Memory
+    → (more : List (Visit T U)) × (new ≡ old ++ more) × IsFirstFault q index (map finding_of more) e)
 
 -- With limit 1 no thread is refused, if the comparer never returns that.
 abbrev pub OneThreadSpawnsNone : {T U : Type 0} → Query T U → Option ℕ → Result Outcome Error → Type 0
@@ -39,6 +41,9 @@ module _ {I T U : Type 0} (query : I → Settings → Query T U) (inputs : I) (o
   abbrev pub OneThreadCallSpawnsNone : Result Outcome Error → Type 0
   OneThreadCallSpawnsNone result = OneThreadSpawnsNone query_of options.thread_limit result
 
-  -- No thread is refused, and any error but out of memory is the first fault, by the interfaces passed and the options.
-  abbrev pub IsWithoutThread : Result Outcome Error → Type 0
-  IsWithoutThread result = IsThreadless query_of result × IsFaultOrMemory query_of index result
+  -- No thread is refused, and any error but out of memory is the first fault, with exactly the records before it, by the
+  -- interfaces passed and the options.
+  abbrev pub IsWithoutThread : {V : Type 0} → (V → List (Visit T U)) → V → Result Outcome Error → V
+      → Type 0
+  IsWithoutThread visits old result new =
+      IsThreadless query_of result × IsFaultOrMemory query_of index (visits old) result (visits new)

@@ -1,17 +1,19 @@
 //! A piece of the considered entries, processed in order.
 
-ghost use Rattle.std.specs.Prelude.{◌≡◌, ◌++◌, ◌+◌, ◌^◌, ◌<◌, ◌≤◌, ℕ, None, Ok, false, min, length, OnOk, OnErr};
-ghost use Rattle.status_index.specs.Entries.{IsIndex, index_entry, index_entries};
-ghost use Rattle.status_call.specs.Considered.{same_path};
+ghost use Rattle.std.specs.Prelude.{◌≡◌, ◌++◌, ◌+◌, ◌<◌, ◌≤◌, ℕ, None, Ok, false, min, length, OnOk, OnErr};
+ghost use Rattle.std.specs.List.{slice_index_or};
+ghost use Rattle.status_index.specs.Entries.{IndexEntry};
+ghost use Rattle.status_call.specs.Considered.{part_entries, same_path};
 ghost use Rattle.status_call.specs.Pieces.{IsCut, IsPiece, IsUncut};
 ghost use Rattle.status_call.specs.Records.{record_by};
 
+use crate::index_as_worktree::considered::Considered;
 use crate::index_as_worktree::counts::Totals;
 use crate::index_as_worktree::decide::Decide;
 use crate::index_as_worktree::step::next_step;
 use crate::index_as_worktree::types::{EntryStatus, Error, Finding};
-use status_index::{Entry, PathStorage};
 use std::alloc::{AllocError, Global};
+use std::ops::Range;
 use std::sync::atomic::{AtomicBool, Ordering};
 
 /// How a piece ended.
@@ -54,28 +56,30 @@ impl<T, U> Piece<T, U> {
 
 /// Returns the end of a piece of `chunk` entries that begins at `from`. It is later if it would separate entries of one
 /// path.
-pub fn piece_end(entries: &[Entry], backing: &PathStorage, from: usize, chunk: usize) -> usize
-    requires index { IsIndex (index_entries backing.now entries.now) }
-    requires inside { from < length entries.now }
+pub fn piece_end(considered: &Considered<'_>, from: usize, chunk: usize) -> usize
+    requires inside { from < length (part_entries considered.now) }
     ensures more { from < result }
-    ensures within { result ≤ length entries.now }
-    ensures full { min (from + chunk) (length entries.now) ≤ result }
-    ensures cut { IsCut (index_entries backing.now entries.now) result }
+    ensures within { result ≤ length (part_entries considered.now) }
+    ensures full { min (from + chunk) (length (part_entries considered.now)) ≤ result }
+    ensures cut { IsCut (part_entries considered.now) result }
     ensures tight { (k : ℕ) → from + chunk ≤ k → from < k → k < result
-        → IsCut (index_entries backing.now entries.now) k → ⊥ }
+        → IsCut (part_entries considered.now) k → ⊥ }
 {
-    let mut end = from + chunk.max(1).min(entries.len() - from);
-    while end < entries.len() && same_path(&entries[end], &entries[end - 1], backing) {
+    let mut end = from + chunk.max(1).min(considered.len() - from);
+    while end < considered.len() && same_path(considered, end, end - 1) {
         end += 1;
     }
     end
 }
 
-/// Returns whether two entries have the same path.
-fn same_path(a: &Entry, b: &Entry, backing: &PathStorage) -> bool
-    ensures { result ≡ same_path (index_entry backing.now a.now) (index_entry backing.now b.now) }
+/// Returns whether the entries at two positions have the same path.
+fn same_path(considered: &Considered<'_>, a: usize, b: usize) -> bool
+    requires a { a < length (part_entries considered.now) }
+    requires b { b < length (part_entries considered.now) }
+    ensures { (d : IndexEntry) → result ≡ same_path (slice_index_or (part_entries considered.now) a d)
+        (slice_index_or (part_entries considered.now) b d) }
 {
-    a.path_in(backing) == b.path_in(backing)
+    considered.path(a) == considered.path(b)
 }
 
 /// Returns whether the interrupt flag is set. `None` is never set.
@@ -85,41 +89,36 @@ pub(crate) fn is_set(interrupt: Option<&AtomicBool>) -> bool
     interrupt.is_some_and(|flag| flag.load(Ordering::Relaxed))
 }
 
-/// Processes the considered entries from position `from` up to `to`, and checks the interrupt flag before each step.
-/// `start` is the position of the first considered entry in the whole index.
+/// Processes the considered entries at the positions in `range`, and checks the interrupt flag before each step.
 pub(crate) fn walk_piece<D: Decide>(
     alloc: Global,
-    entries: &[Entry],
-    backing: &PathStorage,
-    start: usize,
-    from: usize,
-    to: usize,
+    considered: &Considered<'_>,
+    range: Range<usize>,
     interrupt: Option<&AtomicBool>,
     decide: &mut D,
 ) -> Piece<D::Content, D::Submodule>
-    requires room { start + length entries.now < 2 ^ 64 }
-    requires index { IsIndex (index_entries backing.now entries.now) }
-    requires order { from ≤ to }
-    requires inside { to ≤ length entries.now }
-    requires cut { IsCut (index_entries backing.now entries.now) from }
-    requires end { IsCut (index_entries backing.now entries.now) to }
-    ensures piece { IsPiece (D.query decide.old) start
-        (index_entries backing.now entries.now) from to result }
+    requires order { range.start ≤ range.end }
+    requires inside { range.end ≤ length (part_entries considered.now) }
+    requires cut { IsCut (part_entries considered.now) range.start }
+    requires end { IsCut (part_entries considered.now) range.end }
+    ensures piece { IsPiece (D.query decide.old) considered.now.start
+        (part_entries considered.now) range.start range.end result }
     ensures uncut { interrupt.entry ≡ None → IsUncut result.end }
     ensures same { D.query decide.new ≡ D.query decide.old }
 {
     let mut findings = Vec::new(alloc);
     let mut totals = Totals::none();
-    let mut at = from;
-    while at < to {
+    let mut at = range.start;
+    while at < range.end {
         if is_set(interrupt) {
             return Piece::ended(findings, totals, at, End::Cut);
         }
-        let step = match next_step(entries, backing, at, decide) {
+        let step = match next_step(considered, at, decide) {
             Ok(step) => step,
             Err(error) => return Piece::ended(findings, totals, at, End::Faulty(error)),
         };
-        if push_status(&mut findings, start + at, step.status).is_err() {
+        let entry_index = considered.index_position(at);
+        if push_status(&mut findings, entry_index, step.status).is_err() {
             return Piece::ended(findings, totals, at, End::Faulty(Error::Memory));
         }
         totals.add(&step.totals);

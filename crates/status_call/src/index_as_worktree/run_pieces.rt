@@ -1,19 +1,19 @@
 //! The pieces of one round, shared among workers.
 
 ghost use Rattle.std.specs.Prelude.{◌≡◌, ◌≢◌, ◌+◌, ◌-◌, ◌*◌, ◌^◌, ◌<◌, ◌≤◌, None, length, vec_len, All, IfOk, IfErr, is_some};
-ghost use Rattle.status_index.specs.Entries.{IsIndex, index_entries};
 ghost use Rattle.status_compare.specs.declared.error.Error.TheVariants.{Memory, SpawnThread as NoThread};
 ghost use Rattle.status_call.specs.Pieces.{IsCut};
 ghost use Rattle.status_call.specs.Rounds.{AreBounds, AreInRow, ArePieces, IsResult, bound, last_bound, is_short};
+ghost use Rattle.status_call.specs.Considered.{part_entries};
 ghost use Rattle.status_call.specs.WorkInOrder.{IsShortage, shortage_of};
 
+use crate::index_as_worktree::considered::Considered;
 use crate::index_as_worktree::decide::Decide;
 use crate::index_as_worktree::piece::{End, Piece, piece_end, walk_piece};
 use crate::index_as_worktree::types::Error;
 use crate::index_as_worktree::workers::Workers;
 use status_board::round::{Refused, work_round};
 use status_board::work::Work;
-use status_index::{Entry, PathStorage};
 use std::alloc::{AllocError, Global};
 use std::snapshot::Snapshot;
 use std::sync::Wait;
@@ -24,28 +24,26 @@ use std::thread::Threads;
 /// There are fewer pieces only if the last ends with the entries.
 pub(crate) fn round_bounds(
     alloc: Global,
-    entries: &[Entry],
-    backing: &PathStorage,
+    considered: &Considered<'_>,
     from: usize,
     chunk: usize,
     most: usize,
 ) -> Result<Vec<usize>, AllocError>
-    requires index { IsIndex (index_entries backing.now entries.now) }
-    requires inside { from < length entries.now }
-    requires cut { IsCut (index_entries backing.now entries.now) from }
+    requires inside { from < length (part_entries considered.now) }
+    requires cut { IsCut (part_entries considered.now) from }
     requires most { 0 < most }
-    ensures bounds { IfOk result (λ b. AreBounds (index_entries backing.now entries.now) b.items) }
+    ensures bounds { IfOk result (λ b. AreBounds (part_entries considered.now) b.items) }
     ensures first { IfOk result (λ b. bound b.items 0 ≡ from) }
     ensures few { IfOk result (λ b. vec_len b ≤ most + 1) }
     ensures pieces { IfOk result
-        (λ b. ArePieces (index_entries backing.now entries.now) chunk b.items) }
-    ensures filled { IfOk result (λ b. vec_len b ≤ most → last_bound b.items ≡ length entries.now) }
+        (λ b. ArePieces (part_entries considered.now) chunk b.items) }
+    ensures filled { IfOk result (λ b. vec_len b ≤ most → last_bound b.items ≡ length (part_entries considered.now)) }
 {
     let mut bounds = Vec::new(alloc);
     bounds.push(from)?;
     let mut at = from;
-    while at < entries.len() && bounds.len() <= most {
-        at = piece_end(entries, backing, at, chunk);
+    while at < considered.len() && bounds.len() <= most {
+        at = piece_end(considered, at, chunk);
         bounds.push(at)?;
     }
     Ok(bounds)
@@ -53,20 +51,16 @@ pub(crate) fn round_bounds(
 
 /// The pieces of a round: the considered entries from each bound to the next.
 #[derive(Drop)]
-struct Round<'a, D: Decide> {
+struct Round<'a, 'index, D: Decide> {
     alloc: Global,
-    entries: &'a [Entry],
-    backing: &'a PathStorage,
-    start: usize,
+    considered: &'a Considered<'index>,
     bounds: &'a [usize],
     interrupt: Option<&'a AtomicBool>,
     decide: Snapshot<D>,
-    ghost index: { IsIndex (index_entries backing.now entries.now) },
-    ghost room: { start + length entries.now < 2 ^ 64 },
-    ghost are_bounds: { AreBounds (index_entries backing.now entries.now) bounds.now },
+    ghost are_bounds: { AreBounds (part_entries considered.now) bounds.now },
 }
 
-impl<'a, D: Decide> Work for Round<'a, D> {
+impl<'a, 'index, D: Decide> Work for Round<'a, 'index, D> {
     type State = D;
 
     type Out = Piece<D::Content, D::Submodule>;
@@ -75,23 +69,15 @@ impl<'a, D: Decide> Work for Round<'a, D> {
 
     ghost fits = { λ r d. D.query d ≡ D.query r.decide.value };
 
-    ghost gives = { λ r n p. IsResult (D.query r.decide.value) (is_some r.interrupt) r.start
-        (index_entries r.backing.now r.entries.now)
+    ghost gives = { λ r n p. IsResult (D.query r.decide.value) (is_some r.interrupt) r.considered.now.start
+        (part_entries r.considered.now)
         (bound r.bounds.now n) (bound r.bounds.now (n + 1)) p };
 
     ghost short = { λ p. is_short p.end };
 
     fn piece(&self, state: &mut D, number: usize) -> Piece<D::Content, D::Submodule> {
-        walk_piece(
-            self.alloc,
-            self.entries,
-            self.backing,
-            self.start,
-            self.bounds[number],
-            self.bounds[number + 1],
-            self.interrupt,
-            state,
-        )
+        let range = self.bounds[number]..self.bounds[number + 1];
+        walk_piece(self.alloc, self.considered, range, self.interrupt, state)
     }
 
     fn is_short(out: &Piece<D::Content, D::Submodule>) -> bool
@@ -123,42 +109,35 @@ fn crew_of<D: Decide + Drop>(
 /// # Errors
 /// A refused thread, otherwise out of memory.
 pub(crate) fn run_pieces<R: Threads + Wait, D: Decide + Send + Drop>(
-    rt: &R,
-    alloc: Global,
-    entries: &[Entry],
-    backing: &PathStorage,
-    start: usize,
+    considered: &Considered<'_>,
     bounds: &[usize],
-    workers: &Workers<'_>,
+    workers: &Workers<'_, R>,
     decide: &D,
 ) -> Result<Vec<Piece<D::Content, D::Submodule>>, Error>
 where
     D::Content: Send,
     D::Submodule: Send,
-    requires index { IsIndex (index_entries backing.now entries.now) }
-    requires room { start + length entries.now < 2 ^ 64 }
-    requires bounds { AreBounds (index_entries backing.now entries.now) bounds.now }
+    requires bounds { AreBounds (part_entries considered.now) bounds.now }
     requires few { length bounds.now ≤ 2 ^ 20 }
     ensures pieces { IfOk result
-        (λ v. AreInRow (D.query decide.now) (is_some workers.now.interrupt) start
-        (index_entries backing.now entries.now) (last_bound bounds.now) (bound bounds.now 0)
+        (λ v. AreInRow (D.query decide.now) (is_some workers.now.interrupt) considered.now.start
+        (part_entries considered.now) (last_bound bounds.now) (bound bounds.now 0)
         v.items) }
     ensures refused { IfErr result (λ e. IsShortage workers.entry.now.most e) }
 {
-    let Ok(crew) = crew_of(alloc, decide, workers.most) else {
+    let Ok(crew) = crew_of(workers.alloc, decide, workers.most) else {
         return Err(Error::Memory);
     };
     let round = Round {
-        alloc,
-        entries,
-        backing,
-        start,
+        alloc: workers.alloc,
+        considered,
         bounds,
         interrupt: workers.interrupt,
         decide: Snapshot::of(decide),
     };
     let pieces = bounds.len() - 1;
-    match work_round(rt, alloc, workers.stack_size, &round, pieces, crew) {
+    let (rt, alloc, stack_size) = (workers.rt, workers.alloc, workers.stack_size);
+    match work_round(rt, alloc, stack_size, &round, pieces, crew) {
         Ok(pieces) => Ok(pieces),
         Err(refused) => Err(shortage(refused)),
     }

@@ -2,7 +2,8 @@
 
 ghost use Rattle.std.specs.Prelude.{◌^◌, ◌≤◌, length};
 ghost use Rattle.status_call.specs.Rounds.{AreBounds, bound, last_bound};
-ghost use Rattle.status_call.specs.Runs.{IsRoundsReport, part_entries};
+ghost use Rattle.status_call.specs.Considered.{part_entries};
+ghost use Rattle.status_call.specs.Runs.{IsRoundsReport};
 
 use crate::index_as_worktree::considered::Considered;
 use crate::index_as_worktree::counts::{Progress, Totals};
@@ -12,7 +13,6 @@ use crate::index_as_worktree::piece::is_set;
 use crate::index_as_worktree::run_pieces::{round_bounds, run_pieces};
 use crate::index_as_worktree::types::{Error, VisitEntry};
 use crate::index_as_worktree::workers::Workers;
-use std::alloc::Global;
 use std::sync::Wait;
 use std::thread::Threads;
 
@@ -31,11 +31,9 @@ pub fn run_rounds<
     D: Decide + Send + Drop,
     V: VisitEntry<'index, ContentChange = D::Content, SubmoduleStatus = D::Submodule>,
 >(
-    rt: &R,
-    alloc: Global,
     considered: &Considered<'index>,
     chunk: usize,
-    workers: &Workers<'_>,
+    workers: &Workers<'_, R>,
     decide: &D,
     collector: &mut V,
 ) -> Result<Progress, Error>
@@ -46,10 +44,9 @@ where
         IsRoundsReport (D.query decide.now) c workers.entry.now 0 (length (part_entries c))
         (V.visits collector.old) result (V.visits collector.new) }
 {
-    let part = &considered.entries[considered.start..considered.end];
     let mut totals = Totals::none();
     let mut at = 0;
-    while at < part.len() {
+    while at < considered.len() {
         if is_set(workers.interrupt) {
             return Ok(Progress {
                 totals,
@@ -57,13 +54,12 @@ where
             });
         }
         let most_pieces = workers.most * PIECES_OF_A_WORKER;
-        let Ok(bounds) = round_bounds(alloc, part, considered.backing, at, chunk, most_pieces)
-        else {
+        let Ok(bounds) = round_bounds(workers.alloc, considered, at, chunk, most_pieces) else {
             return Err(Error::Memory);
         };
         let crew = workers.for_pieces(bounds.len() - 1);
         let bounds = bounds.as_slice();
-        let round = match run_round(rt, alloc, considered, bounds, &crew, decide, collector) {
+        let round = match run_round(considered, bounds, &crew, decide, collector) {
             Ok(round) => round,
             Err(error) => return Err(error),
         };
@@ -92,11 +88,9 @@ fn run_round<
     D: Decide + Send + Drop,
     V: VisitEntry<'index, ContentChange = D::Content, SubmoduleStatus = D::Submodule>,
 >(
-    rt: &R,
-    alloc: Global,
     considered: &Considered<'index>,
     bounds: &[usize],
-    workers: &Workers<'_>,
+    workers: &Workers<'_, R>,
     decide: &D,
     collector: &mut V,
 ) -> Result<Progress, Error>
@@ -109,15 +103,13 @@ where
         (last_bound bounds.now)
         (V.visits collector.old) result (V.visits collector.new) }
 {
-    let (start, backing) = (considered.start, considered.backing);
-    let part = &considered.entries[start..considered.end];
-    let pieces = match run_pieces(rt, alloc, part, backing, start, bounds, workers, decide) {
+    let pieces = match run_pieces(considered, bounds, workers, decide) {
         Ok(pieces) => pieces,
         Err(error) => return Err(error),
     };
     let mut totals = Totals::none();
     for piece in pieces {
-        let fed = match feed_piece(considered.entries, backing, piece, collector) {
+        let fed = match feed_piece(considered, piece, collector) {
             Ok(fed) => fed,
             Err(error) => return Err(error),
         };

@@ -1,7 +1,8 @@
 //! The considered entries, processed and reported in order by the caller's thread alone.
 
 ghost use Rattle.std.specs.Prelude.{length, is_some};
-ghost use Rattle.status_call.specs.Runs.{IsFaithfulTo, part_entries};
+ghost use Rattle.status_call.specs.Considered.{part_entries};
+ghost use Rattle.status_call.specs.Runs.{IsFaithfulTo};
 ghost use Rattle.status_call.specs.WorkInOrder.{IsReportedWork};
 
 use crate::index_as_worktree::considered::Considered;
@@ -13,8 +14,19 @@ use crate::index_as_worktree::types::{Error, VisitEntry};
 use std::alloc::Global;
 use std::sync::atomic::AtomicBool;
 
-/// Processes the considered entries in pieces of `chunk` entries, and reports a piece's findings to the collector before
-/// the next piece is processed. Ends early if the interrupt flag is seen set.
+/// How the caller's thread works alone.
+#[derive(Drop)]
+pub(crate) struct Alone<'a> {
+    /// Allocates the findings of a piece.
+    pub alloc: Global,
+    /// The number of entries of a piece.
+    pub chunk: usize,
+    /// The interrupt flag that is checked.
+    pub interrupt: Option<&'a AtomicBool>,
+}
+
+/// Processes the considered entries in pieces of `alone.chunk` entries, and reports a piece's findings to the collector
+/// before the next piece is processed. Ends early if the interrupt flag is seen set.
 ///
 /// # Errors
 /// The first fault, after the records before it were reported. Out of memory.
@@ -23,26 +35,22 @@ pub(crate) fn run_serially<
     D: Decide,
     V: VisitEntry<'index, ContentChange = D::Content, SubmoduleStatus = D::Submodule>,
 >(
-    alloc: Global,
     considered: &Considered<'index>,
-    chunk: usize,
-    interrupt: Option<&AtomicBool>,
+    alone: &Alone<'_>,
     decide: &mut D,
     collector: &mut V,
 ) -> Result<Progress, Error>
     ensures { let c = considered.entry.now in
         IsReportedWork (D.query decide.old) c.start (part_entries c) 0 (IsFaithfulTo c)
-        (is_some interrupt.entry) 1 (length (part_entries c))
+        (is_some alone.now.interrupt) 1 (length (part_entries c))
         (V.visits collector.old) result (V.visits collector.new) }
 {
-    let (start, backing) = (considered.start, considered.backing);
-    let part = &considered.entries[start..considered.end];
     let mut totals = Totals::none();
     let mut at = 0;
-    while at < part.len() {
-        let to = piece_end(part, backing, at, chunk);
-        let piece = walk_piece(alloc, part, backing, start, at, to, interrupt, decide);
-        let fed = feed_piece(considered.entries, backing, piece, collector)?;
+    while at < considered.len() {
+        let to = piece_end(considered, at, alone.chunk);
+        let piece = walk_piece(alone.alloc, considered, at..to, alone.interrupt, decide);
+        let fed = feed_piece(considered, piece, collector)?;
         totals.add(&fed.totals);
         if fed.interrupted {
             return Ok(Progress {

@@ -1,10 +1,6 @@
 //! The status of an index, for any decider of its entries.
 
-ghost use Rattle.std.specs.Prelude.{◌≡◌, ◌≤◌, None, IfOk, false, length};
-ghost use Rattle.status_index.specs.States.{entries_of, backing_of, index_of};
-ghost use Rattle.bstr.specs.BStr.{bstr_bytes};
-ghost use Rattle.status_index.specs.Stretch.{part_of};
-ghost use Rattle.status_call.specs.Considered.{considered, considered_start};
+ghost use Rattle.std.specs.Prelude.{◌≡◌, None, IfOk, false, length};
 ghost use Rattle.status_call.specs.Outcomes.{outcome_of};
 ghost use Rattle.status_call.specs.StatusOf.{IsFaultOrMemory, IsThreadless, OneThreadSpawnsNone};
 ghost use Rattle.status_call.specs.StatusTheorem.{IsStatusReport};
@@ -14,53 +10,17 @@ use crate::index_as_worktree::considered::Considered;
 use crate::index_as_worktree::counts::Progress;
 use crate::index_as_worktree::decide::Decide;
 use crate::index_as_worktree::run_rounds::run_rounds;
-use crate::index_as_worktree::run_serially::run_serially;
+use crate::index_as_worktree::run_serially::{Alone, run_serially};
 use crate::index_as_worktree::types::{Error, Outcome, VisitEntry};
 use crate::index_as_worktree::workers::{Limits, Workers};
-use bstr::BStr;
 use status_index::State;
 use std::alloc::Global;
-use std::ops::Range;
 use std::sync::Wait;
 use std::sync::atomic::AtomicBool;
 use std::thread::Threads;
 
 /// The usual number of entries of a piece of work, as in git.
 const CHUNK_SIZE: usize = 500;
-
-/// Returns the positions of the considered entries: those whose paths start with the prefix, or all if no path does.
-fn considered_range(index: &State, prefix: BStr<'_>) -> Range<usize>
-    ensures order { result.start ≤ result.end }
-    ensures inside { result.end ≤ length (entries_of index.now) }
-    ensures part { part_of (index_of index.now) result.start result.end
-        ≡ considered (bstr_bytes prefix.entry) (index_of index.now) }
-    ensures start { result.start ≡ considered_start (bstr_bytes prefix.entry) (index_of index.now) }
-{
-    match index.prefixed_entries_range(prefix) {
-        Some(range) => range,
-        None => 0..index.entries().len(),
-    }
-}
-
-/// Returns the considered entries of an index: those whose paths start with the prefix, or all if no path does.
-fn considered_entries<'index>(index: &'index State, prefix: BStr<'_>) -> Considered<'index>
-    ensures entries { result.entries.now ≡ entries_of index.entry.now }
-    ensures backing { result.backing.now ≡ backing_of index.entry.now }
-    ensures order { result.start ≤ result.end }
-    ensures inside { result.end ≤ length (entries_of index.entry.now) }
-    ensures part { part_of (index_of index.entry.now) result.start result.end
-        ≡ considered (bstr_bytes prefix.entry) (index_of index.entry.now) }
-    ensures start { result.start
-        ≡ considered_start (bstr_bytes prefix.entry) (index_of index.entry.now) }
-{
-    let range = considered_range(index, prefix);
-    Considered {
-        entries: index.entries(),
-        backing: index.path_backing(),
-        start: range.start,
-        end: range.end,
-    }
-}
 
 /// Returns the outcome of a call that made this progress with the considered entries.
 fn outcome_of(progress: Progress, considered: &Considered<'_>) -> Outcome
@@ -118,17 +78,10 @@ where
             collector,
         );
     }
-    let considered = considered_entries(index, decider.common_prefix());
-    let workers = Workers::by_limit(limits.thread_limit, interrupt);
-    match run_rounds(
-        rt,
-        alloc,
-        &considered,
-        chunk_size_of(limits.chunk_size),
-        &workers,
-        decider,
-        collector,
-    ) {
+    let considered = Considered::of(index, decider.common_prefix());
+    let chunk = chunk_size_of(limits.chunk_size);
+    let workers = Workers::by_limit(rt, alloc, limits.thread_limit, interrupt);
+    match run_rounds(&considered, chunk, &workers, decider, collector) {
         Ok(progress) => Ok(outcome_of(progress, &considered)),
         Err(error) => Err(error),
     }
@@ -155,10 +108,14 @@ pub fn status_serially<
     ensures all { IsStatusReport (D.query decider.old) index.now (V.visits collector.old) result (V.visits collector.new) }
     ensures uninterrupted { interrupt.entry ≡ None → IfOk result (λ o. o.interrupted ≡ false) }
     ensures threadless { IsThreadless (D.query decider.old) result }
-    ensures fault { IsFaultOrMemory (D.query decider.old) index.now result }
+    ensures fault { IsFaultOrMemory (D.query decider.old) index.now (V.visits collector.old) result (V.visits collector.new) }
 {
-    let considered = considered_entries(index, decider.common_prefix());
-    let chunk = chunk_size_of(chunk_size);
-    let progress = run_serially(alloc, &considered, chunk, interrupt, decider, collector)?;
+    let considered = Considered::of(index, decider.common_prefix());
+    let alone = Alone {
+        alloc,
+        chunk: chunk_size_of(chunk_size),
+        interrupt,
+    };
+    let progress = run_serially(&considered, &alone, decider, collector)?;
     Ok(outcome_of(progress, &considered))
 }

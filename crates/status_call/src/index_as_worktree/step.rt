@@ -3,20 +3,21 @@
 ghost use Rattle.std.specs.Prelude.{◌≡◌, ◌<◌, List, [], ℕ, None, option_map, take, drop, length};
 ghost use Rattle.std.specs.Option.{option_copied};
 ghost use Rattle.bstr.specs.BStr.{bstr_bytes};
-ghost use Rattle.status_index.specs.Entries.{IsIndex, entry_at, index_entries};
+ghost use Rattle.status_index.specs.Entries.{entry_at};
 ghost use Rattle.status_call.specs.Conflicts.{kept_of, run_at};
-ghost use Rattle.status_call.specs.Considered.{is_flagged};
+ghost use Rattle.status_call.specs.Considered.{is_flagged, part_entries};
 ghost use Rattle.status_compare.specs.Reads.{no_reads, plus_reads};
 ghost use Rattle.status_call.specs.Counts.{no_totals};
 ghost use Rattle.status_call.specs.Records.{conflict_status};
 ghost use Rattle.status_call.specs.Steps.{IsFresh, IsStep, processed_counts, decided_counts};
 
+use crate::index_as_worktree::considered::Considered;
 use crate::index_as_worktree::counts::{Counts, Totals};
 use crate::index_as_worktree::decide::{Decide, Decided};
 use crate::index_as_worktree::types::{Conflict, ConflictIndexEntry, EntryStatus, Error};
 use bitflags::Flags as _;
 use bstr::BStr;
-use status_index::{Entry, Flags, PathStorage};
+use status_index::{Entry, Flags};
 
 /// The flags that skip an entry: git takes it to be unchanged, or not to be there.
 const SKIP_FLAGS: [Flags; 4] = [
@@ -37,25 +38,23 @@ pub struct Step<T, U> {
     pub totals: Totals,
 }
 
-/// Returns the step at position `i`: of one entry, or of a conflict's first entry with all its later stages.
+/// Returns the step at position `at`: of one entry, or of a conflict's first entry with all its later stages.
 ///
 /// # Errors
 /// The error that keeps the entry from being decided.
 pub(crate) fn next_step<D: Decide>(
-    entries: &[Entry],
-    backing: &PathStorage,
-    i: usize,
+    considered: &Considered<'_>,
+    at: usize,
     decide: &mut D,
 ) -> Result<Step<D::Content, D::Submodule>, Error>
-    requires inside { i < length entries.now }
-    requires index { IsIndex (index_entries backing.now entries.now) }
-    requires fresh { IsFresh (D.query decide.old) (take i (index_entries backing.now entries.now))
-        (drop i (index_entries backing.now entries.now)) }
-    ensures next { IsStep (D.query decide.old) (index_entries backing.now entries.now) i result }
+    requires inside { at < length (part_entries considered.now) }
+    requires fresh { IsFresh (D.query decide.old) (take at (part_entries considered.now))
+        (drop at (part_entries considered.now)) }
+    ensures next { IsStep (D.query decide.old) (part_entries considered.now) at result }
     ensures same { D.query decide.new ≡ D.query decide.old }
 {
-    let entry = &entries[i];
-    let path = entry.path_in(backing);
+    let entry = considered.entry(at);
+    let path = considered.path(at);
     if is_flagged(entry) {
         return Ok(skipped_step(1, 0));
     }
@@ -63,7 +62,7 @@ pub(crate) fn next_step<D: Decide>(
         return Ok(skipped_step(0, 1));
     }
     if entry.stage_raw() != 0 {
-        return Ok(conflict_step(entries, backing, i, path));
+        return Ok(conflict_step(considered, at, path));
     }
     match decide.decide(entry, path) {
         Ok(decided) => Ok(decided_step(decided)),
@@ -100,22 +99,22 @@ fn skipped_step<T: Drop, U: Drop>(by_flags: usize, by_pathspec: usize) -> Step<T
     }
 }
 
-/// Returns the step of the conflict whose first entry is at position `i` and has this path.
+/// Returns the step of the conflict whose first entry is at position `at` and has this path.
 fn conflict_step<T: Drop, U: Drop>(
-    entries: &[Entry],
-    backing: &PathStorage,
-    i: usize,
+    considered: &Considered<'_>,
+    at: usize,
     path: BStr<'_>,
 ) -> Step<T, U>
-    requires { 0 < length (run_at (index_entries backing.now entries.now) i (bstr_bytes path)) }
+    requires { 0 < length (run_at (part_entries considered.now) at (bstr_bytes path)) }
     ensures status { result.status
         ≡ conflict_status
-        (run_at (index_entries backing.now entries.now) i (bstr_bytes path.entry)) }
+        (run_at (part_entries considered.now) at (bstr_bytes path.entry)) }
     ensures len { result.len
-        ≡ length (run_at (index_entries backing.now entries.now) i (bstr_bytes path.entry)) }
+        ≡ length (run_at (part_entries considered.now) at (bstr_bytes path.entry)) }
     ensures totals { result.totals ≡ record no_totals { counts = processed_counts 0 0 } }
 {
-    let Some(found) = Conflict::try_from_entry(entries, backing, i, path) else {
+    let (part, backing) = (considered.part(), considered.backing);
+    let Some(found) = Conflict::try_from_entry(part, backing, at, path) else {
         return skipped_step(0, 0);
     };
     let entries = [kept(found.2[0]), kept(found.2[1]), kept(found.2[2])];

@@ -48,7 +48,8 @@ pub fn index_as_worktree_without_threads<
     ensures uninterrupted { context.entry.should_interrupt ≡ None
         → IfOk result (λ o. o.interrupted ≡ false) }
     ensures threadless { IsWithoutThread ⟦<Inputs<'w, W, C, S, O, P, T, L> as Ask>⟧.query
-        (inputs_of worktree.entry compare submodule objects context.entry) options index.now result }
+        (inputs_of worktree.entry compare submodule objects context.entry)
+        options index.now V.visits collector.old result collector.new }
 {
     let should_interrupt = context.should_interrupt;
     let inputs = Inputs::of(worktree, compare, submodule, objects, context);

@@ -4,6 +4,7 @@ ghost use Rattle.std.specs.Prelude.{◌≡◌, ◌≤◌, min};
 ghost use Rattle.status_call.specs.Workers.{most_workers};
 
 use crate::index_as_worktree::types::Options;
+use std::alloc::Global;
 use std::sync::atomic::AtomicBool;
 
 /// The greatest number of workers.
@@ -36,7 +37,11 @@ impl Limits {
 
 /// The workers of a call.
 #[derive(Drop)]
-pub struct Workers<'a> {
+pub struct Workers<'a, R> {
+    /// Starts their threads.
+    pub rt: &'a R,
+    /// Allocates what they need.
+    pub alloc: Global,
     /// The greatest number of workers.
     pub most: usize,
     /// The stack size of each worker's thread in bytes, or `None` for the usual size.
@@ -47,13 +52,20 @@ pub struct Workers<'a> {
     ghost few: { most ≤ 64 },
 }
 
-impl<'a> Workers<'a> {
+impl<'a, R> Workers<'a, R> {
     /// Returns the workers that a thread limit allows, with the usual stacks.
-    pub(crate) fn by_limit(limit: Option<usize>, interrupt: Option<&'a AtomicBool>) -> Workers<'a>
+    pub(crate) fn by_limit(
+        rt: &'a R,
+        alloc: Global,
+        limit: Option<usize>,
+        interrupt: Option<&'a AtomicBool>,
+    ) -> Workers<'a, R>
         ensures most { result.most ≡ most_workers limit }
         ensures interrupt { result.interrupt ≡ interrupt.entry }
     {
         Workers {
+            rt,
+            alloc,
             most: most_workers(limit),
             stack_size: None,
             interrupt,
@@ -61,12 +73,14 @@ impl<'a> Workers<'a> {
     }
 
     /// Returns these workers, at most as many as there are pieces.
-    pub(crate) fn for_pieces(&self, pieces: usize) -> Workers<'a>
+    pub(crate) fn for_pieces(&self, pieces: usize) -> Workers<'a, R>
         requires { 1 ≤ pieces }
         ensures most { result.most ≡ min self.entry.now.most pieces }
         ensures interrupt { result.interrupt ≡ self.entry.now.interrupt }
     {
         Workers {
+            rt: self.rt,
+            alloc: self.alloc,
             most: self.most.min(pieces),
             stack_size: self.stack_size,
             interrupt: self.interrupt,

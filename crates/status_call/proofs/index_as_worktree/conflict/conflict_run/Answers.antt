@@ -3,7 +3,7 @@ use Rattle.std.proofs.lemmas.List.{length-map}
 use Rattle.bstr.specs.BStr.{bstr_bytes}
 use Rattle.status_index.specs.Entries.{index_entry, index_entries}
 use Rattle.status_call.specs.Conflicts.{is_in_run}
-use Rattle.status_call.proofs.RunLists.{few_past, few_stop, few_pass}
+use Rattle.status_call.proofs.RunsOfLists.{few_past, few_stop, few_pass}
 use Rattle.status_call.proofs.index_as_worktree.conflict.conflict_run.Goals as goal
 
 pub returns-then-start-entries : goal.returns-then-start-entries

@@ -1,12 +1,14 @@
 use Rattle.std.proofs.Common.{sym, ◌∙◌, subst, inl, inr, arith}
 use Rattle.std.proofs.lemmas.Bool.{cases_eq}
-use Rattle.status_index.specs.Entries.{index_entries}
+use Rattle.status_call.specs.Considered.{part_entries}
 use Rattle.status_call.specs.Pieces.{IsCut}
-use Rattle.status_call.proofs.Ascents.{cut_entries, not_cut}
+use Rattle.status_call.proofs.IndexOrder.{cut_between, not_cut}
+use Rattle.status_call.proofs.ConsideredParts.{part_is_index}
 use Rattle.status_call.proofs.index_as_worktree.piece.piece_end.Goals as goal
 
 pub loop-end-preserved : goal.loop-end-preserved
 loop-end-preserved c =
+    let es = part_entries c.args.considered.now in
     let here = c.loop-end.invariant in
     record {
       more = omega (arith, here.more);
@@ -15,12 +17,12 @@ loop-end-preserved c =
       tight = λ k a b l cut.
           elim (cases_eq k c.loop-end.end) [
             | inl e ↦
-                not_cut c.args.backing.now c.args.entries.now c.loop-end.end _ _ (omega (arith, here.more)) (omega arith) (sym c.same_path.ensures ∙ c.if-same_path.true)
-                (subst (λ n. IsCut (index_entries c.args.backing.now c.args.entries.now) n) e cut)
+                not_cut es c.loop-end.end (omega (arith, here.more)) (omega arith) (λ d. sym (c.same_path.ensures d) ∙ c.if-same_path.true)
+                (subst (λ n. IsCut es n) e cut)
             | inr other ↦ here.tight k a b (omega arith) cut
           ];
     }
 
 pub returns-else-same_path-clause-cut : goal.returns-else-same_path-clause-cut
 returns-else-same_path-clause-cut c =
-    cut_entries c.args.backing.now c.args.entries.now c.loop-end.end _ _ c.requires.index (omega arith) (omega arith) (sym c.same_path.ensures ∙ c.if-same_path.false)
+    cut_between (part_entries c.args.considered.now) c.loop-end.end (part_is_index c.args.considered.now) (omega arith) (omega arith) (λ d. sym (c.same_path.ensures d) ∙ c.if-same_path.false)

@@ -1,20 +1,20 @@
-use Rattle.std.proofs.Common.{◌≡◌, refl, ◌∙◌, ◌+◌, ◌++◌, ◌<◌, ◌^◌, length, inr, Ok, arith, rules}
-use Rattle.std.proofs.lemmas.List.{length-map}
-use Rattle.status_index.specs.Entries.{index_entry, index_entries}
+use Rattle.std.proofs.Common.{◌≡◌, refl, ap, ◌∙◌, ◌+◌, ◌++◌, ◌<◌, ◌^◌, inr, Ok, arith, rules}
+use Rattle.status_call.specs.Considered.{part_entries}
 use Rattle.status_call.specs.Records.{record_by}
-use Rattle.status_call.proofs.Dones.{done_none, done_next, done_more, sums_fit, not_past, fresh_cut}
-use Rattle.status_call.proofs.Heads.{IsNext-kept, IsFault-kept, when_ok, when_err}
+use Rattle.status_call.proofs.Pieces.{done_none, done_next, done_more, sums_fit, not_past, fresh_cut}
+use Rattle.status_call.proofs.EntrySteps.{IsNext-kept, IsFault-kept, when_ok, when_err}
+use Rattle.status_call.proofs.ConsideredParts.{part_long}
 use Rattle.status_call.proofs.index_as_worktree.piece.walk_piece.Goals as goal
 
 pub loop-at-init : goal.loop-at-init
 loop-at-init g c =
-    let es = index_entries c.args.backing.now c.args.entries.now in
+    let es = part_entries c.args.considered.now in
     let q = g.D.Decide.query c.args.decide.now in
-    let none = done_none q c.args.start es c.args.from (omega (arith, c.requires.order, c.requires.inside, length-map c.args.entries.now (index_entry c.args.backing.now))) in
+    let none = done_none q c.args.considered.now.start es c.args.range.start (omega (arith, c.requires.order, c.requires.inside)) in
     record {
       working = record {
         done = rw (c.new-findings.ensures.items, c.none-totals.ensures) none;
-        fresh = fresh_cut q es c.args.from c.requires.cut;
+        fresh = fresh_cut q es c.args.range.start c.requires.cut;
         upto = c.requires.order;
       };
       same = refl;
@@ -22,7 +22,7 @@ loop-at-init g c =
 
 pub returns-in-Err-clause-piece : goal.returns-in-Err-clause-piece
 returns-in-Err-clause-piece g c =
-    let es = index_entries c.args.backing.now c.args.entries.now in
+    let es = part_entries c.args.considered.now in
     let here = c.loop-at.invariant in
     rw c.ended-in-Err.ensures (record {
       done = here.working.done;
@@ -39,32 +39,34 @@ returns-then-is_err-clause-piece g c =
 
 pub add-requires : goal.add-requires
 add-requires g c =
-    let es = index_entries c.args.backing.now c.args.entries.now in
+    let es = part_entries c.args.considered.now in
     let q = g.D.Decide.query c.args.decide.now in
     let here = c.loop-at.invariant in
     let step = c.in-Ok.step in
     let next = IsNext-kept _ q here.same es c.loop-at.at step c.in-Ok.ensures.next in
-    let slice : length c.args.entries.now < 2 ^ 64 = search rules in
-    sums_fit q c.args.start es c.args.from c.loop-at.at (c.loop-at.at + step.len) c.loop-at.findings.items (record_by (c.args.start + c.loop-at.at) (Ok step.status)) c.loop-at.totals step.totals
-    here.working.done (done_next q c.args.start es c.loop-at.at step next) (omega (arith, slice, length-map c.args.entries.now (index_entry c.args.backing.now)))
+    let end : c.args.considered.now.end < 2 ^ 64 = search rules in
+    sums_fit q c.args.considered.now.start es c.args.range.start c.loop-at.at (c.loop-at.at + step.len) c.loop-at.findings.items (record_by (c.args.considered.now.start + c.loop-at.at) (Ok step.status)) c.loop-at.totals step.totals
+    here.working.done (done_next q c.args.considered.now.start es c.loop-at.at step next) (omega (arith, part_long c.args.considered.now, end))
 
 pub loop-at-preserved : goal.loop-at-preserved
 loop-at-preserved g c =
-    let es = index_entries c.args.backing.now c.args.entries.now in
+    let es = part_entries c.args.considered.now in
     let q = g.D.Decide.query c.args.decide.now in
-    let start = c.args.start in
+    let start = c.args.considered.now.start in
     let at = c.loop-at.at in
     let step = c.in-Ok.step in
     let here = c.loop-at.invariant in
     let next = IsNext-kept _ q here.same es at step c.in-Ok.ensures.next in
     let more = record_by (start + at) (Ok step.status) in
-    let done = done_more q start es c.args.from at (at + step.len) c.loop-at.findings.items more c.loop-at.totals step.totals here.working.done (done_next q start es at step next) in
-    let pushed = when_ok (c.push_status.new.findings.items ≡ c.loop-at.findings.items ++ more) c.push_status.result c.is_err.result c.is_err.ensures.value c.if-is_err.false c.push_status.ensures.ok in
+    let done = done_more q start es c.args.range.start at (at + step.len) c.loop-at.findings.items more c.loop-at.totals step.totals here.working.done (done_next q start es at step next) in
+    let position = c.index_position-entry_index in
+    let said = when_ok (c.push_status.new.findings.items ≡ c.loop-at.findings.items ++ record_by position.result (Ok step.status)) c.push_status.result c.is_err.result c.is_err.ensures.value c.if-is_err.false c.push_status.ensures.ok in
+    let pushed = said ∙ ap (λ n. c.loop-at.findings.items ++ record_by n (Ok step.status)) position.ensures in
     record {
       working = record {
         done = rw (pushed, c.add.ensures) done;
         fresh = next.fresh;
-        upto = not_past q start es c.args.to at step c.requires.end c.loop-at-test.true (omega (arith, c.requires.inside, length-map c.args.entries.now (index_entry c.args.backing.now))) next;
+        upto = not_past q start es c.args.range.end at step c.requires.end c.loop-at-test.true (omega (arith, c.requires.inside)) next;
       };
       same = c.next_step.ensures.same ∙ here.same;
     }

@@ -1,13 +1,11 @@
 use Rattle.std.proofs.Common.{◌<◌, ◌^◌, length, refl, arith, rules}
 use Rattle.std.specs.Vec.Iter.{into_iter_items}
 use Rattle.status_call.specs.Rounds.{bound}
-use Rattle.status_call.specs.Runs.{part_entries, IsFaithfulTo}
-use Rattle.status_call.proofs.RunLemmas.{part_is_index, part_inside, part_long}
-use Rattle.status_call.proofs.Working.{no_work, way_none, row_next, piece_placed, piece_fits, stop_piece, stop_cut, way_more}
+use Rattle.status_call.specs.Considered.{part_entries}
+use Rattle.status_call.specs.Runs.{IsFaithfulTo}
+use Rattle.status_call.proofs.ConsideredParts.{part_inside, part_long}
+use Rattle.status_call.proofs.WorkInOrder.{no_work, way_none, row_next, piece_placed, piece_fits, stop_piece, stop_cut, way_more}
 use Rattle.status_call.proofs.index_as_worktree.run_rounds.run_round.Goals as goal
-
-pub run_pieces-requires-clause-index : goal.run_pieces-requires-clause-index
-run_pieces-requires-clause-index g c κs within = part_is_index c.args.considered.now
 
 pub returns-in-Err : goal.returns-in-Err
 returns-in-Err g c =

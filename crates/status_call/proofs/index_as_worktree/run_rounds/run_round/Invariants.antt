@@ -1,8 +1,9 @@
 use Rattle.std.proofs.Common.{is_some}
 use Rattle.std.specs.Vec.Iter.{into_iter_items}
 use Rattle.status_call.specs.Rounds.{bound, last_bound}
-use Rattle.status_call.specs.Runs.{part_entries, IsFaithfulTo}
-use Rattle.status_call.proofs.Working.{IsMidRound}
+use Rattle.status_call.specs.Considered.{part_entries}
+use Rattle.status_call.specs.Runs.{IsFaithfulTo}
+use Rattle.status_call.proofs.WorkInOrder.{IsMidRound}
 use Rattle.status_call.proofs.index_as_worktree.run_rounds.run_round.Given as goal
 
 abbrev pub invariant-loop-piece : goal.invariant-loop-piece

@@ -1,10 +1,7 @@
 use Rattle.std.proofs.Common.{rules, ◌≡◌, ap, ◌≤◌, ◌<◌, ◌-◌, ◌^◌, length, arith, refl, ◌∙◌, is_some}
-use Rattle.std.proofs.lemmas.List.{length-map}
-use Rattle.status_index.specs.Entries.{index_entry}
-use Rattle.status_index.specs.Stretch.{part_of}
 use Rattle.status_call.specs.Rounds.{bound}
-use Rattle.status_call.proofs.RunLemmas.{part_is_index, part_long}
-use Rattle.status_call.proofs.Working.{way_none, round_fits, round_more, round_cut, round_stop, work_as}
+use Rattle.status_call.proofs.ConsideredParts.{part_long}
+use Rattle.status_call.proofs.WorkInOrder.{way_none, round_fits, round_more, round_cut, round_stop, work_as}
 use Rattle.status_call.proofs.index_as_worktree.run_rounds.run_rounds.Goals as goal
 
 pub loop-at-init : goal.loop-at-init
@@ -13,9 +10,6 @@ loop-at-init g c = record {
   cut = λ k d h. absurd (omega arith);
   inside = omega arith;
 }
-
-pub round_bounds-requires-clause-index : goal.round_bounds-requires-clause-index
-round_bounds-requires-clause-index g c = part_is_index c.args.considered.now
 
 pub run_round-requires : goal.run_round-requires
 run_round-requires g c κs =
@@ -68,10 +62,9 @@ loop-at-preserved g c =
     let round = work_as _ _ _ _ _ _ _ _ _ _ _ _ _ (ap is_some c.for_pieces-crew.ensures.interrupt) first c.in-Ok-run_round.ensures in
     let more = round_more _ _ _ _ _ _ c.args.workers.now.most 0 c.loop-at.at _ 0 c.loop-at.totals _ _ _ way c.in-Ok-run_round.round round c.if-round.false in
     let last : length items - 1 < length items = omega (arith, c.in-Ok.ensures.bounds.pieces) in
-    let len = length-map (part_of c.args.considered.now.entries.now c.args.considered.now.start c.args.considered.now.end) (index_entry c.args.considered.now.backing.now) in
     let is = c.in-Ok.ensures.bounds in
     rw c.add.ensures (record {
       way = more;
       cut = rw slice (is.cuts (length items - 1) 0 last);
-      inside = rw slice (omega (arith, len, is.inside (length items - 1) 0 last));
+      inside = rw slice (omega (arith, is.inside (length items - 1) 0 last));
     })

@@ -1,11 +1,9 @@
 use Rattle.std.proofs.Common.{rules, ◌∙◌, ◌<◌, ◌^◌, length, arith, refl}
-use Rattle.std.proofs.lemmas.List.{length-map}
 use Rattle.std.proofs.lemmas.Result.{err_from_is_err_and}
-use Rattle.status_index.specs.Entries.{index_entry}
-use Rattle.status_index.specs.Stretch.{part_of}
-use Rattle.status_call.specs.Runs.{part_entries, IsFaithfulTo}
-use Rattle.status_call.proofs.RunLemmas.{part_is_index, part_inside, part_long}
-use Rattle.status_call.proofs.Working.{way_none, row_of, piece_placed, piece_fits, stop_piece, stop_cut, way_more, whole_reaches}
+use Rattle.status_call.specs.Considered.{part_entries}
+use Rattle.status_call.specs.Runs.{IsFaithfulTo}
+use Rattle.status_call.proofs.ConsideredParts.{part_inside, part_long}
+use Rattle.status_call.proofs.WorkInOrder.{way_none, row_of, piece_placed, piece_fits, stop_piece, stop_cut, way_more, whole_reaches}
 use Rattle.status_call.proofs.index_as_worktree.run_serially.run_serially.Goals as goal
 
 pub loop-at-init : goal.loop-at-init
@@ -16,12 +14,6 @@ loop-at-init g c = record {
   inside = omega arith;
 }
 
-pub piece_end-to-requires-clause-index : goal.piece_end-to-requires-clause-index
-piece_end-to-requires-clause-index g c = part_is_index c.args.considered.now
-
-pub walk_piece-piece-requires-clause-index : goal.walk_piece-piece-requires-clause-index
-walk_piece-piece-requires-clause-index g c = part_is_index c.args.considered.now
-
 pub feed_piece-requires : goal.feed_piece-requires
 feed_piece-requires g c κs =
     let whole = c.args.considered.now in
@@ -30,35 +22,31 @@ feed_piece-requires g c κs =
 pub returns-in_err-fed : goal.returns-in_err-fed
 returns-in_err-fed g c =
     let whole = c.args.considered.now in
-    let len = length-map (part_of whole.entries.now whole.start whole.end) (index_entry whole.backing.now) in
     let p = c.walk_piece-piece in
-    let row = row_of _ _ c.args.interrupt _ _ _ _ p.result c.loop-at.invariant.same (omega (arith, len, c.piece_end-to.ensures.within)) p.ensures.piece p.ensures.uncut in
+    let row = row_of _ _ c.args.alone.now.interrupt _ _ _ _ p.result c.loop-at.invariant.same c.piece_end-to.ensures.within p.ensures.piece p.ensures.uncut in
     let failed = err_from_is_err_and c.from_residual.result c.from_residual.ensures.1 in
     rw (failed.1, failed.2) (stop_piece _ _ (part_entries whole) _ _ _ _ _ c.loop-at.at c.loop-at.totals _ _ c.loop-at.invariant.way p.result row _ c.in_err-fed.field-0.0 c.in_err-fed.ensures)
 
 pub add-requires : goal.add-requires
 add-requires g c =
     let whole = c.args.considered.now in
-    let len = length-map (part_of whole.entries.now whole.start whole.end) (index_entry whole.backing.now) in
     let p = c.walk_piece-piece in
-    let row = row_of _ _ c.args.interrupt _ _ _ _ p.result c.loop-at.invariant.same (omega (arith, len, c.piece_end-to.ensures.within)) p.ensures.piece p.ensures.uncut in
+    let row = row_of _ _ c.args.alone.now.interrupt _ _ _ _ p.result c.loop-at.invariant.same c.piece_end-to.ensures.within p.ensures.piece p.ensures.uncut in
     let end : whole.end < 2 ^ 64 = search rules in
     piece_fits _ _ (part_entries whole) _ _ _ 1 0 c.loop-at.at c.loop-at.totals _ _ c.loop-at.invariant.way p.result row c.in_ok-fed.fed (omega (arith, part_long whole, end)) c.in_ok-fed.ensures.0
 
 pub returns-then-fed : goal.returns-then-fed
 returns-then-fed g c =
     let whole = c.args.considered.now in
-    let len = length-map (part_of whole.entries.now whole.start whole.end) (index_entry whole.backing.now) in
     let p = c.walk_piece-piece in
-    let row = row_of _ _ c.args.interrupt _ _ _ _ p.result c.loop-at.invariant.same (omega (arith, len, c.piece_end-to.ensures.within)) p.ensures.piece p.ensures.uncut in
+    let row = row_of _ _ c.args.alone.now.interrupt _ _ _ _ p.result c.loop-at.invariant.same c.piece_end-to.ensures.within p.ensures.piece p.ensures.uncut in
     stop_cut _ _ (part_entries whole) _ _ _ _ _ c.loop-at.at c.loop-at.totals _ _ c.loop-at.invariant.way p.result row _ c.in_ok-fed.fed c.add.new.self c.in_ok-fed.ensures c.add.ensures c.if-fed.true
 
 pub loop-at-preserved : goal.loop-at-preserved
 loop-at-preserved g c =
     let whole = c.args.considered.now in
-    let len = length-map (part_of whole.entries.now whole.start whole.end) (index_entry whole.backing.now) in
     let p = c.walk_piece-piece in
-    let row = row_of _ _ c.args.interrupt _ _ _ _ p.result c.loop-at.invariant.same (omega (arith, len, c.piece_end-to.ensures.within)) p.ensures.piece p.ensures.uncut in
+    let row = row_of _ _ c.args.alone.now.interrupt _ _ _ _ p.result c.loop-at.invariant.same c.piece_end-to.ensures.within p.ensures.piece p.ensures.uncut in
     let more = way_more _ _ (part_entries whole) _ _ _ 1 0 c.loop-at.at c.loop-at.totals _ _ c.loop-at.invariant.way p.result row _ c.in_ok-fed.fed c.add.new.self c.in_ok-fed.ensures c.add.ensures c.if-fed.false in
     let reached = whole_reaches _ _ _ _ _ p.result p.ensures.piece more.0 in
     record {

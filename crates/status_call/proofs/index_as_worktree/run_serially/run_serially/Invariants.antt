@@ -1,6 +1,7 @@
 use Rattle.std.proofs.Common.{◌≡◌, ◌≤◌, ◌-◌, length}
 use Rattle.status_call.specs.Pieces.{IsCut}
-use Rattle.status_call.specs.Runs.{part_entries, IsFaithfulTo}
+use Rattle.status_call.specs.Considered.{part_entries}
+use Rattle.status_call.specs.Runs.{IsFaithfulTo}
 use Rattle.status_call.specs.WorkInOrder.{IsWorkSoFar}
 use Rattle.status_call.proofs.index_as_worktree.run_serially.run_serially.Given as goal
 
@@ -11,8 +12,8 @@ invariant-loop-at g l =
       way : IsWorkSoFar (g.D.Decide.query l.initial.decide) l.considered.start (part_entries l.considered) 0 (IsFaithfulTo l.considered) l.at l.totals (visits l.initial.collector) (visits l.collector);
       same : g.D.Decide.query l.decide ≡ g.D.Decide.query l.initial.decide;
       cut : IsCut (part_entries l.considered) l.at;
-      inside : l.at ≤ length l.part;
+      inside : l.at ≤ length (part_entries l.considered);
     }
 
 abbrev pub decreases-loop-at : goal.decreases-loop-at
-decreases-loop-at g l = length l.part - l.at
+decreases-loop-at g l = length (part_entries l.considered) - l.at

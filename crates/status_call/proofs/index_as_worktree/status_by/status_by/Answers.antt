@@ -2,14 +2,14 @@ use Rattle.std.proofs.Common.{rules, refl, ap, ◌∙◌, ◌<◌, ◌^◌, leng
 use Rattle.std.proofs.lemmas.List.{length-map}
 use Rattle.status_index.specs.Entries.{index_entry}
 use Rattle.status_index.specs.States.{entries_of, backing_of, index_of}
-use Rattle.status_call.proofs.Parts.{map-part}
+use Rattle.status_call.proofs.Stretch.{map-part}
 use Rattle.status_call.proofs.StatusProof.{status_alone, status_ok, status_err, work_kept, part_len, rest_len, skip_room}
 use Rattle.status_call.proofs.index_as_worktree.status_by.status_by.Goals as goal
 
 pub returns-in-Ok-clause-all : goal.returns-in-Ok-clause-all
 returns-in-Ok-clause-all g c =
     let index = c.args.index.now in
-    let part_is = c.considered_entries-considered in
+    let part_is = c.of-considered in
     let considered = part_is.result in
     let part = rw c.common_prefix.ensures at part_is.ensures.part in
     let start = rw c.common_prefix.ensures at part_is.ensures.start in
@@ -29,7 +29,7 @@ returns-in-Ok-clause-all g c =
 pub returns-in-Err-clause-all : goal.returns-in-Err-clause-all
 returns-in-Err-clause-all g c =
     let index = c.args.index.now in
-    let part_is = c.considered_entries-considered in
+    let part_is = c.of-considered in
     let considered = part_is.result in
     let part = rw c.common_prefix.ensures at part_is.ensures.part in
     let start = rw c.common_prefix.ensures at part_is.ensures.start in
@@ -40,7 +40,7 @@ returns-in-Err-clause-all g c =
 pub returns-in-Err-clause-alone : goal.returns-in-Err-clause-alone
 returns-in-Err-clause-alone g c =
     let index = c.args.index.now in
-    let part_is = c.considered_entries-considered in
+    let part_is = c.of-considered in
     let considered = part_is.result in
     let part = rw c.common_prefix.ensures at part_is.ensures.part in
     let start = rw c.common_prefix.ensures at part_is.ensures.start in

@@ -3,14 +3,14 @@ use Rattle.std.proofs.lemmas.List.{length-map}
 use Rattle.std.proofs.lemmas.Result.{err_from_is_err_and}
 use Rattle.status_index.specs.Entries.{index_entry}
 use Rattle.status_index.specs.States.{entries_of, backing_of, index_of}
-use Rattle.status_call.proofs.Parts.{map-part}
+use Rattle.status_call.proofs.Stretch.{map-part}
 use Rattle.status_call.proofs.StatusProof.{status_alone, status_fault, status_ok, status_err, work_kept, part_len, rest_len, skip_room}
 use Rattle.status_call.proofs.index_as_worktree.status_by.status_serially.Goals as goal
 
 pub returns-clause-all : goal.returns-clause-all
 returns-clause-all g c =
     let index = c.args.index.now in
-    let part_is = c.considered_entries-considered in
+    let part_is = c.of-considered in
     let considered = part_is.result in
     let part = rw c.common_prefix.ensures at part_is.ensures.part in
     let start = rw c.common_prefix.ensures at part_is.ensures.start in
@@ -30,7 +30,7 @@ returns-clause-all g c =
 pub returns-in_err-progress-clause-all : goal.returns-in_err-progress-clause-all
 returns-in_err-progress-clause-all g c =
     let index = c.args.index.now in
-    let part_is = c.considered_entries-considered in
+    let part_is = c.of-considered in
     let considered = part_is.result in
     let part = rw c.common_prefix.ensures at part_is.ensures.part in
     let start = rw c.common_prefix.ensures at part_is.ensures.start in
@@ -42,7 +42,7 @@ returns-in_err-progress-clause-all g c =
 pub returns-in_err-progress-clause-threadless : goal.returns-in_err-progress-clause-threadless
 returns-in_err-progress-clause-threadless g c =
     let index = c.args.index.now in
-    let part_is = c.considered_entries-considered in
+    let part_is = c.of-considered in
     let considered = part_is.result in
     let part = rw c.common_prefix.ensures at part_is.ensures.part in
     let start = rw c.common_prefix.ensures at part_is.ensures.start in
@@ -54,11 +54,11 @@ returns-in_err-progress-clause-threadless g c =
 pub returns-in_err-progress-clause-fault : goal.returns-in_err-progress-clause-fault
 returns-in_err-progress-clause-fault g c =
     let index = c.args.index.now in
-    let part_is = c.considered_entries-considered in
+    let part_is = c.of-considered in
     let considered = part_is.result in
     let part = rw c.common_prefix.ensures at part_is.ensures.part in
     let start = rw c.common_prefix.ensures at part_is.ensures.start in
     let whole = map-part (index_entry (backing_of index)) (entries_of index) considered.start considered.end ∙ part in
     let work = rw (part_is.ensures.entries, part_is.ensures.backing) at c.in_err-progress.ensures in
     let failed = err_from_is_err_and c.from_residual.result c.from_residual.ensures.1 in
-    rw (failed.1, failed.2) (λ t other. status_fault _ index _ _ _ 1 c.in_err-progress.field-0.0 (work_kept _ _ _ _ _ _ _ _ _ _ _ _ refl start whole work) refl t other)
+    rw (failed.1, failed.2) (status_fault _ index _ _ _ 1 c.in_err-progress.field-0.0 (work_kept _ _ _ _ _ _ _ _ _ _ _ _ refl start whole work) refl)

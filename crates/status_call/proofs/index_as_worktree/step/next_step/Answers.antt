@@ -1,14 +1,16 @@
 use Rattle.std.proofs.Common.{ap}
 use Rattle.status_call.specs.declared.index_as_worktree.counts.Totals.{Totals}
 use Rattle.status_call.specs.declared.index_as_worktree.step.Step.{Step}
-use Rattle.status_call.proofs.Nexts.{skipped_self}
-use Rattle.status_call.proofs.Heads.{head_flagged, head_excluded, head_some, head_conflict, head_decided, head_fault}
+use Rattle.status_call.specs.Considered.{part_entries}
+use Rattle.status_call.proofs.Steps.{skipped_self}
+use Rattle.status_call.proofs.ConsideredParts.{part_is_index}
+use Rattle.status_call.proofs.EntrySteps.{head_flagged, head_excluded, head_some, head_conflict, head_decided, head_fault}
 use Rattle.status_call.proofs.index_as_worktree.step.next_step.Goals as goal
 
 pub returns-then-is_flagged-clause-next : goal.returns-then-is_flagged-clause-next
 returns-then-is_flagged-clause-next g c =
     let said = c.skipped_step.ensures in
-    head_flagged c.args.backing.now c.args.entries.now c.args.i _ _ c.path_in-path.ensures c.requires.inside c.requires.index
+    head_flagged c.args.considered.now.backing.now (part_entries c.args.considered.now) c.args.at _ _ c.entry-entry.ensures c.path-path.ensures c.requires.inside (part_is_index c.args.considered.now)
     (g.D.Decide.query c.args.decide.now) c.requires.fresh
     c.is_flagged.result c.is_flagged.ensures c.if-is_flagged.true
     c.skipped_step.result (skipped_self _ _ _ said) (ap (λ (s : Step _ _). s.status) said) (ap (λ (s : Step _ _). s.totals.reads) said)
@@ -16,7 +18,7 @@ returns-then-is_flagged-clause-next g c =
 pub returns-then-not-includes-clause-next : goal.returns-then-not-includes-clause-next
 returns-then-not-includes-clause-next g c =
     let said = c.skipped_step-then-not-includes.ensures in
-    head_excluded c.args.backing.now c.args.entries.now c.args.i _ _ c.path_in-path.ensures c.requires.inside c.requires.index
+    head_excluded c.args.considered.now.backing.now (part_entries c.args.considered.now) c.args.at _ _ c.entry-entry.ensures c.path-path.ensures c.requires.inside (part_is_index c.args.considered.now)
     (g.D.Decide.query c.args.decide.now) c.requires.fresh
     c.is_flagged.result c.is_flagged.ensures c.if-is_flagged.false
     c.includes.result c.includes.ensures c.if-not-includes.true
@@ -24,7 +26,7 @@ returns-then-not-includes-clause-next g c =
 
 pub conflict_step-requires : goal.conflict_step-requires
 conflict_step-requires g c =
-    head_some c.args.backing.now c.args.entries.now c.args.i _ _ c.path_in-path.ensures c.requires.inside c.requires.index
+    head_some c.args.considered.now.backing.now (part_entries c.args.considered.now) c.args.at _ _ c.entry-entry.ensures c.path-path.ensures c.requires.inside (part_is_index c.args.considered.now)
     (g.D.Decide.query c.args.decide.now) c.requires.fresh
     c.is_flagged.result c.is_flagged.ensures c.if-is_flagged.false
     c.includes.result c.includes.ensures c.if-not-includes.false
@@ -33,7 +35,7 @@ conflict_step-requires g c =
 pub returns-then-stage_raw-ne0-clause-next : goal.returns-then-stage_raw-ne0-clause-next
 returns-then-stage_raw-ne0-clause-next g c =
     let said = c.conflict_step.ensures in
-    head_conflict c.args.backing.now c.args.entries.now c.args.i _ _ c.path_in-path.ensures c.requires.inside c.requires.index
+    head_conflict c.args.considered.now.backing.now (part_entries c.args.considered.now) c.args.at _ _ c.entry-entry.ensures c.path-path.ensures c.requires.inside (part_is_index c.args.considered.now)
     (g.D.Decide.query c.args.decide.now) c.requires.fresh
     c.is_flagged.result c.is_flagged.ensures c.if-is_flagged.false
     c.includes.result c.includes.ensures c.if-not-includes.false
@@ -43,7 +45,7 @@ returns-then-stage_raw-ne0-clause-next g c =
 pub returns-in-Ok-clause-next : goal.returns-in-Ok-clause-next
 returns-in-Ok-clause-next g c =
     let said = c.decided_step.ensures in
-    head_decided c.args.backing.now c.args.entries.now c.args.i _ _ c.path_in-path.ensures c.requires.inside c.requires.index
+    head_decided c.args.considered.now.backing.now (part_entries c.args.considered.now) c.args.at _ _ c.entry-entry.ensures c.path-path.ensures c.requires.inside (part_is_index c.args.considered.now)
     (g.D.Decide.query c.args.decide.now) c.requires.fresh
     c.is_flagged.result c.is_flagged.ensures c.if-is_flagged.false
     c.includes.result c.includes.ensures c.if-not-includes.false
@@ -53,7 +55,7 @@ returns-in-Ok-clause-next g c =
 
 pub returns-in-Err-clause-next : goal.returns-in-Err-clause-next
 returns-in-Err-clause-next g c =
-    head_fault c.args.backing.now c.args.entries.now c.args.i _ _ c.path_in-path.ensures c.requires.inside c.requires.index
+    head_fault c.args.considered.now.backing.now (part_entries c.args.considered.now) c.args.at _ _ c.entry-entry.ensures c.path-path.ensures c.requires.inside (part_is_index c.args.considered.now)
     (g.D.Decide.query c.args.decide.now) c.requires.fresh
     c.is_flagged.result c.is_flagged.ensures c.if-is_flagged.false
     c.includes.result c.includes.ensures c.if-not-includes.false

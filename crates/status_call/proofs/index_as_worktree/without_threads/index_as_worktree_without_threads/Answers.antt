@@ -7,4 +7,4 @@ returns-clause-all g c = met_along _ _ (rw (c.of-inputs.ensures, c.of-settings.e
 pub returns-clause-threadless : goal.returns-clause-threadless
 returns-clause-threadless g c =
     let query = rw (c.of-inputs.ensures, c.of-settings.ensures) at c.new-decider.ensures in
-    (threadless_along _ _ query _ c.status_serially.ensures.threadless, faults_along _ _ query c.args.index.now _ c.status_serially.ensures.fault)
+    (threadless_along _ _ query _ c.status_serially.ensures.threadless, faults_along _ _ query c.args.index.now _ _ _ c.status_serially.ensures.fault)

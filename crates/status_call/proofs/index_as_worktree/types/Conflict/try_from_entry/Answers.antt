@@ -1,4 +1,4 @@
-use Rattle.status_call.proofs.Conflicted.{IsConflict-none, IsConflict-some}
+use Rattle.status_call.proofs.Conflicts.{IsConflict-none, IsConflict-some}
 use Rattle.status_call.proofs.index_as_worktree.types.Conflict.try_from_entry.Goals as goal
 
 pub returns-in_err-summary : goal.returns-in_err-summary

@@ -12,8 +12,8 @@ use Rattle.status_call.specs.Conflicts.{is_in_run}
 use Rattle.status_call.specs.Considered.{same_path, is_skipped, is_over, stages_from, takes_over}
 use Rattle.status_call.specs.Query.{Query}
 use Rattle.status_call.specs.Steps.{IsFresh}
-use Rattle.status_call.proofs.Ascents.{same_from_path, same_back, path_same, stage_rises, stage_small, less_at, same_between, stage_climbs}
-use Rattle.status_call.proofs.Parts.{All-drop_at, All-take_from, All-drop_from, All-part_from, list_split, take_part, filter_none, filter_all}
+use Rattle.status_call.proofs.IndexOrder.{same_from_path, same_back, path_same, stage_rises, stage_small, less_at, same_between, stage_climbs}
+use Rattle.status_call.proofs.Stretch.{All-drop_at, All-take_from, All-drop_from, All-part_from, list_split, take_part, filter_none, filter_all}
 
 module _ (es : List IndexEntry) (index : IsIndex es) (i : ℕ) (x : IndexEntry) (l : i < length es) (here : (d : IndexEntry) → slice_index_or es i d ≡ x) where
   -- The stages of x's path rise from x on.

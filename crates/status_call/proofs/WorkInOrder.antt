@@ -16,10 +16,10 @@ use Rattle.status_call.specs.Reporting.{Reports, IsPlacedIn}
 use Rattle.status_call.specs.Pieces.{IsDone, IsFaultAt, IsPiece, IsThrough, IsUncut}
 use Rattle.status_call.specs.PieceReporting.{IsCounted, IsPieceFed}
 use Rattle.status_call.specs.Query.{Query}
-use Rattle.status_call.specs.Rounds.{AreInRow, IsInRow}
+use Rattle.status_call.specs.Rounds.{AreInRow, IsInRow, IsResult}
 use Rattle.status_call.specs.Visits.{Visit}
 use Rattle.status_call.specs.WorkInOrder.{IsShortage, IsWorkSoFar, IsReportedWork}
-use Rattle.status_call.proofs.Dones.{done_none, done_more, sums_fit}
+use Rattle.status_call.proofs.Pieces.{done_none, done_more, sums_fit}
 use Rattle.status_call.proofs.Feeding.{reports_none, reports_more}
 
 none_of : {X : Type 0} (o : Option X) → is_some o ≡ false → o ≡ None
@@ -218,16 +218,21 @@ work_as q start es faithful interruptible other workers from place to old new re
     subst (λ n. IsReportedWork q start es n faithful interruptible workers to old result new) at
     (subst (λ b. IsReportedWork q start es place faithful b workers to old result new) flag work)
 
--- A piece that was walked, by an equal query, is in a row.
+-- A piece that was walked, by an equal query, is a result.
+pub result_of : {T U X : Type 0} (q r : Query T U) (interrupt : Option X) (start : ℕ) (es : List IndexEntry) (at to : ℕ) (p : Piece T U) → r ≡ q → IsPiece r start es at to p → (interrupt ≡ None → IsUncut p.end)
+    → IsResult q (is_some interrupt) start es at to p
+result_of q r interrupt start es at to p same piece uncut = record {
+  piece = subst (λ x. IsPiece x start es at to p) same piece;
+  uncut = λ h. uncut (none_of interrupt h);
+}
+
+-- The same in a row.
 pub row_of : {T U X : Type 0} (q r : Query T U) (interrupt : Option X) (start : ℕ) (es : List IndexEntry) (at to : ℕ) (p : Piece T U) → r ≡ q → to ≤ length es → IsPiece r start es at to p → (interrupt ≡ None → IsUncut p.end)
     → IsInRow q (is_some interrupt) start es at p
 row_of q r interrupt start es at to p same inside piece uncut = record {
   to = to;
   inside = inside;
-  result = record {
-    piece = subst (λ x. IsPiece x start es at to p) same piece;
-    uncut = λ h. uncut (none_of interrupt h);
-  };
+  result = result_of q r interrupt start es at to p same piece uncut;
 }
 
 -- A whole piece reached its end.

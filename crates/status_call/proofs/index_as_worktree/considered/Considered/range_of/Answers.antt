@@ -4,9 +4,9 @@ use Rattle.bstr.specs.BStr.{bstr_bytes}
 use Rattle.status_index.specs.Entries.{index_entry}
 use Rattle.status_index.specs.States.{entries_of, backing_of, index_of}
 use Rattle.status_index.specs.Stretch.{part_of}
-use Rattle.status_call.proofs.Considering.{is_considered, all_considered}
+use Rattle.status_call.proofs.Considered.{is_considered, all_considered}
 use Rattle.status_call.proofs.StatusProof.{part_front, take_all}
-use Rattle.status_call.proofs.index_as_worktree.status_by.considered_range.Goals as goal
+use Rattle.status_call.proofs.index_as_worktree.considered.Considered.range_of.Goals as goal
 
 pub returns-in-Some-clause-part : goal.returns-in-Some-clause-part
 returns-in-Some-clause-part c =

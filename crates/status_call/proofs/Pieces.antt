@@ -21,8 +21,8 @@ use Rattle.status_call.specs.Records.{record_by, records_in, faults_in}
 use Rattle.status_call.specs.Steps.{IsFresh, IsNext}
 use Rattle.status_call.specs.Counts.{no_counts, no_totals, plus_counts, plus_totals}
 use Rattle.status_compare.specs.Reads.{plus_reads}
-use Rattle.status_call.proofs.Groups.{records-append, faults-append, counts-append, reads-append}
-use Rattle.status_call.proofs.Parts.{All-take_at, All-drop_at, All-take_from, All-drop_from, All-part_at, AllPairs-append, length-part, part_none, part_split}
+use Rattle.status_call.proofs.Records.{records-append, faults-append, counts-append, reads-append}
+use Rattle.status_call.proofs.Stretch.{All-take_at, All-drop_at, All-take_from, All-drop_from, All-part_at, AllPairs-append, length-part, part_none, part_split}
 
 -- Of two, the first is false.
 pub or_false : (a b c : Bool) → c ≡ (a || b) → a ≡ false → c ≡ b

@@ -1,11 +1,10 @@
 -- The next step at an entry whose path is in a storage, by the tests of the entry.
-use Rattle.std.proofs.Common.{◌≡◌, sym, ◌∙◌, subst, ℕ, ◌<◌, Bool, true, false, not, List, length, take, drop, slice_index_or, None, Result, Ok, Err, IsTrue, arith}
+use Rattle.std.proofs.Common.{◌≡◌, sym, ap, ◌∙◌, subst, ℕ, ◌<◌, Bool, true, false, not, List, length, take, drop, slice_index_or, None, Result, Ok, Err, IsTrue, arith}
 use Rattle.std.specs.Result.{OnOk, OnErr, is_err}
 use Rattle.std.proofs.lemmas.Bool.{or_from, not-true, not-false}
-use Rattle.std.proofs.lemmas.List.{length-map}
 use Rattle.status_index.specs.declared.entry.Entry.{Entry}
 use Rattle.status_index.specs.declared.entry.PathStorage.{PathStorage}
-use Rattle.status_index.specs.Entries.{IndexEntry, IsIndex, entry_at, index_entry, index_entries, path_in, stage_of}
+use Rattle.status_index.specs.Entries.{IndexEntry, IsIndex, entry_at, index_entry, path_in, stage_of}
 use Rattle.status_compare.specs.declared.error.Error.{Error}
 use Rattle.status_compare.specs.Reads.{no_reads}
 use Rattle.status_call.specs.declared.index_as_worktree.decide.Decided.{Decided}
@@ -18,22 +17,18 @@ use Rattle.status_call.specs.Query.{Query}
 use Rattle.status_call.specs.Records.{conflict_status}
 use Rattle.status_call.specs.Steps.{IsFresh, IsNext, processed_counts, decided_counts}
 use Rattle.status_compare.specs.Reads.{plus_reads}
-use Rattle.status_call.proofs.Nexts.{IsSelf, entry_read, next_flagged, next_excluded, next_conflict, next_decided, next_fault, run_some}
+use Rattle.status_call.proofs.Steps.{IsSelf, next_flagged, next_excluded, next_conflict, next_decided, next_fault, run_some}
 
-module _ (b : PathStorage) (entries : List Entry) (i : ℕ) (e : Entry) (path : List ℕ) (stored : path ≡ path_in b (slice_index_or entries i e)) (l : i < length entries) (index : IsIndex (index_entries b entries)) where
-  abbrev es : List IndexEntry
-  es = index_entries b entries
-
+module _ (b : PathStorage) (es : List IndexEntry) (i : ℕ) (entry : Entry) (path : List ℕ) (stored : (d : IndexEntry) → index_entry b entry ≡ slice_index_or es i d) (named : (d : IndexEntry) → path ≡ (slice_index_or es i d).path) (within : i < length es) (index : IsIndex es) where
   abbrev head : IndexEntry
-  head = entry_at path (slice_index_or entries i e)
+  head = entry_at path entry
 
   here : (d : IndexEntry) → slice_index_or es i d ≡ head
-  here = entry_read b entries i e path l stored
+  here d =
+      let own : path ≡ path_in b entry = named d ∙ ap (λ (x : IndexEntry). x.path) (sym (stored d)) in
+      sym (stored d) ∙ ap (λ (p : List ℕ). entry_at p entry) (sym own)
 
-  within : i < length es
-  within = omega (arith, length-map entries (index_entry b))
-
-  module _ {T U : Type 0} (q : Query T U) (fresh : IsFresh q (take i es) (drop i es)) (flagged : Bool) (flags : (p : List ℕ) → flagged ≡ is_flagged (entry_at p (slice_index_or entries i e))) where
+  module _ {T U : Type 0} (q : Query T U) (fresh : IsFresh q (take i es) (drop i es)) (flagged : Bool) (flags : (p : List ℕ) → flagged ≡ is_flagged (entry_at p entry)) where
     pub head_flagged : flagged ≡ true → (s : Step T U) → IsSelf s 1 (processed_counts 1 0) → s.status ≡ None → s.totals.reads ≡ no_reads → IsNext q es i s
     head_flagged h s self none read = next_flagged es index i head within here q fresh s self none read (sym (flags path) ∙ h)
 

@@ -1,5 +1,5 @@
 -- Entries of an index, by their order.
-use Rattle.std.proofs.Common.{◌≡◌, refl, sym, ap, ◌∙◌, ℕ, zero, suc, ◌+◌, ◌-◌, ◌<◌, ◌≤◌, ◌⊎◌, inl, inr, true, false, List, length, drop, slice_index_or, All, arith}
+use Rattle.std.proofs.Common.{◌≡◌, refl, sym, ap, ◌∙◌, ℕ, zero, suc, ◌+◌, ◌-◌, ◌<◌, ◌≤◌, ◌⊎◌, inl, inr, true, false, List, [], ◌∷◌, length, drop, slice_index_or, All, arith}
 use Rattle.std.specs.Cmp.Lexicographic.{slice_cmp}
 use Rattle.std.specs.Ordering.{nat_cmp, ordering_then, ordering_reverse, is_eq}
 use Rattle.std.specs.Str.{bytes_eq}
@@ -8,17 +8,15 @@ use Rattle.std.specs.declared.cmp.Ordering.TheVariants.{Less, Equal, Greater}
 use Rattle.std.proofs.lemmas.Bool.{cases_eq, false_from_ne_true}
 use Rattle.std.proofs.lemmas.Bool.Decides.{nat_tests}
 use Rattle.std.proofs.lemmas.Cmp.{nat_list_cmp_total, tied_itself}
-use Rattle.std.proofs.lemmas.List.{length-map, get_or-map, get_or_default}
+use Rattle.std.proofs.lemmas.List.{get_or_default}
 use Rattle.std.proofs.lemmas.Map.Text.{is_eq-slice_cmp}
 use Rattle.std.proofs.lemmas.Slice.Eq.{bytes_eq-Decides}
 use Rattle.status_index.specs.BlobId.{id_kind}
-use Rattle.status_index.specs.declared.entry.Entry.{Entry}
-use Rattle.status_index.specs.declared.entry.PathStorage.{PathStorage}
-use Rattle.status_index.specs.Entries.{IndexEntry, IsIndex, entry_cmp, index_entry, index_entries, stage_of}
+use Rattle.status_index.specs.Entries.{IndexEntry, IsIndex, entry_cmp, stage_of}
 use Rattle.status_index.specs.Stretch.{part_of}
 use Rattle.status_call.specs.Considered.{same_path}
 use Rattle.status_call.specs.Pieces.{IsCut}
-use Rattle.status_call.proofs.Parts.{All-take_from, All-drop_from, All-take_at, All-drop_at, All-part_from, AllPairs-part}
+use Rattle.status_call.proofs.Stretch.{All-take_from, All-drop_from, All-take_at, All-drop_at, All-part_from, AllPairs-part}
 
 pub path_same : (a b : IndexEntry) → same_path a b ≡ true → a.path ≡ b.path
 path_same a b h = (bytes_eq-Decides a.path b.path).0 h
@@ -101,12 +99,6 @@ cut_between es k index some l h =
     All-drop_from (λ r. same_path (slice_index_or es i d) r ≡ false) es k (λ j f o p.
     rw (get_or_default es j f d p) (cut_at es index d k some l (h d) i j m o p)))
 
--- The same for entries whose paths are in a storage.
-pub cut_entries : (b : PathStorage) (entries : List Entry) (k : ℕ) (d e : Entry) → IsIndex (index_entries b entries) → 0 < k → k < length entries → same_path (index_entry b (slice_index_or entries k d)) (index_entry b (slice_index_or entries (k - 1) e)) ≡ false → IsCut (index_entries b entries) k
-cut_entries b entries k d e index some l h =
-    cut_between (index_entries b entries) k index some (omega (arith, length-map entries (index_entry b))) (λ f.
-    rw (get_or-map (index_entry b) entries k d f l, get_or-map (index_entry b) entries (k - 1) e f (omega arith)) h)
-
 pub IsIndex-part : (es : List IndexEntry) (a b : ℕ) → IsIndex es → IsIndex (part_of es a b)
 IsIndex-part es a b h = record {
   named = All-part_from es a b (λ e. 0 < length e.path) (λ k d l m n. h.named k d n);
@@ -115,15 +107,11 @@ IsIndex-part es a b h = record {
 }
 
 -- A path with entries on both sides of a position.
-pub not_cut : (b : PathStorage) (entries : List Entry) (k : ℕ) (d e : Entry) → 0 < k → k < length entries → same_path (index_entry b (slice_index_or entries k d)) (index_entry b (slice_index_or entries (k - 1) e)) ≡ true → IsCut (index_entries b entries) k → ⊥
-not_cut b entries k d e some l same cut =
-    let es = index_entries b entries in
-    let f = index_entry b e in
-    let few : k < length es = omega (arith, length-map entries (index_entry b)) in
-    let before = All-take_at (λ x. All (λ r. same_path x r ≡ false) (drop k es)) es k cut (k - 1) f (omega arith) (omega arith) in
-    let apart = All-drop_at (λ r. same_path (slice_index_or es (k - 1) f) r ≡ false) es k before k (index_entry b d) (omega arith) few in
-    let left : slice_index_or es (k - 1) f ≡ index_entry b (slice_index_or entries (k - 1) e) = get_or-map (index_entry b) entries (k - 1) e f (omega arith) in
-    let right : slice_index_or es k (index_entry b d) ≡ index_entry b (slice_index_or entries k d) = get_or-map (index_entry b) entries k d (index_entry b d) l in
-    let far : same_path (index_entry b (slice_index_or entries (k - 1) e)) (index_entry b (slice_index_or entries k d)) ≡ false = rw (left, right) at apart in
-    let near = same_back (index_entry b (slice_index_or entries k d)) (index_entry b (slice_index_or entries (k - 1) e)) same in
+pub not_cut : (es : List IndexEntry) (k : ℕ) → 0 < k → k < length es → ((d : IndexEntry) → same_path (slice_index_or es k d) (slice_index_or es (k - 1) d) ≡ true) → IsCut es k → ⊥
+not_cut [] k some l same cut = absurd (omega arith)
+not_cut (x ∷ xs) k some l same cut =
+    let es = x ∷ xs in
+    let before = All-take_at (λ y. All (λ r. same_path y r ≡ false) (drop k es)) es k cut (k - 1) x (omega arith) (omega arith) in
+    let apart = All-drop_at (λ r. same_path (slice_index_or es (k - 1) x) r ≡ false) es k before k x (omega arith) l in
+    let near = same_back (slice_index_or es k x) (slice_index_or es (k - 1) x) (same x) in
     cc

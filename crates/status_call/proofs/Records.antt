@@ -28,7 +28,7 @@ use Rattle.status_call.specs.Status.{case_of, status_of}
 use Rattle.status_call.specs.Steps.{IsStepOf, processed_counts, decided_counts}
 use Rattle.status_call.specs.Counts.{plus_counts}
 use Rattle.status_compare.specs.Reads.{plus_reads}
-use Rattle.status_call.proofs.Parts.{weight, count_first, sum_by_none, enumerate-append}
+use Rattle.status_call.proofs.Stretch.{weight, count_first, sum_by_none, enumerate-append}
 
 pub same_counts : (a b : Counts) → a.processed ≡ b.processed → a.skipped_by_flags ≡ b.skipped_by_flags → a.skipped_by_pathspec ≡ b.skipped_by_pathspec → a.lstat_calls ≡ b.lstat_calls → a.racy_clean ≡ b.racy_clean → a.to_update ≡ b.to_update → a ≡ b
 same_counts a b p f s l r u i = record {

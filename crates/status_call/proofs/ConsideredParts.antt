@@ -4,9 +4,9 @@ use Rattle.std.proofs.lemmas.List.{length-map, length-take, length-drop}
 use Rattle.status_index.specs.Entries.{IsIndex, index_entry, index_entries}
 use Rattle.status_index.specs.Stretch.{part_of}
 use Rattle.status_call.specs.declared.index_as_worktree.considered.Considered.{Considered}
-use Rattle.status_call.specs.Runs.{part_entries}
-use Rattle.status_call.proofs.Ascents.{IsIndex-part}
-use Rattle.status_call.proofs.Parts.{map-part}
+use Rattle.status_call.specs.Considered.{part_entries}
+use Rattle.status_call.proofs.IndexOrder.{IsIndex-part}
+use Rattle.status_call.proofs.Stretch.{map-part}
 
 -- They are an index themselves.
 pub part_is_index : (c : Considered) → IsIndex (part_entries c)

@@ -1,12 +1,9 @@
 -- The next step: one entry that is skipped or decided, or a conflict.
 use Rattle.std.proofs.Common.{◌≡◌, refl, sym, ap, ◌∙◌, ℕ, ◌+◌, ◌<◌, ◌≤◌, inl, inr, true, false, ◌==◌, List, [], ◌∷◌, ◌++◌, length, take, drop, slice_index_or, All, None, Ok, Err, IsTrue, arith}
 use Rattle.std.proofs.lemmas.Bool.{and_left, and_right, not_from_true, or_left, or_right, ne_eqb, eq-eqb, le-ltb}
-use Rattle.std.proofs.lemmas.List.{get_or-map}
 use Rattle.std.proofs.lemmas.List.Elements.{All-nil}
 use Rattle.std.proofs.lemmas.List.Folds.{length-prefix_len}
-use Rattle.status_index.specs.declared.entry.Entry.{Entry}
-use Rattle.status_index.specs.declared.entry.PathStorage.{PathStorage}
-use Rattle.status_index.specs.Entries.{IndexEntry, IsIndex, entry_at, index_entry, index_entries, path_in, stage_of}
+use Rattle.status_index.specs.Entries.{IndexEntry, IsIndex, stage_of}
 use Rattle.status_index.specs.Stretch.{part_of}
 use Rattle.status_compare.specs.declared.error.Error.{Error}
 use Rattle.status_compare.specs.Reads.{no_reads}
@@ -23,17 +20,11 @@ use Rattle.status_call.specs.Query.{Query}
 use Rattle.status_call.specs.Records.{verdict, conflict_status}
 use Rattle.status_call.specs.Steps.{IsFresh, IsStepOf, IsNext, processed_counts, decided_counts}
 use Rattle.status_compare.specs.Reads.{plus_reads}
-use Rattle.status_call.proofs.Ascents.{same_back, same_from_path}
-use Rattle.status_call.proofs.Dones.{IsWithin-same, IsWithin-more}
-use Rattle.status_call.proofs.Groups.{IsLater, one_counts, step_of, weight_le, skipped_verdict, skipped_reads, flagged_counts, excluded_counts, conflict_verdict, conflict_counts, conflict_reads, status_verdict, decision_counts, decision_reads}
-use Rattle.status_call.proofs.Parts.{All-part_from, part_one, part_split}
-use Rattle.status_call.proofs.Runs.{not_over, fresh_more, climb, count, inside, some, run_same, part_is_run, stages_are, later_over, run_apart}
-
--- The entry that is read at a position, with its path.
-pub entry_read : (b : PathStorage) (entries : List Entry) (i : ℕ) (e : Entry) (path : List ℕ) → i < length entries → path ≡ path_in b (slice_index_or entries i e) → (d : IndexEntry) → slice_index_or (index_entries b entries) i d ≡ entry_at path (slice_index_or entries i e)
-entry_read b entries i e path l same d =
-    let it : Entry = slice_index_or entries i e in
-    get_or-map (index_entry b) entries i e d l ∙ ap (λ (p : List ℕ). entry_at p it) (sym same)
+use Rattle.status_call.proofs.IndexOrder.{same_back, same_from_path}
+use Rattle.status_call.proofs.Pieces.{IsWithin-same, IsWithin-more}
+use Rattle.status_call.proofs.Records.{IsLater, one_counts, step_of, weight_le, skipped_verdict, skipped_reads, flagged_counts, excluded_counts, conflict_verdict, conflict_counts, conflict_reads, status_verdict, decision_counts, decision_reads}
+use Rattle.status_call.proofs.Stretch.{All-part_from, part_one, part_split}
+use Rattle.status_call.proofs.ConflictRuns.{not_over, fresh_more, climb, count, inside, some, run_same, part_is_run, stages_are, later_over, run_apart}
 
 -- The properties that a step has by itself.
 pub record IsSelf {T U : Type 0} (s : Step T U) (len : ℕ) (counts : Counts) : Type 0 where

@@ -16,7 +16,7 @@ use Rattle.status_index.specs.Entries.{IndexEntry, index_entry, index_entries, s
 use Rattle.status_index.specs.FlagBits.{stage_of_bits}
 use Rattle.status_call.specs.declared.index_as_worktree.types.Conflict.{Conflict}
 use Rattle.status_call.specs.Conflicts.{IsConflict, conflict_named, conflict_of, entry_of_stage, has_stage, is_in_run, stored_of_stage}
-use Rattle.status_call.proofs.Parts.{All-take_from}
+use Rattle.status_call.proofs.Stretch.{All-take_from}
 
 option_map_or : {X Y : Type 0} (f : X → Y) (o p : Option X) → option_map f (option_or o p) ≡ option_or (option_map f o) (option_map f p)
 option_map_or f None p = refl
