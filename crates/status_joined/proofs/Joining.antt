@@ -17,11 +17,12 @@ use Rattle.status_joined.specs.declared.index_as_worktree_with_renames.error.Err
 use Rattle.status_joined.specs.declared.index_as_worktree_with_renames.rewrites.Outcome.{Outcome as RewritesOutcome}
 use Rattle.status_joined.specs.declared.index_as_worktree_with_renames.types.Options.{Options}
 use Rattle.status_joined.specs.declared.index_as_worktree_with_renames.types.Outcome.{Outcome}
+use Rattle.status_joined.specs.BothHalves.{IsHalfFault}
 use Rattle.status_joined.specs.NodeIds.{Identifying}
 use Rattle.status_joined.specs.Items.{Item, Reported}
 use Rattle.status_joined.specs.Joined.{IsListFault, IsReportedOf}
 use Rattle.status_joined.specs.JoinedTheorem.{IsFault, IsJoinedStatus, IsWhole}
-use Rattle.status_joined.specs.Listing.{HasList, IsHalfFault}
+use Rattle.status_joined.specs.Listing.{HasList}
 use Rattle.status_joined.specs.Lists.{IsList, list_cmp, unsorted}
 use Rattle.status_joined.specs.RewritingAnswers.{IsListFed}
 use Rattle.status_joined.specs.Summaries.{reported_cmp}

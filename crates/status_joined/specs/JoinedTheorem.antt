@@ -10,6 +10,7 @@ use Rattle.status_call.specs.StatusTheorem.{IsBeginning}
 use Rattle.status_call.specs.declared.index_as_worktree.types.Outcome.{Outcome as StatusOutcome}
 use Rattle.status_joined.specs.declared.index_as_worktree_with_renames.inputs.Inputs.{Inputs}
 use Rattle.status_joined.specs.declared.index_as_worktree_with_renames.types.Context.{Context}
+use Rattle.status_joined.specs.BothHalves.{IsHalfFault}
 use Rattle.status_joined.specs.Inputs.{inputs_of}
 use Rattle.status_joined.specs.JoinedQuery.{JoinedQuery}
 use Rattle.status_joined.specs.Walkings.{Walking, wanted_walk}
@@ -24,7 +25,7 @@ use Rattle.status_joined.specs.declared.index_as_worktree_with_renames.types.Out
 use Rattle.status_joined.specs.NodeIds.{Identifying}
 use Rattle.status_joined.specs.Items.{Item, Reported}
 use Rattle.status_joined.specs.Joined.{IsListFault, IsReportedOf, tracked_options}
-use Rattle.status_joined.specs.Listing.{HasList, IsHalfFault}
+use Rattle.status_joined.specs.Listing.{HasList}
 use Rattle.status_joined.specs.Summaries.{reported_cmp}
 
 module _ {T U : Type 0} (query : Query T U) (options : Options) (index : State) (interruptible : Bool) (walking : Option Walking) (ids : Identifying) (tracks : List Changed → Bool → Result (List Pair) TrackerFault → Type 0) where

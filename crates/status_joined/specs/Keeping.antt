@@ -5,7 +5,7 @@ use Rattle.status_walk.specs.declared.entry.Kind.TheVariants.{Untrackable}
 use Rattle.status_walk.specs.declared.entry.Status.{Status}
 use Rattle.status_walk.specs.declared.entry.Status.TheVariants.{Tracked}
 use Rattle.status_walk.specs.WalkedNodes.{DelegateState, Walked, walked_of}
-use Rattle.status_joined.specs.declared.kept.Kept.{Kept}
+use Rattle.status_joined.specs.declared.untracked.Kept.{Kept}
 
 abbrev pub is_untrackable : Option Kind → Bool
 is_untrackable (Some Untrackable) = true

@@ -1,4 +1,3 @@
-pub mod Beside
 pub mod BothHalves
 pub mod Changes
 pub mod Copies
@@ -20,4 +19,5 @@ pub mod RecorderItems
 pub mod RewritingAnswers
 pub mod Summaries
 pub mod TrackedHalf
+pub mod UntrackedHalf
 pub mod Walkings

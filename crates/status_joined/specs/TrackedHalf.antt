@@ -1,17 +1,18 @@
 -- The status's part of both halves: its records, or its failure.
 use Rattle.std.specs.Prelude.{◌≡◌, ◌≢◌, ℕ, ◌<◌, ◌^◌, Bool, true, false, IsTrue, List, map, All, AllPairs, Option, Some, Result, Ok, Err}
+use Rattle.std.specs.Global.{Vec}
 use Rattle.status_index.specs.declared.state.State.{State}
 use Rattle.status_index.specs.States.{entries_of, backing_of}
 use Rattle.status_compare.specs.declared.error.Error.{Error}
 use Rattle.status_compare.specs.declared.error.Error.TheVariants.{Memory, SpawnThread}
 use Rattle.status_call.specs.Outcomes.{skipped_of}
 use Rattle.status_call.specs.Query.{Query}
-use Rattle.status_call.specs.RecorderVisits.{visits_of}
+use Rattle.status_call.specs.RecorderVisits.{visit_of}
 use Rattle.status_call.specs.StatusTheorem.{IsComplete, IsFirstFault, IsStatusOfSome, NeverSpawns}
 use Rattle.status_call.specs.Visits.{Visit, finding_of, IsFaithful}
+use Rattle.status_call.specs.declared.index_as_worktree.recorder.Record.{Record}
 use Rattle.status_call.specs.declared.index_as_worktree.types.Finding.{Finding}
 use Rattle.status_call.specs.declared.index_as_worktree.types.Outcome.{Outcome}
-use Rattle.status_joined.specs.declared.tracked.Tracked.{Tracked}
 
 module _ {T U : Type 0} (query : Query T U) (index : State) where
   -- The status's records and the walk's kept nodes, or the walk's failure, or otherwise the status's. These are the records: of
@@ -33,6 +34,6 @@ module _ {T U : Type 0} (query : Query T U) (limit : Option ℕ) (index : State)
     pub first : IsTrue query.modelled → e ≢ Memory → e ≢ SpawnThread → IsFirstFault query index found e
     pub alone : IsTrue query.modelled → limit ≡ Some 1 → NeverSpawns query → e ≢ SpawnThread
 
-  abbrev pub IsRecorded : Bool → Result (Tracked T U) Error → Type 0
-  IsRecorded interruptible (Ok t) = IsTrackedHalf query index interruptible (visits_of t.recorder) t.outcome
+  abbrev pub IsRecorded : Bool → Result (Vec (Record T U) × Outcome) Error → Type 0
+  IsRecorded interruptible (Ok t) = IsTrackedHalf query index interruptible (map visit_of t.0.items) t.1
   IsRecorded interruptible (Err e) = IsTrackedFailure e

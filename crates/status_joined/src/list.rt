@@ -1,14 +1,17 @@
 //! The list of a status: its records and nodes.
 
-ghost use Rattle.std.specs.Prelude.{◌≡◌, IfOk, map};
+ghost use Rattle.std.specs.Prelude.{◌≡◌, IfOk, OnOk, map};
+ghost use Rattle.std.specs.Cmp.Lexicographic.{slice_cmp};
+ghost use Rattle.std.specs.List.Sorted.{IsPermutation, IsSorted, IsSortedByKey, IsStableByKey};
+ghost use Rattle.std.specs.Ordering.{nat_cmp};
 ghost use Rattle.status_call.specs.RecorderVisits.{visit_of};
 ghost use Rattle.status_joined.specs.Keeping.{kept_walked};
+ghost use Rattle.status_joined.specs.Items.{path_of, side_of};
 ghost use Rattle.status_joined.specs.ListItems.{item_of};
-ghost use Rattle.status_joined.specs.Lists.{unsorted, IsList};
+ghost use Rattle.status_joined.specs.Lists.{list_cmp, unsorted, IsList};
 
-use crate::Kept;
 use crate::item::ModificationOrDirwalkEntry;
-use crate::order::put_in_order;
+use crate::untracked::Kept;
 use status_call::index_as_worktree::Record;
 use status_index::{HashKind, ObjectId};
 use std::alloc::{AllocError, Global};
@@ -35,6 +38,19 @@ fn unsorted<'index, T: Drop, U: Drop>(
         })?;
     }
     Ok(list)
+}
+
+/// Sorts by path. Items of one path keep their order. So if all records come before all nodes, they do so at each path
+/// afterwards.
+fn put_in_order<T, U>(
+    items: &mut Vec<ModificationOrDirwalkEntry<'_, T, U>>,
+) -> Result<(), AllocError>
+    requires { IsSortedByKey (λ i. side_of (item_of i)) nat_cmp items.old.items }
+    ensures bag { IsPermutation items.old.items items.new.items }
+    ensures stable { IsStableByKey (λ i. path_of (item_of i)) (slice_cmp nat_cmp) items.old.items items.new.items }
+    ensures order { OnOk result (IsSorted (λ a b. list_cmp (item_of a) (item_of b)) items.new.items) }
+{
+    items.sort_by(|a, b| a.path().cmp(b.path()))
 }
 
 /// Returns the list of a status: the records in index order, followed by the kept nodes in the walk's order. With

@@ -12,7 +12,7 @@ use status_walk::{Delegate, Outcome, Walk, WalkError};
 use std::alloc::AllocError;
 
 /// Finds the nodes of a worktree that an index doesn't have.
-pub trait FindBeside {
+pub trait FindUntracked {
     /// The specification: the nodes to find, and the fault, for these entries. None if it isn't modelled.
     ghost walking: { Self → List IndexEntry → Walking };
 
@@ -37,7 +37,7 @@ pub struct Walker<'w, W, K, P> {
     pub pathspec: P,
 }
 
-impl<'w, W: Worktree, K: Walk<W>, P: Pathspec> FindBeside for Walker<'w, W, K, P> {
+impl<'w, W: Worktree, K: Walk<W>, P: Pathspec> FindUntracked for Walker<'w, W, K, P> {
     ghost walking = { λ w entries. K.walking w.walk w.worktree.now entries (P.prefix w.pathspec) (P.included w.pathspec) };
 
     fn find<D: Delegate>(&mut self, index: &State, delegate: &mut D) -> Result<Outcome, WalkError> {
@@ -56,7 +56,7 @@ pub(crate) fn wanted_walker<'w, W: Worktree, K: Walk<W> + Drop, P: Pathspec>(
     walk: K,
     pathspec: &P,
 ) -> Result<Option<Walker<'w, W, K, P>>, AllocError>
-    ensures { IfOk result (IsWantedWalker ⟦<Walker<'w, W, K, P> as FindBeside>⟧.walking wanted
+    ensures { IfOk result (IsWantedWalker ⟦<Walker<'w, W, K, P> as FindUntracked>⟧.walking wanted
         (walker_of worktree.entry walk pathspec.now)) }
 {
     if !wanted {

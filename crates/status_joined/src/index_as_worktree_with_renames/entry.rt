@@ -1,4 +1,4 @@
-//! The entries that a collector gets.
+//! The entries that a collector gets, and what happened to their paths.
 
 ghost use Rattle.std.specs.Prelude.{◌≡◌};
 ghost use Rattle.bstr.specs.BStr.{bstr_bytes};
@@ -6,10 +6,9 @@ ghost use Rattle.status_joined.specs.Items.{path_of};
 ghost use Rattle.status_joined.specs.Summaries.{summary_of, status_summary, source_path, destination_path};
 ghost use Rattle.status_joined.specs.Entries.{reported_entry, reported_source};
 
-use crate::index_as_worktree_with_renames::summary::Summary;
 use bstr::BStr;
 use status_call::index_as_worktree::{Change, EntryStatus};
-use status_index::{self, ObjectId};
+use status_index::ObjectId;
 use status_walk::{DirEntry, Status};
 
 /// A difference between the index and the worktree, as a collector gets it.
@@ -18,9 +17,9 @@ pub enum Entry<'index, T, U> {
     /// The status of a path of the index.
     Modification {
         /// The entries of the whole index.
-        entries: &'index [index::Entry],
+        entries: &'index [status_index::Entry],
         /// The path's entry.
-        entry: &'index index::Entry,
+        entry: &'index status_index::Entry,
         /// The entry's position in `entries`.
         entry_index: usize,
         /// The path, from the worktree's root.
@@ -58,9 +57,9 @@ pub enum RewriteSource<'index, T, U> {
     /// An entry of the index. If it was renamed, the worktree no longer has a file at its path.
     RewriteFromIndex {
         /// The entries of the whole index.
-        index_entries: &'index [index::Entry],
+        index_entries: &'index [status_index::Entry],
         /// The entry. Its id is that of the content in the index.
-        source_entry: &'index index::Entry,
+        source_entry: &'index status_index::Entry,
         /// The entry's position in `index_entries`.
         source_entry_index: usize,
         /// The entry's path, from the worktree's root.
@@ -78,6 +77,28 @@ pub enum RewriteSource<'index, T, U> {
         /// The id of the node's content.
         source_dirwalk_entry_id: ObjectId,
     },
+}
+
+/// What happened to a path of the worktree since it was put into the index.
+#[derive(Clone, Copy, Debug, PartialEq, Eq, PartialOrd, Ord, Hash)]
+pub enum Summary {
+    /// The index has it, and the worktree has no file there.
+    Removed,
+    /// The worktree has it, and the index doesn't: an untracked node.
+    Added,
+    /// Its content changed, or whether it is executable. For a submodule: anything that it reports as a change.
+    Modified,
+    /// A node of another type is there, for example a link in place of a file.
+    TypeChange,
+    /// A file or link that the index has under another path, where it no longer is. Reported if renames are tracked.
+    Renamed,
+    /// A file or link with the content of another path, where it still is. Reported if a tracker finds copies.
+    Copied,
+    /// The index has only its path, with the mark that it is intended to be added (`git add -N`), and the worktree has
+    /// it. It wasn't compared.
+    IntentToAdd,
+    /// The index has it at a stage of a merge. It wasn't looked up in the worktree.
+    Conflict,
 }
 
 impl<'index, T, U> RewriteSource<'index, T, U> {

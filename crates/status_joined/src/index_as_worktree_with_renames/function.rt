@@ -7,7 +7,9 @@ use crate::index_as_worktree_with_renames::exact_clone::ExactClone;
 use crate::index_as_worktree_with_renames::inputs::{Ask, Inputs};
 use crate::index_as_worktree_with_renames::joined_by::joined_by;
 use crate::index_as_worktree_with_renames::recorder::VisitEntry;
-use crate::index_as_worktree_with_renames::types::{Context, DirwalkContext, Options, Outcome};
+use crate::index_as_worktree_with_renames::types::{
+    Call, Context, DirwalkContext, Options, Outcome,
+};
 use status_base::worktree::{Find, Lister, Pathspec, SubmoduleStatus, ToGit, Worktree};
 use status_call::index_as_worktree::inputs;
 use status_compare::CompareBlobs;
@@ -96,5 +98,10 @@ where
         tracker,
         should_interrupt,
     };
-    joined_by(rt, alloc, index, inputs, options, collector)
+    let call = Call {
+        alloc,
+        index,
+        options,
+    };
+    joined_by(rt, &call, inputs, collector)
 }

@@ -2,7 +2,7 @@
 
 ghost use Rattle.status_joined.specs.JoinedQuery.{JoinedQuery};
 
-use crate::walker::{FindBeside, Walker};
+use crate::walker::{FindUntracked, Walker};
 use status_base::worktree::{Find, Lister, Pathspec, SubmoduleStatus, ToGit, Worktree};
 use status_call::index_as_worktree::inputs;
 use status_compare::CompareBlobs;
@@ -56,7 +56,7 @@ impl<
 
     ghost query = { λ i. record {
       status = ⟦<inputs::Inputs<'w, W, C, S, O, P, T, L> as inputs::Ask>⟧.query i.status;
-      walking = ⟦<Walker<'w, W, K, P> as FindBeside>⟧.walking (walker_of i.status.worktree i.walk i.status.pathspec);
+      walking = ⟦<Walker<'w, W, K, P> as FindUntracked>⟧.walking (walker_of i.status.worktree i.walk i.status.pathspec);
       identifying = λ kind. identifying W.modelled W.lstat_of W.open_of W.target_of T.conversion kind i.status.worktree.now i.status.filter;
       pairs = X.tracks i.tracker;
       interruptible = is_some i.should_interrupt;

@@ -7,21 +7,19 @@ ghost use Rattle.status_joined.specs.JoinedTheorem.{IsJoinedReport};
 use crate::identifier::identifier_of;
 use crate::index_as_worktree_with_renames::error::Error;
 use crate::index_as_worktree_with_renames::exact_clone::ExactClone;
+use crate::index_as_worktree_with_renames::halves::list_halves;
 use crate::index_as_worktree_with_renames::inputs::{Ask, Inputs};
-use crate::index_as_worktree_with_renames::listing::list_halves;
 use crate::index_as_worktree_with_renames::recorder::VisitEntry;
 use crate::index_as_worktree_with_renames::rewriting::report_list;
-use crate::index_as_worktree_with_renames::types::{Options, Outcome};
+use crate::index_as_worktree_with_renames::types::{Call, Options, Outcome};
 use crate::walker::wanted_walker;
 use status_base::worktree::{Find, Lister, Pathspec, SubmoduleStatus, ToGit, Worktree};
 use status_call::index_as_worktree;
 use status_call::index_as_worktree::decider::Decider;
 use status_call::index_as_worktree::inputs::Settings;
 use status_compare::CompareBlobs;
-use status_index::State;
 use status_rewrites::Tracker;
 use status_walk::Walk;
-use std::alloc::Global;
 use std::sync::Wait;
 use std::thread::Threads;
 
@@ -39,7 +37,7 @@ fn tracked_options(options: &Options) -> index_as_worktree::Options
     }
 }
 
-/// Does the same as `index_as_worktree_with_renames`, with its inputs in one value.
+/// Does the same as `index_as_worktree_with_renames`, with its interfaces in one value.
 ///
 /// # Errors
 /// Those of that call.
@@ -59,19 +57,18 @@ pub(crate) fn joined_by<
     X: Tracker + Drop,
 >(
     rt: &R,
-    alloc: Global,
-    index: &'index State,
+    call: &Call<'index>,
     inputs: Inputs<'w, W, C, S, O, P, T, L, K, X>,
-    options: Options,
     collector: &mut V,
 ) -> Result<Outcome, Error>
 where
     W::File: Send,
     C::Output: Send + ExactClone + 'index,
     S::Output: Send + ExactClone + 'index,
-    ensures { IsJoinedReport (⟦<Inputs<'w, W, C, S, O, P, T, L, K, X> as Ask>⟧.query inputs.entry) options index.now
+    ensures { IsJoinedReport (⟦<Inputs<'w, W, C, S, O, P, T, L, K, X> as Ask>⟧.query inputs.entry) call.now.options call.now.index.now
         V.fails (V.visits collector.old) result (V.visits collector.new) }
 {
+    let options = &call.options;
     let worktree = inputs.status.worktree;
     let walk = inputs.walk;
     let Ok(finder) = wanted_walker(options.dirwalk, worktree, walk, &inputs.status.pathspec) else {
@@ -80,25 +77,16 @@ where
     let Ok(ids) = identifier_of(options.object_hash, worktree, &inputs.status.filter) else {
         return Err(Error::Memory);
     };
-    let settings = Settings::of(&tracked_options(&options), index);
-    let decider = Decider::new(alloc, inputs.status, settings);
-    let interrupt = inputs.should_interrupt;
-    let listing = match list_halves(rt, alloc, index, finder, decider, &options, interrupt) {
-        Ok(listing) => listing,
+    let settings = Settings::of(&tracked_options(options), call.index);
+    let decider = Decider::new(call.alloc, inputs.status, settings);
+    let (items, outcome) = match list_halves(rt, call, finder, decider, inputs.should_interrupt) {
+        Ok(listed) => listed,
         Err(error) => return Err(error),
     };
-    match report_list(
-        alloc,
-        &ids,
-        inputs.tracker,
-        &options,
-        listing.items,
-        collector,
-    ) {
+    match report_list(call, &ids, inputs.tracker, items, collector) {
         Ok(rewrites) => Ok(Outcome {
-            tracked_file_modification: listing.tracked,
-            dirwalk: listing.walked,
             rewrites,
+            ..outcome
         }),
         Err(error) => Err(error),
     }

@@ -13,11 +13,9 @@ use crate::index_as_worktree_with_renames::exact_clone::ExactClone;
 use crate::index_as_worktree_with_renames::feed::{feed_items, feed_rewritten};
 use crate::index_as_worktree_with_renames::recorder::VisitEntry;
 use crate::index_as_worktree_with_renames::rewrites::Outcome;
-use crate::index_as_worktree_with_renames::types::Options;
+use crate::index_as_worktree_with_renames::types::Call;
 use crate::{ModificationOrDirwalkEntry, identify};
-use status_index::HashKind;
 use status_rewrites::{Pair, Rewrites, Rewritten, Tracker, rewrite};
-use std::alloc::Global;
 
 /// A list with its renames and copies, and their numbers.
 #[derive(Drop)]
@@ -44,17 +42,16 @@ fn count(pairs: &[Pair]) -> Outcome
 /// The fault of the first node whose id can't be computed; or the tracker's refusal, or the first of its pairs that
 /// breaks a rule. `Error::Memory` if an allocation fails.
 fn rewrite_list<'index, N: Identify, X: Tracker, T: ExactClone, U: ExactClone>(
-    alloc: Global,
-    kind: HashKind,
+    call: &Call<'_>,
     ids: &N,
     tracker: &mut X,
     rewrites: Rewrites,
     mut items: Vec<ModificationOrDirwalkEntry<'index, T, U>>,
 ) -> Result<RewrittenList<'index, T, U>, Error>
-    ensures answer { IsRewritingAnswer (N.identifying ids.now) kind (X.tracks tracker.old) rewrites items.entry.items result }
+    ensures answer { IsRewritingAnswer (N.identifying ids.now) call.now.options.object_hash (X.tracks tracker.old) rewrites items.entry.items result }
     ensures led { IfOk result (λ r. All (IsLed is_walked) (map (map_rewritten item_of) r.entries.items)) }
 {
-    if let Err(error) = identify(alloc, kind, ids, &mut items) {
+    if let Err(error) = identify(call.alloc, call.options.object_hash, ids, &mut items) {
         return Err(id_error(error));
     }
     let pairs = match tracker.pairs(items.as_slice(), rewrites) {
@@ -62,7 +59,7 @@ fn rewrite_list<'index, N: Identify, X: Tracker, T: ExactClone, U: ExactClone>(
         Err(error) => return Err(Error::from(error)),
     };
     let outcome = count(pairs.as_slice());
-    match rewrite(alloc, items, pairs.as_slice()) {
+    match rewrite(call.alloc, items, pairs.as_slice()) {
         Ok(entries) => Ok(RewrittenList { entries, outcome }),
         Err(refused) => Err(refused_error(refused)),
     }
@@ -75,27 +72,25 @@ fn rewrite_list<'index, N: Identify, X: Tracker, T: ExactClone, U: ExactClone>(
 /// Those of `rewrite_list`. Then nothing was reported. `Error::Memory` also if the collector is out of memory. Then the
 /// entries before the one that it didn't take were reported.
 pub(crate) fn report_list<'index, N: Identify, X: Tracker + Drop, V: VisitEntry<'index>>(
-    alloc: Global,
+    call: &Call<'_>,
     ids: &N,
     mut tracker: X,
-    options: &Options,
     items: Vec<ModificationOrDirwalkEntry<'index, V::ContentChange, V::SubmoduleStatus>>,
     collector: &mut V,
 ) -> Result<Option<Outcome>, Error>
 where
     V::ContentChange: ExactClone + Drop,
     V::SubmoduleStatus: ExactClone + Drop,
-    ensures { IsListFedBy (N.identifying ids.now) (X.tracks tracker) options.now (map item_of items.entry.items)
+    ensures { IsListFedBy (N.identifying ids.now) (X.tracks tracker) call.now.options (map item_of items.entry.items)
         V.fails (V.visits collector.old) result (V.visits collector.new) }
 {
-    let Some(rewrites) = options.rewrites else {
+    let Some(rewrites) = call.options.rewrites else {
         return match feed_items(items, collector) {
             Ok(()) => Ok(None),
             Err(_refused) => Err(Error::Memory),
         };
     };
-    let kind = options.object_hash;
-    let list = match rewrite_list(alloc, kind, ids, &mut tracker, rewrites, items) {
+    let list = match rewrite_list(call, ids, &mut tracker, rewrites, items) {
         Ok(list) => list,
         Err(error) => return Err(error),
     };

@@ -2,8 +2,9 @@
 
 use crate::index_as_worktree_with_renames::rewrites;
 use status_call::index_as_worktree;
-use status_index::HashKind;
+use status_index::{HashKind, State};
 use status_rewrites::Rewrites;
+use std::alloc::Global;
 use std::sync::atomic::AtomicBool;
 
 /// How the entries are sorted.
@@ -52,6 +53,14 @@ impl Default for Options {
             rewrites: None,
         }
     }
+}
+
+/// What each part of a call needs.
+#[derive(Drop)]
+pub(crate) struct Call<'index> {
+    pub(crate) alloc: Global,
+    pub(crate) index: &'index State,
+    pub(crate) options: Options,
 }
 
 /// The interface that the walk needs.

@@ -1,4 +1,5 @@
-use Rattle.std.proofs.Common.{◌++◌, ap, ◌∙◌}
+use Rattle.std.proofs.Common.{◌++◌, ap, ◌∙◌, map, Err}
+use Rattle.status_call.specs.Visits.{finding_of}
 use Rattle.status_joined.proofs.Tracking.{none_of}
 use Rattle.status_joined.proofs.tracked.record_tracked.Goals as goal
 
@@ -14,3 +15,10 @@ returns-in-Ok g c =
       uninterrupted = λ unset. c.in-Ok.ensures.uninterrupted (none_of _ unset);
       fits = m.fits;
     }
+
+pub returns : goal.returns
+returns g c = record {
+  found = map finding_of c.in-Err.ensures.all.more;
+  first = c.in-Err.ensures.all.fault;
+  alone = λ modelled one never same. c.in-Err.ensures.alone modelled (c.of-limits.ensures.thread_limit ∙ one) never (ap Err same);
+}

@@ -11,7 +11,7 @@ returns-in_default-identifier_of g c = quietly _ _ _ _ _ _ _ _ _ _ tt
 pub returns-in-Err : goal.returns-in-Err
 returns-in-Err g c =
     let decider = rw (c.of-settings.ensures, c.tracked_options.ensures) at c.new-decider.ensures in
-    let walk = c.in-Ok.ensures (index_of c.args.index.now) in
+    let walk = c.in-Ok.ensures (index_of c.args.call.now.index.now) in
     let ids = c.in-Ok-identifier_of.ensures in
     joined_at _ _ _ _ _ _ _ _ _ decider _ walk _ ids _ _ _
     (unlisted _ _ _ _ _ _ _ _ _ c.in-Err.error c.in-Err.ensures)
@@ -19,7 +19,7 @@ returns-in-Err g c =
 pub returns-in-Ok-report_list : goal.returns-in-Ok-report_list
 returns-in-Ok-report_list g c =
     let decider = rw (c.of-settings.ensures, c.tracked_options.ensures) at c.new-decider.ensures in
-    let walk = c.in-Ok.ensures (index_of c.args.index.now) in
+    let walk = c.in-Ok.ensures (index_of c.args.call.now.index.now) in
     let ids = c.in-Ok-identifier_of.ensures in
     joined_at _ _ _ _ _ _ _ _ _ decider _ walk _ ids _ _ _
     (reported_all _ _ _ _ _ _ _ _ _ _ _ c.in-Ok-list_halves.ensures _ _ _ c.in-Ok-report_list.ensures)
@@ -27,7 +27,7 @@ returns-in-Ok-report_list g c =
 pub returns : goal.returns
 returns g c =
     let decider = rw (c.of-settings.ensures, c.tracked_options.ensures) at c.new-decider.ensures in
-    let walk = c.in-Ok.ensures (index_of c.args.index.now) in
+    let walk = c.in-Ok.ensures (index_of c.args.call.now.index.now) in
     let ids = c.in-Ok-identifier_of.ensures in
     joined_at _ _ _ _ _ _ _ _ _ decider _ walk _ ids _ _ _
     (unreported _ _ _ _ _ _ _ _ _ _ _ c.in-Ok-list_halves.ensures _ _ _ c.in-Err-report_list.ensures)

@@ -9,7 +9,7 @@ pub returns-in-Err-clause-answer : goal.returns-in-Err-clause-answer
 returns-in-Err-clause-answer g c =
     let ids = g.N.Identify.identifying c.args.ids.now in
     rw c.id_error.ensures
-    (id_fault ids c.args.kind (g.X.Tracker.tracks c.args.tracker.now) c.args.rewrites.track_empty (map item_of c.args.items.items) c.in-Err.error c.in-Err.ensures.ids)
+    (id_fault ids c.args.call.now.options.object_hash (g.X.Tracker.tracks c.args.tracker.now) c.args.rewrites.track_empty (map item_of c.args.items.items) c.in-Err.error c.in-Err.ensures.ids)
 
 pub returns-in-Err-pairs-clause-answer : goal.returns-in-Err-pairs-clause-answer
 returns-in-Err-pairs-clause-answer g c =
@@ -28,7 +28,7 @@ returns-in-Ok-rewrite-clause-answer g c =
 pub returns-in-Ok-rewrite-clause-led : goal.returns-in-Ok-rewrite-clause-led
 returns-in-Ok-rewrite-clause-led g c =
     let ids = g.N.Identify.identifying c.args.ids.now in
-    destinations_led ids c.args.kind (g.X.Tracker.tracks c.args.tracker.now) c.args.rewrites.track_empty (map item_of c.args.items.items)
+    destinations_led ids c.args.call.now.options.object_hash (g.X.Tracker.tracks c.args.tracker.now) c.args.rewrites.track_empty (map item_of c.args.items.items)
     c.identify.new.items.items c.as_slice.result.now c.as_slice.ensures.value
     (record { known = c.in_default.ensures.ids; same = c.in_default.ensures.same }) c.in-Ok.pairs.items c.in-Ok.ensures _
     (λ x y k. same_copy g.met.T.ExactClone.clones_are_equal g.met.U.ExactClone.clones_are_equal (item_of x) (item_of y) k) c.in-Ok-rewrite.entries.items

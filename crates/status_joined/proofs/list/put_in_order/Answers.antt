@@ -7,7 +7,7 @@ use Rattle.std.specs.Ordering.{is_lt, nat_cmp}
 use Rattle.status_joined.specs.Items.{path_of, side_of}
 use Rattle.status_joined.specs.ListItems.{item_of}
 use Rattle.status_joined.proofs.Orders.{sorted_by_both}
-use Rattle.status_joined.proofs.order.put_in_order.Goals as goal
+use Rattle.status_joined.proofs.list.put_in_order.Goals as goal
 
 pub returns-clause-stable : goal.returns-clause-stable
 returns-clause-stable g c =

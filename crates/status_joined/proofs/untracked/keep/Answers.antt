@@ -1,6 +1,6 @@
 use Rattle.std.proofs.Common.{rules, sym, ◌∙◌}
 use Rattle.std.proofs.lemmas.List.{map-append}
-use Rattle.status_joined.proofs.keeper.keep.Goals as goal
+use Rattle.status_joined.proofs.untracked.keep.Goals as goal
 
 -- The node is kept.
 pub returns-in_ok-push : goal.returns-in_ok-push
