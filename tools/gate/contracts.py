@@ -18,7 +18,7 @@ from pathlib import Path
 
 TOP = Path(__file__).resolve().parents[2]
 # Crates whose functions are called by nobody: they hold tests and examples.
-WITHOUT_CALLERS = ("status_callers", "status_tests")
+WITHOUT_CALLERS = ("program_tests", "status_callers", "status_tests")
 STRING = r'b?"(?:\\.|[^"\\])*"'
 # What a scan passes over whole: a string, a character, a lifetime, a comment.
 PASSED = re.compile(rf"{STRING}|b?'(?:\\.[^']*|[^'\\])'|'\w+|//[^\n]*", re.S)

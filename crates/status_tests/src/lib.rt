@@ -1,8 +1,8 @@
 //! Tests of what no clause states, and README's example.
 //!
 //! Begin at `example`. Each folder tests a layer, from the bottom up: `board`, `index`, `base`, `compare`, `call`,
-//! `walk`, `joined` (with renames and copies), `world` (with the stored index) and `cli`. Its `mod.rt` says where to
-//! begin. `support` has what several of them use.
+//! `walk`, `joined` (with renames and copies) and `world` (with the stored index). Its `mod.rt` says where to begin.
+//! `support` has what several of them use.
 #![tactic(auto)]
 
 #[cfg(test)]
@@ -11,8 +11,6 @@ mod base;
 mod board;
 #[cfg(test)]
 mod call;
-#[cfg(test)]
-mod cli;
 #[cfg(test)]
 mod compare;
 #[cfg(test)]

@@ -6,6 +6,7 @@ use crate::support::contents::Content;
 use bstr::BStr;
 use gix_status::index::{Entry, Flags, Mode, ObjectId, PathStorage, State};
 use gix_status::index_as_worktree::{Conflict, ConflictIndexEntry, EntryStatus, Record};
+use status_call::index_as_worktree::considered::Considered;
 use status_call::index_as_worktree::piece::piece_end;
 use std::alloc::{AllocError, Global};
 use std::sync::Wait;
@@ -224,9 +225,9 @@ const PIECES: [PieceRow; 3] = [
 
 /// Returns where a piece of `chunk` entries ends that begins at `from`. None if no entry is there.
 fn end_at(index: &State, from: usize, chunk: usize) -> Option<usize> {
-    let entries = index.entries();
-    if from < entries.len() {
-        Some(piece_end(entries, index.path_backing(), from, chunk))
+    if from < index.entries().len() {
+        let considered = Considered::of(index, BStr::new(b""));
+        Some(piece_end(&considered, from, chunk))
     } else {
         None
     }

@@ -3,6 +3,7 @@
 use crate::call::inputs::{EntryRow, index};
 use crate::call::reports::is_removed;
 use crate::support::contents::Content;
+use bstr::BStr;
 use gix_status::index::{Mode, ObjectId, State, stat};
 use gix_status::index_as_worktree::traits::HashEq;
 use gix_status::index_as_worktree::{Capabilities, Error, Record, Recorder};
@@ -99,12 +100,11 @@ static ROWS: [Row; 5] = [
 
 // Compares an index with an empty worktree, in pieces of one entry.
 fn report_rounds<'index, R: Threads + Wait>(
-    rt: &R,
-    alloc: Global,
     index: &'index State,
-    workers: &Workers<'_>,
+    workers: &Workers<'_, R>,
     recorder: &mut Recorder<'index, ObjectId, ()>,
 ) -> Result<Progress, Error> {
+    let alloc = workers.alloc;
     let worktree = MemoryWorktree::new(alloc);
     let inputs = Inputs {
         worktree: &worktree,
@@ -122,14 +122,8 @@ fn report_rounds<'index, R: Threads + Wait>(
         fscache: false,
     };
     let decider = Decider::new(alloc, inputs, settings);
-    let entries = index.entries();
-    let considered = Considered {
-        entries,
-        backing: index.path_backing(),
-        start: 0,
-        end: entries.len(),
-    };
-    run_rounds(rt, alloc, &considered, 1, workers, &decider, recorder)
+    let considered = Considered::of(index, BStr::new(b""));
+    run_rounds(&considered, 1, workers, &decider, recorder)
 }
 
 // Returns whether records are of the first entries of an index, in order, and report that their files are gone.
@@ -159,21 +153,35 @@ impl Row {
     }
 }
 
+// Returns the workers of a row, or None if there can't be as many.
+fn workers<'a, R>(
+    rt: &'a R,
+    alloc: Global,
+    row: &Row,
+    interrupt: Option<&'a AtomicBool>,
+) -> Option<Workers<'a, R>> {
+    if row.most < 1 || row.most > 64 {
+        return None;
+    }
+    Some(Workers {
+        rt,
+        alloc,
+        most: row.most,
+        stack_size: row.too_large.then_some(usize::MAX),
+        interrupt,
+    })
+}
+
 // Returns whether rounds end as their row says.
 fn is_right<R: AllocGlobal + Threads + Wait>(rt: &R, row: &Row) -> Result<bool, Fail> {
     let alloc = rt.alloc();
     let index = index(alloc, row.entries)?;
-    if row.most < 1 || row.most > 64 {
-        return Ok(false);
-    }
     let flag = AtomicBool::new(row.is_set);
-    let workers = Workers {
-        most: row.most,
-        stack_size: row.too_large.then_some(usize::MAX),
-        interrupt: Some(&flag),
+    let Some(workers) = workers(rt, alloc, row, Some(&flag)) else {
+        return Ok(false);
     };
     let mut recorder = Recorder::new(alloc);
-    let answer = report_rounds(rt, alloc, &index, &workers, &mut recorder);
+    let answer = report_rounds(&index, &workers, &mut recorder);
     Ok(row.ends(&answer, &recorder.records))
 }
 

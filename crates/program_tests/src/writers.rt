@@ -1,6 +1,6 @@
 //! The commands over outputs that fail, or take few bytes at a call.
 
-use crate::cli::outputs::{Fault, Output};
+use crate::outputs::{Fault, Output};
 use status_cli::{run_replay, run_status};
 use std::alloc::{AllocError, Global};
 use std::io::{ErrorKind, Write};
