@@ -3,72 +3,48 @@
 
     python3 bench/dirty.py crates/git_dirty/out/git_dirty FOLDER... [--runs 31]
 
-Each folder is measured twice: clean, and touched, with another time of modification of each file, so that each is hashed.
-The first columns have the least processor time (user and system) of the runs with one thread each, in milliseconds, and the
+Each folder is measured clean, and then touched, with another time of modification of each file, so that each is read. The
+first columns have the least processor time (user and system) of the runs with one thread each, in milliseconds, and the
 quotient of both. The next ones have the least time on the clock with the usual settings of both. The last ones have the
-greatest peak of memory, in MB.
+greatest peak of memory of the runs with one thread, in MB.
 """
 
-import argparse
 import os
-import subprocess
-import time
 
-# git writes nothing to the repository.
-ENVIRONMENT = dict(os.environ, GIT_OPTIONAL_LOCKS="0")
+from folder import STATES
+from turns import arguments_of, in_turns
 
-
-def ran(command):
-    """Runs a command. Returns its processor time and its time on the clock in milliseconds, and its peak of memory in MB."""
-    begun = time.perf_counter()
-    child = subprocess.Popen(command, stdout=subprocess.DEVNULL, env=ENVIRONMENT)
-    _, status, used = os.wait4(child.pid, 0)
-    child.returncode = os.waitstatus_to_exitcode(status)
-    clock = time.perf_counter() - begun
-    if child.returncode not in (0, 1):
-        raise SystemExit(f"{command[0]} ended with exit status {child.returncode}")
-    return (used.ru_utime + used.ru_stime) * 1000, clock * 1000, used.ru_maxrss / 1024
+COLUMNS = ["folder", *(f"{column} | git | quotient" for column in ("one thread, ms", "clock, ms", "MB"))]
 
 
-def compared(ours, gits, runs):
-    """Runs two commands in turns. Returns the results of each."""
-    pairs = [(ran(ours), ran(gits)) for _ in range(runs)]
-    return [pair[0] for pair in pairs], [pair[1] for pair in pairs]
+def cells(ours, gits):
+    """Returns the cells of a row for two figures, and their quotient."""
+    return [f"{ours:.1f}", f"{gits:.1f}", f"{ours / gits:.2f}"]
 
 
-def touch(top):
-    """Changes the time of modification of each file that git tracks."""
-    names = subprocess.run(["git", "-C", top, "ls-files", "-z"], stdout=subprocess.PIPE, check=True).stdout
-    for name in names.split(b"\0")[:-1]:
-        os.utime(os.path.join(os.fsencode(top), name), (1_500_000_000, 1_500_000_000))
-
-
-def measure(program, top, runs):
-    """Returns the cells of a folder: two times and their quotient, for processor, clock and memory."""
-    status = ["git", "-C", top, "status", "--porcelain", "-uno", "--no-renames"]
-    alone = [*status[:1], "-c", "core.preloadIndex=false", *status[1:]]
-    one, git_one = compared([program, "-C", top, "--threads", "1"], alone, runs)
-    usual, git_usual = compared([program, "-C", top], status, runs)
-    cells = []
-    for ours, gits, column, pick in ((one, git_one, 0, min), (usual, git_usual, 1, min), (one, git_one, 2, max)):
-        least, gits_least = pick(run[column] for run in ours), pick(run[column] for run in gits)
-        cells += [f"{least:.1f}", f"{gits_least:.1f}", f"{least / gits_least:.2f}"]
-    return cells
+def measured(program, top, runs):
+    """Returns the cells of a folder: processor time, time on the clock, and memory."""
+    ours = [program, "-C", top]
+    gits = ["-C", top, "status", "--porcelain", "-uno", "--no-renames"]
+    # git dirty ends with 1 if a file differs.
+    alone = {"ours": [*ours, "--threads", "1"], "git": ["git", "-c", "core.preloadIndex=false", *gits]}
+    one = in_turns(alone, runs, (0, 1))
+    usual = in_turns({"ours": ours, "git": ["git", *gits]}, runs, (0, 1))
+    processor = cells(*(min(run.processor for run in runs) for runs in one.values()))
+    clock = cells(*(min(run.clock for run in runs) for runs in usual.values()))
+    memory = cells(*(max(run.memory for run in runs) for runs in one.values()))
+    return processor + clock + memory
 
 
 def main():
-    parser = argparse.ArgumentParser(description=__doc__, formatter_class=argparse.RawDescriptionHelpFormatter)
-    parser.add_argument("program")
-    parser.add_argument("folders", nargs="+")
-    parser.add_argument("--runs", type=int, default=31)
-    arguments = parser.parse_args()
-    print("| folder | one thread, ms | git | quotient | clock, ms | git | quotient | MB | git | quotient |")
-    print("|---|---|---|---|---|---|---|---|---|---|")
-    for kind in ("clean", "touched"):
+    arguments = arguments_of(__doc__, "git_dirty", 31).parse_args()
+    print("|", " | ".join(COLUMNS), "|")
+    print("|" + "---|" * 10)
+    for state, bring in STATES.items():
         for top in arguments.folders:
-            if kind == "touched":
-                touch(top)
-            print("|", f"{os.path.basename(top)}, {kind}", "|", " | ".join(measure(arguments.program, top, arguments.runs)), "|")
+            bring(top)
+            row = measured(arguments.program, top, arguments.runs)
+            print("|", " | ".join([f"{os.path.basename(top)}, {state}", *row]), "|", flush=True)
 
 
 if __name__ == "__main__":

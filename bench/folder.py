@@ -10,6 +10,7 @@ import argparse
 import os
 import subprocess
 import sys
+import time
 
 
 def path_of(number):
@@ -26,6 +27,27 @@ def make(top, count):
         os.utime(path, (1700000000, 1700000000))
     for words in (["init", "-q"], ["add", "."], ["update-index", "--refresh"]):
         subprocess.run(["git", "-C", top, *words], check=True)
+
+
+def tracked(top):
+    """Returns the paths of the index, each with a zero byte after it."""
+    return subprocess.run(["git", "-C", top, "ls-files", "-z"], stdout=subprocess.PIPE, check=True).stdout
+
+
+def clean(top):
+    """Stores the stats of all files in the index, so that each file is as the index has it."""
+    subprocess.run(["git", "-C", top, "update-index", "-q", "--refresh"], check=True)
+
+
+def touch(top):
+    """Changes the time of modification of each file of the index, so that each has to be read."""
+    earlier = time.time() - 3600
+    for path in tracked(top).split(b"\0")[:-1]:
+        os.utime(os.path.join(os.fsencode(top), path), (earlier, earlier))
+
+
+# Brings a repository into a state, by the state's name.
+STATES = {"clean": clean, "touched": touch}
 
 
 def main():

@@ -1,32 +1,37 @@
 #!/usr/bin/env python3
-"""Runs the status of a folder while others change it, and counts how often a file outside was opened.
+"""Runs status_program over a folder while others change it, and counts how often a file outside was opened.
 
-    python3 bench/races.py crates/status_program/out/status_program [--runs 2000]
+    python3 tools/stress/swap_folders.py [--runs 2000]
 
 Files are rewritten, removed and made again, and folders are swapped for links that lead outside, to files of the same
 names. Each run has to end with status 0 or 1. Its lines have ascending index positions and counts that add up, or there
-is one line of a fault. Then as many runs are made while nothing changes, with a link in place of one folder: no file
-outside may be opened. The exit status is 0 if all this is so. It needs Linux: openings are counted by inotify.
+is one line of a fault. Then as many runs are made while nothing changes, with a link in place of one folder: each has to
+end with status 0, and no file outside may be opened.
+
+Prints how many runs ended in which way. The exit status is 0 if all this is so, 1 if it isn't, and 2 if the program can't
+be run. The environment's STATUS_PROGRAM names the built program; without it that of this checkout is run. It needs Linux:
+openings are counted by inotify.
 """
 
 import argparse
 import ctypes
 import json
 import os
-import pathlib
 import random
 import re
 import struct
 import sys
 import tempfile
-import threading
+from dataclasses import dataclass
+from multiprocessing import Event, Process
 
-sys.path.insert(0, str(pathlib.Path(__file__).resolve().parent.parent / "tools"))
+sys.path.insert(0, os.path.dirname(os.path.dirname(os.path.abspath(__file__))))
 
-from support.programs import Runner
+from stress.seeds import end
+from support.programs import STATUS_PROGRAM, Runner
+from support.repositories import FOO, write
 
 FOLDERS, FILES = 10, 20
-FOO = "19102815663d23f8b75a47e7a01965dcdc96468c"
 IN_OPEN, IN_NONBLOCK = 0x20, 0o4000
 TOTAL = re.compile(r"total: to process (\d+), processed (\d+), skipped 0, lstat (\d+), .* read (\d+), bytes \d+")
 
@@ -38,10 +43,10 @@ class Openings:
         libc = ctypes.CDLL(None, use_errno=True)
         self.events = libc.inotify_init1(IN_NONBLOCK)
         if self.events < 0 or libc.inotify_add_watch(self.events, os.fsencode(folder), IN_OPEN) < 0:
-            sys.exit("refused: there is no inotify")
+            raise OSError(ctypes.get_errno(), "no inotify")
 
     def count(self):
-        """Returns how many openings there were since the last call."""
+        """Returns how many openings there were since the last call. Openings of one file in a row may count as one."""
         found = 0
         while True:
             try:
@@ -53,12 +58,6 @@ class Openings:
                 # An opening of the folder itself has no name.
                 found += length > 0
                 events = events[16 + length :]
-
-
-def write(path, text):
-    """Writes a file."""
-    with open(path, "w", encoding="utf-8") as out:
-        out.write(text)
 
 
 def change(folder, name, text):
@@ -98,7 +97,7 @@ def disturb(top, outside, ended, seed):
         if draws.random() < 0.4:
             change(folder, f"{file:02}", draws.choice([b"foo", b"bar", b"bars", b"", None]))
         elif number % 2 == seed % 2:
-            # Each thread swaps folders of its own.
+            # Each process swaps folders of its own.
             swap(folder, outside)
 
 
@@ -127,15 +126,36 @@ def is_right(ended):
     return process == processed == FOLDERS * FILES and read <= looks <= processed and len(places) <= processed
 
 
-def runs(runner, profile, count):
-    """Runs the program so many times. Returns how many runs succeeded, failed, and were wrong."""
-    ends = [0, 0, 0]
-    for _ in range(count):
-        ended = runner.run(["status", profile])
-        right = is_right(ended)
-        ends[ended.status if right else 2] += 1
-        if not right:
+@dataclass
+class Ends:
+    """How many runs ended well, by a fault, and wrongly, and how often a file outside was opened meanwhile."""
+
+    well: int = 0
+    fault: int = 0
+    wrong: int = 0
+    opened: int = 0
+
+    def add(self, ended):
+        """Counts a run, and prints it if it ended wrongly."""
+        if not is_right(ended):
+            self.wrong += 1
             print(ended.text())
+        elif ended.status == 0:
+            self.well += 1
+        else:
+            self.fault += 1
+
+    def text(self):
+        ends = f"{self.well} ended well, {self.fault} by a fault, {self.wrong} wrongly"
+        return f"{ends}; a file outside was opened {self.opened} times"
+
+
+def ends_of(runner, profile, openings, count):
+    """Runs the program so many times. Returns how the runs ended."""
+    ends = Ends()
+    for _ in range(count):
+        ends.add(runner.run(["status", profile]))
+    ends.opened = openings.count()
     return ends
 
 
@@ -149,31 +169,43 @@ def make(folder):
     return top, outside
 
 
-def main():
-    parser = argparse.ArgumentParser(description=__doc__.splitlines()[0])
-    parser.add_argument("program", help="the built program")
-    parser.add_argument("--runs", type=int, default=2000, help="how many runs while files change, and again while none does (2000)")
-    arguments = parser.parse_args()
-    with tempfile.TemporaryDirectory() as folder, Runner(arguments.program) as runner:
+def raced(program, count):
+    """Runs the program so many times while the folder changes, and while it doesn't. Returns how the runs of both ended."""
+    with tempfile.TemporaryDirectory() as folder, Runner(program) as runner:
         top, outside = make(folder)
-        profile, openings, ended = profile_of(folder, top), Openings(outside), threading.Event()
-        threads = [threading.Thread(target=disturb, args=(top, outside, ended, seed)) for seed in range(2)]
-        for thread in threads:
-            thread.start()
-        changing = runs(runner, profile, arguments.runs)
-        ended.set()
-        for thread in threads:
-            thread.join()
-        raced = openings.count()
+        profile, openings, ended = profile_of(folder, top), Openings(outside), Event()
+        others = [Process(target=disturb, args=(top, outside, ended, seed)) for seed in range(2)]
+        for other in others:
+            other.start()
+        try:
+            changing = ends_of(runner, profile, openings, count)
+        finally:
+            ended.set()
+            for other in others:
+                other.join()
         os.rename(f"{top}/d0", f"{top}/aside")
         os.symlink(outside, f"{top}/d0")
-        still = runs(runner, profile, arguments.runs)
-        opened = openings.count()
-    print(f"while it changed: {changing[0]} ended well, {changing[1]} by a fault, {changing[2]} wrong;", end=" ")
-    print(f"a file outside was opened {raced} times")
-    print(f"while it stayed: {still[0]} ended well, {still[1]} by a fault, {still[2]} wrong; opened {opened} times")
-    return int(changing[2] + still[2] + still[1] + opened > 0)
+        return changing, ends_of(runner, profile, openings, count)
+
+
+def work(program, count):
+    """Runs the program, and prints how it ended. Returns the exit status."""
+    changing, still = raced(program, count)
+    print(f"while it changed: {changing.text()}")
+    print(f"while it didn't: {still.text()}")
+    return int(changing.wrong + still.wrong + still.fault + still.opened > 0)
+
+
+def main():
+    parser = argparse.ArgumentParser()
+    parser.add_argument("--runs", type=int, default=2000, help="how many runs while files change, and at rest (2000)")
+    options = parser.parse_args()
+    if STATUS_PROGRAM is None:
+        parser.error("there is no program: build it, or name it by STATUS_PROGRAM")
+    if options.runs < 1:
+        parser.error("--runs is below 1")
+    end(work, STATUS_PROGRAM, options.runs)
 
 
 if __name__ == "__main__":
-    sys.exit(main())
+    main()
