@@ -120,6 +120,24 @@ class Docs(unittest.TestCase):
         self.assertEqual(len(tested), 1)
         self.assertEqual(re.findall(r"^```rust\n(.*?)^```$", text_of("README.md"), re.M | re.S), tested)
 
+    def test_the_readme_has_histories_that_are_rows(self):
+        """The names of two rows, one of them with its profile and lines, and the name of a test."""
+        page, rows = text_of("README.md"), text_of("tools", "status_program", "rows", "replay_histories.txt")
+        profile, lines = re.search(r"^```json\n(.*?)^```$.*?^```\n(.*?)^```$", page, re.M | re.S).groups()
+        self.assertIn(f"\n{profile}-- lines\n{lines}", rows)
+        for name in re.search(r"the rows\s+`([^`]+)`\s+and\s+`([^`]+)`", page).groups():
+            self.assertIn(f"\n== {' '.join(name.split())}\n", rows)
+        path, name = re.search(r"\[A\s+test\]\((.*?)\) does both:\s+`(\w+)`", page).groups()
+        self.assertIn(f"def {name}(self)", text_of(path))
+
+    def test_the_files_that_are_named_are_there(self):
+        # A file of a repository that bench/folder.py makes.
+        others = {"crates/part0000/file00.txt"}
+        for name, page in pages().items():
+            for path in set(re.findall(r"`((?:tools|crates|bench)/[\w./+-]+\.\w+)`", page)) - others:
+                with self.subTest(page=name, path=path):
+                    self.assertTrue(os.path.isfile(os.path.join(TOP, path)))
+
     def test_the_examples_for_callers_are_quoted_from_what_is_proved(self):
         page = text_of("docs", "GUIDE.md")
         examples = re.findall(r"^```rust\n(.*?)^```$.*?\]\(([^)\s]+)\)", page, re.M | re.S)
@@ -128,8 +146,48 @@ class Docs(unittest.TestCase):
         for example, link in examples:
             with self.subTest(link=link, example=example):
                 path = os.path.normpath(os.path.join("docs", link))
-                self.assertRegex(path, r"^crates/status_callers/src/")
+                self.assertRegex(path, r"^crates/(status_callers|status_tests|program_tests)/src/")
                 self.assertIn("\n" + example, "\n" + text_of(path))
+
+    def test_the_names_for_callers_are_in_their_modules(self):
+        page = text_of("docs", "GUIDE.md")
+        rows = re.findall(r"^\| `(\w+)` \| (crate )?`([\w:]+)` \|", page, re.M)
+        self.assertGreater(len(rows), 30)
+        for name, is_crate, module in rows:
+            with self.subTest(name=name, module=module):
+                if is_crate:
+                    self.assertIn(name, re.findall(r"\w+", text_of("crates", module, "src", "lib.rt")))
+                    continue
+                # A module of gix_status is a file of names, or one of the modules that its root or such a file re-exports.
+                top, _, inner = module.partition("::")
+                root = text_of("crates", "gix_status", "src", "lib.rt")
+                if re.search(rf"^pub mod {top};$", root, re.M):
+                    names = text_of("crates", "gix_status", "src", top + ".rt")
+                else:
+                    self.assertRegex(root, rf"\b{top}\b")
+                    names = "\n".join(texts_of(f"crates/status_*/src/{top}.rt", f"crates/status_*/src/{top}/mod.rt").values())
+                if inner:
+                    self.assertRegex(names, rf"\b{inner}\b")
+                    inside = (f"crates/status_*/src/{folder}{inner}.rt" for folder in (top + "/", ""))
+                    names = "\n".join(texts_of(*inside).values())
+                self.assertRegex(names, rf"\bpub (use|struct|enum)\b[^;{{]*\{{?[^;}}]*\b{name}\b")
+
+    def test_the_members_that_an_interface_has_to_write_are_those_of_its_trait(self):
+        traits = {}
+        for path, text in texts_of("crates/*/src/**/*.rt").items():
+            for trait, body in re.findall(r"^pub trait (\w+)[^\n]*\{\n(.*?)^\}", text, re.M | re.S):
+                members = re.findall(r"^    ghost (\w+): \{ (.*?) \}(?: = \{.*?\})?;$", body, re.M)
+                traits.setdefault(trait, []).append((path, set(members)))
+        rows = re.findall(r"^\| `([\w:]+)::(\w+)` \| `([^`]*)` \|", text_of("docs", "GUIDE.md"), re.M)
+        shown = {}
+        for trait, member, kind in rows:
+            shown.setdefault(trait, set()).add((member, kind))
+        self.assertGreater(len(shown), 12)
+        for trait, members in shown.items():
+            module, _, name = trait.rpartition("::")
+            with self.subTest(trait=trait):
+                there = [found for path, found in traits[name] if f"/{module}/" in path or not module]
+                self.assertEqual(there, [members])
 
     def test_each_note_on_proofs_has_code_of_the_file_that_is_linked_before_it(self):
         page = text_of("docs", "PROVING.md")
@@ -153,21 +211,23 @@ class Docs(unittest.TestCase):
                 first = re.match(r"((?://! .*\n)+)", text_of("crates", name, "src", root)).group(1)
                 self.assertEqual(" ".join(first.replace("//! ", "").split()), sentence)
 
-    def test_the_files_of_a_change_are_there(self):
+    def test_the_files_that_architecture_names_are_there(self):
         page = text_of("docs", "ARCHITECTURE.md")
-        table = page[page.index("|Change|Files|") :].partition("\n\n")[0]
-        rows = re.findall(r"^\|[^|]*\|(`[^|]*)\|[^|]*\|$", table, re.M)
+        named = set(re.findall(r"(?<![\w./])(?:crates|docs|tools|bench)/[\w./-]*\w/?", page))
+        self.assertGreater(len(named), 30)
+        for path in named:
+            with self.subTest(path=path):
+                self.assertTrue(os.path.exists(os.path.join(TOP, path)))
+
+    def test_the_words_to_search_for_are_in_code(self):
+        page = text_of("docs", "ARCHITECTURE.md")
+        table = page[page.index("| You add | Search for |") :].partition("\n\n")[0]
+        rows = re.findall(r"^\| [^|]* \| `(\w+)` \|$", table, re.M)
         self.assertEqual(len(rows), table.count("\n") - 1)
-        folder = ""
-        for files in rows:
-            for path in re.findall(r"`([^`]+\.\w+)`", files):
-                with self.subTest(files=files, path=path):
-                    top = path.split("/")[0] in ("docs", "tests", "tools", "bench", "README.md")
-                    inside = path if top or "/" not in path else os.path.join("crates", path)
-                    places = [inside, os.path.join(folder, path)]
-                    there = [place for place in places if os.path.isfile(os.path.join(TOP, place))]
-                    self.assertNotEqual(there, [])
-                    folder = os.path.dirname(there[0])
+        code = "\n".join(texts_of("crates/*/src/**/*.rt").values())
+        for word in rows:
+            with self.subTest(word=word):
+                self.assertRegex(code, rf"\b{word}\b")
 
     def test_the_definitions_are_in_the_files_that_are_named(self):
         page = text_of("docs", "PROOFS.md")
