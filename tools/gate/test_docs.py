@@ -10,6 +10,7 @@ import os
 import re
 import subprocess
 import sys
+import textwrap
 import unittest
 
 TOP = os.path.dirname(os.path.dirname(os.path.dirname(os.path.abspath(__file__))))
@@ -35,6 +36,12 @@ def texts_of(*patterns):
 def pages():
     """Returns the pages of the repository, by their paths."""
     return texts_of("README.md", "CONTRIBUTING.md", "docs/*.md")
+
+
+def has_code(text, code):
+    """Returns whether these lines are in a text, which may indent all of them further, as code within a type."""
+    lines = textwrap.dedent(code)
+    return any("\n" + textwrap.indent(lines, " " * width) in "\n" + text for width in range(0, 16, 4))
 
 
 def plain(text):
@@ -114,21 +121,38 @@ class Docs(unittest.TestCase):
         named = set(re.findall(r"\]\(docs/([^)#]+\.md)\)", text_of("README.md")))
         self.assertEqual(named, {os.path.basename(path) for path in pages() if path.startswith("docs/")})
 
-    def test_the_readme_has_the_example_that_is_proved_and_run(self):
+    def test_the_guide_has_the_example_that_is_proved_and_run(self):
         example = text_of("crates", "status_tests", "src", "example.rt")
         tested = re.findall(r"^// The example begins\.\n(.*?)^// The example ends\.$", example, re.M | re.S)
         self.assertEqual(len(tested), 1)
-        self.assertEqual(re.findall(r"^```rust\n(.*?)^```$", text_of("README.md"), re.M | re.S), tested)
+        self.assertIn(tested[0], re.findall(r"^```rust\n(.*?)^```$", text_of("docs", "GUIDE.md"), re.M | re.S))
 
     def test_the_readme_has_histories_that_are_rows(self):
-        """The names of two rows, one of them with its profile and lines, and the name of a test."""
+        """The names of two rows, and the name of a test."""
         page, rows = text_of("README.md"), text_of("tools", "status_program", "rows", "replay_histories.txt")
-        profile, lines = re.search(r"^```json\n(.*?)^```$.*?^```\n(.*?)^```$", page, re.M | re.S).groups()
-        self.assertIn(f"\n{profile}-- lines\n{lines}", rows)
         for name in re.search(r"the rows\s+`([^`]+)`\s+and\s+`([^`]+)`", page).groups():
             self.assertIn(f"\n== {' '.join(name.split())}\n", rows)
         path, name = re.search(r"\[A\s+test\]\((.*?)\) does both:\s+`(\w+)`", page).groups()
         self.assertIn(f"def {name}(self)", text_of(path))
+
+    def test_the_manual_page_has_each_option_of_the_help(self):
+        page = text_of("docs", "GIT_DIRTY.md")
+        synopsis, options = page[page.index("## Synopsis") : page.index("## Lines")].split("## Options")
+        helped = re.findall(r"^  (?:(-\w)(?:, )?)? *(--\w+)?(?: <\w+>)?  ", text_of("crates", "git_dirty", "stdout"), re.M)
+        words = [word for pair in helped for word in pair if word and word != "--help"]
+        self.assertGreater(len(words), 6)
+        for word in words:
+            with self.subTest(word=word):
+                self.assertRegex(synopsis + options, rf"(?<![\w-]){word}\b")
+
+    def test_the_manual_page_has_each_extension_that_is_known(self):
+        code = text_of("crates", "git_repository", "src", "format.rt")
+        known = re.findall(r"fn is_(?:old|new)_extension.*?^\}", code, re.M | re.S)
+        names = [name for text in known for name in re.findall(r'b"([\w-]+)"', text)]
+        page = text_of("docs", "GIT_DIRTY.md")
+        listed = re.search(r"these extensions are known, and another one is a failure:\s(.*?)\. In version 0", page, re.S).group(1)
+        shown = [word.lower() for word in re.findall(r"`([\w-]+)`", listed)]
+        self.assertEqual([word for word in shown if word not in ("sha1", "sha256", "files")], names)
 
     def test_the_files_that_are_named_are_there(self):
         # A file of a repository that bench/folder.py makes.
@@ -146,7 +170,7 @@ class Docs(unittest.TestCase):
         for example, link in examples:
             with self.subTest(link=link, example=example):
                 path = os.path.normpath(os.path.join("docs", link))
-                self.assertRegex(path, r"^crates/(status_callers|status_tests|program_tests)/src/")
+                self.assertRegex(path, r"^crates/(git_dirty|status_callers|status_tests|program_tests)/src/")
                 self.assertIn("\n" + example, "\n" + text_of(path))
 
     def test_the_names_for_callers_are_in_their_modules(self):
@@ -201,6 +225,32 @@ class Docs(unittest.TestCase):
                     self.assertEqual(len(link), 1)
                     self.assertIn("\n" + code, "\n" + text_of("docs", *link))
 
+    def test_each_note_on_proofs_is_in_the_table_at_the_top(self):
+        page = text_of("docs", "PROVING.md")
+        top, _, notes = page.partition("\n### ")
+        linked = re.findall(r"\]\(#([^)]*)\)", top)
+        self.assertEqual(len(linked), len(set(linked)))
+        headings = re.findall(r"^### .*$", "### " + notes, re.M)
+        self.assertEqual(set(linked), anchors("\n".join(headings)) | {"notes-without-an-example"})
+
+    def test_the_code_for_newcomers_is_of_the_file_that_is_linked_before_it(self):
+        page = text_of("CONTRIBUTING.md")
+        parts = re.split(r"^ *```(?:rust|antt|python|edit)\n(.*?)^ *```$", page, flags=re.M | re.S)
+        self.assertGreater(len(parts), 12)
+        for before, code in zip(parts[::2], parts[1::2]):
+            with self.subTest(code=code):
+                link = re.findall(r"\]\(((?:crates|tools)/[^)\s]+)\)", before)[-1]
+                self.assertTrue(has_code(text_of(link), code), link)
+
+    def test_the_functions_that_newcomers_prove_are_there(self):
+        paths = re.findall(r"`rt check --only ([a-z_:]+)`", text_of("CONTRIBUTING.md"))
+        self.assertGreater(len(paths), 2)
+        for path in paths:
+            module, _, function = path.rpartition("::")
+            with self.subTest(path=path):
+                files = texts_of(f"crates/*/src/{(module or function).replace('::', '/')}.rt")
+                self.assertRegex("\n".join(files.values()), rf"\bfn {function}\b" if module else ".")
+
     def test_each_crate_begins_with_its_sentence(self):
         lines = re.findall(r"^(\w+):", text_of("crates.txt"), re.M)
         shown = re.findall(r"^\| `(\w+)` \| (.*) \|$", text_of("docs", "ARCHITECTURE.md"), re.M)
@@ -219,15 +269,17 @@ class Docs(unittest.TestCase):
             with self.subTest(path=path):
                 self.assertTrue(os.path.exists(os.path.join(TOP, path)))
 
-    def test_the_words_to_search_for_are_in_code(self):
+    def test_the_words_to_search_for_are_in_the_folders_that_are_named(self):
         page = text_of("docs", "ARCHITECTURE.md")
-        table = page[page.index("| You add | Search for |") :].partition("\n\n")[0]
-        rows = re.findall(r"^\| [^|]* \| `(\w+)` \|$", table, re.M)
+        table = page[page.index("| You add | Search for | In |") :].partition("\n\n")[0]
+        rows = re.findall(r"^\| [^|]* \| `(\w+)` \| ((?:`[\w/.]+` ?)+) \|$", table, re.M)
         self.assertEqual(len(rows), table.count("\n") - 1)
-        code = "\n".join(texts_of("crates/*/src/**/*.rt").values())
-        for word in rows:
-            with self.subTest(word=word):
-                self.assertRegex(code, rf"\b{word}\b")
+        for word, paths in rows:
+            for path in re.findall(r"`([^`]+)`", paths):
+                with self.subTest(word=word, path=path):
+                    within = [f"{path}/**/*.{ending}" for ending in ("rt", "antt", "py")]
+                    files = texts_of(path) if os.path.isfile(os.path.join(TOP, path)) else texts_of(*within)
+                    self.assertRegex("\n".join(files.values()), rf"\b{word}\b")
 
     def test_the_definitions_are_in_the_files_that_are_named(self):
         page = text_of("docs", "PROOFS.md")

@@ -18,7 +18,7 @@ from support.repositories import STATUS, STATUS_OF_HEADS, THEN, as_dirty, put_so
 
 
 class Differences(Dirty):
-    """The differences from git. The words of each test are the first cell of a row in docs/FORMATS.md."""
+    """The differences from git. The words of each test are the first cell of a row in docs/GIT_DIRTY.md."""
 
     def assert_differs(self, gits, ours, *words, folder=None, **settings):
         """Asserts which lines git prints, and which the program."""
@@ -268,7 +268,7 @@ NOTE = 'git dirty: note: [^\n]*"{}"[^\n]*\n'
 
 
 class Conversions(LineEnds):
-    """The differences from git. The words of a test are the first cell of a row in docs/FORMATS.md."""
+    """The differences from git. The words of a test are the first cell of a row in docs/GIT_DIRTY.md."""
 
     # An attribute, settings, a content, and the blob that git makes of it.
     ROWS = [("filter=f", '[filter "f"]\nclean = tr a-z A-Z\n', b"foo\n", b"FOO\n"), ("ident", "", b"$Id: x $\n", b"$Id$\n")]
@@ -393,8 +393,8 @@ class Conversions(LineEnds):
 
 class Table(unittest.TestCase):
     def test_each_row_of_the_table_has_a_test(self):
-        page = (TOP / "docs" / "FORMATS.md").read_text()
-        table = page[page.index("### Differences from git\n") :].partition("| What | git | git dirty |\n|---|---|---|\n")[2]
+        page = (TOP / "docs" / "GIT_DIRTY.md").read_text()
+        table = page[page.index("## Differences from git\n") :].partition("| What | git | git dirty |\n|---|---|---|\n")[2]
         rows = [line.split(" | ")[0].removeprefix("| ") for line in table.partition("\n\n")[0].split("\n")]
         tests = [getattr(kind, name).__doc__ for kind in (Differences, Conversions)
                  for name in unittest.defaultTestLoader.getTestCaseNames(kind)]
