@@ -225,8 +225,9 @@ const PIECES: [PieceRow; 3] = [
 
 /// Returns where a piece of `chunk` entries ends that begins at `from`. None if no entry is there.
 fn end_at(index: &State, from: usize, chunk: usize) -> Option<usize> {
-    if from < index.entries().len() {
-        let considered = Considered::of(index, BStr::new(b""));
+    let considered = Considered::of(index, BStr::new(b""));
+    let count = considered.end - considered.start;
+    if from < count {
         Some(piece_end(&considered, from, chunk))
     } else {
         None
