@@ -1,4 +1,4 @@
--- The words of a line.
+-- The parts of a line of an attributes file: words between blanks, and the text before a byte.
 use Rattle.std.specs.Prelude.{ℕ, ◌==◌, ◌||◌, Bool, List, [], ◌∷◌, length, take, drop, position, Option, Some, None, if◌then◌else◌}
 
 abbrev pub front_to : Option ℕ → List ℕ → List ℕ

@@ -1,4 +1,4 @@
--- Reading from left to right, with the first fault that is met.
+-- How an index file is read: its parts in the order of the file, or the fault that a reader meets first.
 use Rattle.std.specs.Prelude.{◌≡◌, ℕ, ◌+◌, ◌-◌, ◌*◌, ◌/◌, ◌%◌, nat_lt, ◌==◌, ◌&&◌, not, Bool, List, [], ◌∷◌, length, take, drop, replicate, position, Option, Some, None, Result, Ok, Err, if◌then◌else◌}
 use Rattle.std.specs.Int.{w16, w32, from_be_bytes}
 use Rattle.std.specs.Str.{bytes_eq}

@@ -1,4 +1,4 @@
-//! The example of README.md, which quotes the part between the marks.
+//! The example of docs/GUIDE.md, which quotes the part between the marks.
 
 // The example begins.
 use bstr::BStr;

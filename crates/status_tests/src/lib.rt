@@ -1,4 +1,4 @@
-//! Tests of what no clause states, and README's example.
+//! Tests of what no clause states, and the example of docs/GUIDE.md.
 //!
 //! Begin at `example`. Each folder tests a layer, from the bottom up: `board`, `index`, `base`, `compare`, `call`,
 //! `walk`, `joined` (with renames and copies) and `world` (with the stored index). Its `mod.rt` says where to begin.

@@ -1,4 +1,4 @@
-//! A piece of the considered entries, processed in order.
+//! A piece: a range of the considered entries that one worker compares, entry by entry, in order.
 
 ghost use Rattle.std.specs.Prelude.{◌≡◌, ◌++◌, ◌+◌, ◌<◌, ◌≤◌, ℕ, None, Ok, false, min, length, OnOk, OnErr};
 ghost use Rattle.std.specs.List.{slice_index_or};
