@@ -5,7 +5,7 @@ use Rattle.git_attributes.specs.declared.line_ends.LineEnds.{LineEnds}
 use Rattle.status_base.specs.Objects.{Contents}
 use Rattle.status_base.specs.declared.worktree.lister.NoLister.{NoLister}
 use Rattle.status_call.specs.declared.index_as_worktree.inputs.Inputs.{Inputs}
-use Rattle.status_compare.specs.declared.fast_eq.FastEq.{FastEq}
+use Rattle.status_compare.specs.declared.compare.FastEq.{FastEq}
 use Rattle.git_status.specs.declared.asked.Asked.{Asked}
 
 abbrev pub asked_inputs : {W S P A : Type 0} → Asked W S P A → LineEnds → Inputs W FastEq S Contents P LineEnds NoLister

@@ -4,8 +4,8 @@ pub use status_base::worktree::{
     AllPaths, ByteText, DiskFile, DiskWorktree, Fault, Find, FindError, Lister, Listing,
     MemoryFile, MemoryObjects, MemoryWorktree, Metadata, NoFilter, NoLister, NoSubmodules, Node,
     NodeKind, Pathspec, Point, Prefix, ReadBytes, SubmoduleFault, SubmoduleStatus, TimeError,
-    ToGit, ToGitOutcome, TreeError, Worktree, disk, filter, lister, memory, memory_objects,
-    objects, pathspec, planted, prefix, read_all, submodule, tree,
+    ToGit, ToGitOutcome, TreeError, Worktree, disk, filter, lister, memory, objects, pathspec,
+    planted, read_all, submodule, tree,
 };
 pub use status_rewrites::{
     Change, ChangeKind, IdentityTracker, Pair, Rewrites, Tracker, TrackerError,

@@ -1,8 +1,9 @@
-//! The components of a path, and which of them aren't normal.
+//! The components of a path: which of them aren't normal, and which two paths have in common.
 
-ghost use Rattle.std.specs.Prelude.{◌≡◌, ◌<◌, [], ◌∷◌, length, option_map, is_some, IfSome, position};
+ghost use Rattle.std.specs.Prelude.{◌≡◌, ◌<◌, [], ◌∷◌, length, option_map, is_some, IfSome, position, ◌≤◌, ◌-◌, IsTrue, slice_index};
 ghost use Rattle.std.specs.Option.{option_map_or};
 ghost use Rattle.status_base.specs.Paths.{is_slash, components, is_abnormal, abnormal_component};
+ghost use Rattle.status_base.specs.Common.{IsCommon};
 
 /// Returns whether a path has a component that isn't normal.
 pub(crate) fn has_abnormal_component(path: &[u8]) -> bool
@@ -51,4 +52,30 @@ fn is_abnormal(component: &[u8]) -> bool
     ensures { result ≡ is_abnormal component.now }
 {
     matches!(component, [] | [b'.'] | [b'.', b'.'])
+}
+
+/// Returns how many bytes the common prefix of two paths has.
+pub(crate) fn common_front(one: &[u8], other: &[u8]) -> usize
+    ensures { IsCommon one.now other.now result }
+{
+    let shorter = one.len().min(other.len());
+    for at in 0..shorter {
+        if one[at] != other[at] {
+            return at;
+        }
+    }
+    shorter
+}
+
+/// Returns the position after the last slash of `front`, where its last component begins, or 0 without a slash.
+pub(crate) fn component_start(front: &[u8]) -> usize
+    ensures within { result ≤ length front.now }
+    ensures slash { 0 < result → IsTrue (is_slash (slice_index front.now (result - 1))) }
+{
+    for slash in (0..front.len()).rev() {
+        if front[slash] == b'/' {
+            return slash + 1;
+        }
+    }
+    0
 }

@@ -4,14 +4,12 @@ ghost use Rattle.std.specs.Prelude.{◌≡◌, Some};
 ghost use Rattle.status_base.specs.ListedNodes.{listed_kind, listed_node};
 ghost use Rattle.status_index.specs.NodeStat.{stat_of};
 
-mod cache;
 mod listings;
 mod names;
 mod windows;
 
 use crate::worktree::{Metadata, NodeKind};
-pub use cache::FsCache;
-pub use listings::Listings;
+pub use listings::{FsCache, Listings};
 use status_index::{Stat as IndexStat, Time};
 pub use windows::{filetime_to_unix, type_flags_from_attributes};
 

@@ -10,14 +10,12 @@ ghost use Rattle.status_index.specs.Content.{saturate};
 ghost use Rattle.status_base.specs.Barriers.{IsWay, IsStopAbove, IsBarrier, IsOfDirectory, looked_at};
 
 mod error;
-mod front;
 pub mod laws;
 
-use crate::components::abnormal_component;
+use crate::components::{abnormal_component, common_front, component_start};
 use crate::worktree::{Fault, NodeKind, Worktree};
 use bstr::{BStr, BString};
 pub use error::StackError;
-use front::{common_front, component_start};
 use std::alloc::{AllocError, Global};
 use std::marker::Model;
 

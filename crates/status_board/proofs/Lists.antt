@@ -4,7 +4,7 @@ use Rattle.std.specs.List.{filter}
 use Rattle.std.proofs.lemmas.List.{map-append}
 use Rattle.std.proofs.lemmas.List.Elements.{filter-append, All-nil, All-cons, All-head, All-tail}
 use Rattle.std.proofs.lemmas.Bool.{eqb-true}
-use Rattle.status_board.specs.declared.worker.Finished.{Finished}
+use Rattle.status_board.specs.declared.work.Finished.{Finished}
 use Rattle.status_board.specs.FinishedPieces.{outs_at, shorts_of}
 
 module _ {O : Type 0} where

@@ -6,7 +6,7 @@ use Rattle.std.proofs.lemmas.Option.{slice_get_cases}
 use Rattle.std.proofs.lemmas.Bool.{cases_Bool, eqb-true, eq-eqb, lt-ltb, ltb-true}
 use Rattle.status_board.specs.Numbers.{times, HasEachBelow, IsLeast, LiesBelow}
 use Rattle.status_board.specs.Seats.{BoardId, SeatState, drawn_of, barred_of, reported_of}
-use Rattle.status_board.specs.declared.worker.Finished.{Finished}
+use Rattle.status_board.specs.declared.work.Finished.{Finished}
 use Rattle.status_board.specs.Accounts.{AreAccounted, end_of}
 use Rattle.status_board.specs.FinishedPieces.{outs_at, shorts_of, IsInOrder, IsOutOf}
 use Rattle.status_board.specs.Round.{EndsShort, IsRound}

@@ -5,7 +5,7 @@ use Rattle.std.specs.Option.{option_to_list, option_map}
 use Rattle.std.proofs.lemmas.List.{length-set, length-map, length-replicate, get_or-replicate, get_or-set_same, get_or-set_other, get_or_default, nil_from_length}
 use Rattle.std.proofs.lemmas.Option.{slice_get_within, slice_get-map, get_or_from_slice_get}
 use Rattle.std.proofs.lemmas.Bool.{eqb-true, eqb-false, cases_Bool}
-use Rattle.status_board.specs.declared.worker.Finished.{Finished}
+use Rattle.status_board.specs.declared.work.Finished.{Finished}
 use Rattle.status_board.specs.FinishedPieces.{outs_at, IsInOrder, IsPlaced}
 use Rattle.status_board.proofs.Lists.{outs_at-here, outs_at-other}
 

@@ -3,8 +3,8 @@ use Rattle.std.specs.Prelude.{◌≡◌, ℕ, ◌+◌, Bool, true, List, [], ◌
 use Rattle.status_board.specs.Numbers.{times}
 use Rattle.status_board.specs.Seats.{BoardId, SeatState, fresh, drawn_of, barred_of, reported_of}
 use Rattle.status_board.specs.declared.crew.Gathered.{Gathered}
-use Rattle.status_board.specs.declared.worker.Finished.{Finished}
-use Rattle.status_board.specs.declared.worker.Worked.{Worked}
+use Rattle.status_board.specs.declared.work.Finished.{Finished}
+use Rattle.status_board.specs.declared.work.Worked.{Worked}
 use Rattle.status_board.specs.FinishedPieces.{outs_at, shorts_of}
 
 -- A call doesn't change the seat's board, the numbers that it drew, and whether it is done.

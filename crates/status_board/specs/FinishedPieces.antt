@@ -2,7 +2,7 @@
 use Rattle.std.specs.Prelude.{◌≡◌, ◌==◌, ℕ, ◌<◌, Bool, List, [], ◌∷◌, ◌++◌, length, map, Option, Some, None, slice_get}
 use Rattle.std.specs.List.{filter, slice_index_or}
 use Rattle.std.specs.Option.{option_to_list}
-use Rattle.status_board.specs.declared.worker.Finished.{Finished}
+use Rattle.status_board.specs.declared.work.Finished.{Finished}
 
 -- The results of the pieces with a number.
 abbrev pub outs_at : {O : Type 0} → ℕ → List (Finished O) → List O

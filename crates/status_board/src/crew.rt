@@ -6,8 +6,7 @@ ghost use Rattle.status_board.specs.Accounts.{AreReady, IsBoth, IsBrought, IsNot
 
 use crate::board::{Board, Seat};
 use crate::round::Refused;
-use crate::work::Work;
-use crate::worker::{Finished, Worked, work_through};
+use crate::work::{Finished, Work, Worked, work_through};
 use core::thread::Stack;
 use std::alloc::{AllocError, Global};
 use std::sync::Wait;

@@ -17,7 +17,7 @@ use Rattle.status_compare.specs.declared.error.Error.{Error}
 use Rattle.status_compare.specs.declared.error.Error.TheVariants as errors
 use Rattle.status_compare.specs.EntryReadings.{if_modelled}
 use Rattle.status_compare.specs.Reading.{Readings}
-use Rattle.status_compare.specs.declared.reads.Reads.{Reads}
+use Rattle.status_compare.specs.declared.read_data.Reads.{Reads}
 use Rattle.status_compare.specs.Reads.{no_reads}
 use Rattle.status_call.specs.declared.index_as_worktree.lookup.Look.{Look}
 use Rattle.status_call.specs.declared.index_as_worktree.lookup.AtPath.TheVariants as presences

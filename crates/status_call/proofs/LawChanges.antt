@@ -11,7 +11,7 @@ use Rattle.status_index.specs.declared.stat.Stat.{Stat}
 use Rattle.status_index.specs.Entries.{IndexEntry}
 use Rattle.status_index.specs.Mode.{mode_change_at, new_mode, other_type, other_executable}
 use Rattle.status_compare.specs.declared.error.Error.{Error}
-use Rattle.status_compare.specs.declared.reads.Reads.{Reads}
+use Rattle.status_compare.specs.declared.read_data.Reads.{Reads}
 use Rattle.status_compare.specs.Reads.{no_reads}
 use Rattle.status_call.specs.declared.index_as_worktree.types.Change.TheVariants as changes
 use Rattle.status_call.specs.declared.index_as_worktree.types.EntryStatus.{EntryStatus}

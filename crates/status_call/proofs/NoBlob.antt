@@ -8,7 +8,7 @@ use Rattle.status_index.specs.declared.metadata.Metadata.{Metadata}
 use Rattle.status_compare.specs.Comparers.{size_decides, counts_after_hash}
 use Rattle.status_compare.specs.Reading.{Reading, fails, streams, target}
 use Rattle.status_compare.specs.Reads.{no_reads}
-use Rattle.status_compare.specs.declared.reads.Reads.{Reads}
+use Rattle.status_compare.specs.declared.read_data.Reads.{Reads}
 use Rattle.status_call.specs.Counts.{is_looked_at, is_compared_case, reads_of, reads_of_case, reads_of_found, ModelsReads}
 use Rattle.status_call.specs.Laws.{ReadsNoBlob, IdReadsLaw, SizeReadsLaw}
 use Rattle.status_call.specs.Query.{Query}

@@ -6,7 +6,7 @@ use Rattle.std.proofs.lemmas.List.Elements.{All-nil, All-cons, All-append, All-w
 use Rattle.std.proofs.lemmas.List.Folds.{list_any_none}
 use Rattle.status_index.specs.Entries.{IndexEntry}
 use Rattle.status_index.specs.Stretch.{part_of}
-use Rattle.status_compare.specs.declared.reads.Reads.{Reads}
+use Rattle.status_compare.specs.declared.read_data.Reads.{Reads}
 use Rattle.status_call.specs.declared.index_as_worktree.step.Step.{Step}
 use Rattle.status_call.specs.declared.index_as_worktree.types.EntryStatus.{EntryStatus}
 use Rattle.status_call.specs.declared.index_as_worktree.types.Finding.{Finding}

@@ -15,7 +15,7 @@ use Rattle.status_call.specs.declared.index_as_worktree.types.Finding.{Finding}
 use Rattle.status_call.specs.declared.index_as_worktree.types.Outcome.{Outcome}
 use Rattle.status_call.specs.declared.index_as_worktree.counts.Counts.{Counts}
 use Rattle.status_call.specs.declared.index_as_worktree.counts.Progress.{Progress}
-use Rattle.status_compare.specs.declared.reads.Reads.{Reads}
+use Rattle.status_compare.specs.declared.read_data.Reads.{Reads}
 use Rattle.status_call.specs.Counts.{IsOutcome, counts_in, reads_in, ModelsReads}
 use Rattle.status_call.specs.Pieces.{IsAsSpecified, IsFaultAt}
 use Rattle.status_call.specs.Outcomes.{outcome_of, skipped_of}

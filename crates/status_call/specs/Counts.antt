@@ -6,7 +6,7 @@ use Rattle.status_index.specs.Entries.{IndexEntry, stage_of}
 use Rattle.status_base.specs.LinkCheck.{LinkCheck, accepted, empty_path, not_normal, through_link, faulty, link_check}
 use Rattle.status_compare.specs.declared.error.Error.{Error}
 use Rattle.status_compare.specs.Reads.{no_reads, plus_reads}
-use Rattle.status_compare.specs.declared.reads.Reads.{Reads}
+use Rattle.status_compare.specs.declared.read_data.Reads.{Reads}
 use Rattle.status_call.specs.declared.index_as_worktree.types.EntryStatus.{EntryStatus}
 use Rattle.status_call.specs.declared.index_as_worktree.types.EntryStatus.TheVariants as statuses
 use Rattle.status_call.specs.declared.index_as_worktree.counts.Counts.{Counts}

@@ -7,7 +7,7 @@ use Rattle.status_index.specs.declared.metadata.Metadata.{Metadata}
 use Rattle.status_index.specs.declared.stat.Stat.{Stat}
 use Rattle.status_compare.specs.declared.error.Error.{Error}
 use Rattle.status_compare.specs.declared.error.Error.TheVariants.{Memory}
-use Rattle.status_compare.specs.declared.reads.Reads.{Reads}
+use Rattle.status_compare.specs.declared.read_data.Reads.{Reads}
 use Rattle.status_compare.specs.Errors.{error_of}
 use Rattle.status_compare.specs.Reads.{HasRead, no_reads}
 use Rattle.status_call.specs.declared.index_as_worktree.decide.Decided.{Decided}

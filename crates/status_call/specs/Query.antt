@@ -11,7 +11,7 @@ use Rattle.status_base.specs.Conversions.{Conversion}
 use Rattle.status_base.specs.declared.worktree.objects.FindError.{FindError}
 use Rattle.status_compare.specs.declared.error.Error.{Error}
 use Rattle.status_compare.specs.Reading.{Readings}
-use Rattle.status_compare.specs.declared.reads.Reads.{Reads}
+use Rattle.status_compare.specs.declared.read_data.Reads.{Reads}
 
 -- `T` is the type of a comparer's report of a change, `U` of a submodule's.
 pub record Query (T U : Type 0) : Type 0 where

@@ -24,7 +24,7 @@ use Rattle.status_cli.specs.Statuses.{IsJoinedPrinted, IsStatusPrinted, IsPrintE
 use Rattle.status_cli.specs.ProfileStatuses.{IsPlacePrinted, IsPrintedOver, IsStatusOver, WorktreeResults, folder_results, folder_walk, tree_results, tree_walk}
 use Rattle.status_cli.proofs.Printed.{printed_status}
 use Rattle.status_index.specs.declared.id.ObjectId.{ObjectId}
-use Rattle.status_compare.specs.declared.comparer.Comparer.{Comparer}
+use Rattle.status_compare.specs.declared.compare.Comparer.{Comparer}
 use Rattle.status_compare.specs.NamedComparers.{compared_by}
 
 -- both succeeded, or both failed for one reason

@@ -11,8 +11,8 @@ use Rattle.status_call.specs.Status.{readings}
 use Rattle.status_call.specs.StatusOf.{OneThreadSpawnsNone}
 use Rattle.status_call.specs.StatusTheorem.{NeverSpawns}
 use Rattle.status_call.proofs.NoThread.{ids_law, sizes_law}
-use Rattle.status_compare.specs.declared.comparer.Comparer.{Comparer}
-use Rattle.status_compare.specs.declared.comparer.Comparer.TheVariants.{Hash, Fast}
+use Rattle.status_compare.specs.declared.compare.Comparer.{Comparer}
+use Rattle.status_compare.specs.declared.compare.Comparer.TheVariants.{Hash, Fast}
 use Rattle.status_compare.specs.NamedComparers.{compared_by, with_new_id, without_new_id}
 
 error_or : {A : Type 0} → Error → Result A Error → Error

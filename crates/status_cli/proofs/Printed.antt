@@ -25,7 +25,7 @@ use Rattle.status_call.specs.StatusOf.{OneThreadSpawnsNone}
 use Rattle.status_call.specs.StatusTheorem.{IsStatusReport}
 use Rattle.status_call.specs.Visits.{Visit}
 use Rattle.status_index.specs.declared.id.ObjectId.{ObjectId}
-use Rattle.status_compare.specs.declared.comparer.Comparer.{Comparer}
+use Rattle.status_compare.specs.declared.compare.Comparer.{Comparer}
 use Rattle.status_compare.specs.NamedComparers.{compared_by}
 use Rattle.status_cli.proofs.NoThreads.{lone_comparers}
 

@@ -10,7 +10,7 @@ use Rattle.status_compare.specs.declared.error.Error.{Error}
 use Rattle.status_compare.specs.Errors.{error_of}
 use Rattle.status_compare.specs.Reading.{Reading, fails, streams, target, counts_at_stream}
 use Rattle.status_compare.specs.Reads.{with_bytes}
-use Rattle.status_compare.specs.declared.reads.Reads.{Reads}
+use Rattle.status_compare.specs.declared.read_data.Reads.{Reads}
 
 -- A result with a fault as a status reports it.
 abbrev pub worktree_result : {A : Type 0} → Result A Fault → Result A Error

@@ -6,7 +6,7 @@ use Rattle.status_base.specs.Conversions.{Conversion, refused, same, other}
 use Rattle.status_base.specs.declared.worktree.objects.FindError.{FindError}
 use Rattle.status_compare.specs.declared.error.Error.{Error}
 use Rattle.status_compare.specs.declared.error.Error.TheVariants.{Memory}
-use Rattle.status_compare.specs.declared.reads.Reads.{Reads}
+use Rattle.status_compare.specs.declared.read_data.Reads.{Reads}
 use Rattle.status_compare.specs.declared.stream.Stream.{Stream}
 use Rattle.status_compare.specs.Errors.{error_of, find_error_of}
 use Rattle.status_compare.specs.Reads.{with_bytes, with_file}

@@ -1,7 +1,7 @@
 -- Reads count bytes, files and blobs, each up to the greatest u64.
 use Rattle.std.specs.Prelude.{◌≡◌, ℕ, ◌+◌, Option, IfSome}
 use Rattle.status_index.specs.Content.{saturate}
-use Rattle.status_compare.specs.declared.reads.Reads.{Reads}
+use Rattle.status_compare.specs.declared.read_data.Reads.{Reads}
 
 abbrev pub no_reads : Reads
 no_reads = record { bytes = 0; files = 0; object_bytes = 0; objects = 0 }

@@ -7,8 +7,7 @@ ghost use Rattle.status_compare.specs.Reads.{no_reads, with_file};
 ghost use Rattle.status_compare.specs.Reading.{IsReading, target_reading, file_at, counts_at_stream};
 
 use crate::error::Error;
-use crate::read_data::ReadData;
-use crate::reads::Reads;
+use crate::read_data::{ReadData, Reads};
 use crate::stream::Stream;
 use bstr::BStr;
 use status_base::worktree::{Find, ToGit, ToGitOutcome, Worktree};

@@ -4,8 +4,8 @@ use Rattle.std.specs.List.{starts_with}
 use Rattle.std.specs.Ordering.{nat_cmp, is_eq, is_lt, is_le}
 use Rattle.std.specs.Cmp.Lexicographic.{slice_cmp}
 use Rattle.std.specs.declared.ops.Range.{Range}
-use Rattle.status_index.specs.declared.path_probe.Question.{Question}
-use Rattle.status_index.specs.declared.path_probe.Question.TheVariants.{Below, Under, UpTo}
+use Rattle.status_index.specs.declared.probe.Question.{Question}
+use Rattle.status_index.specs.declared.probe.Question.TheVariants.{Below, Under, UpTo}
 use Rattle.status_index.specs.Entries.{IndexEntry}
 
 -- Whether an entry's path starts with the prefix.

@@ -1,9 +1,9 @@
 //! A git index in memory: entries with their stats, modes, flags and ids, and the search for a path.
 //!
 //! Read `entry` first, with `stat`, `mode`, `flags` and `id`, which are its fields. Then read `state`, the index, which
-//! finds a path by `path_probe` and `probe`. `metadata` is what a worktree reports of a file, `fault` is why it fails,
-//! and `reader` is an open file. `reading` reads a file to its end, and `hash` computes the id of its bytes. `orders`
-//! states how these values are compared, and `byte_text` is a text in an error.
+//! finds a path by `probe`. `metadata` is what a worktree reports of a file, `fault` is why it fails, and `reader` is an
+//! open file, which can be read to its end. `hash` computes the id of its bytes. `orders` states how these values are
+//! compared, and `byte_text` is a text in an error.
 #![tactic(auto)]
 
 pub mod byte_text;
@@ -15,10 +15,8 @@ pub mod id;
 pub mod metadata;
 pub mod mode;
 pub mod orders;
-mod path_probe;
 mod probe;
 pub mod reader;
-pub mod reading;
 pub mod stat;
 pub mod state;
 
@@ -31,7 +29,6 @@ pub use id::{HashKind, ObjectId};
 pub use metadata::{Metadata, NodeKind, TimeError};
 pub use mode::{EntryKind, Mode};
 pub use probe::{Probe, search};
-pub use reader::ReadBytes;
-pub use reading::read_all;
+pub use reader::{ReadBytes, read_all};
 pub use stat::{Moment, Stat, Time};
 pub use state::{IndexError, State};

@@ -10,7 +10,7 @@ use crate::entry::{Entry, NewEntry, PathStorage};
 use crate::flags::Flags;
 use crate::id::ObjectId;
 use crate::mode::Mode;
-use crate::path_probe::{Question, front_len};
+use crate::probe::{Question, front_len};
 use crate::stat::{Moment, Stat};
 use bstr::BStr;
 use std::alloc::{AllocError, AllocFailed, Global};

@@ -9,9 +9,9 @@ use Rattle.status_index.specs.declared.id.HashKind.{HashKind}
 use Rattle.status_rewrites.specs.AfterRewrites.{IsRewriteAnswer, IsRewritten}
 use Rattle.status_rewrites.specs.Entries.{IsLed, map_rewritten}
 use Rattle.status_rewrites.specs.Lawful.{AreLawful}
-use Rattle.status_rewrites.specs.declared.refused.Refused.{Refused}
-use Rattle.status_rewrites.specs.declared.refused.Refused.TheVariants as refusals
-use Rattle.status_rewrites.specs.declared.rewritten.Rewritten.{Rewritten}
+use Rattle.status_rewrites.specs.declared.rewrites.Refused.{Refused}
+use Rattle.status_rewrites.specs.declared.rewrites.Refused.TheVariants as refusals
+use Rattle.status_rewrites.specs.declared.item.Rewritten.{Rewritten}
 use Rattle.status_rewrites.proofs.Led.{destinations_walked}
 use Rattle.status_rewrites.proofs.Mapped.{bad_pair_mapped, rewritten_mapped}
 use Rattle.status_rewrites.specs.TrackedChanges.{Changed}

@@ -5,8 +5,8 @@ use Rattle.status_index.specs.declared.mode.EntryKind.TheVariants.{Tree, Blob, B
 use Rattle.status_index.specs.declared.mode.Mode.{Mode}
 use Rattle.status_index.specs.declared.mode.Mode.TheVariants as modes
 use Rattle.status_rewrites.specs.TrackedChanges.{Changed}
-use Rattle.status_rewrites.specs.declared.change.ChangeKind.{ChangeKind}
-use Rattle.status_rewrites.specs.declared.change.ChangeKind.TheVariants.{Deletion, Modification, Addition}
+use Rattle.status_rewrites.specs.declared.tracker.ChangeKind.{ChangeKind}
+use Rattle.status_rewrites.specs.declared.tracker.ChangeKind.TheVariants.{Deletion, Modification, Addition}
 use Rattle.status_walk.specs.declared.entry.Kind.{Kind}
 use Rattle.status_walk.specs.declared.entry.Kind.TheVariants.{Untrackable, File, Symlink, Directory, Repository}
 use Rattle.status_joined.specs.Items.{Item, tracked, walked, is_removal}

@@ -3,8 +3,8 @@ use Rattle.status_index.specs.declared.fault.Fault.TheVariants as faults
 use Rattle.status_base.specs.declared.worktree.objects.FindError.TheVariants as finds
 use Rattle.status_compare.specs.declared.error.Error.{Error as StatusError}
 use Rattle.status_compare.specs.declared.error.Error.TheVariants as statuses
-use Rattle.status_rewrites.specs.declared.refused.Refused.{Refused}
-use Rattle.status_rewrites.specs.declared.refused.Refused.TheVariants as refusals
+use Rattle.status_rewrites.specs.declared.rewrites.Refused.{Refused}
+use Rattle.status_rewrites.specs.declared.rewrites.Refused.TheVariants as refusals
 use Rattle.status_rewrites.specs.declared.tracker.TrackerError.{TrackerError}
 use Rattle.status_rewrites.specs.declared.tracker.TrackerError.TheVariants as trackers
 use Rattle.status_walk.specs.declared.id.IdError.{IdError}

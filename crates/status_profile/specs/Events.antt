@@ -6,7 +6,7 @@ use Rattle.bstr.specs.Owned.{bstring_bytes}
 use Rattle.json.specs.Json.{Json, Items, no_items, item}
 use Rattle.json.specs.Find.{as_array, as_bool, as_str}
 use Rattle.status_index.specs.declared.stat.Moment.{Moment}
-use Rattle.status_compare.specs.declared.comparer.Comparer.{Comparer}
+use Rattle.status_compare.specs.declared.compare.Comparer.{Comparer}
 use Rattle.status_world.specs.declared.world.event.Event.{Event}
 use Rattle.status_world.specs.declared.world.event.Event.TheVariants as events
 use Rattle.status_format.specs.Reads.{◌>>=◌}

@@ -6,8 +6,8 @@ use Rattle.json.specs.Json.{Json}
 use Rattle.json.specs.Find.{get, as_bool, as_str}
 use Rattle.status_index.specs.declared.stat.Options.{Options as StatOptions}
 use Rattle.status_call.specs.declared.index_as_worktree.types.Options.{Options}
-use Rattle.status_compare.specs.declared.comparer.Comparer.{Comparer}
-use Rattle.status_compare.specs.declared.comparer.Comparer.TheVariants.{Hash}
+use Rattle.status_compare.specs.declared.compare.Comparer.{Comparer}
+use Rattle.status_compare.specs.declared.compare.Comparer.TheVariants.{Hash}
 use Rattle.status_profile.specs.declared.options.HistoryOptions.{HistoryOptions}
 use Rattle.status_profile.specs.declared.options.Kind.{Kind}
 use Rattle.status_profile.specs.declared.options.Kind.TheVariants as kinds

@@ -7,8 +7,8 @@ use Rattle.status_index.specs.declared.id.HashKind.{HashKind}
 use Rattle.status_index.specs.declared.id.HashKind.TheVariants.{Sha1, Sha256}
 use Rattle.status_index.specs.declared.metadata.NodeKind.{NodeKind}
 use Rattle.status_index.specs.declared.metadata.NodeKind.TheVariants as kinds
-use Rattle.status_compare.specs.declared.comparer.Comparer.{Comparer}
-use Rattle.status_compare.specs.declared.comparer.Comparer.TheVariants.{Hash, Fast}
+use Rattle.status_compare.specs.declared.compare.Comparer.{Comparer}
+use Rattle.status_compare.specs.declared.compare.Comparer.TheVariants.{Hash, Fast}
 use Rattle.status_format.specs.Reads.{◌>>=◌}
 
 -- how ids are made

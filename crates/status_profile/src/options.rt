@@ -2,7 +2,7 @@
 
 ghost use Rattle.std.specs.Prelude.{◌≡◌, None};
 ghost use Rattle.json.specs.Find.{as_bool};
-ghost use Rattle.status_compare.specs.declared.comparer.Comparer.TheVariants.{Hash};
+ghost use Rattle.status_compare.specs.declared.compare.Comparer.TheVariants.{Hash};
 ghost use Rattle.status_format.specs.Reads.{Reads, or_default};
 ghost use Rattle.status_profile.specs.Forms.{json_at, limit_in, object_at};
 ghost use Rattle.status_profile.specs.Options.{common_options_in, fields_in, history_options_in, if_kind, is_joined};

@@ -2,7 +2,7 @@
 use Rattle.std.proofs.Common.{[]}
 use Rattle.status_index.specs.declared.id.ObjectId.TheVariants.{Sha1}
 use Rattle.status_index.specs.declared.mode.EntryKind.TheVariants.{Tree}
-use Rattle.status_rewrites.specs.declared.change.ChangeKind.TheVariants.{Deletion}
+use Rattle.status_rewrites.specs.declared.tracker.ChangeKind.TheVariants.{Deletion}
 use Rattle.status_rewrites.specs.declared.seen.Seen.{Seen}
 
 abbrev pub blank : Seen

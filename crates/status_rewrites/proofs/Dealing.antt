@@ -18,7 +18,7 @@ use Rattle.status_index.specs.declared.id.HashKind.{HashKind}
 use Rattle.status_index.specs.declared.id.HashKind.TheVariants.{Sha1, Sha256}
 use Rattle.status_index.specs.declared.mode.EntryKind.{EntryKind}
 use Rattle.status_index.specs.declared.mode.EntryKind.TheVariants.{Tree, Blob, BlobExecutable, Link, Commit}
-use Rattle.status_rewrites.specs.declared.change.ChangeKind.{ChangeKind}
+use Rattle.status_rewrites.specs.declared.tracker.ChangeKind.{ChangeKind}
 use Rattle.status_rewrites.specs.declared.seen.Seen.{Seen}
 use Rattle.status_rewrites.specs.Buckets.{bucket_count, bucket_number, in_bucket, leading_bits, changes_named, AreBuckets}
 use Rattle.status_rewrites.specs.TrackedChanges.{Changed}

@@ -10,8 +10,8 @@ use Rattle.std.proofs.lemmas.List.FromFn.{length-enumerate_from, get_or-enumerat
 use Rattle.std.proofs.lemmas.List.Sorted.{All-permutation, sum_by-IsPermutation}
 use Rattle.std.proofs.lemmas.List.Sums.{length-filter}
 use Rattle.std.proofs.lemmas.Option.{none-some, same_Some, slice_get-get_or}
-use Rattle.status_rewrites.specs.declared.change.ChangeKind.{ChangeKind}
-use Rattle.status_rewrites.specs.declared.change.ChangeKind.TheVariants.{Deletion, Addition}
+use Rattle.status_rewrites.specs.declared.tracker.ChangeKind.{ChangeKind}
+use Rattle.status_rewrites.specs.declared.tracker.ChangeKind.TheVariants.{Deletion, Addition}
 use Rattle.status_rewrites.specs.declared.tracker.Pair.{Pair}
 use Rattle.status_rewrites.specs.TrackedChanges.{Changed}
 use Rattle.status_rewrites.specs.IdentityPairs.{NumberedChange, key_cmp, are_alike, is_on, may_stand, row, rename, AreIdentityPairs}

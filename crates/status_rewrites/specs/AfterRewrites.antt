@@ -3,10 +3,10 @@ use Rattle.std.specs.Prelude.{◌≡◌, ℕ, zero, suc, ◌==◌, Bool, true, f
 use Rattle.std.specs.Global.{Vec}
 use Rattle.std.specs.List.{All, enumerate_from, flat_map, sum_by}
 use Rattle.status_rewrites.specs.declared.tracker.Pair.{Pair}
-use Rattle.status_rewrites.specs.declared.refused.Refused.{Refused}
-use Rattle.status_rewrites.specs.declared.refused.Refused.TheVariants.{BadPair, Memory}
-use Rattle.status_rewrites.specs.declared.rewritten.Rewritten.{Rewritten}
-use Rattle.status_rewrites.specs.declared.rewritten.Rewritten.TheVariants.{Alone, Rewrite}
+use Rattle.status_rewrites.specs.declared.rewrites.Refused.{Refused}
+use Rattle.status_rewrites.specs.declared.rewrites.Refused.TheVariants.{BadPair, Memory}
+use Rattle.status_rewrites.specs.declared.item.Rewritten.{Rewritten}
+use Rattle.status_rewrites.specs.declared.item.Rewritten.TheVariants.{Alone, Rewrite}
 use Rattle.status_rewrites.specs.Lawful.{AreLawful, IsBadPair}
 use Rattle.status_rewrites.specs.Parts.{renames_from}
 

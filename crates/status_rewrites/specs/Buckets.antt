@@ -5,7 +5,7 @@ use Rattle.std.specs.Global.{Vec}
 use denote.Ref.{Bor}
 use Rattle.status_index.specs.BlobId.{id_kind, id_bytes}
 use Rattle.status_index.specs.Orders.{kind_rank}
-use Rattle.status_rewrites.specs.declared.change.ChangeKind.TheVariants.{Deletion, Addition}
+use Rattle.status_rewrites.specs.declared.tracker.ChangeKind.TheVariants.{Deletion, Addition}
 use Rattle.status_rewrites.specs.declared.seen.Seen.{Seen}
 use Rattle.status_rewrites.specs.declared.tracker.Pair.{Pair}
 use Rattle.status_rewrites.specs.TrackedChanges.{Changed}

@@ -10,8 +10,8 @@ use Rattle.status_index.specs.Orders.{id_cmp}
 use Rattle.status_index.specs.declared.id.ObjectId.{ObjectId}
 use Rattle.status_index.specs.declared.mode.EntryKind.{EntryKind}
 use Rattle.status_index.specs.declared.mode.EntryKind.TheVariants.{Tree, Blob, BlobExecutable, Link, Commit}
-use Rattle.status_rewrites.specs.declared.change.ChangeKind.{ChangeKind}
-use Rattle.status_rewrites.specs.declared.change.ChangeKind.TheVariants.{Deletion, Modification, Addition}
+use Rattle.status_rewrites.specs.declared.tracker.ChangeKind.{ChangeKind}
+use Rattle.status_rewrites.specs.declared.tracker.ChangeKind.TheVariants.{Deletion, Modification, Addition}
 use Rattle.status_rewrites.specs.declared.tracker.Pair.{Pair}
 use Rattle.status_rewrites.specs.TrackedChanges.{Changed}
 

@@ -3,7 +3,7 @@ use Rattle.std.specs.Prelude.{◌≡◌, Bool, false, List, map}
 use Rattle.std.specs.List.{filter, zip}
 use Rattle.std.specs.List.Sorted.{IsSortedBy, IsSortedByKey}
 use Rattle.std.specs.Ordering.{is_lt}
-use Rattle.status_rewrites.specs.declared.change.ChangeKind.{ChangeKind}
+use Rattle.status_rewrites.specs.declared.tracker.ChangeKind.{ChangeKind}
 use Rattle.status_rewrites.specs.declared.seen.Seen.{Seen}
 use Rattle.status_rewrites.specs.declared.tracker.Pair.{Pair}
 use Rattle.status_rewrites.specs.TrackedChanges.{Changed}

@@ -6,12 +6,10 @@ ghost use Rattle.status_index.specs.Orders.{kind_rank};
 ghost use Rattle.status_rewrites.specs.Buckets.{bucket_count, bucket_number, leading_bits, AreBuckets, IsAppendedJoin};
 ghost use Rattle.status_rewrites.specs.Joins.{AreByKey, HasRows, IsJoin, side_of};
 ghost use Rattle.status_rewrites.specs.SeenItems.{changed_of};
-ghost use Rattle.status_rewrites.specs.declared.change.ChangeKind.TheVariants.{Deletion, Addition};
+ghost use Rattle.status_rewrites.specs.declared.tracker.ChangeKind.TheVariants.{Deletion, Addition};
 
-use crate::change::ChangeKind;
-use crate::join::join;
-use crate::seen::{Seen, may_stand, mode_number, put_in_key_order};
-use crate::tracker::Pair;
+use crate::seen::{Seen, join, may_stand, mode_number, put_in_key_order};
+use crate::tracker::{ChangeKind, Pair};
 use status_index::{HashKind, ObjectId};
 use std::alloc::{AllocError, Global};
 

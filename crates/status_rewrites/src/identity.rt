@@ -6,10 +6,8 @@ ghost use Rattle.status_rewrites.specs.IdentityPairs.{AreIdentityPairs};
 ghost use Rattle.status_rewrites.specs.Renames.{AreRenames, IsIdentityAnswer};
 
 use crate::buckets::join_buckets;
-use crate::change::{Change, ChangeKind};
-use crate::join::join;
-use crate::seen::{Seen, one_side, put_in_path_order, see_all};
-use crate::tracker::{Pair, Rewrites, Tracker, TrackerError};
+use crate::seen::{Seen, join, one_side, put_in_path_order, see_all};
+use crate::tracker::{Change, ChangeKind, Pair, Rewrites, Tracker, TrackerError};
 use std::alloc::{AllocError, Global};
 
 /// Finds renames by equal content, separately for files and for links. Of those with one id, the first deletion by path

@@ -1,4 +1,4 @@
-//! The items of a list that is rewritten.
+//! The items of a list that is rewritten, and the entries of the list with its rewrites.
 
 ghost use Rattle.std.specs.Prelude.{◌≡◌, Bool, true, false, IfOk};
 
@@ -32,4 +32,20 @@ pub trait Item: Drop {
 
     /// No item may be both.
     ghost apart: { (x : Self) → is_removed x ≡ true → is_walked x ≡ false };
+}
+
+/// An entry of a list with its rewrites.
+#[derive(Debug, Drop)]
+pub enum Rewritten<I> {
+    /// An item that no rename took out, and that is no pair's destination.
+    Alone(I),
+    /// A rename or a copy, at its destination's position.
+    Rewrite {
+        /// The renamed item itself, or a copy of the copied one.
+        source: I,
+        /// The destination.
+        destination: I,
+        /// Whether the source is also at its own position.
+        copy: bool,
+    },
 }

@@ -1,15 +1,15 @@
-//! The list in which each pair is one entry.
+//! The list in which each pair is one entry, or why the pairs are refused.
 
 ghost use Rattle.std.specs.Prelude.{◌≡◌, ◌<◌, true, IfOk, OnOk, length, map, flat_map, slice_get};
 ghost use Rattle.status_rewrites.specs.AfterRewrites.{IsRewriteAnswer};
 ghost use Rattle.status_rewrites.specs.Places.{free, fits, passes, is_free, may_go, standing_in, IsPaired};
+ghost use Rattle.status_rewrites.specs.declared.rewrites.Refused.TheVariants.{Memory};
 
 use crate::Pair;
-use crate::item::Item;
+use crate::item::{Item, Rewritten};
 use crate::place::{Place, entry_of, leave, may_come, may_go, reach};
-use crate::refused::Refused;
-use crate::rewritten::Rewritten;
 use std::alloc::{AllocError, Global};
+use thiserror::Error;
 
 /// Returns the state of each position before any pair.
 fn places_of<I: Drop>(alloc: Global, items: Vec<I>) -> Result<Vec<Place<I>>, AllocError>
@@ -105,4 +105,26 @@ pub fn rewrite<I: Item>(
         pair_up(&mut places, pair)?;
     }
     Ok(entries_of(alloc, places)?)
+}
+
+/// Why a list can't be rewritten.
+#[derive(Clone, Copy, Debug, PartialEq, Eq, Error)]
+pub enum Refused {
+    /// A pair breaks a rule: a position is out of range, has an item of the wrong kind, or already has another part.
+    #[error("bad pair at {at}")]
+    BadPair {
+        /// The pair's position among the pairs.
+        at: usize,
+    },
+    /// Memory ran out.
+    #[error("Out of memory")]
+    Memory,
+}
+
+impl From<AllocError> for Refused {
+    ghost from_gives = { λ _ e. e ≡ Memory };
+
+    fn from(_error: AllocError) -> Refused {
+        Refused::Memory
+    }
 }

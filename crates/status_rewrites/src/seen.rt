@@ -1,13 +1,13 @@
-//! The changes as they are read, once each.
+//! The changes as they are read, once each, and the pairs of a sorted side with another.
 
 ghost use Rattle.std.specs.Prelude.{◌≡◌, IfOk, OnOk, map, true};
 ghost use Rattle.std.specs.List.{enumerate_from};
 ghost use Rattle.std.specs.List.Sorted.{IsPermutation, IsSorted};
 ghost use Rattle.status_rewrites.specs.IdentityPairs.{mode_number, key_cmp, place_cmp, is_on, is_null, may_stand};
 ghost use Rattle.status_rewrites.specs.SeenItems.{changed_of, numbered};
-ghost use Rattle.status_rewrites.specs.Joins.{AreByKey, HasRows, side_of};
+ghost use Rattle.status_rewrites.specs.Joins.{AreByKey, HasRows, side_of, IsJoin};
 
-use crate::change::{Change, ChangeKind};
+use crate::tracker::{Change, ChangeKind, Pair};
 use status_index::{EntryKind, ObjectId};
 use std::alloc::{AllocError, Global};
 use std::cmp::Ordering;
@@ -141,4 +141,38 @@ pub(crate) fn one_side<'a>(
     let mut kept = standing_on(alloc, seen, side, track_empty)?;
     put_in_key_order(&mut kept)?;
     Ok(kept)
+}
+
+/// Returns the pairs of two sides that are sorted by type and id: for each type and id the first with the first, the
+/// second with the second, and so on.
+pub(crate) fn join(
+    alloc: Global,
+    gone: &[Seen<'_>],
+    came: &[Seen<'_>],
+) -> Result<Vec<Pair>, AllocError>
+    requires gone { AreByKey gone.now }
+    requires came { AreByKey came.now }
+    ensures { IfOk result (λ pairs. IsJoin gone.now came.now pairs.items) }
+{
+    let mut pairs = Vec::with_capacity(alloc, gone.len().min(came.len()))?;
+    let mut source = 0;
+    let mut destination = 0;
+    while source < gone.len() && destination < came.len() {
+        let removed = gone[source];
+        let added = came[destination];
+        match key_order(&removed, &added) {
+            Ordering::Less => source += 1,
+            Ordering::Greater => destination += 1,
+            Ordering::Equal => {
+                pairs.push(Pair {
+                    source: removed.place,
+                    destination: added.place,
+                    copy: false,
+                })?;
+                source += 1;
+                destination += 1;
+            }
+        }
+    }
+    Ok(pairs)
 }

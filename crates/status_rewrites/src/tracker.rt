@@ -1,12 +1,14 @@
-//! Trackers, and their results.
+//! Trackers: the changes that they get, and their results.
 
 ghost use Rattle.std.specs.Prelude.{◌≡◌, Bool, List, Result, map};
 ghost use Rattle.status_rewrites.specs.declared.tracker.TrackerError.TheVariants.{Memory};
 ghost use Rattle.status_rewrites.specs.TrackedChanges.{Changed};
 ghost use Rattle.status_rewrites.specs.Trackers.{TrackerFault, IsSpecifiedAnswer};
 ghost use Rattle.status_rewrites.specs.declared.tracker.Pair.{Pair as PairValue};
+ghost use Rattle.bstr.specs.BStr.{bstr_bytes};
 
-use crate::change::Change;
+use bstr::BStr;
+use status_index::{EntryKind, ObjectId};
 use std::alloc::{AllocError, AllocFailed};
 use thiserror::Error;
 
@@ -76,4 +78,42 @@ pub trait Tracker {
         rewrites: Rewrites,
     ) -> Result<Vec<Pair>, TrackerError>
         ensures { IsSpecifiedAnswer (tracks self.old (map C.changed items.now) rewrites.track_empty) result };
+}
+
+/// What happened to a path.
+#[derive(Clone, Copy, Debug, PartialEq, Eq, PartialOrd, Ord, Hash)]
+pub enum ChangeKind {
+    /// The index has it, and the worktree doesn't.
+    Deletion,
+    /// The index has it, and the worktree has something else.
+    Modification,
+    /// The worktree has it, and the index doesn't.
+    Addition,
+}
+
+/// A change that may be a part of a rename or a copy.
+pub trait Change {
+    /// The specification: the results of the methods.
+    ghost changed: { Self → Changed };
+
+    /// Returns the id of the content: the index's for a deletion, the worktree's for an addition. Null if it isn't
+    /// known.
+    fn id(&self) -> ObjectId
+        ensures { result ≡ (changed self.now).id };
+
+    /// Returns what happened to the path.
+    fn kind(&self) -> ChangeKind
+        ensures { result ≡ (changed self.now).kind };
+
+    /// Returns the type of the node that is or was at the path.
+    fn entry_mode(&self) -> EntryKind
+        ensures { result ≡ (changed self.now).mode };
+
+    /// Returns both the id and the type.
+    fn id_and_entry_mode(&self) -> (ObjectId, EntryKind)
+        ensures { result ≡ ((changed self.now).id, (changed self.now).mode) };
+
+    /// Returns the path, from the worktree's root.
+    fn location(&self) -> BStr<'_>
+        ensures { bstr_bytes result ≡ (changed self.now).path };
 }

@@ -2,8 +2,8 @@
 use Rattle.std.specs.Prelude.{ℕ, Bool, true, false, List, ◌++◌, filter, Option, Some, None}
 use Rattle.std.specs.Option.{option_to_list}
 use Rattle.bstr.specs.Owned.{bstring_bytes}
-use Rattle.status_walk.specs.declared.delegate.Action.{Action}
-use Rattle.status_walk.specs.declared.delegate.Action.TheVariants.{Continue, Cancel}
+use Rattle.status_walk.specs.declared.walk.Action.{Action}
+use Rattle.status_walk.specs.declared.walk.Action.TheVariants.{Continue, Cancel}
 use Rattle.status_walk.specs.declared.entry.DirEntry.{DirEntry}
 use Rattle.status_walk.specs.declared.entry.Kind.{Kind}
 use Rattle.status_walk.specs.declared.entry.Status.{Status}

@@ -2,11 +2,9 @@
 
 ghost use Rattle.std.specs.Prelude.{None};
 
-mod entries;
 mod folder;
 mod pending;
 
-use crate::disk::entries::{is_submodule, is_tracked};
 use crate::disk::folder::{Folder, found};
 use crate::disk::pending::{Pending, fault_at};
 use crate::{Action, Delegate, DirEntry, Kind, Outcome, Status, Walk, WalkError};
@@ -133,4 +131,15 @@ fn untracked(path: String, kind: Kind) -> DirEntry {
         status: Status::Untracked,
         disk_kind: Some(kind),
     }
+}
+
+/// Returns whether an entry has this path.
+fn is_tracked(index: &State, path: &str) -> bool {
+    !index.entries_at(BStr::new(path.as_bytes())).is_empty()
+}
+
+/// Returns whether an entry of this path is a submodule's.
+fn is_submodule(index: &State, path: &str) -> bool {
+    let entries = index.entries_at(BStr::new(path.as_bytes()));
+    entries.iter().any(|entry| entry.mode.is_submodule())
 }

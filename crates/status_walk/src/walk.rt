@@ -1,12 +1,13 @@
-//! Walks, and their results.
+//! Walks, their results, and the interface that gets the nodes.
 
-ghost use Rattle.std.specs.Prelude.{◌≡◌, Bool, List, ℕ, Option, IfSome, false};
+ghost use Rattle.std.specs.Prelude.{◌≡◌, Bool, List, ℕ, Option, IfSome, false, ◌∷◌, [], ◌++◌, filter, IfOk, OnOk};
 ghost use Rattle.status_index.specs.Entries.{IndexEntry};
 ghost use Rattle.status_index.specs.States.{index_of};
 ghost use Rattle.status_walk.specs.Walks.{WalkResult, IsWalk};
 ghost use Rattle.status_walk.specs.declared.walk.WalkError.TheVariants.{Memory};
+ghost use Rattle.status_walk.specs.WalkedNodes.{DelegateState, walked_of, is_cancel};
 
-use crate::delegate::Delegate;
+use crate::entry::{DirEntry, Status};
 use bstr::BString;
 use status_base::worktree::{Fault, Pathspec, Worktree};
 use status_index::State;
@@ -67,4 +68,31 @@ pub trait Walk<W: Worktree> {
         requires { (D.state delegate.old).cancelled ≡ false }
         ensures { IfSome (walking self.old worktree.now (index_of index.now) (P.prefix pathspec.now) (P.included pathspec.now))
             (λ m. IsWalk m (D.state delegate.old) result (D.state delegate.new)) };
+}
+
+/// Whether a walk continues.
+#[derive(Clone, Copy, Debug, PartialEq, Eq)]
+pub enum Action {
+    /// It continues.
+    Continue,
+    /// It ends here.
+    Cancel,
+}
+
+/// Gets the nodes of a walk, and keeps those that it wants.
+pub trait Delegate {
+    /// The specification: which nodes it wants to keep, which it has kept, and whether it has ended the walk.
+    ghost state: { Self → DelegateState };
+
+    /// Takes a node that was found. `collapsed` is the status of the collapsed directory that contains the node, if
+    /// there is one. Such a directory represents all nodes in it.
+    ///
+    /// # Errors
+    /// If an allocation fails.
+    fn emit(&mut self, entry: DirEntry, collapsed: Option<Status>) -> Result<Action, AllocError>
+        requires { (state self.old).cancelled ≡ false }
+        ensures keeps { (state self.new).keeps ≡ (state self.old).keeps }
+        ensures kept { OnOk result ((state self.new).kept
+            ≡ (state self.old).kept ++ filter (state self.old).keeps (walked_of entry collapsed ∷ [])) }
+        ensures cancelled { IfOk result (λ action. (state self.new).cancelled ≡ is_cancel action) };
 }

@@ -16,8 +16,8 @@ use Rattle.status_compare.specs.Comparers.{changed_id, hash_answer, fast_answer,
 use Rattle.status_compare.specs.FastAgrees.{HasOwnId, IsKeptSize, IsWholly, reports_change}
 use Rattle.status_compare.specs.Reading.{Reading, Readings, fails, streams, target}
 use Rattle.status_compare.proofs.Agree.{agrees}
-use Rattle.status_compare.specs.declared.comparer.Comparer.{Comparer}
-use Rattle.status_compare.specs.declared.comparer.Comparer.TheVariants.{Hash, Fast}
+use Rattle.status_compare.specs.declared.compare.Comparer.{Comparer}
+use Rattle.status_compare.specs.declared.compare.Comparer.TheVariants.{Hash, Fast}
 use Rattle.status_world.specs.PlainWorld.{Plain}
 use Rattle.status_world.specs.Sound.{IsStagedSize}
 use Rattle.status_compare.specs.NamedComparers.{compared_by, with_new_id, without_new_id}

@@ -10,7 +10,7 @@ use Rattle.status_compare.specs.declared.error.Error.{Error}
 use Rattle.status_world.specs.History.{IsIn}
 use Rattle.status_world.specs.Reports.{RunStatus, Reported, is_change, changed_paths}
 use Rattle.status_world.specs.StampedWorld.{StampedWorld, entry_of_path, reported_by, verdict_in, report_of}
-use Rattle.status_compare.specs.declared.comparer.Comparer.{Comparer}
+use Rattle.status_compare.specs.declared.compare.Comparer.{Comparer}
 use Rattle.status_world.proofs.Pairs.{IsChangeVerdict}
 use Rattle.status_world.proofs.EntryLists.{AreAscending, ascends_tail, ascends_head, none_later}
 

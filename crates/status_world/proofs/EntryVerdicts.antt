@@ -28,7 +28,7 @@ use Rattle.status_call.specs.Query.{Query}
 use Rattle.status_call.specs.Records.{first_fault, fault_by}
 use Rattle.status_call.specs.Status as status
 use Rattle.status_call.specs.Status.{Found, nothing, directory, present, found_by, found_kind, found, answer, changed, case_of_found, case_of_stat, case_of, status_of}
-use Rattle.status_compare.specs.declared.comparer.Comparer.{Comparer}
+use Rattle.status_compare.specs.declared.compare.Comparer.{Comparer}
 use Rattle.status_world.specs.PlainWorld.{Plain}
 use Rattle.status_world.specs.Reports.{RunStatus}
 use Rattle.status_world.specs.Sound.{IsFormed, IsFormedAt, IsFormedEntry, IsFormedNode}

@@ -6,7 +6,7 @@ use Rattle.status_index.specs.Entries.{IndexEntry}
 use Rattle.status_base.specs.MemoryTree.{Placed}
 use Rattle.status_base.specs.Nodes.{is_bad_path}
 use Rattle.status_call.specs.Records.{first_fault, fault_by}
-use Rattle.status_compare.specs.declared.comparer.Comparer.{Comparer}
+use Rattle.status_compare.specs.declared.compare.Comparer.{Comparer}
 use Rattle.status_world.specs.History.{IsIn, IsExact}
 use Rattle.status_world.specs.PlainWorld.{Plain, PlainWorld, Differs, DiffersFrom}
 use Rattle.status_world.specs.Reports.{changed_paths}

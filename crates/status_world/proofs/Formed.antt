@@ -16,7 +16,7 @@ use Rattle.status_base.specs.MemoryTree.{Placed}
 use Rattle.status_compare.specs.declared.error.Error.{Error}
 use Rattle.status_call.specs.declared.index_as_worktree.types.Change.TheVariants as changes
 use Rattle.status_call.specs.declared.index_as_worktree.types.EntryStatus.TheVariants as statuses
-use Rattle.status_compare.specs.declared.comparer.Comparer.{Comparer}
+use Rattle.status_compare.specs.declared.compare.Comparer.{Comparer}
 use Rattle.status_world.specs.Moments.{IsAtMost, moment_of, stamp_of}
 use Rattle.status_world.specs.PlainWorld.{Plain, executable_of_kind}
 use Rattle.status_world.specs.Reports.{RunStatus}

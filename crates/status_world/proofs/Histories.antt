@@ -8,7 +8,7 @@ use Rattle.status_base.specs.MemoryTree.{Placed, PathMap}
 use Rattle.status_compare.specs.declared.error.Error.{Error}
 use Rattle.status_world.specs.declared.world.event.Event.{Event}
 use Rattle.status_world.specs.declared.world.event.Event.TheVariants as events
-use Rattle.status_compare.specs.declared.comparer.Comparer.{Comparer}
+use Rattle.status_compare.specs.declared.compare.Comparer.{Comparer}
 use Rattle.status_world.specs.declared.world.event.Run.{Run}
 use Rattle.status_world.specs.declared.world.refusal.Refusal.{Refusal}
 use Rattle.status_world.specs.declared.world.refusal.Refusal.TheVariants as refusals

@@ -17,8 +17,8 @@ use Rattle.status_compare.specs.declared.error.Error.{Error}
 use Rattle.status_call.specs.declared.index_as_worktree.types.Change.TheVariants as changes
 use Rattle.status_call.specs.declared.index_as_worktree.types.EntryStatus.TheVariants as statuses
 use Rattle.status_call.specs.Status.{same_bool, is_trusted, readings}
-use Rattle.status_compare.specs.declared.comparer.Comparer.{Comparer}
-use Rattle.status_compare.specs.declared.comparer.Comparer.TheVariants.{Hash}
+use Rattle.status_compare.specs.declared.compare.Comparer.{Comparer}
+use Rattle.status_compare.specs.declared.compare.Comparer.TheVariants.{Hash}
 use Rattle.status_world.specs.PlainWorld.{Plain, Differs, IsExecutableChange}
 use Rattle.status_world.specs.Reports.{RunStatus, is_change}
 use Rattle.status_world.specs.Sound.{IsStagedSize, IsTrustworthy}

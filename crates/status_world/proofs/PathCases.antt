@@ -8,7 +8,7 @@ use Rattle.status_compare.specs.declared.error.Error.{Error}
 use Rattle.status_call.specs.declared.index_as_worktree.apply.ApplyChange.{ApplyChange}
 use Rattle.status_call.specs.declared.index_as_worktree.apply.ApplyChange.TheVariants.{NewStat, SetSizeToZero}
 use Rattle.status_call.specs.IndexChanges.{change_of, updated_entry}
-use Rattle.status_compare.specs.declared.comparer.Comparer.{Comparer}
+use Rattle.status_compare.specs.declared.compare.Comparer.{Comparer}
 use Rattle.status_world.specs.PlainWorld.{with_value}
 use Rattle.status_world.specs.Reports.{RunStatus}
 use Rattle.status_world.specs.Sound.{IsFormed}

@@ -15,7 +15,7 @@ use Rattle.status_base.proofs.PlantedReads.{entries-empty}
 use Rattle.status_compare.specs.FastAgrees.{IsWholly}
 use Rattle.status_compare.specs.Reading.{node_reading}
 use Rattle.status_call.specs.Status.{reading, reads_link}
-use Rattle.status_compare.specs.declared.comparer.Comparer.{Comparer}
+use Rattle.status_compare.specs.declared.compare.Comparer.{Comparer}
 use Rattle.status_world.specs.StampedWorld.{StampedWorld, node_at, query_of, is_stored_kind}
 
 -- Opening a file and reading a link, by the planted faults and the node.

@@ -18,10 +18,10 @@ use Rattle.status_call.specs.Records.{first_fault}
 use Rattle.status_call.specs.StatusTheorem.{IsStatusReport, NeverSpawns}
 use Rattle.status_call.specs.Visits.{Visit}
 use Rattle.status_call.proofs.NoThread.{ids_law, sizes_law}
-use Rattle.status_compare.specs.declared.comparer.Comparer.{Comparer}
+use Rattle.status_compare.specs.declared.compare.Comparer.{Comparer}
 use Rattle.status_world.specs.declared.world.event.Run.{Run}
 use Rattle.status_world.specs.EventAnswers.{IsRunReport}
-use Rattle.status_compare.specs.declared.comparer.Comparer.TheVariants.{Hash, Fast}
+use Rattle.status_compare.specs.declared.compare.Comparer.TheVariants.{Hash, Fast}
 use Rattle.status_world.specs.declared.world.refusal.Refusal.TheVariants as refusals
 use Rattle.status_world.specs.Refusals.{fault_refusal}
 use Rattle.status_world.specs.Reports.{Reported, record_value}

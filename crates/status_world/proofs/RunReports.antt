@@ -19,8 +19,8 @@ use Rattle.status_call.specs.Query.{Query}
 use Rattle.status_call.specs.Records.{record_by, records_in, records_of, verdict}
 use Rattle.status_call.specs.StatusTheorem.{IsComplete}
 use Rattle.status_call.specs.Visits.{Visit, finding_of, IsFaithful}
-use Rattle.status_compare.specs.declared.comparer.Comparer.{Comparer}
-use Rattle.status_compare.specs.declared.comparer.Comparer.TheVariants.{Hash, Fast}
+use Rattle.status_compare.specs.declared.compare.Comparer.{Comparer}
+use Rattle.status_compare.specs.declared.compare.Comparer.TheVariants.{Hash, Fast}
 use Rattle.status_world.specs.Reports.{RunStatus, Reported}
 use Rattle.status_world.specs.StampedWorld.{StampedWorld, query_of, reported_by, report_of}
 use Rattle.status_world.proofs.ChangedPaths.{reports_from}

@@ -11,8 +11,8 @@ use Rattle.status_index.specs.declared.stat.Options.{Options}
 use Rattle.status_index.specs.declared.stat.Stat.{Stat}
 use Rattle.status_base.specs.MemoryTree.{Placed}
 use Rattle.status_call.specs.Status.{same_bool, is_trusted}
-use Rattle.status_compare.specs.declared.comparer.Comparer.{Comparer}
-use Rattle.status_compare.specs.declared.comparer.Comparer.TheVariants.{Hash}
+use Rattle.status_compare.specs.declared.compare.Comparer.{Comparer}
+use Rattle.status_compare.specs.declared.compare.Comparer.TheVariants.{Hash}
 use Rattle.status_world.specs.Moments.{IsAtMost, moment_of, stamp_of}
 use Rattle.status_world.specs.PlainWorld.{Plain}
 use Rattle.status_world.specs.Sound.{IsFormedNode, IsFormedPair, IsFormedAt, IsStagedSize, IsTrustworthy, IsSoundAt}

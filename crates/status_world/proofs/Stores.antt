@@ -10,7 +10,7 @@ use Rattle.status_call.specs.declared.index_as_worktree.types.Change.TheVariants
 use Rattle.status_call.specs.declared.index_as_worktree.types.EntryStatus.TheVariants as statuses
 use Rattle.status_call.specs.IndexChanges.{AreInside, applied, change_of, changed_entry, entry_index_of, updated_entry}
 use Rattle.status_call.proofs.IndexChanges.{applied-append, change_behind, one_inside}
-use Rattle.status_compare.specs.declared.comparer.Comparer.{Comparer}
+use Rattle.status_compare.specs.declared.compare.Comparer.{Comparer}
 use Rattle.status_world.specs.Reports.{RunStatus, Reported, changes_in}
 use Rattle.status_world.specs.StampedWorld.{StampedWorld, reported_by, report_of, stored_verdict, verdict_in}
 use Rattle.status_world.proofs.ChangedPaths.{Decide, reports_from}

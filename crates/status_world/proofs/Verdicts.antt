@@ -17,8 +17,8 @@ use Rattle.status_call.specs.declared.index_as_worktree.types.Change.TheVariants
 use Rattle.status_call.specs.declared.index_as_worktree.types.EntryStatus.TheVariants as statuses
 use Rattle.status_call.specs.Status as status
 use Rattle.status_call.specs.Status.{answer, case_of_stat, case_of_change, case_of_content, is_trusted, readings, reading}
-use Rattle.status_compare.specs.declared.comparer.Comparer.{Comparer}
-use Rattle.status_compare.specs.declared.comparer.Comparer.TheVariants.{Hash}
+use Rattle.status_compare.specs.declared.compare.Comparer.{Comparer}
+use Rattle.status_compare.specs.declared.compare.Comparer.TheVariants.{Hash}
 use Rattle.status_world.specs.PlainWorld.{Plain, IsExecutableChange}
 use Rattle.status_world.specs.Reports.{RunStatus}
 use Rattle.status_world.specs.Sound.{IsFormedNode, IsFormedEntry}

@@ -10,7 +10,7 @@ use Rattle.status_base.specs.Conversions.{same}
 use Rattle.status_base.specs.ListedNodes.{known_node}
 use Rattle.status_base.specs.Objects.{found_in}
 use Rattle.status_compare.specs.declared.error.Error.{Error}
-use Rattle.status_compare.specs.declared.reads.Reads.{Reads}
+use Rattle.status_compare.specs.declared.read_data.Reads.{Reads}
 use Rattle.status_compare.specs.Reading.{Readings}
 use Rattle.status_call.specs.declared.index_as_worktree.types.Options.{Options}
 use Rattle.status_call.specs.Modelled.{all_modelled, are_modelled}

@@ -17,7 +17,7 @@ use Rattle.status_base.specs.MemoryTree.{Placed}
 use Rattle.status_base.specs.Nodes.{is_bad_path}
 use Rattle.status_base.specs.Paths.{lies_above}
 use Rattle.status_call.specs.Status.{is_trusted}
-use Rattle.status_compare.specs.declared.comparer.Comparer.TheVariants.{Hash}
+use Rattle.status_compare.specs.declared.compare.Comparer.TheVariants.{Hash}
 use Rattle.status_world.specs.Moments.{IsAtMost, moment_of}
 use Rattle.status_world.specs.PlainWorld.{Plain}
 use Rattle.status_world.specs.StampedWorld.{StampedWorld, node_at, entry_of_path, is_stored_kind, query_of}

@@ -25,7 +25,7 @@ use Rattle.status_base.specs.MemoryTree.{Placed, PathMap, Tree, lstat_in, open_i
 use Rattle.status_base.specs.Trees.{empty_tree}
 use Rattle.status_compare.specs.declared.error.Error.{Error}
 use Rattle.status_compare.specs.NamedComparers.{compared_by, counted_by}
-use Rattle.status_compare.specs.declared.comparer.Comparer.{Comparer}
+use Rattle.status_compare.specs.declared.compare.Comparer.{Comparer}
 use Rattle.status_call.specs.declared.index_as_worktree.types.Options.{Options}
 use Rattle.status_call.specs.Counts.{counts_in, reads_in}
 use Rattle.status_call.specs.IndexChanges.{change_of, updated_entry}

@@ -1,11 +1,15 @@
-//! Blobs by their ids.
+//! Blobs by their ids: the interface, and blobs in memory.
 
-ghost use Rattle.std.specs.Prelude.{◌≡◌, Bool, IsTrue, List, ℕ, Result};
+ghost use Rattle.std.specs.Prelude.{◌≡◌, Bool, IsTrue, List, ℕ, Result, OnOk, OnErr};
 ghost use Rattle.status_index.specs.declared.id.ObjectId.{ObjectId as BlobName};
 ghost use Rattle.status_base.specs.declared.worktree.objects.FindError.{FindError as NotFound};
 ghost use Rattle.status_base.specs.Lawful.{CloneKeeps};
+ghost use Rattle.std.specs.{FinMap as ids};
 
 use status_index::ObjectId;
+use std::alloc::{AllocError, Global};
+use std::collections::BTreeMap;
+use std::marker::Model;
 use thiserror::Error;
 
 /// Why a blob wasn't found.
@@ -43,4 +47,86 @@ pub trait Find: Clone {
 
     /// A clone has the same blobs.
     ghost clone_keeps_found: { CloneKeeps Self.is_clone found };
+}
+
+/// Blobs in memory, by their ids. Whether an id is its content's digest isn't checked.
+#[derive(Drop)]
+pub struct MemoryObjects {
+    alloc: Global,
+    contents: BTreeMap<ObjectId, Vec<u8>>,
+}
+
+impl Model for MemoryObjects {
+    ghost use Rattle.status_base.specs.Objects.{Contents, contents_code, contents_of};
+
+    ghost Value = { Contents };
+
+    ghost coded = { contents_code };
+
+    ghost view = { λ a. contents_of a.contents.entries };
+}
+
+impl MemoryObjects {
+    /// Returns a collection without blobs.
+    pub fn new(alloc: Global) -> MemoryObjects
+        ensures { result ≡ ids.empty }
+    {
+        MemoryObjects {
+            alloc,
+            contents: BTreeMap::new(alloc),
+        }
+    }
+
+    /// Stores a blob, replacing the one with the same id.
+    ///
+    /// # Errors
+    /// Out of memory. The blobs are then unchanged.
+    pub fn put(&mut self, id: ObjectId, content: &[u8]) -> Result<(), AllocError>
+        ensures ok { OnOk result (self.new ≡ ids.insert self.old id content.now) }
+        ensures err { OnErr result (self.new ≡ self.old) }
+    {
+        let content = Vec::from_slice(self.alloc, content)?;
+        match self.contents.insert(id, content) {
+            Ok(_replaced) => Ok(()),
+            Err(_refused) => Err(AllocError),
+        }
+    }
+}
+
+impl Clone for MemoryObjects {
+    ghost use Rattle.std.specs.Prelude.{◌≡◌};
+
+    ghost is_clone = { λ x y. y ≡ x };
+
+    fn clone(&self) -> Result<MemoryObjects, AllocError> {
+        Ok(MemoryObjects {
+            alloc: self.alloc,
+            contents: self.contents.clone()?,
+        })
+    }
+}
+
+impl Find for MemoryObjects {
+    ghost use Rattle.std.specs.Prelude.{true, refl};
+    ghost use Rattle.std.proofs.Common.{ap};
+    ghost use Rattle.status_base.specs.Objects.{found_in};
+
+    ghost modelled = { λ _. true };
+
+    ghost found = { found_in };
+
+    ghost clone_keeps_modelled = { λ _ _ _. refl };
+
+    ghost clone_keeps_found = { λ _ _ same. ap found_in same };
+
+    fn find_blob(&self, id: &ObjectId, buffer: &mut Vec<u8>) -> Result<(), FindError> {
+        let Some(content) = self.contents.get(id) else {
+            return Err(FindError::Missing);
+        };
+        buffer.clear();
+        match buffer.extend_from_slice(content) {
+            Ok(()) => Ok(()),
+            Err(_error) => Err(FindError::Memory),
+        }
+    }
 }

@@ -2,7 +2,7 @@
 
 use super::State;
 use crate::entry::Entry;
-use crate::path_probe::{Question, front_len};
+use crate::probe::{Question, front_len};
 use bstr::BStr;
 
 impl State {

@@ -2,7 +2,7 @@
 
 ghost use Rattle.std.specs.Prelude.{◌≡◌, true, map, All};
 ghost use Rattle.status_rewrites.specs.Entries.{map_rewritten, IsLed};
-ghost use Rattle.status_rewrites.specs.declared.rewritten.Rewritten.TheVariants.{Alone, Rewrite};
+ghost use Rattle.status_rewrites.specs.declared.item.Rewritten.TheVariants.{Alone, Rewrite};
 ghost use Rattle.status_joined.specs.Feeding.{IsFed, IsReportedOne};
 ghost use Rattle.status_joined.specs.Items.{is_walked, IsReported};
 ghost use Rattle.status_joined.specs.ListItems.{item_of};

@@ -7,7 +7,7 @@ ghost use Rattle.status_index.specs.declared.stat.Options.{Options};
 ghost use Rattle.status_call.specs.Records.{first_fault};
 ghost use Rattle.status_world.specs.Sound.{IsFormed};
 ghost use Rattle.status_world.specs.StampedWorld.{StampedWorld, query_of};
-ghost use Rattle.status_compare.specs.declared.comparer.Comparer.{Comparer};
+ghost use Rattle.status_compare.specs.declared.compare.Comparer.{Comparer};
 ghost use Rattle.status_world.specs.Laws.{ReplayLaw};
 ghost use Rattle.status_world.specs.Refusals.{start_refusal};
 

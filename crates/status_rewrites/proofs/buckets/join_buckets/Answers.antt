@@ -4,7 +4,7 @@ use Rattle.status_rewrites.specs.Buckets.{bucket_count, bucket_number, changes_n
 use Rattle.status_rewrites.specs.IdentityPairs.{key_cmp}
 use Rattle.status_rewrites.specs.Joins.{alike_in, side_of, rename_of}
 use Rattle.status_rewrites.specs.SeenItems.{changed_of}
-use Rattle.status_rewrites.specs.declared.change.ChangeKind.TheVariants.{Deletion, Addition}
+use Rattle.status_rewrites.specs.declared.tracker.ChangeKind.TheVariants.{Deletion, Addition}
 use Rattle.status_rewrites.proofs.Bucketing.{matched_none, matched_more, matched_all}
 use Rattle.status_rewrites.proofs.Dealing.{bucket_below, bucket_few}
 use Rattle.status_rewrites.proofs.Keys.{key_total}

@@ -3,7 +3,7 @@ use Rattle.status_rewrites.specs.Buckets.{bucket_number}
 use Rattle.status_rewrites.specs.IdentityPairs.{key_cmp}
 use Rattle.status_rewrites.specs.Joins.{side_of, rename_of}
 use Rattle.status_rewrites.specs.SeenItems.{changed_of}
-use Rattle.status_rewrites.specs.declared.change.ChangeKind.TheVariants.{Deletion, Addition}
+use Rattle.status_rewrites.specs.declared.tracker.ChangeKind.TheVariants.{Deletion, Addition}
 use Rattle.status_rewrites.specs.declared.seen.Seen.{Seen}
 use Rattle.status_rewrites.proofs.Bucketing.{Matched}
 use Rattle.status_rewrites.proofs.Dealing.{bucket_below}

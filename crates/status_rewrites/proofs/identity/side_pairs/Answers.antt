@@ -2,7 +2,7 @@ use Rattle.std.proofs.Common.{refl, subst, sym}
 use Rattle.std.proofs.lemmas.Result.{IfOk-weaker}
 use Rattle.status_rewrites.specs.Buckets.{ArePairsOf}
 use Rattle.status_rewrites.specs.Joins.{HasRows, IsJoin, side_of}
-use Rattle.status_rewrites.specs.declared.change.ChangeKind.TheVariants.{Deletion, Addition}
+use Rattle.status_rewrites.specs.declared.tracker.ChangeKind.TheVariants.{Deletion, Addition}
 use Rattle.status_rewrites.proofs.identity.side_pairs.Goals as goal
 
 pub returns-then-seen-ge-LONG : goal.returns-then-seen-ge-LONG

@@ -1,6 +1,0 @@
-use Rattle.std.proofs.Common.{◌≡◌, ◌++◌, map, Some}
-use Rattle.std.specs.Vec.Iter.{into_iter_items}
-use Rattle.status_board.proofs.order.taken_out.Given as goal
-
-abbrev pub invariant-loop-slot : goal.invariant-loop-slot
-invariant-loop-slot g l = map Some l.outs.items ++ into_iter_items l.slot-iterator ≡ l.fn.slots.items
