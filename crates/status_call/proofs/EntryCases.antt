@@ -21,7 +21,7 @@ use Rattle.status_compare.specs.declared.read_data.Reads.{Reads}
 use Rattle.status_compare.specs.Reads.{no_reads}
 use Rattle.status_call.specs.declared.index_as_worktree.lookup.Look.{Look}
 use Rattle.status_call.specs.declared.index_as_worktree.lookup.AtPath.TheVariants as presences
-use Rattle.status_call.specs.declared.index_as_worktree.decide.Decided.{Decided}
+use Rattle.status_call.specs.declared.index_as_worktree.step.Decided.{Decided}
 use Rattle.status_call.specs.Counts.{is_accepted, is_racy_case, is_compared_case, calls_lstat, reads_of_found, ModelsReads}
 use Rattle.status_call.specs.Decisions.{IsDecided}
 use Rattle.status_call.specs.EntryParts.{IsLook, found_presence, IsOfCase, IsCaseDecided}

@@ -3,7 +3,7 @@ use Rattle.std.specs.Prelude.{◌≡◌, ◌⊎◌, Result, Ok, Err}
 use Rattle.status_index.specs.Entries.{IndexEntry}
 use Rattle.status_compare.specs.declared.error.Error.{Error}
 use Rattle.status_compare.specs.declared.error.Error.TheVariants.{Memory}
-use Rattle.status_call.specs.declared.index_as_worktree.decide.Decided.{Decided}
+use Rattle.status_call.specs.declared.index_as_worktree.step.Decided.{Decided}
 use Rattle.status_call.specs.Counts.{calls_lstat, is_racy_case, reads_of_case, ModelsReads}
 use Rattle.status_call.specs.Query.{Query}
 use Rattle.status_call.specs.Status.{case_of, status_of}

@@ -10,7 +10,7 @@ use Rattle.status_compare.specs.declared.error.Error.TheVariants.{Memory}
 use Rattle.status_compare.specs.declared.read_data.Reads.{Reads}
 use Rattle.status_compare.specs.Errors.{error_of}
 use Rattle.status_compare.specs.Reads.{HasRead, no_reads}
-use Rattle.status_call.specs.declared.index_as_worktree.decide.Decided.{Decided}
+use Rattle.status_call.specs.declared.index_as_worktree.step.Decided.{Decided}
 use Rattle.status_call.specs.declared.index_as_worktree.lookup.Look.{Look}
 use Rattle.status_call.specs.declared.index_as_worktree.lookup.AtPath.{AtPath}
 use Rattle.status_call.specs.declared.index_as_worktree.lookup.AtPath.TheVariants as presences

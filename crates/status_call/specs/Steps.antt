@@ -5,7 +5,7 @@ use Rattle.status_index.specs.Entries.{IndexEntry}
 use Rattle.status_index.specs.Stretch.{part_of}
 use Rattle.status_compare.specs.declared.error.Error.{Error}
 use Rattle.status_call.specs.declared.index_as_worktree.counts.Counts.{Counts}
-use Rattle.status_call.specs.declared.index_as_worktree.decide.Decided.{Decided}
+use Rattle.status_call.specs.declared.index_as_worktree.step.Decided.{Decided}
 use Rattle.status_call.specs.declared.index_as_worktree.step.Step.{Step}
 use Rattle.status_call.specs.Considered.{same_path, takes_over}
 use Rattle.status_call.specs.Counts.{counts_in, is_update, reads_in, IsWithin, ModelsReads}

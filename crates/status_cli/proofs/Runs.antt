@@ -4,12 +4,12 @@ use Rattle.std.specs.Prelude.{Vec}
 use Rattle.std.specs.Result.{IsErrAnd}
 use Rattle.std.specs.declared.alloc.Global.{Global}
 use Rattle.status_stored.specs.Reopening.{IsReopenedReplay}
-use Rattle.status_stored.specs.declared.stop.Stop.{Stop}
+use Rattle.status_stored.specs.declared.replay.Stop.{Stop}
 use Rattle.status_world.specs.Refusals.{start_refusal}
 use Rattle.status_world.specs.Reports.{report_value}
 use Rattle.status_world.specs.StampedWorld.{StampedWorld}
 use Rattle.status_world.specs.declared.world.event.Event.{Event}
-use Rattle.status_world.specs.declared.world.report.Report.{Report}
+use Rattle.status_world.specs.declared.world.run.Report.{Report}
 use Rattle.status_profile.specs.declared.history.History.{History}
 use Rattle.status_cli.specs.declared.failure.Failure.{Failure}
 use Rattle.status_cli.specs.Printing.{IsBegun, IsUnprinted}

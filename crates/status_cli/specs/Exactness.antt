@@ -4,7 +4,7 @@ use Rattle.std.specs.Io.KnownBytes.{Appends}
 use Rattle.status_profile.specs.declared.history.History.{History}
 use Rattle.status_profile.specs.Histories.{IsHistoryRead}
 use Rattle.status_stored.specs.Reopening.{events_in}
-use Rattle.status_world.specs.declared.world.report.Report.{Report}
+use Rattle.status_world.specs.declared.world.run.Report.{Report}
 use Rattle.status_world.specs.Events.{contents_of_events}
 use Rattle.status_world.specs.History.{AreExact, HaveDistinctIds, plains_of}
 use Rattle.status_world.specs.PlainWorld.{empty_plain}

@@ -14,8 +14,8 @@ use Rattle.status_rewrites.specs.declared.tracker.TrackerError.{TrackerError}
 use Rattle.status_rewrites.specs.declared.tracker.TrackerError.TheVariants as trackers
 use Rattle.status_walk.specs.declared.walk.WalkError.{WalkError}
 use Rattle.status_walk.specs.declared.walk.WalkError.TheVariants as walks
-use Rattle.status_world.specs.declared.world.refusal.Refusal.{Refusal}
-use Rattle.status_world.specs.declared.world.refusal.Refusal.TheVariants as refusals
+use Rattle.status_world.specs.declared.world.event.Refusal.{Refusal}
+use Rattle.status_world.specs.declared.world.event.Refusal.TheVariants as refusals
 use Rattle.status_index.specs.declared.state.IndexError.{IndexError}
 use Rattle.status_index.specs.declared.state.IndexError.TheVariants as index_errors
 use Rattle.status_profile.specs.declared.error.ProfileError.{ProfileError}

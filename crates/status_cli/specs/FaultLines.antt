@@ -12,8 +12,8 @@ use Rattle.status_joined.specs.declared.index_as_worktree_with_renames.error.Err
 use Rattle.status_joined.specs.declared.index_as_worktree_with_renames.error.Error.TheVariants as joined
 use Rattle.status_walk.specs.declared.walk.WalkError.{WalkError}
 use Rattle.status_walk.specs.declared.walk.WalkError.TheVariants as walks
-use Rattle.status_world.specs.declared.world.refusal.Refusal.{Refusal}
-use Rattle.status_world.specs.declared.world.refusal.Refusal.TheVariants as refusals
+use Rattle.status_world.specs.declared.world.event.Refusal.{Refusal}
+use Rattle.status_world.specs.declared.world.event.Refusal.TheVariants as refusals
 use Rattle.status_profile.specs.declared.error.Key.{Key}
 use Rattle.status_profile.specs.declared.error.Key.TheVariants as keys
 use Rattle.status_profile.specs.declared.error.ProfileError.{ProfileError}

@@ -6,13 +6,13 @@ use Rattle.std.specs.List.{flat_map, sum_by}
 use Rattle.std.specs.Result.{IsErrAnd}
 use Rattle.std.specs.declared.alloc.Global.{Global}
 use Rattle.status_stored.specs.Reopening.{IsReopenedReplay}
-use Rattle.status_stored.specs.declared.stop.Stop.{Stop}
-use Rattle.status_stored.specs.declared.stop.Stop.TheVariants as stops
+use Rattle.status_stored.specs.declared.replay.Stop.{Stop}
+use Rattle.status_stored.specs.declared.replay.Stop.TheVariants as stops
 use Rattle.status_world.specs.Refusals.{start_refusal}
 use Rattle.status_world.specs.declared.world.event.Event.{Event}
-use Rattle.status_world.specs.declared.world.refusal.Refusal.{Refusal}
+use Rattle.status_world.specs.declared.world.event.Refusal.{Refusal}
 use Rattle.status_world.specs.Reports.{Reported, RunReport, report_value}
-use Rattle.status_world.specs.declared.world.report.Report.{Report}
+use Rattle.status_world.specs.declared.world.run.Report.{Report}
 use Rattle.status_world.specs.StampedWorld.{StampedWorld, empty_world}
 use Rattle.status_profile.specs.declared.error.ProfileError.{ProfileError}
 use Rattle.status_profile.specs.declared.history.History.{History}

@@ -1,14 +1,13 @@
 //! The program's commands `status`, `replay` and `refresh`, over any reader and writers.
 //!
 //! Read `status`, `replay` and `refresh` first, a command each. Then `lines`, the text of each line, `line_buffer`,
-//! which collects lines, `output`, which writes them, and `failure`, why a command fails, with `fault_line`, the line that says
-//! so. `input` reads the file of a profile, and `whole` writes the file of a refreshed one. `laws` has a theorem
+//! which collects lines, and `output`, which writes them and reads a profile's file. `failure` is why a command fails,
+//! with `fault_line`, the line that says so. `whole` writes the file of a refreshed profile, and `laws` has a theorem
 //! about the definitions.
 #![tactic(auto)]
 
 mod failure;
 mod fault_line;
-mod input;
 pub mod laws;
 mod line_buffer;
 pub mod lines;

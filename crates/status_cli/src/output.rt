@@ -1,6 +1,6 @@
-//! Writing lines to the output. On an error a beginning of what was to be written is written.
+//! Reading the file of a profile, and writing to the output. On an error a beginning of what was to be written is written.
 
-ghost use Rattle.std.specs.Prelude.{◌<◌, ◌^◌, IfOk};
+ghost use Rattle.std.specs.Prelude.{◌<◌, ◌^◌, IfOk, ◌≡◌, ◌⊎◌, IfErr, IfSome};
 ghost use Rattle.status_call.specs.Outcomes.{skipped_of};
 ghost use Rattle.status_cli.specs.Printing.{IsAllWritten, spelled};
 ghost use Rattle.status_cli.specs.Statuses.{IsPrintEnd, closing};
@@ -58,4 +58,14 @@ pub fn print<O: io::Write>(bytes: &[u8], output: &mut O) -> Result<(), Failure>
         }
     }
     Err(Failure::Output)
+}
+
+/// Reads all bytes of a profile's file.
+pub fn read_all<I: io::Read>(alloc: Global, profile: &mut I) -> Result<Vec<u8>, Failure>
+    ensures ok { IfOk result (λ text. IfSome (I.remaining profile.old) (λ all. text.items ≡ all)) }
+    ensures err { IfErr result (λ f. (f ≡ Failure.Unreadable) ⊎ (f ≡ Failure.Memory)) }
+{
+    let mut text = Vec::new(alloc);
+    profile.read_to_end(&mut text).map_err(Failure::of_reading)?;
+    Ok(text)
 }

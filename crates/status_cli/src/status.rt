@@ -10,14 +10,12 @@ ghost use Rattle.status_index.specs.States.{index_of};
 ghost use Rattle.status_call.specs.IndexChanges.{AreInside};
 
 mod joined;
-mod no_walk;
 mod plain;
 mod profile_status;
 
 use crate::failure::Failure;
-use crate::input::read_all;
-use crate::status::joined::print_joined;
-use crate::status::no_walk::NoWalk;
+use crate::output::read_all;
+use crate::status::joined::{NoWalk, print_joined};
 use crate::status::plain::print_plain;
 use crate::status::profile_status::ProfileStatus;
 pub use crate::status::profile_status::{Changes, IndexChanges};

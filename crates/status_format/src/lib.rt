@@ -11,7 +11,6 @@ mod from_json;
 mod from_serde;
 pub mod read;
 pub mod value;
-pub mod words;
 
 pub use entry::{EntryFields, read_entry, stat_of};
 pub use error::FieldError;

@@ -1,14 +1,17 @@
-//! Reads a field. A field with a default may be missing, but may not have a wrong form.
+//! Reads a field, and the words that name modes, flags and ids. A field with a default may be missing, but may not have a
+//! wrong form.
 
 ghost use Rattle.status_index.specs.declared.mode.Mode.TheVariants.{File};
 ghost use Rattle.status_format.specs.Field.{number_in, text_in};
 ghost use Rattle.status_format.specs.Reading.{flags_in, id_in, mode_in, stage_in, stamp_in, time_in};
 ghost use Rattle.status_format.specs.Reads.{Reads, needed, or_default};
+ghost use Rattle.std.specs.Prelude.{◌≡◌, option_map};
+ghost use Rattle.status_format.specs.Words.{flag_named, id_named, mode_digits, mode_named};
 
 use crate::error::FieldError;
 use crate::value::JsonValue;
-use crate::words::{flag_of_word, id_of_word, mode_of_word};
 use bitflags::Flags as _;
+use hex::FromHex;
 use status_index::{Flags, Mode, Moment, ObjectId, Time};
 
 /// Reads a text.
@@ -153,5 +156,57 @@ pub fn id_at<J: JsonValue>(object: &J, key: &str) -> Result<ObjectId, FieldError
     match object.member(key) {
         Some(id) => id_of(id),
         None => Err(FieldError::Form),
+    }
+}
+
+/// Returns the mode's bits, as six octal digits.
+pub fn mode_word(mode: Mode) -> &'static str
+    ensures { result.now ≡ mode_digits mode }
+{
+    match mode {
+        Mode::Dir => "040000",
+        Mode::File => "100644",
+        Mode::FileExecutable => "100755",
+        Mode::Symlink => "120000",
+        Mode::Commit => "160000",
+    }
+}
+
+/// Returns the mode that this word names, if any.
+pub fn mode_of_word(word: &str) -> Option<Mode>
+    ensures { result ≡ mode_named word.now }
+{
+    match word {
+        "040000" => Some(Mode::Dir),
+        "100644" => Some(Mode::File),
+        "100755" => Some(Mode::FileExecutable),
+        "120000" => Some(Mode::Symlink),
+        "160000" => Some(Mode::Commit),
+        _ => None,
+    }
+}
+
+/// Returns the flag that this word names, if any.
+pub fn flag_of_word(word: &str) -> Option<Flags>
+    ensures { option_map (λ flag. flag.0) result ≡ flag_named word.now }
+{
+    match word {
+        "uptodate" => Some(Flags::UPTODATE),
+        "skip-worktree" => Some(Flags::SKIP_WORKTREE),
+        "assume-valid" => Some(Flags::ASSUME_VALID),
+        "fsmonitor-valid" => Some(Flags::FSMONITOR_VALID),
+        "intent-to-add" => Some(Flags::INTENT_TO_ADD),
+        _ => None,
+    }
+}
+
+/// Returns the id of these hexadecimal digits: a SHA-1 id for 40 digits, a SHA-256 id for 64.
+pub fn id_of_word(digits: &str) -> Option<ObjectId>
+    ensures { result ≡ id_named digits.now }
+{
+    match digits.len() {
+        40 => <[u8; 20]>::from_hex(digits).ok().map(ObjectId::Sha1),
+        64 => <[u8; 32]>::from_hex(digits).ok().map(ObjectId::Sha256),
+        _ => None,
     }
 }

@@ -3,7 +3,7 @@ use Rattle.std.specs.Prelude.{◌≡◌, Bool, true, false, List, Option, Some, 
 use Rattle.std.specs.Borrow.{Bor}
 use Rattle.status_index.specs.Entries.{IndexEntry}
 use Rattle.status_walk.specs.Walks.{WalkResult}
-use Rattle.status_joined.specs.declared.walker.Walker.{Walker}
+use Rattle.status_joined.specs.declared.untracked.Walker.{Walker}
 
 -- The walk's nodes and fault, if it is modelled.
 abbrev pub Walking : Type 0

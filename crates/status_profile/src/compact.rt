@@ -1,17 +1,17 @@
-//! The compact text of a value that is read, with the keys of each object ascending.
+//! The compact text of a value that is read, and of one in memory, with the keys of each object ascending.
 
 ghost use Rattle.std.specs.Prelude.{◌≡◌, ◌<◌, List, ◌∷◌, IfErr, IfOk, OnOk, Some, length};
-ghost use Rattle.json.specs.Json.{Items as ItemsOf, Json, Members as MembersOf, array, items, members, object, value};
+ghost use Rattle.json.specs.Json.{Items as ItemsOf, Json, Members as MembersOf, array, items, members, object, value, no_members};
 ghost use Rattle.json.specs.Tree.{HasNumbers, MembersHaveNumbers, json_tokens};
-ghost use Rattle.json.specs.Value.{members_view, value_view};
-ghost use Rattle.status_profile.specs.Sorted.{compact, sorted};
+ghost use Rattle.json.specs.Value.{members_view, value_view, items_view};
+ghost use Rattle.status_profile.specs.Sorted.{compact, sorted, sorted_items, sorted_members};
 ghost use Rattle.status_profile.specs.Steps.{Adds, IsUnread, item_depth, member_depth};
 
 use crate::error::ProfileError;
 use crate::items::ITEM_DEPTH;
-use crate::sorted::sorted_value;
 use json::{Invalid, Reader, Token, Value, Writer};
 use std::alloc::{AllocError, Global};
+use std::collections::BTreeMap;
 
 /// Reads the value of a member, and returns its compact text with the keys of each object ascending. A list is read item by
 /// item, any other value as a whole.
@@ -124,4 +124,63 @@ fn write_sorted(alloc: Global, value: &Value<'_>, writer: &mut Writer) -> Result
 {
     let sorted = sorted_value(alloc, value)?;
     writer.value(&sorted)
+}
+
+/// Returns a value with the keys of each object ascending. If a key is repeated, its last value counts.
+///
+/// # Errors
+/// Memory ran out.
+#[cycle(sort)]
+pub fn sorted_value<'a>(alloc: Global, value: &Value<'a>) -> Result<Value<'a>, AllocError>
+    ensures { IfOk result (λ v. value_view v ≡ sorted (value_view value.now)) }
+{
+    match value {
+        Value::Null => Ok(Value::Null),
+        Value::Bool(b) => Ok(Value::Bool(*b)),
+        Value::Number(text) => Ok(Value::Number(*text)),
+        Value::String(text) => Ok(Value::String(*text)),
+        Value::Array(items) => Ok(Value::Array(sort_items(alloc, items)?)),
+        Value::Object(members) => Ok(Value::Object(sort_members(alloc, members)?)),
+    }
+}
+
+/// Returns the items of an array, each sorted.
+#[cycle(sort)]
+fn sort_items<'a>(alloc: Global, items: &Vec<Value<'a>>) -> Result<Vec<Value<'a>>, AllocError>
+    ensures { IfOk result (λ v. items_view v.items ≡ sorted_items (items_view items.now.items)) }
+{
+    let mut sorted = Vec::with_capacity(alloc, items.len())?;
+    for item in items {
+        sorted.push(sorted_value(alloc, item)?)?;
+    }
+    Ok(sorted)
+}
+
+/// Returns the members of an object by key, each sorted.
+#[cycle(sort)]
+fn sort_members<'a>(
+    alloc: Global,
+    members: &Vec<(&'a str, Value<'a>)>,
+) -> Result<Vec<(&'a str, Value<'a>)>, AllocError>
+    ensures { IfOk result (λ v. members_view v.items ≡ sorted_members (members_view members.now.items) no_members) }
+{
+    let mut sorted = BTreeMap::new(alloc);
+    for (key, value) in members {
+        sorted.insert(*key, sorted_value(alloc, value)?)?;
+    }
+    members_in(alloc, sorted)
+}
+
+/// Returns the entries of a map, in order.
+fn members_in<'a>(
+    alloc: Global,
+    map: BTreeMap<&'a str, Value<'a>>,
+) -> Result<Vec<(&'a str, Value<'a>)>, AllocError>
+    ensures { IfOk result (λ v. v.items ≡ map.entry.entries) }
+{
+    let mut members = Vec::with_capacity(alloc, map.len())?;
+    for member in map {
+        members.push(member)?;
+    }
+    Ok(members)
 }

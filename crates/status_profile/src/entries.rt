@@ -1,17 +1,23 @@
-//! The entries of a profile's index.
+//! The entries of a profile's index, read, and written again.
 
-ghost use Rattle.std.specs.Prelude.{◌≡◌, List, IfErr, IfOk};
-ghost use Rattle.status_index.specs.Entries.{IndexEntry, IsRefusal};
+ghost use Rattle.std.specs.Prelude.{◌≡◌, List, IfErr, IfOk, ◌++◌, ◌∷◌, [], OnOk, nat_lt, string_bytes};
+ghost use Rattle.status_index.specs.Entries.{IndexEntry, IsRefusal, index_entry};
 ghost use Rattle.status_index.specs.States.{index_of, timestamp_of};
 ghost use Rattle.status_profile.specs.Entries.{AreUtf8};
 ghost use Rattle.status_profile.specs.Held.{HasEntries, HasIndex};
+ghost use Rattle.serde_json.specs.Written.{comma_if, compact_text};
+ghost use Rattle.status_profile.specs.Refreshed.{IsUnwritten, index_json, timestamp_json};
+ghost use Rattle.status_profile.specs.Sorted.{compact};
+ghost use Rattle.status_stored.specs.StoredIndex.{stored_entry};
 
+use crate::error::{Key, ProfileError};
 use crate::items::Items;
 use bstr::BStr;
-use json::Value;
+use gix_status::index::{Entry, IndexError, Moment, PathStorage, State};
+use json::{Value, Writer};
 use status_format::{FieldError, read_entry};
-use status_index::{IndexError, Moment, State};
-use std::alloc::Global;
+use status_stored::{StoreError, store_one};
+use std::alloc::{AllocError, Global};
 
 /// The entries of a profile, pushed to an index one by one.
 #[derive(Drop)]
@@ -76,4 +82,73 @@ impl Items for Entries {
             }
         }
     }
+}
+
+/// How many bytes the text of an entry mostly has at most, so that the text of an index is seldom moved while it grows.
+const ENTRY_LEN: usize = 320;
+
+/// Returns the text of the list of an index's entries, with one entry in memory as a JSON value.
+///
+/// # Errors
+/// An entry's path isn't UTF-8, or memory ran out.
+pub fn index_text(alloc: Global, index: &State) -> Result<Vec<u8>, ProfileError>
+    ensures text { IfOk result (λ text. text.items ≡ compact (index_json (index_of index.now))) }
+    ensures err { IfErr result (IsUnwritten (index_of index.now)) }
+{
+    let entries = index.entries();
+    let mut text = Vec::with_capacity(alloc, entries.len().saturating_mul(ENTRY_LEN))?;
+    text.push(b'[')?;
+    for at in 0..entries.len() {
+        put_entry(alloc, &entries[at], index.path_backing(), at, &mut text)?;
+    }
+    text.push(b']')?;
+    Ok(text)
+}
+
+/// Appends the text of the entry at the position `at`, after a comma if it isn't the first.
+fn put_entry(
+    alloc: Global,
+    entry: &Entry,
+    backing: &PathStorage,
+    at: usize,
+    text: &mut Vec<u8>,
+) -> Result<(), ProfileError>
+    ensures ok { OnOk result (text.new.items ≡ text.old.items ++ (comma_if (nat_lt 0 at) ++ compact_text (stored_entry (index_entry backing.now entry.now)))) }
+    ensures err { IfErr result (IsUnwritten (index_entry backing.now entry.now ∷ [])) }
+{
+    if at > 0 {
+        text.push(b',')?;
+    }
+    let entry = entry_text(alloc, entry, backing, at)?;
+    text.extend_from_slice(entry.as_bytes())?;
+    Ok(())
+}
+
+/// Returns the text of the entry at the position `at`.
+fn entry_text(
+    alloc: Global,
+    entry: &Entry,
+    backing: &PathStorage,
+    at: usize,
+) -> Result<String, ProfileError>
+    ensures text { IfOk result (λ text. string_bytes text ≡ compact_text (stored_entry (index_entry backing.now entry.now))) }
+    ensures err { IfErr result (IsUnwritten (index_entry backing.now entry.now ∷ [])) }
+{
+    match store_one(alloc, entry, backing, at) {
+        Ok(value) => Ok(value.to_string(alloc)?),
+        Err(StoreError::NotUtf8 { .. }) => Err(ProfileError::Bad(Key::Index)),
+        Err(StoreError::Memory) => Err(ProfileError::Memory),
+    }
+}
+
+/// Returns the text of the list of a timestamp's seconds and nanoseconds.
+pub fn timestamp_text(alloc: Global, timestamp: Moment) -> Result<Vec<u8>, AllocError>
+    ensures { IfOk result (λ text. text.items ≡ compact (timestamp_json timestamp)) }
+{
+    let mut writer = Writer::new(Vec::new(alloc));
+    writer.begin_array()?;
+    writer.u64(u64::from(timestamp.secs))?;
+    writer.u64(u64::from(timestamp.nsecs))?;
+    writer.end_array()?;
+    Ok(writer.into_inner())
 }

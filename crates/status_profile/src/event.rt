@@ -8,8 +8,7 @@ ghost use Rattle.status_profile.specs.Events.{chmod_in, event_named, event_of, e
 ghost use Rattle.status_profile.specs.Events.{four_of, number_in_one, one_of, path_in_one, path_and_text_in, run_in, stretch_values, stretches_in, two_of};
 ghost use Rattle.status_format.specs.Reads.{Reads};
 
-use crate::form::{limit_of, list_of, moment_of, text_of, truth_of};
-use crate::word::comparer_of;
+use crate::form::{comparer_of, limit_of, list_of, moment_of, text_of, truth_of};
 use bstr::BString;
 use gix_status::world::Event;
 use json::Value;

@@ -1,10 +1,9 @@
 //! Profiles, the program's input: an index, a worktree and options, or a history, read from JSON.
 //!
 //! Read `profile` and `history` first, then `options`, `entries`, `node` and `event`, what they are made of, and `error`.
-//! `object` reads an object's text member by member, to `members` for a profile, and `items` reads a list item by item, with
-//! one item in memory as a JSON value. `form` and `word` have the forms of values, and the crate status_format those of
-//! entries. `texts` writes a profile again with another index, over `compact`, `sorted` and `index_text`, and `laws` states
-//! that this index is read as the same. What a text says is defined in `specs`: `Profiles` and `Histories`, over `Options`,
+//! `members` reads an object's text member by member, and `items` a list item by item, with one item in memory as a JSON
+//! value. `form` has the forms of values, and the crate status_format those of entries. `texts` writes a profile again
+//! with another index, over `compact` and `entries`, and `laws` states that this index is read as the same. What a text says is defined in `specs`: `Profiles` and `Histories`, over `Options`,
 //! `Entries`, `Nodes`, `Events`, `Forms` and `Words`. `Refreshed` has the text that is written.
 #![tactic(auto)]
 
@@ -14,17 +13,13 @@ mod error;
 mod event;
 mod form;
 mod history;
-mod index_text;
 mod items;
 pub mod laws;
 mod members;
 mod node;
-mod object;
 mod options;
 mod profile;
-mod sorted;
 mod texts;
-mod word;
 
 pub use error::{Key, ProfileError};
 pub use history::History;

@@ -10,9 +10,8 @@ ghost use Rattle.status_profile.specs.Nodes.{bytes_of, digits_in, node_in, node_
 ghost use Rattle.status_profile.specs.Held.{nodes_value};
 ghost use Rattle.status_profile.specs.Words.{kind_in};
 
-use crate::form::{required, text_of, text_or_empty, truth_or};
+use crate::form::{kind_of, required, text_of, text_or_empty, truth_or};
 use crate::items::Items;
-use crate::word::kind_of;
 use bstr::BString;
 use gix_status::worktree::{Node, NodeKind};
 use json::Value;

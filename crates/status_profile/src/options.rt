@@ -10,8 +10,9 @@ ghost use Rattle.status_profile.specs.Options.{option_values, options_in, over_f
 ghost use Rattle.status_profile.specs.Options.{stat_options_in, status_options_in};
 ghost use Rattle.status_profile.specs.Words.{comparer_in};
 
-use crate::form::{field, limit_of, number_or_zero, object_of, text_or_empty, truth_or};
-use crate::word::comparer_of;
+use crate::form::{
+    comparer_of, field, limit_of, number_or_zero, object_of, text_or_empty, truth_or,
+};
 use bstr::BString;
 use gix_status::index::stat;
 use gix_status::index_as_worktree::{Capabilities, Options};

@@ -20,13 +20,11 @@ ghost use Rattle.status_profile.specs.Words.{hash_in};
 
 use crate::entries::Entries;
 use crate::error::{Key, ProfileError};
-use crate::form::required;
+use crate::form::{hash_of, required};
 use crate::items::ItemsRead;
-use crate::members::Members;
+use crate::members::{Members, members_of};
 use crate::node::{Nodes, Place, read_place};
-use crate::object::members_of;
 use crate::options::{Kind, ProfileOptions, read_options};
-use crate::word::hash_of;
 use gix_status::index::{HashKind, Moment, State};
 use json::{Scratch, Value};
 use status_format::FieldError;

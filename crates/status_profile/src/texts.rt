@@ -11,10 +11,10 @@ ghost use Rattle.status_profile.specs.Steps.{IsUnread, member_depth, with_last};
 ghost use Rattle.status_profile.specs.Texts.{HasOthers, HasTexts, HoldsTexts, IsTextsRead};
 
 use crate::compact::read_compact;
+use crate::entries::{index_text, timestamp_text};
 use crate::error::{Key, ProfileError};
-use crate::index_text::{index_text, timestamp_text};
 use crate::items::MEMBER_DEPTH;
-use crate::object::{FromMembers, members_of};
+use crate::members::{FromMembers, members_of};
 use gix_status::index::State;
 use json::{Reader, Scratch, Writer};
 use std::alloc::{AllocError, Global};

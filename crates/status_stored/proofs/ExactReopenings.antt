@@ -3,11 +3,11 @@ use Rattle.std.proofs.Common.{◌≡◌, sym, subst, inl, inr, ℕ, ◌+◌, ◌
 use Rattle.std.specs.declared.alloc.Global.{Global}
 use Rattle.std.specs.FinMap as paths
 use Rattle.std.proofs.lemmas.List.{get_or_default, take_all}
-use Rattle.status_stored.specs.declared.stop.Stop.{Stop}
-use Rattle.status_stored.specs.declared.stop.Stop.TheVariants as stops
+use Rattle.status_stored.specs.declared.replay.Stop.{Stop}
+use Rattle.status_stored.specs.declared.replay.Stop.TheVariants as stops
 use Rattle.status_stored.specs.Reopening.{IsExactIfReopened, IsExactUpTo, IsReopenedReplay, events_in}
 use Rattle.status_world.specs.declared.world.event.Event.{Event}
-use Rattle.status_world.specs.declared.world.refusal.Refusal.{Refusal}
+use Rattle.status_world.specs.declared.world.event.Refusal.{Refusal}
 use Rattle.status_world.specs.Events.{contents_at, contents_of_events}
 use Rattle.status_world.specs.History.{AreExact, HasDistinctContents, IsIn, IsExactReplay, IsReplay, accepted_count, contents_at_hand, plain_world_of, plains_of}
 use Rattle.status_world.specs.Reports.{RunReport}

@@ -3,7 +3,7 @@ use Rattle.std.proofs.Common.{◌≡◌, refl, sym, ap, subst, ◌∙◌, ℕ, z
 use Rattle.std.proofs.Math.Seq.{take-append-add, take-append-le, drop-append-add, drop-append-le}
 use Rattle.std.proofs.lemmas.List.{take_all}
 use Rattle.status_world.specs.declared.world.event.Event.{Event}
-use Rattle.status_world.specs.declared.world.refusal.Refusal.{Refusal}
+use Rattle.status_world.specs.declared.world.event.Refusal.{Refusal}
 use Rattle.status_world.specs.History.{AreAccepted, after_events, reports_at, reports_of, accepted_count, IsStop, IsReplay}
 use Rattle.status_world.specs.Reports.{RunReport}
 use Rattle.status_world.specs.StampedWorld.{StampedWorld, after_event}

@@ -10,8 +10,8 @@ use Rattle.status_stored.specs.RoundTrip.{IsRoundTrip}
 use Rattle.status_stored.specs.Storable.{AreKnown, HasKnownBits, known_entry, IsNotUtf8At, IsStorableIndex}
 use Rattle.status_stored.specs.Reopening.{IsOpeningRefusal}
 use Rattle.status_stored.proofs.Back.{entries_same}
-use Rattle.status_world.specs.declared.world.refusal.Refusal.{Refusal}
-use Rattle.status_world.specs.declared.world.refusal.Refusal.TheVariants.{OtherIndex}
+use Rattle.status_world.specs.declared.world.event.Refusal.{Refusal}
+use Rattle.status_world.specs.declared.world.event.Refusal.TheVariants.{OtherIndex}
 use Rattle.status_world.specs.SameIndex as opens
 use Rattle.status_world.specs.Sound.{IsFormed}
 use Rattle.status_world.specs.StampedWorld.{StampedWorld}

@@ -4,7 +4,7 @@ use Rattle.std.specs.declared.alloc.Global.{Global}
 use Rattle.std.proofs.lemmas.List.{get_or_default, take_more}
 use Rattle.status_stored.specs.Reopening.{IsPlaceIn, events_in}
 use Rattle.status_world.specs.declared.world.event.Event.{Event}
-use Rattle.status_world.specs.declared.world.refusal.Refusal.{Refusal}
+use Rattle.status_world.specs.declared.world.event.Refusal.{Refusal}
 use Rattle.status_world.specs.History.{IsReplay}
 use Rattle.status_world.specs.Reports.{RunReport}
 use Rattle.status_world.specs.StampedWorld.{StampedWorld}

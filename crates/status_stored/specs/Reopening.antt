@@ -2,12 +2,12 @@
 use Rattle.std.specs.Prelude.{ℕ, ◌+◌, ◌<◌, List, [], ◌∷◌, ◌++◌, length, take, Option, Some, None, Vec, ⊤}
 use Rattle.std.specs.List.{slice_index_or}
 use Rattle.std.specs.declared.alloc.Global.{Global}
-use Rattle.status_stored.specs.declared.stop.Stop.{Stop}
-use Rattle.status_stored.specs.declared.stop.Stop.TheVariants as stops
+use Rattle.status_stored.specs.declared.replay.Stop.{Stop}
+use Rattle.status_stored.specs.declared.replay.Stop.TheVariants as stops
 use Rattle.status_stored.specs.Storable.{IsNotUtf8At}
 use Rattle.status_world.specs.declared.world.event.Event.{Event}
-use Rattle.status_world.specs.declared.world.refusal.Refusal.{Refusal}
-use Rattle.status_world.specs.declared.world.refusal.Refusal.TheVariants as refusals
+use Rattle.status_world.specs.declared.world.event.Refusal.{Refusal}
+use Rattle.status_world.specs.declared.world.event.Refusal.TheVariants as refusals
 use Rattle.status_world.specs.History.{AreExact, HasDistinctContents, IsExactIfSound, IsReplay, plain_world_of, plains_of}
 use Rattle.status_world.specs.Reports.{RunReport}
 use Rattle.status_world.specs.Sound.{IsFormed, IsSound}

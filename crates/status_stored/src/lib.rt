@@ -7,15 +7,12 @@
 mod error;
 pub mod laws;
 mod load;
-mod opening;
 mod replay;
-mod stop;
 mod store;
 mod text;
 
 pub use error::{LoadError, ReopenError, StoreError};
 pub use load::load_index;
-pub use replay::replay_reopening;
-pub use stop::{ReopenedReplay, Stop};
+pub use replay::{ReopenedReplay, Stop, replay_reopening};
 pub use store::{store_index, store_one};
 pub use text::reopened;

@@ -15,7 +15,7 @@ use crate::error::StoreError;
 use bitflags::Flags as _;
 use serde_json::{Value, json};
 use status_format::FieldError;
-use status_format::words::mode_word;
+use status_format::read::mode_word;
 use status_index::{Entry, Flags, Moment, ObjectId, PathStorage, Stat, State};
 use std::alloc::{AllocError, Global};
 use std::str;

@@ -8,9 +8,9 @@ use Rattle.status_compare.specs.declared.error.Error.TheVariants as errors
 use Rattle.status_world.specs.declared.world.event.Event.{Event}
 use Rattle.status_world.specs.declared.world.event.Event.TheVariants as events
 use Rattle.status_world.specs.declared.world.event.Run.{Run}
-use Rattle.status_world.specs.declared.world.refusal.Refusal.{Refusal}
-use Rattle.status_world.specs.declared.world.refusal.Refusal.TheVariants as refusals
-use Rattle.status_world.specs.declared.world.report.Report.{Report}
+use Rattle.status_world.specs.declared.world.event.Refusal.{Refusal}
+use Rattle.status_world.specs.declared.world.event.Refusal.TheVariants as refusals
+use Rattle.status_world.specs.declared.world.run.Report.{Report}
 use Rattle.status_world.specs.EventAnswers.{IsApplied, IsExactEvent}
 use Rattle.status_world.specs.History.{HaveDistinctIds, IsExact, IsStop, accepted_count, contents_at_hand, plain_world_of, reports_at, IsReplay}
 use Rattle.status_world.specs.Moments.{is_after, plus_seconds, plus_nanoseconds}

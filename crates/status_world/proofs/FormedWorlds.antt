@@ -19,8 +19,8 @@ use Rattle.status_base.specs.Nodes.{is_bad_path}
 use Rattle.status_world.specs.declared.world.event.Event.{Event}
 use Rattle.status_world.specs.declared.world.event.Event.TheVariants as events
 use Rattle.status_world.specs.declared.world.event.Run.{Run}
-use Rattle.status_world.specs.declared.world.refusal.Refusal.{Refusal}
-use Rattle.status_world.specs.declared.world.refusal.Refusal.TheVariants as refusals
+use Rattle.status_world.specs.declared.world.event.Refusal.{Refusal}
+use Rattle.status_world.specs.declared.world.event.Refusal.TheVariants as refusals
 use Rattle.status_world.specs.Moments.{IsAtMost, is_after, plus_seconds, plus_nanoseconds}
 use Rattle.status_world.specs.PlainWorld.{Plain, with_value}
 use Rattle.status_call.specs.Records.{first_fault}

@@ -10,8 +10,8 @@ use Rattle.status_world.specs.declared.world.event.Event.{Event}
 use Rattle.status_world.specs.declared.world.event.Event.TheVariants as events
 use Rattle.status_compare.specs.declared.compare.Comparer.{Comparer}
 use Rattle.status_world.specs.declared.world.event.Run.{Run}
-use Rattle.status_world.specs.declared.world.refusal.Refusal.{Refusal}
-use Rattle.status_world.specs.declared.world.refusal.Refusal.TheVariants as refusals
+use Rattle.status_world.specs.declared.world.event.Refusal.{Refusal}
+use Rattle.status_world.specs.declared.world.event.Refusal.TheVariants as refusals
 use Rattle.status_world.specs.Events.{contents_at, contents_of_events, run_event}
 use Rattle.status_world.specs.History.{IsIn, AreAccepted, after_events, reports_at, reports_of, plain_at, plains_of, IsExact, AreExact, plain_world_of, contents_at_hand, HaveDistinctIds, accepted_count, IsReplay, IsExactReplay}
 use Rattle.status_world.specs.Moments.{is_after}

@@ -10,7 +10,7 @@ use Rattle.status_index.specs.declared.id.HashKind.{HashKind}
 use Rattle.status_index.specs.declared.stat.Moment.{Moment}
 use Rattle.status_index.specs.declared.stat.Options.{Options}
 use Rattle.status_world.specs.declared.world.event.Event.{Event}
-use Rattle.status_world.specs.declared.world.refusal.Refusal.{Refusal}
+use Rattle.status_world.specs.declared.world.event.Refusal.{Refusal}
 use Rattle.status_world.specs.EventAnswers.{IsListStep}
 use Rattle.status_world.specs.Events.{contents_of_events}
 use Rattle.status_world.specs.History.{IsIn, AreAccepted, after_events, reports_at, reports_of, plains_of, AreExact, HaveDistinctIds, accepted_count, IsStop, IsReplay}

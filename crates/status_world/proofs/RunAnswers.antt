@@ -22,7 +22,7 @@ use Rattle.status_compare.specs.declared.compare.Comparer.{Comparer}
 use Rattle.status_world.specs.declared.world.event.Run.{Run}
 use Rattle.status_world.specs.EventAnswers.{IsRunReport}
 use Rattle.status_compare.specs.declared.compare.Comparer.TheVariants.{Hash, Fast}
-use Rattle.status_world.specs.declared.world.refusal.Refusal.TheVariants as refusals
+use Rattle.status_world.specs.declared.world.event.Refusal.TheVariants as refusals
 use Rattle.status_world.specs.Refusals.{fault_refusal}
 use Rattle.status_world.specs.Reports.{Reported, record_value}
 use Rattle.status_world.specs.StampedWorld.{StampedWorld, query_of, report_of}

@@ -9,9 +9,9 @@ use Rattle.status_compare.specs.declared.error.Error.TheVariants as errors
 use Rattle.status_call.specs.Records.{first_fault}
 use Rattle.status_world.specs.declared.world.event.Event.{Event}
 use Rattle.status_world.specs.declared.world.event.Run.{Run}
-use Rattle.status_world.specs.declared.world.refusal.Refusal.{Refusal}
-use Rattle.status_world.specs.declared.world.refusal.Refusal.TheVariants as refusals
-use Rattle.status_world.specs.declared.world.report.Report.{Report}
+use Rattle.status_world.specs.declared.world.event.Refusal.{Refusal}
+use Rattle.status_world.specs.declared.world.event.Refusal.TheVariants as refusals
+use Rattle.status_world.specs.declared.world.run.Report.{Report}
 use Rattle.status_world.specs.Events.{run_event}
 use Rattle.status_world.specs.History.{reports_at, IsExact, plain_world_of}
 use Rattle.status_world.specs.Refusals.{refusal_of, write_refusal, fault_refusal, IsRefused}

@@ -5,7 +5,7 @@ use Rattle.status_index.specs.declared.id.HashKind.{HashKind}
 use Rattle.status_index.specs.BlobId.{blob_id}
 use Rattle.status_world.specs.declared.world.event.Event.{Event}
 use Rattle.status_world.specs.declared.world.event.Event.TheVariants as events
-use Rattle.status_world.specs.declared.world.refusal.Refusal.{Refusal}
+use Rattle.status_world.specs.declared.world.event.Refusal.{Refusal}
 use Rattle.status_world.specs.Events.{contents_of_events}
 use Rattle.status_world.specs.PlainWorld.{PlainWorld, plain_after, DiffersAt}
 use Rattle.status_world.specs.Refusals.{refusal_of, IsRefused}

@@ -4,7 +4,7 @@ use Rattle.status_index.specs.declared.id.HashKind.{HashKind}
 use Rattle.status_index.specs.declared.stat.Moment.{Moment}
 use Rattle.status_index.specs.declared.stat.Options.{Options}
 use Rattle.status_world.specs.declared.world.event.Event.{Event}
-use Rattle.status_world.specs.declared.world.refusal.Refusal.{Refusal}
+use Rattle.status_world.specs.declared.world.event.Refusal.{Refusal}
 use Rattle.status_world.specs.Events.{contents_of_events}
 use Rattle.status_world.specs.History.{plains_of, AreExact, HaveDistinctIds, accepted_of, IsReplay}
 use Rattle.status_world.specs.PlainWorld.{empty_plain}

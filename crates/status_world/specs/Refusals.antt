@@ -12,8 +12,8 @@ use Rattle.status_compare.specs.declared.error.Error.TheVariants as errors
 use Rattle.status_call.specs.Records.{first_fault}
 use Rattle.status_world.specs.declared.world.event.Event.{Event}
 use Rattle.status_world.specs.declared.world.event.Event.TheVariants as events
-use Rattle.status_world.specs.declared.world.refusal.Refusal.{Refusal}
-use Rattle.status_world.specs.declared.world.refusal.Refusal.TheVariants as refusals
+use Rattle.status_world.specs.declared.world.event.Refusal.{Refusal}
+use Rattle.status_world.specs.declared.world.event.Refusal.TheVariants as refusals
 use Rattle.status_world.specs.Moments.{is_after, plus_seconds, plus_nanoseconds}
 use Rattle.status_world.specs.StampedWorld.{StampedWorld, node_at, stored_node, query_of}
 

@@ -12,8 +12,8 @@ use Rattle.status_call.specs.declared.index_as_worktree.types.EntryStatus.TheVar
 use Rattle.status_call.specs.declared.index_as_worktree.types.Outcome.{Outcome}
 use Rattle.status_call.specs.IndexChanges.{change_of}
 use Rattle.status_call.specs.Outcomes.{skipped_of}
-use Rattle.status_world.specs.declared.world.report.Report.{Report}
-use Rattle.status_world.specs.declared.world.report.ReportRecord.{ReportRecord}
+use Rattle.status_world.specs.declared.world.run.Report.{Report}
+use Rattle.status_world.specs.declared.world.run.ReportRecord.{ReportRecord}
 
 -- The status of an entry. A change of content has the new id if contents are compared by ids alone.
 abbrev pub RunStatus : Type 0

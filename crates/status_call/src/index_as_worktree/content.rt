@@ -8,8 +8,8 @@ ghost use Rattle.status_compare.specs.Reads.{no_reads};
 ghost use Rattle.status_call.specs.EntryParts.{IsContentCompared, IsDecisionOf};
 ghost use Rattle.status_call.specs.Status.{reads_link, same_bool};
 
-use crate::index_as_worktree::decide::Decided;
 use crate::index_as_worktree::inputs::{Ask, Inputs, Settings};
+use crate::index_as_worktree::step::Decided;
 use crate::index_as_worktree::types::{Change, EntryStatus, Error};
 use bstr::BStr;
 use status_base::worktree::{

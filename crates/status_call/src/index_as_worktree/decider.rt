@@ -12,9 +12,9 @@ ghost use Rattle.status_call.specs.Status.{answer, in_submodule};
 use crate::index_as_worktree::content::{
     compare_node, decision_of, is_trusted, needs_comparison, unread,
 };
-use crate::index_as_worktree::decide::{Decide, Decided};
 use crate::index_as_worktree::inputs::{Ask, Inputs, Settings};
 use crate::index_as_worktree::lookup::{AtPath, Look, look_up};
+use crate::index_as_worktree::step::{Decide, Decided};
 use crate::index_as_worktree::types::{Change, EntryStatus, Error};
 use bitflags::Flags as _;
 use bstr::{BStr, BString};

@@ -1,15 +1,19 @@
-//! The status of an index against a worktree.
+//! The status of an index against a worktree: the call, the call with the usual interfaces, and the call in the caller's
+//! thread alone.
 
 ghost use Rattle.std.specs.Prelude.{◌≡◌, None, IfOk, false};
-ghost use Rattle.status_call.specs.Inputs.{inputs_of};
-ghost use Rattle.status_call.specs.StatusOf.{OneThreadCallSpawnsNone, IsStatus};
+ghost use Rattle.status_call.specs.Inputs.{inputs_of, usual};
+ghost use Rattle.status_call.specs.StatusOf.{OneThreadCallSpawnsNone, IsStatus, IsWithoutThread};
 
 use crate::index_as_worktree::decider::Decider;
 use crate::index_as_worktree::inputs::{Ask, Inputs, Settings};
-use crate::index_as_worktree::status_by::status_by;
+use crate::index_as_worktree::status_by::{status_by, status_serially};
 use crate::index_as_worktree::types::{Context, Error, Options, Outcome, VisitEntry};
 use crate::index_as_worktree::workers::Limits;
-use status_base::worktree::{Find, Lister, Pathspec, SubmoduleStatus, ToGit, Worktree};
+use status_base::worktree::{
+    Find, Lister, MemoryObjects, NoFilter, NoLister, NoSubmodules, Pathspec, SubmoduleStatus,
+    ToGit, Worktree,
+};
 use status_compare::CompareBlobs;
 use status_index::State;
 use std::alloc::Global;
@@ -81,6 +85,113 @@ where
         &mut decider,
         should_interrupt,
         limits,
+        collector,
+    )
+}
+
+/// A worktree, a comparer and a pathspec, with the usual interfaces.
+type Usual<'w, W, C, P> = Inputs<'w, W, C, NoSubmodules, MemoryObjects, P, NoFilter, NoLister>;
+
+/// Calls `index_as_worktree` with the usual interfaces: files are stored unchanged, no submodule is checked out, no
+/// blob is found, no directory is listed, and nothing interrupts the call.
+///
+/// # Errors
+/// Those of `index_as_worktree`.
+pub fn index_as_worktree_with_defaults<
+    'index,
+    'w,
+    R: Threads + Wait,
+    W: Worktree + Sync,
+    V: VisitEntry<'index, ContentChange = C::Output, SubmoduleStatus = ()>,
+    C: CompareBlobs + Send,
+    P: Pathspec + Send,
+>(
+    rt: &R,
+    alloc: Global,
+    index: &'index State,
+    worktree: &'w W,
+    collector: &mut V,
+    compare: C,
+    pathspec: P,
+    options: Options,
+) -> Result<Outcome, Error>
+where
+    W::File: Send,
+    C::Output: Send,
+    ensures all { IsStatus ⟦<Usual<'w, W, C, P> as Ask>⟧.query
+        (usual worktree.entry compare pathspec) options index.now V.visits collector.old result collector.new }
+    ensures uninterrupted { IfOk result (λ o. o.interrupted ≡ false) }
+    ensures alone { OneThreadCallSpawnsNone ⟦<Usual<'w, W, C, P> as Ask>⟧.query
+        (usual worktree.entry compare pathspec) options index.now result }
+{
+    let context = Context {
+        pathspec,
+        filter: NoFilter,
+        lister: NoLister,
+        should_interrupt: None,
+    };
+    let objects = MemoryObjects::new(alloc);
+    index_as_worktree(
+        rt,
+        alloc,
+        index,
+        worktree,
+        collector,
+        compare,
+        NoSubmodules,
+        objects,
+        context,
+        options,
+    )
+}
+
+/// Does what `index_as_worktree` does in the caller's thread alone: it starts no thread and waits for none, and it returns
+/// if each function of the interfaces passed returns. The options' thread limit isn't used. If the interfaces are modelled
+/// and the call isn't interrupted, the records and counts are the same.
+///
+/// # Errors
+/// The fault of the first entry that has one, after the records before it were reported. Out of memory, after a
+/// beginning of the records was reported.
+pub fn index_as_worktree_without_threads<
+    'index,
+    'w,
+    W: Worktree,
+    V: VisitEntry<'index, ContentChange = C::Output, SubmoduleStatus = S::Output>,
+    C: CompareBlobs,
+    S: SubmoduleStatus,
+    O: Find,
+    P: Pathspec,
+    T: ToGit,
+    L: Lister,
+>(
+    alloc: Global,
+    index: &'index State,
+    worktree: &'w W,
+    collector: &mut V,
+    compare: C,
+    submodule: S,
+    objects: O,
+    context: Context<'_, P, T, L>,
+    options: Options,
+) -> Result<Outcome, Error>
+    ensures all { IsStatus ⟦<Inputs<'w, W, C, S, O, P, T, L> as Ask>⟧.query
+        (inputs_of worktree.entry compare submodule objects context.entry)
+        options index.now V.visits collector.old result collector.new }
+    ensures uninterrupted { context.entry.should_interrupt ≡ None
+        → IfOk result (λ o. o.interrupted ≡ false) }
+    ensures threadless { IsWithoutThread ⟦<Inputs<'w, W, C, S, O, P, T, L> as Ask>⟧.query
+        (inputs_of worktree.entry compare submodule objects context.entry)
+        options index.now V.visits collector.old result collector.new }
+{
+    let should_interrupt = context.should_interrupt;
+    let inputs = Inputs::of(worktree, compare, submodule, objects, context);
+    let mut decider = Decider::new(alloc, inputs, Settings::of(&options, index));
+    status_serially(
+        alloc,
+        index,
+        &mut decider,
+        should_interrupt,
+        options.chunk_size,
         collector,
     )
 }

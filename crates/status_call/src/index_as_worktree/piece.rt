@@ -1,17 +1,20 @@
-//! A piece: a range of the considered entries that one worker compares, entry by entry, in order.
+//! A piece: a range of the considered entries that one worker compares, entry by entry, in order, and the report of its
+//! findings to a collector.
 
-ghost use Rattle.std.specs.Prelude.{◌≡◌, ◌++◌, ◌+◌, ◌<◌, ◌≤◌, ℕ, None, Ok, false, min, length, OnOk, OnErr};
+ghost use Rattle.std.specs.Prelude.{◌≡◌, ◌++◌, ◌+◌, ◌<◌, ◌≤◌, ℕ, None, Ok, false, min, length, OnOk, OnErr, All};
 ghost use Rattle.std.specs.List.{slice_index_or};
 ghost use Rattle.status_index.specs.Entries.{IndexEntry};
 ghost use Rattle.status_call.specs.Considered.{part_entries, same_path};
 ghost use Rattle.status_call.specs.Pieces.{IsCut, IsPiece, IsUncut};
 ghost use Rattle.status_call.specs.Records.{record_by};
+ghost use Rattle.status_call.specs.Reporting.{IsFed, IsFedOne, IsPlacedIn};
+ghost use Rattle.status_call.specs.PieceReporting.{IsPieceFed};
+ghost use Rattle.status_call.specs.Runs.{IsFaithfulTo};
 
 use crate::index_as_worktree::considered::Considered;
-use crate::index_as_worktree::counts::Totals;
-use crate::index_as_worktree::decide::Decide;
-use crate::index_as_worktree::step::next_step;
-use crate::index_as_worktree::types::{EntryStatus, Error, Finding};
+use crate::index_as_worktree::counts::{Progress, Totals};
+use crate::index_as_worktree::step::{Decide, next_step};
+use crate::index_as_worktree::types::{EntryStatus, Error, Finding, VisitEntry};
 use std::alloc::{AllocError, Global};
 use std::ops::Range;
 use std::sync::atomic::{AtomicBool, Ordering};
@@ -144,4 +147,86 @@ fn push_status<T: Drop, U: Drop>(
         })?;
     }
     Ok(())
+}
+
+/// Reports one finding to a collector.
+fn feed_finding<'index, V: VisitEntry<'index>>(
+    considered: &Considered<'index>,
+    finding: Finding<V::ContentChange, V::SubmoduleStatus>,
+    collector: &mut V,
+) -> Result<(), AllocError>
+    requires { IsPlacedIn (length considered.now.entries.now) finding }
+    ensures { IsFedOne (IsFaithfulTo considered.entry.now) finding
+        (V.visits collector.old) result (V.visits collector.new) }
+{
+    let Finding {
+        entry_index,
+        status,
+    } = finding;
+    let entry = &considered.entries[entry_index];
+    let path = entry.path_in(considered.backing);
+    collector.visit_entry(considered.entries, entry, entry_index, path, status)
+}
+
+/// Reports findings to a collector in order.
+///
+/// # Errors
+/// Out of memory, after a beginning of the findings was reported.
+fn feed<'index, V: VisitEntry<'index>>(
+    considered: &Considered<'index>,
+    findings: Vec<Finding<V::ContentChange, V::SubmoduleStatus>>,
+    collector: &mut V,
+) -> Result<(), AllocError>
+where
+    V::ContentChange: Drop,
+    V::SubmoduleStatus: Drop,
+    requires { All (IsPlacedIn (length considered.now.entries.now)) findings.items }
+    ensures { IsFed (IsFaithfulTo considered.entry.now) findings.items
+        (V.visits collector.old) result (V.visits collector.new) }
+{
+    for finding in findings {
+        if let Err(refused) = feed_finding(considered, finding, collector) {
+            return Err(refused);
+        }
+    }
+    Ok(())
+}
+
+/// Reports a piece's findings to a collector. Returns the piece's counts, and whether it was interrupted.
+///
+/// # Errors
+/// The fault at which the piece ended, after its findings were reported. Out of memory, after a beginning of the
+/// findings was reported.
+pub(crate) fn feed_piece<'index, V: VisitEntry<'index>>(
+    considered: &Considered<'index>,
+    piece: Piece<V::ContentChange, V::SubmoduleStatus>,
+    collector: &mut V,
+) -> Result<Progress, Error>
+where
+    V::ContentChange: Drop,
+    V::SubmoduleStatus: Drop,
+    requires { All (IsPlacedIn (length considered.now.entries.now)) piece.findings.items }
+    ensures { IsPieceFed (IsFaithfulTo considered.entry.now) piece
+        (V.visits collector.old) result (V.visits collector.new) }
+{
+    let Piece {
+        findings,
+        totals,
+        reached: _,
+        end,
+    } = piece;
+    match feed(considered, findings, collector) {
+        Ok(()) => match end {
+            End::Faulty(error) => Err(error),
+            End::Whole => Ok(Progress {
+                totals,
+                interrupted: false,
+            }),
+            End::Cut => Ok(Progress {
+                totals,
+                interrupted: true,
+            }),
+        },
+        Err(_refused) => Err(Error::Memory),
+    }
 }

@@ -7,9 +7,8 @@ ghost use Rattle.status_call.specs.WorkInOrder.{IsReportedWork};
 
 use crate::index_as_worktree::considered::Considered;
 use crate::index_as_worktree::counts::{Progress, Totals};
-use crate::index_as_worktree::decide::Decide;
-use crate::index_as_worktree::feed::feed_piece;
-use crate::index_as_worktree::piece::{piece_end, walk_piece};
+use crate::index_as_worktree::piece::{feed_piece, piece_end, walk_piece};
+use crate::index_as_worktree::step::Decide;
 use crate::index_as_worktree::types::{Error, VisitEntry};
 use std::alloc::Global;
 use std::sync::atomic::AtomicBool;

@@ -8,9 +8,9 @@ ghost use Rattle.status_call.specs.Workers.{chunk_size_of};
 
 use crate::index_as_worktree::considered::Considered;
 use crate::index_as_worktree::counts::Progress;
-use crate::index_as_worktree::decide::Decide;
 use crate::index_as_worktree::run_rounds::run_rounds;
 use crate::index_as_worktree::run_serially::{Alone, run_serially};
+use crate::index_as_worktree::step::Decide;
 use crate::index_as_worktree::types::{Error, Outcome, VisitEntry};
 use crate::index_as_worktree::workers::{Limits, Workers};
 use status_index::State;

@@ -13,7 +13,7 @@ use crate::failure::Failure;
 use crate::line_buffer::LineBuffer;
 use crate::output::print_closing;
 use crate::status::profile_status::ProfileStatus;
-use gix_status::index::HashKind;
+use gix_status::index::{HashKind, State};
 use gix_status::index_as_worktree;
 use gix_status::index_as_worktree::traits::CompareBlobs;
 use gix_status::index_as_worktree_with_renames::{
@@ -21,7 +21,7 @@ use gix_status::index_as_worktree_with_renames::{
     VisitEntry, index_as_worktree_with_renames,
 };
 use gix_status::tracker::{IdentityTracker, Rewrites};
-use gix_status::walk::Walk;
+use gix_status::walk::{self, Delegate, Walk, WalkError};
 use gix_status::worktree::{MemoryObjects, NoFilter, NoLister, NoSubmodules, Pathspec, Worktree};
 use status_call::index_as_worktree::inputs::{Ask, Inputs};
 use status_profile::ProfileOptions;
@@ -160,4 +160,31 @@ fn add_entries<T: Drop, U: Drop, O: io::Write>(
         lines.add_entry(alloc, entry, output)?;
     }
     Ok(())
+}
+
+/// Finds nothing. It is passed over a folder, where `untracked` is refused.
+#[derive(Clone, Copy)]
+pub struct NoWalk;
+
+impl<W: Worktree> Walk<W> for NoWalk {
+    ghost use Rattle.std.specs.Prelude.{◌≡◌, [], None, Some, false};
+    ghost use Rattle.status_walk.specs.Walks.{IsWalk};
+
+    ghost walking = { λ _ _ _ _ _. Some (record { entries = []; fault = None }) };
+
+    fn walk<P: Pathspec, D: Delegate>(
+        &mut self,
+        _worktree: &W,
+        _index: &State,
+        _pathspec: &P,
+        delegate: &mut D,
+    ) -> Result<walk::Outcome, WalkError>
+        requires { (D.state delegate.old).cancelled ≡ false }
+        ensures { IsWalk (record { entries = []; fault = None }) (D.state delegate.old) result (D.state delegate.new) }
+    {
+        Ok(walk::Outcome {
+            emitted: 0,
+            cancelled: false,
+        })
+    }
 }

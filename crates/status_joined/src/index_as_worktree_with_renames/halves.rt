@@ -1,19 +1,19 @@
-//! Both halves of a status, run at the same time, and their list.
+//! Both halves of a status, the tracked one and the untracked one: run at the same time, and their list.
 
 ghost use Rattle.std.specs.Prelude.{None, Some, is_some, option_map, ⊤};
 ghost use Rattle.status_index.specs.States.{index_of};
 ghost use Rattle.status_joined.specs.BothHalves.{IsHalves};
 ghost use Rattle.status_joined.specs.Listing.{IsListing};
+ghost use Rattle.status_joined.specs.TrackedHalf.{IsRecorded};
 
 use crate::index_as_worktree_with_renames::error::{Error, walk_error};
 use crate::index_as_worktree_with_renames::types::{Call, Outcome};
-use crate::tracked::record_tracked;
-use crate::untracked::{Kept, walk_untracked};
-use crate::walker::FindUntracked;
+use crate::untracked::{FindUntracked, Kept, walk_untracked};
 use crate::{ModificationOrDirwalkEntry, list_of};
-use status_call::index_as_worktree;
-use status_call::index_as_worktree::Record;
-use status_call::index_as_worktree::decide::Decide;
+use status_call::index_as_worktree::status_by::status_by;
+use status_call::index_as_worktree::step::Decide;
+use status_call::index_as_worktree::workers::Limits;
+use status_call::index_as_worktree::{self, Record, Recorder};
 use std::sync::Wait;
 use std::sync::atomic::AtomicBool;
 use std::thread::{Threads, join};
@@ -177,5 +177,43 @@ where
             },
         )),
         Err(_refused) => Err(Error::Memory),
+    }
+}
+
+/// Returns how the worktree differs from the index, in index order, and the counts of the status.
+///
+/// # Errors
+/// Those of `index_as_worktree`.
+fn record_tracked<'index, R: Threads + Wait, D: Decide + Send + Drop>(
+    rt: &R,
+    call: &Call<'index>,
+    mut decider: D,
+    interrupt: Option<&AtomicBool>,
+) -> Result<
+    (
+        Vec<Record<'index, D::Content, D::Submodule>>,
+        index_as_worktree::Outcome,
+    ),
+    index_as_worktree::Error,
+>
+where
+    D::Content: Send + Drop + 'index,
+    D::Submodule: Send + Drop + 'index,
+    ensures { IsRecorded (D.query decider) call.now.options.tracked_file_modifications.thread_limit call.now.index.now
+        (is_some interrupt.entry) result }
+{
+    let limits = Limits::of(&call.options.tracked_file_modifications);
+    let mut recorder = Recorder::new(call.alloc);
+    match status_by(
+        rt,
+        call.alloc,
+        call.index,
+        &mut decider,
+        interrupt,
+        limits,
+        &mut recorder,
+    ) {
+        Ok(outcome) => Ok((recorder.records, outcome)),
+        Err(error) => Err(error),
     }
 }

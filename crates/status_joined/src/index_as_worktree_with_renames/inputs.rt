@@ -2,7 +2,7 @@
 
 ghost use Rattle.status_joined.specs.JoinedQuery.{JoinedQuery};
 
-use crate::walker::{FindUntracked, Walker};
+use crate::untracked::{FindUntracked, Walker};
 use status_base::worktree::{Find, Lister, Pathspec, SubmoduleStatus, ToGit, Worktree};
 use status_call::index_as_worktree::inputs;
 use status_compare::CompareBlobs;

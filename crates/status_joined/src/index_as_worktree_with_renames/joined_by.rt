@@ -12,7 +12,7 @@ use crate::index_as_worktree_with_renames::inputs::{Ask, Inputs};
 use crate::index_as_worktree_with_renames::recorder::VisitEntry;
 use crate::index_as_worktree_with_renames::rewriting::report_list;
 use crate::index_as_worktree_with_renames::types::{Call, Options, Outcome};
-use crate::walker::wanted_walker;
+use crate::untracked::wanted_walker;
 use status_base::worktree::{Find, Lister, Pathspec, SubmoduleStatus, ToGit, Worktree};
 use status_call::index_as_worktree;
 use status_call::index_as_worktree::decider::Decider;

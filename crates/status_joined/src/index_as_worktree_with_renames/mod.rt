@@ -3,7 +3,6 @@
 mod entry;
 mod error;
 mod exact_clone;
-mod feed;
 mod function;
 mod halves;
 pub mod inputs;

@@ -10,8 +10,7 @@ ghost use Rattle.status_joined.specs.RewritingAnswers.{IsListFedBy, IsRewritingA
 use crate::identifier::Identify;
 use crate::index_as_worktree_with_renames::error::{Error, id_error, refused_error};
 use crate::index_as_worktree_with_renames::exact_clone::ExactClone;
-use crate::index_as_worktree_with_renames::feed::{feed_items, feed_rewritten};
-use crate::index_as_worktree_with_renames::recorder::VisitEntry;
+use crate::index_as_worktree_with_renames::recorder::{VisitEntry, feed_items, feed_rewritten};
 use crate::index_as_worktree_with_renames::rewrites::Outcome;
 use crate::index_as_worktree_with_renames::types::Call;
 use crate::{ModificationOrDirwalkEntry, identify};

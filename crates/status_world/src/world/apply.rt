@@ -1,16 +1,18 @@
-//! Applies an event.
+//! Applies an event, and replays a list of events. The events that move the clock are here.
 
 ghost use Rattle.std.specs.Prelude.{All, IfErr, IfOk, IfSome, [], ◌∷◌, map};
-ghost use Rattle.status_world.specs.EventAnswers.{IsApplied, IsExactEvent, IsListStep};
-ghost use Rattle.status_world.specs.History.{HasDistinctContents};
+ghost use Rattle.status_world.specs.EventAnswers.{IsApplied, IsExactEvent, IsListStep, IsChanged};
+ghost use Rattle.status_world.specs.History.{HasDistinctContents, IsReplay, IsExactIfSound};
 ghost use Rattle.status_world.specs.Refusals.{IsNoRunFault};
 ghost use Rattle.status_world.specs.Reports.{HasSum, report_value};
 ghost use Rattle.status_world.specs.Sound.{IsFormed, IsSound};
+ghost use Rattle.status_world.specs.declared.world.event.Event.TheVariants.{Tick, TickNanos};
 
-use crate::world::event::{Event, Run};
-use crate::world::refusal::Refusal;
-use crate::world::report::Report;
-use crate::world::state::World;
+use crate::world::event::{Event, Refusal, Run};
+use crate::world::run::{Replay, Report};
+use crate::world::state::{NANOSECONDS, World};
+use status_index::Moment;
+use std::alloc::Global;
 use std::sync::Wait;
 use std::thread::Threads;
 
@@ -101,6 +103,67 @@ impl World {
             return Ok(());
         }
         self.happen(rt, event)?;
+        Ok(())
+    }
+}
+
+/// Applies the events in order, up to the first that is refused.
+///
+/// **No change is missed**: each run reports a change of exactly the staged paths that differ. A staged path differs if
+/// nothing is there, or in kind, in bytes or, if it counts, in executability. This holds if contents with equal ids are
+/// equal and the world's index can be trusted, as in a world that [`World::new`] returned and events changed.
+pub fn replay<R: Threads + Wait>(rt: &R, alloc: Global, world: World, events: &[Event]) -> Replay
+    ensures replay { IsReplay world events.now result.world (map report_value result.reports.items) result.stopped }
+    ensures formed { IsFormed world → IsFormed result.world }
+    ensures causes { IsFormed world → IfSome result.stopped (λ stop. IsNoRunFault stop.1) }
+    ensures exact { IsFormed world → IsExactIfSound world events.now result.world (map report_value result.reports.items) result.stopped }
+    ensures sums { All HasSum result.reports.items }
+{
+    let mut world = world;
+    let mut reports = Vec::new(alloc);
+    for (place, event) in events.iter().enumerate() {
+        if let Err(refusal) = world.step(rt, &mut reports, event) {
+            return Replay {
+                world,
+                reports,
+                stopped: Some((place, refusal)),
+            };
+        }
+    }
+    Replay {
+        world,
+        reports,
+        stopped: None,
+    }
+}
+
+impl World {
+    /// Advances the clock by this number of seconds.
+    pub(crate) fn tick(&mut self, seconds: u32) -> Result<(), Refusal>
+        ensures { IsChanged (Tick seconds) self.old result self.new }
+    {
+        let Moment { secs, nsecs } = self.parts.clock;
+        let Some(secs) = secs.checked_add(seconds) else {
+            return Err(Refusal::ClockEnd);
+        };
+        self.parts.clock = Moment { secs, nsecs };
+        Ok(())
+    }
+
+    /// Advances the clock by this number of nanoseconds.
+    pub(crate) fn tick_nanos(&mut self, nanoseconds: u32) -> Result<(), Refusal>
+        ensures { IsChanged (TickNanos nanoseconds) self.old result self.new }
+    {
+        let Moment { secs, nsecs } = self.parts.clock;
+        let nsecs = u64::from(nsecs) + u64::from(nanoseconds);
+        let carry = (nsecs / u64::from(NANOSECONDS)) as u32;
+        let Some(secs) = secs.checked_add(carry) else {
+            return Err(Refusal::ClockEnd);
+        };
+        self.parts.clock = Moment {
+            secs,
+            nsecs: (nsecs % u64::from(NANOSECONDS)) as u32,
+        };
         Ok(())
     }
 }

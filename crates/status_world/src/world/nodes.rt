@@ -9,7 +9,7 @@ ghost use Rattle.status_world.specs.Moments.{stamp_of};
 ghost use Rattle.status_world.specs.StampedWorld.{written, is_executable_at, with_executability, node_at, stored_node};
 ghost use Rattle.status_world.specs.declared.world.event.Event.TheVariants as events;
 
-use crate::world::refusal::Refusal;
+use crate::world::event::Refusal;
 use crate::world::state::World;
 use bstr::{BStr, BString};
 use status_base::worktree::memory::is_bad_path;

@@ -5,7 +5,7 @@ ghost use Rattle.status_index.specs.Entries.{index_entry};
 ghost use Rattle.status_index.specs.States.{index_of, timestamp_of};
 ghost use Rattle.status_world.specs.SameIndex.{IsIndexReplaced, IsSameIndex};
 
-use crate::world::refusal::Refusal;
+use crate::world::event::Refusal;
 use crate::world::state::World;
 use status_index::{Entry, PathStorage, State};
 

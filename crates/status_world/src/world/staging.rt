@@ -9,7 +9,7 @@ ghost use Rattle.status_world.specs.StampedWorld.{fresh_entry, plain_of, with_st
 ghost use Rattle.status_world.specs.StagedPaths.{plain_staged};
 ghost use Rattle.status_world.specs.declared.world.event.Event.TheVariants as events;
 
-use crate::world::refusal::Refusal;
+use crate::world::event::Refusal;
 use crate::world::staged::Staged;
 use crate::world::state::World;
 use bstr::{BStr, BString};

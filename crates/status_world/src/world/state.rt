@@ -6,7 +6,7 @@ ghost use Rattle.status_index.specs.States.{index_of, timestamp_of};
 ghost use Rattle.status_world.specs.Sound.{IsFormed, IsSound};
 ghost use Rattle.status_world.specs.StampedWorld.{empty_world};
 
-use crate::world::refusal::Refusal;
+use crate::world::event::Refusal;
 use crate::world::staged::StagedFiles;
 use status_base::worktree::MemoryWorktree;
 use status_index::{HashKind, Moment, State, stat};

@@ -2,7 +2,7 @@ use Rattle.std.proofs.Common.{◌≡◌, ◌∙◌, ◌+◌, ◌++◌, ◌∷◌
 use Rattle.std.proofs.lemmas.List.{take_all, take_more}
 use Rattle.std.specs.List.{flat_map}
 use Rattle.status_world.specs.Reports.{reported_value}
-use Rattle.status_world.specs.declared.world.report.ReportRecord.{ReportRecord}
+use Rattle.status_world.specs.declared.world.run.ReportRecord.{ReportRecord}
 use Rattle.status_cli.specs.Replays.{reported_line}
 use Rattle.status_cli.specs.Statuses.{totals_text}
 use Rattle.status_cli.proofs.Buffered.{added_more, added_step, failed_step, longer}

@@ -5,7 +5,7 @@ use Rattle.status_index.specs.Entries.{IndexEntry}
 use Rattle.status_index.specs.States.{index_of, timestamp_of}
 use Rattle.status_base.specs.MemoryTree.{PathMap}
 use Rattle.status_world.specs.contracts.world.state.World.{the_view}
-use Rattle.status_world.specs.declared.world.refusal.Refusal.{Refusal}
+use Rattle.status_world.specs.declared.world.event.Refusal.{Refusal}
 use Rattle.status_world.specs.PlainWorld.{Plain}
 use Rattle.status_world.specs.StampedWorld.{StampedWorld}
 use Rattle.status_world.specs.Worlds.{world_of}

@@ -2,7 +2,7 @@ use Rattle.std.proofs.Common.{◌≡◌, None, Ok, Err, refl, sym, ap, subst, �
 use Rattle.status_call.specs.Records.{first_fault}
 use Rattle.status_call.specs.RecorderVisits.{visits_of}
 use Rattle.status_call.specs.StatusTheorem.{IsStatusReport}
-use Rattle.status_world.specs.declared.world.refusal.Refusal.TheVariants as refusals
+use Rattle.status_world.specs.declared.world.event.Refusal.TheVariants as refusals
 use Rattle.status_world.specs.EventAnswers.{IsRunReport}
 use Rattle.status_world.specs.Worlds.{world_of}
 use Rattle.status_world.specs.Reports.{Reported, RunReport, report_value}
