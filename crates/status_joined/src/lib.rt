@@ -11,7 +11,7 @@ pub mod item;
 pub mod list;
 pub mod untracked;
 
-pub use identifier::{Identifier, Identify, identify};
+pub use identifier::{Identifier, Identify};
 pub use item::ModificationOrDirwalkEntry;
-pub use list::list_of;
+pub use list::{identify, list_of};
 pub use untracked::{FindUntracked, Kept, Walker};

@@ -1,7 +1,7 @@
 use Rattle.std.proofs.Common.{arith}
 use Rattle.status_joined.specs.ListItems.{item_of}
 use Rattle.status_joined.proofs.Identifying.{one_more, first_fault}
-use Rattle.status_joined.proofs.identifier.identify.Goals as goal
+use Rattle.status_joined.proofs.list.identify.Goals as goal
 
 pub returns-in-Err-clause-ids : goal.returns-in-Err-clause-ids
 returns-in-Err-clause-ids g c =

@@ -1,6 +1,6 @@
 use Rattle.status_joined.specs.ListItems.{item_of}
 use Rattle.status_joined.proofs.Identifying.{AreIdentifiedUpTo}
-use Rattle.status_joined.proofs.identifier.identify.Given as goal
+use Rattle.status_joined.proofs.list.identify.Given as goal
 
 abbrev pub invariant-loop-item : goal.invariant-loop-item
 invariant-loop-item g l =
