@@ -2,7 +2,7 @@
 
 ghost use Rattle.std.specs.Prelude.{◌≡◌, IfOk, OnOk, OnErr, IsTrue};
 ghost use Rattle.std.specs.Option.{option_map};
-ghost use Rattle.std.specs.{FinMap as paths};
+ghost use Rattle.std.specs.FinMap as paths;
 ghost use Rattle.bstr.specs.BStr.{bstr_bytes};
 ghost use Rattle.status_base.specs.ListedNodes.{directory_of, file_name_of, listed};
 ghost use Rattle.status_base.specs.ListingTable.{stat_in_table, HasListedOnce, HasListedNames};

@@ -4,7 +4,7 @@ ghost use Rattle.std.specs.Prelude.{◌≡◌, Bool, IsTrue, List, ℕ, Result, 
 ghost use Rattle.status_index.specs.declared.id.ObjectId.{ObjectId as BlobName};
 ghost use Rattle.status_base.specs.declared.worktree.objects.FindError.{FindError as NotFound};
 ghost use Rattle.status_base.specs.Lawful.{CloneKeeps};
-ghost use Rattle.std.specs.{FinMap as ids};
+ghost use Rattle.std.specs.FinMap as ids;
 
 use status_index::ObjectId;
 use std::alloc::{AllocError, Global};
