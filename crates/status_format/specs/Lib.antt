@@ -4,4 +4,6 @@ pub mod Field
 pub mod JsonFields
 pub mod Reading
 pub mod Reads
+pub mod Storable
+pub mod StoredEntry
 pub mod Words

@@ -9,7 +9,7 @@ use Rattle.serde_json.proofs.Texts.{print-outline}
 use Rattle.status_index.specs.declared.entry.Entry.{Entry}
 use Rattle.status_index.specs.declared.entry.PathStorage.{PathStorage}
 use Rattle.status_index.specs.Entries.{IndexEntry, index_entries, index_entry}
-use Rattle.status_stored.specs.StoredIndex.{stored_entry}
+use Rattle.status_format.specs.StoredEntry.{stored_entry}
 use Rattle.status_profile.specs.Refreshed.{IsUnwritten, index_json}
 use Rattle.status_profile.specs.Sorted.{compact}
 use Rattle.status_profile.specs.declared.error.ProfileError.{ProfileError}

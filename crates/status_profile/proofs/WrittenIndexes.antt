@@ -1,5 +1,5 @@
 -- The JSON of an index is read as that index.
-use Rattle.std.proofs.Common.{◌≡◌, ℕ, ◌^◌, ◌<◌, List, [], ◌∷◌, map, Option, Some, None, All, refl, sym, ap, subst, ◌∙◌, arith}
+use Rattle.std.proofs.Common.{◌≡◌, ℕ, ◌^◌, ◌<◌, List, [], ◌∷◌, map, Some, All, refl, sym, ap, subst, ◌∙◌, arith}
 use Rattle.std.specs.Prelude.{decimal}
 use Rattle.std.proofs.lemmas.Fmt.{decimal_is_IsNumeral}
 use Rattle.std.proofs.lemmas.Bool.{lt-ltb}
@@ -11,15 +11,15 @@ use Rattle.status_index.specs.declared.stat.Moment.{Moment}
 use Rattle.status_index.specs.declared.stat.Time.{Time}
 use Rattle.status_index.specs.FlagBits.{bits_of_stage}
 use Rattle.status_index.specs.Entries.{IndexEntry, stage_of}
-use Rattle.status_stored.specs.Storable.{Fits32, FitsStat, FitsTime, IsStorable, known_bits, known_entry}
-use Rattle.status_stored.specs.StoredIndex.{stored_entry, stored_flags, stored_number, stored_stamp, stored_time}
+use Rattle.status_format.specs.Storable.{Fits32, FitsStat, FitsTime, IsStorable, known_bits, known_entry}
+use Rattle.status_format.specs.StoredEntry.{stored_entry, stored_flags, stored_number, stored_time}
 use Rattle.status_format.specs.Words.{flag_words}
 use Rattle.status_format.specs.DataFields.{data_atoms}
 use Rattle.status_format.specs.Field.{atom_number, number, number_in, text}
 use Rattle.status_format.specs.JsonFields.{json_atom, json_atoms, json_field, json_fields, number_atom}
 use Rattle.status_format.specs.Reading.{entry_in, flags_from, flags_in, stage_in, stat_in, time_in}
-use Rattle.status_stored.proofs.Back.{id_back, mode_back}
-use Rattle.status_stored.proofs.FlagsBack.{flags_back}
+use Rattle.status_format.proofs.EntryBack.{id_back, mode_back}
+use Rattle.status_format.proofs.FlagsBack.{flags_back}
 use Rattle.status_profile.specs.Entries.{entries_in, json_entry}
 use Rattle.status_profile.specs.Forms.{each, json_stamp}
 use Rattle.status_profile.specs.Refreshed.{index_json, timestamp_json}

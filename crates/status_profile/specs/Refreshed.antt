@@ -6,7 +6,7 @@ use Rattle.serde_json.specs.View.{items_of}
 use Rattle.serde_json.specs.Written.{outline}
 use Rattle.status_index.specs.Entries.{IndexEntry}
 use Rattle.status_index.specs.declared.stat.Moment.{Moment}
-use Rattle.status_stored.specs.StoredIndex.{stored_entry, stored_stamp}
+use Rattle.status_format.specs.StoredEntry.{stored_entry, stored_stamp}
 use Rattle.status_profile.specs.Entries.{AreUtf8}
 use Rattle.status_profile.specs.Sorted.{put_member, sorted_members, compact}
 use Rattle.status_profile.specs.declared.error.Key.TheVariants as keys

@@ -4,11 +4,11 @@ ghost use Rattle.std.specs.Prelude.{◌≡◌, List, IfErr, IfOk, ◌++◌, ◌�
 ghost use Rattle.status_index.specs.Entries.{IndexEntry, IsRefusal, index_entry};
 ghost use Rattle.status_index.specs.States.{index_of, timestamp_of};
 ghost use Rattle.status_profile.specs.Entries.{AreUtf8};
-ghost use Rattle.status_profile.specs.Held.{HasEntries, HasIndex};
+ghost use Rattle.status_profile.specs.Held.{HasEntries};
 ghost use Rattle.serde_json.specs.Written.{comma_if, compact_text};
 ghost use Rattle.status_profile.specs.Refreshed.{IsUnwritten, index_json, timestamp_json};
 ghost use Rattle.status_profile.specs.Sorted.{compact};
-ghost use Rattle.status_stored.specs.StoredIndex.{stored_entry};
+ghost use Rattle.status_format.specs.StoredEntry.{stored_entry};
 
 use crate::error::{Key, ProfileError};
 use crate::items::Items;

@@ -6,7 +6,7 @@ ghost use Rattle.status_index.specs.Entries.{IndexEntry};
 ghost use Rattle.status_profile.specs.Entries.{entries_in};
 ghost use Rattle.status_profile.specs.Forms.{json_stamp};
 ghost use Rattle.status_profile.specs.Refreshed.{index_json, timestamp_json};
-ghost use Rattle.status_stored.specs.Storable.{Fits32, IsStorable, known_entry};
+ghost use Rattle.status_format.specs.Storable.{Fits32, IsStorable, known_entry};
 
 /// States that the index that a refresh writes is read from a profile as the same index: the same timestamp, and the same
 /// entries with only their known flags.

@@ -4,7 +4,8 @@ use Rattle.serde_json.specs.Data.{depth, items_depth, string}
 use Rattle.serde_json.specs.View.{items_of}
 use Rattle.status_index.specs.declared.stat.Moment.{Moment}
 use Rattle.status_index.specs.Entries.{IndexEntry}
-use Rattle.status_stored.specs.StoredIndex.{stored_entry, stored_index}
+use Rattle.status_format.specs.StoredEntry.{stored_entry}
+use Rattle.status_stored.specs.StoredIndex.{stored_index}
 use Rattle.status_format.specs.Words.{flag_words}
 
 words_depth : (words : List (List ℕ)) → items_depth (items_of (map string words)) ≡ 0

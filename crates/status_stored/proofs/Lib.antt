@@ -1,7 +1,6 @@
 pub mod Back
 pub mod Depths
 pub mod ExactReopenings
-pub mod FlagsBack
 pub mod Fronts
 pub mod Glued
 pub mod Opened

@@ -7,7 +7,8 @@ use Rattle.status_index.specs.FlagBits.{bits_of_stage}
 use Rattle.status_index.specs.States.{index_of, timestamp_of}
 use Rattle.status_stored.specs.declared.error.ReopenError.TheVariants as errors
 use Rattle.status_stored.specs.RoundTrip.{IsRoundTrip}
-use Rattle.status_stored.specs.Storable.{AreKnown, HasKnownBits, known_entry, IsNotUtf8At, IsStorableIndex}
+use Rattle.status_stored.specs.Storable.{AreKnown, IsNotUtf8At, IsStorableIndex}
+use Rattle.status_format.specs.Storable.{HasKnownBits, known_entry}
 use Rattle.status_stored.specs.Reopening.{IsOpeningRefusal}
 use Rattle.status_stored.proofs.Back.{entries_same}
 use Rattle.status_world.specs.declared.world.event.Refusal.{Refusal}

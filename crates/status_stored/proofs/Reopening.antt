@@ -10,7 +10,8 @@ use Rattle.status_stored.specs.declared.error.ReopenError.TheVariants.{NotUtf8, 
 use Rattle.status_stored.specs.Loading.{IsRefusedIndex}
 use Rattle.status_stored.specs.Reading.{index_in}
 use Rattle.status_stored.specs.RoundTrip.{IsReadAgain, IsRoundTrip}
-use Rattle.status_stored.specs.Storable.{known_entry, IsStorableIndex}
+use Rattle.status_format.specs.Storable.{known_entry}
+use Rattle.status_stored.specs.Storable.{IsStorableIndex}
 use Rattle.status_stored.specs.StoredIndex.{stored_index}
 use Rattle.status_stored.proofs.Back.{index_back, known_index}
 

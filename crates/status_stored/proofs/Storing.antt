@@ -8,8 +8,9 @@ use Rattle.serde_json.specs.View.{view}
 use Rattle.serde_json.specs.declared.value.Value.{Value}
 use Rattle.status_index.specs.Entries.{IndexEntry}
 use Rattle.status_stored.specs.Steps.{AreValuesOf}
-use Rattle.status_stored.specs.Storable.{IsStorable, IsNotUtf8At}
-use Rattle.status_stored.specs.StoredIndex.{stored_entry}
+use Rattle.status_format.specs.Storable.{IsStorable}
+use Rattle.status_stored.specs.Storable.{IsNotUtf8At}
+use Rattle.status_format.specs.StoredEntry.{stored_entry}
 
 -- The element at a position, and the fact that holds for it.
 pub record ElementAt {X : Type 0} (P : X → Type 0) (xs : List X) (i : ℕ) : Type 0 where

@@ -9,7 +9,8 @@ use Rattle.status_index.specs.Entries.{IndexEntry}
 use Rattle.status_index.specs.States.{index_of, timestamp_of}
 use Rattle.status_stored.specs.declared.error.ReopenError.{ReopenError}
 use Rattle.status_stored.specs.declared.error.ReopenError.TheVariants.{NotUtf8, Unreadable, Memory}
-use Rattle.status_stored.specs.Storable.{known_entry, IsNotUtf8At, IsStorableIndex}
+use Rattle.status_format.specs.Storable.{known_entry}
+use Rattle.status_stored.specs.Storable.{IsNotUtf8At, IsStorableIndex}
 
 -- An index has these entries and this timestamp.
 abbrev pub IsStateOf : List IndexEntry → Moment → State → Type 0

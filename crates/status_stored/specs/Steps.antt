@@ -1,21 +1,13 @@
 -- The results of the steps of storing.
-use Rattle.std.specs.Prelude.{◌≡◌, List, map, Vec, Result, Ok, Err, All, ⊤}
-use Rattle.std.specs.Str.{IsUtf8}
+use Rattle.std.specs.Prelude.{◌≡◌, List, map, Vec, Result, Ok, Err, All}
 use Rattle.std.specs.declared.alloc.Global.{Global}
 use Rattle.serde_json.specs.View.{view}
 use Rattle.serde_json.specs.declared.value.Value.{Value}
 use Rattle.status_index.specs.Entries.{IndexEntry}
-use Rattle.status_format.specs.declared.error.FieldError.{FieldError}
-use Rattle.status_format.specs.declared.error.FieldError.TheVariants.{Form, Memory}
 use Rattle.status_stored.specs.declared.error.StoreError.{StoreError}
-use Rattle.status_stored.specs.Storable.{IsStorable, IsStoreRefusal}
-use Rattle.status_stored.specs.StoredIndex.{stored_entry}
-
--- An entry's value, or `Form` if its path isn't UTF-8.
-abbrev pub IsEntryStored : IndexEntry → Result Value FieldError → Type 0
-IsEntryStored e (Ok value) = IsStorable e × (view value ≡ stored_entry e)
-IsEntryStored e (Err Form) = IsUtf8 e.path → ⊥
-IsEntryStored e (Err Memory) = ⊤
+use Rattle.status_format.specs.Storable.{IsStorable}
+use Rattle.status_stored.specs.Storable.{IsStoreRefusal}
+use Rattle.status_format.specs.StoredEntry.{stored_entry}
 
 -- These are the values of the entries.
 pub record AreValuesOf (es : List IndexEntry) (values : List Value) : Type 0 where

@@ -5,7 +5,8 @@ ghost use Rattle.std.specs.Prelude.{◌≡◌, List, map};
 ghost use Rattle.status_index.specs.declared.stat.Moment.{Moment};
 ghost use Rattle.status_index.specs.Entries.{IndexEntry};
 ghost use Rattle.status_stored.specs.Reading.{index_in};
-ghost use Rattle.status_stored.specs.Storable.{AreKnown, IsStorableIndex, known_entry};
+ghost use Rattle.status_stored.specs.Storable.{AreKnown, IsStorableIndex};
+ghost use Rattle.status_format.specs.Storable.{known_entry};
 ghost use Rattle.status_stored.specs.StoredIndex.{stored_index};
 
 /// States that the index read from an index's value has the same timestamp, and the same entries with only their known

@@ -8,8 +8,8 @@ use Rattle.serde_json.specs.View.{items_of}
 use Rattle.status_index.specs.FlagBits.{bits_of_stage, stage_of_bits}
 use Rattle.status_format.specs.DataFields.{data_field}
 use Rattle.status_format.specs.Reading.{flags_in}
-use Rattle.status_stored.specs.Storable.{known_bits}
-use Rattle.status_stored.specs.StoredIndex.{stored_flags}
+use Rattle.status_format.specs.Storable.{known_bits}
+use Rattle.status_format.specs.StoredEntry.{stored_flags}
 use Rattle.status_format.specs.Words.{flag_words, word_in}
 
 -- The flags of a number: its five low bits, and the stage from the bits above them.
