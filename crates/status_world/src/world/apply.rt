@@ -84,21 +84,11 @@ impl World {
         ensures step { IsListStep event.now self.old (map report_value reports.old.items) result self.new (map report_value reports.new.items) }
         ensures sums { All HasSum reports.old.items → All HasSum reports.new.items }
     {
-        if let Event::Run {
-            comparer,
-            chunk_size,
-            thread_limit,
-            stamp,
-        } = event
-        {
+        if let Event::Run { .. } = event {
             reports.reserve(1)?;
-            let run = Run {
-                comparer: *comparer,
-                chunk_size: *chunk_size,
-                thread_limit: *thread_limit,
-                stamp: *stamp,
+            let Some(report) = self.happen(rt, event)? else {
+                unreachable!();
             };
-            let report = self.run(rt, &run)?;
             reports.push_reserved(report);
             return Ok(());
         }
