@@ -91,14 +91,14 @@ fn read_hash(value: &Value<'_>) -> Result<HashKind, ProfileError>
 fn read_clock(value: &Value<'_>) -> Result<Moment, ProfileError>
     ensures { ReadsUnder Key.Clock (λ m. m) result (option_and_then moment_in (get (codes "clock") (value_view value.now))) }
 {
-    under(Key::Clock, moment_or_none(value.get("clock")))
+    under(Key::Clock, required_moment(value.get("clock")))
 }
 
 /// Reads the timestamp of the empty index.
 fn read_timestamp(value: &Value<'_>) -> Result<Moment, ProfileError>
     ensures { ReadsUnder Key.Timestamp (λ m. m) result (option_and_then moment_in (get (codes "timestamp") (value_view value.now))) }
 {
-    under(Key::Timestamp, moment_or_none(value.get("timestamp")))
+    under(Key::Timestamp, required_moment(value.get("timestamp")))
 }
 
 /// Reads the options.
@@ -112,18 +112,18 @@ fn read_options(value: &Value<'_>) -> Result<HistoryOptions, ProfileError>
 fn read_events(alloc: Global, value: &Value<'_>) -> Result<Vec<Vec<Event>>, ProfileError>
     ensures { ReadsUnder Key.Events stretch_values result (option_and_then stretches_in (get (codes "events") (value_view value.now))) }
 {
-    under(Key::Events, stretches_or_none(alloc, value.get("events")))
+    under(Key::Events, required_stretches(alloc, value.get("events")))
 }
 
 /// Reads a moment, which must be there.
-fn moment_or_none(value: Option<&Value<'_>>) -> Result<Moment, FieldError>
+fn required_moment(value: Option<&Value<'_>>) -> Result<Moment, FieldError>
     ensures { Reads (λ m. m) result (option_and_then moment_in (json_at value.entry)) }
 {
     moment_of(required(value)?)
 }
 
 /// Reads the events, which must be there, in stretches.
-fn stretches_or_none(
+fn required_stretches(
     alloc: Global,
     value: Option<&Value<'_>>,
 ) -> Result<Vec<Vec<Event>>, FieldError>

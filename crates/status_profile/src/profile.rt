@@ -94,7 +94,7 @@ fn read_hash(members: &Members<'_>) -> Result<HashKind, ProfileError>
 fn read_timestamp(members: &Members<'_>) -> Result<Moment, ProfileError>
     ensures { (g : List ℕ → Option Json) → HasMembers members.now g → ReadsUnder Key.Timestamp (λ m. m) result (option_and_then json_stamp (g (codes "timestamp"))) }
 {
-    under(Key::Timestamp, stamp_or_none(members.timestamp.as_ref()))
+    under(Key::Timestamp, required_stamp(members.timestamp.as_ref()))
 }
 
 /// Reads the options.
@@ -162,7 +162,7 @@ pub fn hash_or_sha1(value: Option<&Value<'_>>) -> Result<HashKind, FieldError>
 }
 
 /// Reads a stamp, which must be there.
-fn stamp_or_none(value: Option<&Value<'_>>) -> Result<Moment, FieldError>
+fn required_stamp(value: Option<&Value<'_>>) -> Result<Moment, FieldError>
     ensures { Reads (λ m. m) result (option_and_then json_stamp (json_at value.entry)) }
 {
     stamp_of(required(value)?)

@@ -81,7 +81,7 @@ where
 ///
 /// # Errors
 /// The status's.
-fn run_status<'index, R: Threads + Wait, D: Decide + Send + Drop>(
+fn run_without_walk<'index, R: Threads + Wait, D: Decide + Send + Drop>(
     rt: &R,
     call: &Call<'index>,
     decider: D,
@@ -122,7 +122,7 @@ where
 {
     match finder {
         Some(finder) => run_both(rt, call, finder, decider, interrupt),
-        None => run_status(rt, call, decider, interrupt),
+        None => run_without_walk(rt, call, decider, interrupt),
     }
 }
 

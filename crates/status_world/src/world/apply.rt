@@ -36,11 +36,11 @@ impl World {
         ensures exact { IsFormed self.old → IsSound self.old
             → HasDistinctContents self.old (event.now ∷ []) → IsExactEvent self.old result self.new }
     {
-        self.happen(rt, event)
+        self.apply_by_kind(rt, event)
     }
 
     /// Applies an event, by its kind.
-    fn happen<R: Threads + Wait>(
+    fn apply_by_kind<R: Threads + Wait>(
         &mut self,
         rt: &R,
         event: &Event,
@@ -86,13 +86,13 @@ impl World {
     {
         if let Event::Run { .. } = event {
             reports.reserve(1)?;
-            let Some(report) = self.happen(rt, event)? else {
+            let Some(report) = self.apply_by_kind(rt, event)? else {
                 unreachable!();
             };
             reports.push_reserved(report);
             return Ok(());
         }
-        self.happen(rt, event)?;
+        self.apply_by_kind(rt, event)?;
         Ok(())
     }
 }

@@ -1,6 +1,6 @@
 use Rattle.std.proofs.Common.{[], None, is_some, refl}
 use Rattle.status_joined.proofs.Failing.{tracked_fault}
-use Rattle.status_joined.proofs.index_as_worktree_with_renames.halves.run_status.Goals as goal
+use Rattle.status_joined.proofs.index_as_worktree_with_renames.halves.run_without_walk.Goals as goal
 
 pub returns-in-Err : goal.returns-in-Err
 returns-in-Err g c =
