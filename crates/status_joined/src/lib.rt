@@ -1,7 +1,7 @@
 //! The joined call: a status with untracked files, renames and copies in one list.
 //!
 //! Read `index_as_worktree_with_renames` first, the call. Then read its parts in their order. `halves` in it runs the
-//! status, and beside it the walk of `untracked`. `list` makes one list of their `item`s. For a tracker, `identifier`
+//! status, and at the same time the walk of `untracked`. `list` makes one list of their `item`s. For a tracker, `identifier`
 //! computes the ids of its nodes. Callers use the names of the crate `gix_status`.
 #![tactic(auto)]
 
