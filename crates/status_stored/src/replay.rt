@@ -5,7 +5,7 @@ ghost use Rattle.status_stored.specs.Reopening.{IsReopenedReplay, IsExactIfReope
 ghost use Rattle.status_world.specs.Reports.{HasSum, report_value};
 ghost use Rattle.status_world.specs.Sound.{IsFormed};
 
-use crate::reopening::open_before;
+use crate::reopen::open_before;
 use status_world::world::{Event, Refusal, Replay, Report, World, replay};
 use std::alloc::Global;
 use std::sync::Wait;

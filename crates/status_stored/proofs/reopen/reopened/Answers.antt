@@ -8,7 +8,7 @@ use Rattle.status_index.specs.States.{index_of, timestamp_of}
 use Rattle.status_stored.proofs.Depths.{index_depth}
 use Rattle.status_stored.proofs.Reopening.{parse_refused, loaded_same, never_form, never_refused}
 use Rattle.status_stored.specs.StoredIndex.{stored_index}
-use Rattle.status_stored.proofs.reopening.reopened.Goals as goal
+use Rattle.status_stored.proofs.reopen.reopened.Goals as goal
 
 flat : (d : Data) (es : List IndexEntry) (t : Moment) → d ≡ stored_index es t → depth d ≤ max_depth
 flat d es t is = rw is (index_depth es t)

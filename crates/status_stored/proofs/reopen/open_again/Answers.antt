@@ -2,7 +2,7 @@ use Rattle.std.proofs.Common.{refl, subst, Err}
 use Rattle.status_index.specs.States.{index_of, timestamp_of}
 use Rattle.status_stored.specs.RoundTrip.{IsRoundTrip}
 use Rattle.status_stored.proofs.Opened.{not_text, unread, storable, refused}
-use Rattle.status_stored.proofs.reopening.open_again.Goals as goal
+use Rattle.status_stored.proofs.reopen.open_again.Goals as goal
 
 pub returns-in-Err-NotUtf8 : goal.returns-in-Err-NotUtf8
 returns-in-Err-NotUtf8 c =
