@@ -16,6 +16,7 @@ use Rattle.status_format.specs.Storable.{HasKnownBits, known_entry, IsStorable}
 use Rattle.status_format.specs.StoredEntry.{stored_entry}
 use Rattle.status_stored.specs.StoredIndex.{stored_index}
 use Rattle.status_format.proofs.FlagsBack.{stage_known}
+use Rattle.status_format.proofs.EntryBack.{entry_back, entry_same, moment_back}
 
 entries_back : (es : List IndexEntry) → All IsStorable es → entries_from (items_of (map stored_entry es)) ≡ Some (map known_entry es)
 entries_back [] h = refl

@@ -10,6 +10,7 @@ use Rattle.status_stored.specs.declared.error.StoreError.{StoreError}
 use Rattle.status_stored.specs.declared.error.StoreError.TheVariants.{NotUtf8, Memory}
 use Rattle.status_format.specs.StoredEntry.{stored_entry}
 use Rattle.status_stored.specs.StoredIndex.{stored_index}
+use Rattle.status_format.specs.Storable.{Fits32, IsStorable, HasKnownBits}
 
 -- An index of such entries.
 pub record IsStorableIndex (es : List IndexEntry) (t : Moment) : Type 0 where
