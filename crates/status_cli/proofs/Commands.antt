@@ -13,15 +13,15 @@ use Rattle.status_index.specs.declared.id.HashKind.{HashKind}
 use Rattle.status_index.specs.declared.state.State.{State}
 use Rattle.status_profile.specs.declared.node.Place.{Place}
 use Rattle.status_profile.specs.declared.node.Place.TheVariants as places
-use Rattle.status_profile.specs.declared.options.ProfileOptions.{ProfileOptions}
+use Rattle.status_profile.specs.declared.profile.Profile.{Profile}
 use Rattle.status_joined.specs.Walkings.{Walking}
 use Rattle.status_profile.specs.Options.{OptionValues, is_joined, option_values}
 use Rattle.status_cli.specs.declared.failure.Failure.{Failure}
-use Rattle.status_cli.specs.declared.status.profile_status.Changes.{Changes}
-use Rattle.status_cli.specs.declared.status.profile_status.Changes.TheVariants.{Dropped}
+use Rattle.status_cli.specs.declared.status.inputs.Changes.{Changes}
+use Rattle.status_cli.specs.declared.status.inputs.Changes.TheVariants.{Dropped}
 use Rattle.status_cli.specs.Printing.{result_map}
 use Rattle.status_cli.specs.Statuses.{IsJoinedPrinted, IsStatusPrinted, IsPrintEnd, JoinedInputs, answered, closing, visit_lines}
-use Rattle.status_cli.specs.ProfileStatuses.{IsPlacePrinted, IsPrintedOver, IsStatusOver, WorktreeResults, folder_results, folder_walk, tree_results, tree_walk}
+use Rattle.status_cli.specs.ProfileStatuses.{IsPlacePrinted, IsPrintedOver, IsStatusOver, WorktreeResults, asked_in, folder_results, folder_walk, tree_results, tree_walk}
 use Rattle.status_cli.proofs.Printed.{printed_status}
 use Rattle.status_index.specs.declared.id.ObjectId.{ObjectId}
 use Rattle.status_compare.specs.declared.compare.Comparer.{Comparer}
@@ -76,23 +76,23 @@ printed_failed view c query limit index counts wanted none visits answer old new
 printed_failed {A = A} view c query limit index counts wanted none visits answer old new (Err e) P failed empty met whole by alone ended =
     printed_status c query limit index counts wanted none visits answer old new (Err e) empty met whole by alone (ended_alike {A = A} _ _ old new (Err e) (Err e) refl ended) tt
 
-module _ (hash : HashKind) (options : ProfileOptions) (index : State) (old : Option (List ℕ)) (changes : List ApplyChange) (new : Option (List ℕ)) where
-  over_dropped : (w : WorktreeResults) (prefix : List ℕ) (included : List ℕ → Bool → Bool) (walking : Walking) → IsStatusOver w options index prefix included walking hash Dropped old (Ok changes) new → changes ≡ []
-  over_dropped w prefix included walking h = by_kind (is_joined (option_values options)) refl
+module _ (p : Profile) (old : Option (List ℕ)) (changes : List ApplyChange) (new : Option (List ℕ)) where
+  over_dropped : (w : WorktreeResults) (prefix : List ℕ) (included : List ℕ → Bool → Bool) (walking : Walking) → IsStatusOver w (asked_in p Dropped) prefix included walking old (Ok changes) new → changes ≡ []
+  over_dropped w prefix included walking h = by_kind (is_joined (option_values p.options)) refl
     where
-      by_kind : (b : Bool) → is_joined (option_values options) ≡ b → changes ≡ []
+      by_kind : (b : Bool) → is_joined (option_values p.options) ≡ b → changes ≡ []
       by_kind false plain = (h.plain plain).returned
       by_kind true joined = h.unchanged joined
 
-  printed_dropped : (w : WorktreeResults) (walked : List ℕ → (List ℕ → Bool → Bool) → Walking) → IsPrintedOver w walked hash options index Dropped old (Ok changes) new → changes ≡ []
+  printed_dropped : (w : WorktreeResults) (walked : List ℕ → (List ℕ → Bool → Bool) → Walking) → IsPrintedOver w walked (asked_in p Dropped) old (Ok changes) new → changes ≡ []
   printed_dropped w walked (inl failed) = absurd failed.0
   printed_dropped w walked (inr h) = over_dropped w _ _ _ h
 
   -- dropped changes are none
-  pub place_dropped : (place : Place) → IsPlacePrinted place hash options index Dropped old (Ok changes) new → changes ≡ []
+  pub place_dropped : (place : Place) → IsPlacePrinted place (asked_in p Dropped) old (Ok changes) new → changes ≡ []
   place_dropped (places.Folder path) h = printed_dropped folder_results folder_walk h
   place_dropped (places.Nodes nodes) (inl failed) = absurd failed.0
-  place_dropped (places.Nodes nodes) (inr h) = printed_dropped (tree_results h.0) (tree_walk h.0 index) h.2
+  place_dropped (places.Nodes nodes) (inr h) = printed_dropped (tree_results h.0) (tree_walk h.0 p.index) h.2
 
 -- what holds of the text that was read holds of the reader's, if that is known
 pub of_known : (P : List ℕ → Type 0) (known : Option (List ℕ)) (text : List ℕ) → IfSome known (λ all. text ≡ all) → P text → IfSome known P

@@ -3,19 +3,15 @@ use Rattle.std.proofs.Common.{◌≡◌, ◌+◌, arith, ℕ, Bool, List, [], �
 use Rattle.std.specs.Prelude.{◌⊎◌}
 use Rattle.std.proofs.lemmas.Bool.{eqb-true}
 use Rattle.std.specs.FinMap as paths
-use Rattle.status_index.specs.declared.id.HashKind.{HashKind}
-use Rattle.status_index.specs.declared.state.State.{State}
 use Rattle.status_base.specs.MemoryTree.{Placed, Tree}
 use Rattle.status_base.specs.Nodes.{put_fault}
 use Rattle.status_call.specs.declared.index_as_worktree.apply.ApplyChange.{ApplyChange}
-use Rattle.status_profile.specs.declared.options.ProfileOptions.{ProfileOptions}
 use Rattle.status_cli.specs.declared.failure.Failure.{Failure}
 use Rattle.status_base.specs.Trees.{empty_tree}
 use Rattle.status_base.specs.declared.worktree.memory.TreeError.{TreeError}
 use Rattle.status_base.specs.declared.worktree.memory.TreeError.TheVariants.{Memory}
-use Rattle.status_cli.specs.declared.status.profile_status.Changes.{Changes}
 use Rattle.status_cli.specs.Failures.{failure_of_node}
-use Rattle.status_cli.specs.ProfileStatuses.{IsJoinedOver, IsPlainOver, IsStatusOver, IsUnplanted, WorktreeResults, begins_with, planted}
+use Rattle.status_cli.specs.ProfileStatuses.{Asked, IsJoinedOver, IsPlainOver, IsStatusOver, IsUnplanted, WorktreeResults, begins_with, planted}
 use Rattle.status_joined.specs.Walkings.{Walking}
 use Rattle.status_profile.specs.Options.{is_joined, option_values}
 
@@ -37,18 +33,18 @@ pub unplanted : {L : Type 0} (all : List (List ℕ × Placed)) (tree : Tree) (no
 unplanted all tree node nodes e at failure is left (inl memory) = inl (is ∙ ap (λ x. failure_of_node x at) memory.0)
 unplanted all tree node nodes e at failure is left (inr fault) = inr (left ∙ planted_fault at tree node nodes e fault ∙ ap Err (sym is))
 
-module _ (w : WorktreeResults) (walked : List ℕ → (List ℕ → Bool → Bool) → Walking) (hash : HashKind) (options : ProfileOptions) (index : State) (wanted : Changes) (old : Option (List ℕ)) (result : Result (List ApplyChange) Failure) (new : Option (List ℕ)) where
+module _ (w : WorktreeResults) (walked : List ℕ → (List ℕ → Bool → Bool) → Walking) (asked : Asked) (old : Option (List ℕ)) (result : Result (List ApplyChange) Failure) (new : Option (List ℕ)) where
   abbrev at_paths : List ℕ → Type 0
-  at_paths p = IsStatusOver w options index p (begins_with p) (walked p (begins_with p)) hash wanted old result new
+  at_paths p = IsStatusOver w asked p (begins_with p) (walked p (begins_with p)) old result new
 
   -- the prefix is the options' own
   pub at_prefix : (p q : List ℕ) → p ≡ q → at_paths p → at_paths q
   at_prefix p q e h = subst at_paths e h
 
-module _ (w : WorktreeResults) (options : ProfileOptions) (index : State) (prefix : List ℕ) (included : List ℕ → Bool → Bool) (walking : Walking) (hash : HashKind) (wanted : Changes) (old : Option (List ℕ)) (result : Result (List ApplyChange) Failure) (new : Option (List ℕ)) where
-  pub joined_over : is_joined (option_values options) ≡ true → IfOk result (λ changes. changes ≡ []) → IsJoinedOver w options index prefix included walking hash old result new
-      → IsStatusOver w options index prefix included walking hash wanted old result new
+module _ (w : WorktreeResults) (asked : Asked) (prefix : List ℕ) (included : List ℕ → Bool → Bool) (walking : Walking) (old : Option (List ℕ)) (result : Result (List ApplyChange) Failure) (new : Option (List ℕ)) where
+  pub joined_over : is_joined (option_values asked.options) ≡ true → IfOk result (λ changes. changes ≡ []) → IsJoinedOver w asked prefix included walking old result new
+      → IsStatusOver w asked prefix included walking old result new
   joined_over is none h = record { plain = λ not. absurd (true≢false (sym is ∙ not)); joined = λ _. h; unchanged = λ _. none }
 
-  pub plain_over : is_joined (option_values options) ≡ false → IsPlainOver w options index prefix included wanted old result new → IsStatusOver w options index prefix included walking hash wanted old result new
+  pub plain_over : is_joined (option_values asked.options) ≡ false → IsPlainOver w asked prefix included old result new → IsStatusOver w asked prefix included walking old result new
   plain_over not h = record { plain = λ _. h; joined = λ is. absurd (true≢false (sym is ∙ not)); unchanged = λ is. absurd (true≢false (sym is ∙ not)) }

@@ -9,7 +9,7 @@ use Rattle.status_call.specs.declared.index_as_worktree.apply.ApplyChange.{Apply
 use Rattle.status_call.specs.declared.index_as_worktree.types.Outcome.{Outcome}
 use Rattle.status_cli.specs.declared.failure.Failure.{Failure}
 use Rattle.status_cli.specs.declared.failure.Failure.TheVariants.{Memory, Output}
-use Rattle.status_cli.specs.declared.status.profile_status.Changes.{Changes}
+use Rattle.status_cli.specs.declared.status.inputs.Changes.{Changes}
 use Rattle.status_cli.specs.FaultLines.{IsFaultWritten, memory_line}
 use Rattle.status_cli.specs.Printing.{IsBegun, IsPrinted, IsUnprinted, IsAllWritten}
 use Rattle.status_cli.specs.Statuses.{IsPrintEnd, IsJoinedAnswer, IsJoinedPrinted, IsStatusPrinted, JoinedInputs, answered, closing, entry_lines, joined_answered, returned_changes, visit_lines}

@@ -19,6 +19,7 @@ use Rattle.status_base.specs.MemoryTree.{Placed, Tree, lstat_in, open_in, target
 use Rattle.status_base.specs.Nodes.{put_fault}
 use Rattle.status_base.specs.Trees.{empty_tree}
 use Rattle.status_base.specs.declared.worktree.memory.TreeError.{TreeError}
+use Rattle.status_base.specs.declared.worktree.tree.Worktree as worktree
 use Rattle.status_call.specs.Inputs.{settings}
 use Rattle.status_call.specs.Query.{Query}
 use Rattle.status_call.specs.declared.index_as_worktree.apply.ApplyChange.{ApplyChange}
@@ -41,14 +42,31 @@ use Rattle.status_profile.specs.declared.options.ProfileOptions.{ProfileOptions}
 use Rattle.status_profile.specs.declared.profile.Profile.{Profile}
 use Rattle.status_profile.specs.declared.error.ProfileError.{ProfileError}
 use Rattle.status_cli.specs.declared.failure.Failure.{Failure}
-use Rattle.status_cli.specs.declared.status.profile_status.Changes.{Changes}
-use Rattle.status_cli.specs.declared.status.profile_status.Changes.TheVariants.{Dropped}
-use Rattle.status_cli.specs.declared.status.profile_status.IndexChanges.{IndexChanges}
-use Rattle.status_cli.specs.declared.status.profile_status.ProfileStatus.{ProfileStatus}
+use Rattle.status_cli.specs.declared.status.inputs.Changes.{Changes}
+use Rattle.status_cli.specs.declared.status.inputs.Changes.TheVariants.{Dropped}
+use Rattle.status_cli.specs.declared.status.inputs.IndexChanges.{IndexChanges}
+use Rattle.status_cli.specs.declared.status.inputs.ProfileStatus.{ProfileStatus}
+use Rattle.status_cli.specs.declared.status.inputs.Request.{Request}
 use Rattle.status_cli.specs.declared.failure.Failure.TheVariants.{Unreadable, Memory}
 use Rattle.status_cli.specs.Failures.{failure_of_node, failure_of_profile}
 use Rattle.status_cli.specs.FaultLines.{IsFaultReported}
 use Rattle.status_cli.specs.Statuses.{IsJoinedAnswer, IsJoinedPrinted, IsStatusPrinted, JoinedInputs}
+
+-- what a profile asks for: a status of this index by these options, ids of this kind, and whether the changes that the status asks
+-- for are returned
+pub record Asked : Type 0 where
+  pub hash : HashKind
+  pub options : ProfileOptions
+  pub index : State
+  pub wanted : Changes
+
+-- what a request asks for
+abbrev pub asked_by : Request → Asked
+asked_by r = record { hash = r.hash; options = r.options; index = r.index.now; wanted = r.changes }
+
+-- what a profile asks for, and whether the changes are returned
+abbrev pub asked_in : Profile → Changes → Asked
+asked_in p wanted = record { hash = p.hash; options = p.options; index = p.index; wanted = wanted }
 
 -- the results of a worktree, and whether they are specified
 pub record WorktreeResults : Type 0 where
@@ -57,8 +75,9 @@ pub record WorktreeResults : Type 0 where
   pub opened : List ℕ → Result Content Fault
   pub linked : List ℕ → Result (List ℕ) Fault
 
-abbrev pub results_of : {W : Type 0} → (W → Bool) → (W → List ℕ → Result Metadata Fault) → (W → List ℕ → Result Content Fault) → (W → List ℕ → Result (List ℕ) Fault) → W → WorktreeResults
-results_of modelled lstat opened linked w = record { modelled = modelled w; lstat = lstat w; opened = opened w; linked = linked w }
+-- the results of a worktree, by the specification of its type
+abbrev pub results_of : {W F : Type 0} → worktree.Ghosts W F → W → WorktreeResults
+results_of g w = record { modelled = g.modelled w; lstat = g.lstat_of w; opened = g.open_of w; linked = g.target_of w }
 
 -- the query of a status by a profile's options, of these paths of a worktree
 abbrev pub options_query : OptionValues → Moment → WorktreeResults → List ℕ → (List ℕ → Bool → Bool) → Query (Option ObjectId) (Unit {0})
@@ -104,51 +123,37 @@ planted position tree (node ∷ nodes) =
 abbrev pub IsUnplanted : List (List ℕ × Placed) → Failure → Type 0
 IsUnplanted nodes failure = (failure ≡ Memory) ⊎ (planted 0 empty_tree nodes ≡ Err failure)
 
-module _ (w : WorktreeResults) (options : ProfileOptions) (index : State) (prefix : List ℕ) (included : List ℕ → Bool → Bool) where
+module _ (w : WorktreeResults) (asked : Asked) (prefix : List ℕ) (included : List ℕ → Bool → Bool) where
   -- over a worktree and of these paths, the lines of a plain status by a profile's options were printed
-  abbrev pub IsPlainOver : Changes → Option (List ℕ) → Result (List ApplyChange) Failure → Option (List ℕ) → Type 0
-  IsPlainOver wanted old result new = IsStatusPrinted (options_query (option_values options) (timestamp_of index) w prefix included) options.status.thread_limit index options.counts wanted old result new
+  abbrev pub IsPlainOver : Option (List ℕ) → Result (List ApplyChange) Failure → Option (List ℕ) → Type 0
+  IsPlainOver old result new = IsStatusPrinted (options_query (option_values asked.options) (timestamp_of asked.index) w prefix included) asked.options.status.thread_limit asked.index asked.options.counts asked.wanted old result new
 
   -- those of a joined status, by what there is to walk
-  abbrev pub IsJoinedOver : {A : Type 0} → Walking → HashKind → Option (List ℕ) → Result A Failure → Option (List ℕ) → Type 0
-  IsJoinedOver walking hash old result new = IsJoinedPrinted (joined_inputs (options_query (option_values options) (timestamp_of index) w prefix included) w walking hash) (option_values options) hash index old result new
+  abbrev pub IsJoinedOver : {A : Type 0} → Walking → Option (List ℕ) → Result A Failure → Option (List ℕ) → Type 0
+  IsJoinedOver walking old result new =
+      IsJoinedPrinted (joined_inputs (options_query (option_values asked.options) (timestamp_of asked.index) w prefix included) w walking asked.hash) (option_values asked.options) asked.hash asked.index old result new
 
   -- those of the plain status; or of the joined one, which returns no changes, if the options have untracked files, renames or sorting
-  pub record IsStatusOver (walking : Walking) (hash : HashKind) (wanted : Changes) (old : Option (List ℕ)) (result : Result (List ApplyChange) Failure) (new : Option (List ℕ)) : Type 0 where
-    pub plain : is_joined (option_values options) ≡ false → IsPlainOver wanted old result new
-    pub joined : is_joined (option_values options) ≡ true → IsJoinedOver walking hash old result new
-    pub unchanged : is_joined (option_values options) ≡ true → IfOk result (λ changes. changes ≡ [])
+  pub record IsStatusOver (walking : Walking) (old : Option (List ℕ)) (result : Result (List ApplyChange) Failure) (new : Option (List ℕ)) : Type 0 where
+    pub plain : is_joined (option_values asked.options) ≡ false → IsPlainOver old result new
+    pub joined : is_joined (option_values asked.options) ≡ true → IsJoinedOver walking old result new
+    pub unchanged : is_joined (option_values asked.options) ≡ true → IfOk result (λ changes. changes ≡ [])
 
 -- the lines of a status were printed, of the paths that begin with the options' prefix; or nothing, since memory ran out
-abbrev pub IsPrintedOver : WorktreeResults → (List ℕ → (List ℕ → Bool → Bool) → Walking) → HashKind → ProfileOptions → State → Changes → Option (List ℕ) → Result (List ApplyChange) Failure → Option (List ℕ) → Type 0
-IsPrintedOver w walked hash options index wanted old result new =
-    let prefix = (option_values options).prefix in
+abbrev pub IsPrintedOver : WorktreeResults → (List ℕ → (List ℕ → Bool → Bool) → Walking) → Asked → Option (List ℕ) → Result (List ApplyChange) Failure → Option (List ℕ) → Type 0
+IsPrintedOver w walked asked old result new =
+    let prefix = (option_values asked.options).prefix in
     (IsErrAnd result (λ f. f ≡ Memory) × (new ≡ old))
-    ⊎ IsStatusOver w options index prefix (begins_with prefix) (walked prefix (begins_with prefix)) hash wanted old result new
+    ⊎ IsStatusOver w asked prefix (begins_with prefix) (walked prefix (begins_with prefix)) old result new
 
--- the same of a profile's status, by the results of its worktree and the specification of its walk
+-- the report of a joined status by a query to its collector, over a worktree and by what there is to walk
+abbrev pub IsJoinedReported : {T U : Type 0} → (Settings → Query T U) → WorktreeResults → Asked → Walking → Bool → List (Reported T U) → Result JoinedOutcome JoinedError → List (Reported T U) → Type 0
+IsJoinedReported query w asked walking may_fail old answer new =
+    IsJoinedAnswer (joined_inputs (query (settings asked.options.status asked.index)) w walking asked.hash) (option_values asked.options) asked.hash asked.index may_fail old answer new
+
+-- what there is to walk for a profile's status, by the specification of its walk
 abbrev pub walked_by : {W K : Type 0} → (K → W → List IndexEntry → List ℕ → (List ℕ → Bool → Bool) → Walking) → ProfileStatus W K → List ℕ → (List ℕ → Bool → Bool) → Walking
-walked_by walking s prefix included = walking s.walk s.worktree.now (index_of s.index.now) prefix included
-
-abbrev pub IsPlainShown : {W K : Type 0} → (W → WorktreeResults) → ProfileStatus W K → List ℕ → (List ℕ → Bool → Bool) → Option (List ℕ) → Result (List ApplyChange) Failure → Option (List ℕ) → Type 0
-IsPlainShown results s prefix included old result new = IsPlainOver (results s.worktree.now) s.options s.index.now prefix included s.changes old result new
-
-abbrev pub IsJoinedShown : {W K A : Type 0} → (W → WorktreeResults) → (K → W → List IndexEntry → List ℕ → (List ℕ → Bool → Bool) → Walking) → ProfileStatus W K → List ℕ → (List ℕ → Bool → Bool) → Option (List ℕ) → Result A Failure → Option (List ℕ) → Type 0
-IsJoinedShown results walking s prefix included old result new =
-    IsJoinedOver (results s.worktree.now) s.options s.index.now prefix included (walked_by walking s prefix included) s.hash old result new
-
-abbrev pub IsStatusShown : {W K : Type 0} → (W → WorktreeResults) → (K → W → List IndexEntry → List ℕ → (List ℕ → Bool → Bool) → Walking) → ProfileStatus W K → List ℕ → (List ℕ → Bool → Bool) → Option (List ℕ) → Result (List ApplyChange) Failure → Option (List ℕ) → Type 0
-IsStatusShown results walking s prefix included old result new =
-    IsStatusOver (results s.worktree.now) s.options s.index.now prefix included (walked_by walking s prefix included) s.hash s.changes old result new
-
-abbrev pub IsProfileShown : {W K : Type 0} → (W → WorktreeResults) → (K → W → List IndexEntry → List ℕ → (List ℕ → Bool → Bool) → Walking) → ProfileStatus W K → Option (List ℕ) → Result (List ApplyChange) Failure → Option (List ℕ) → Type 0
-IsProfileShown results walking s old result new = IsPrintedOver (results s.worktree.now) (walked_by walking s) s.hash s.options s.index.now s.changes old result new
-
--- the report of a joined status by a query to its collector, by the same two
-abbrev pub IsJoinedReported : {W K T U : Type 0} → (Settings → Query T U) → (W → WorktreeResults) → (K → W → List IndexEntry → List ℕ → (List ℕ → Bool → Bool) → Walking) → ProfileStatus W K → List ℕ → (List ℕ → Bool → Bool)
-    → Bool → List (Reported T U) → Result JoinedOutcome JoinedError → List (Reported T U) → Type 0
-IsJoinedReported query results walking s prefix included may_fail old answer new =
-    IsJoinedAnswer (joined_inputs (query (settings s.options.status s.index.now)) (results s.worktree.now) (walked_by walking s prefix included) s.hash) (option_values s.options) s.hash s.index.now may_fail old answer new
+walked_by walking s prefix included = walking s.walk s.worktree.now (index_of s.request.index.now) prefix included
 
 -- the results of a tree of nodes, which are specified
 abbrev pub tree_results : Tree → WorktreeResults
@@ -168,18 +173,19 @@ tree_walk tree index prefix included = Some (untracked_walk tree (index_of index
 
 -- a profile's lines were printed, over its folder or over the tree of its nodes; or nothing, since one of these can't be put or memory ran
 -- out
-abbrev pub IsPlacePrinted : Place → HashKind → ProfileOptions → State → Changes → Option (List ℕ) → Result (List ApplyChange) Failure → Option (List ℕ) → Type 0
-IsPlacePrinted (places.Folder path) hash options index wanted old result new = IsPrintedOver folder_results folder_walk hash options index wanted old result new
-IsPlacePrinted (places.Nodes nodes) hash options index wanted old result new =
+abbrev pub IsPlacePrinted : Place → Asked → Option (List ℕ) → Result (List ApplyChange) Failure → Option (List ℕ) → Type 0
+IsPlacePrinted (places.Folder path) asked old result new = IsPrintedOver folder_results folder_walk asked old result new
+IsPlacePrinted (places.Nodes nodes) asked old result new =
     (IsErrAnd result (IsUnplanted (map node_value nodes.items)) × (new ≡ old))
-    ⊎ ((tree : Tree) × (planted 0 empty_tree (map node_value nodes.items) ≡ Ok tree) × IsPrintedOver (tree_results tree) (tree_walk tree index) hash options index wanted old result new)
+    ⊎ ((tree : Tree) × (planted 0 empty_tree (map node_value nodes.items) ≡ Ok tree) × IsPrintedOver (tree_results tree) (tree_walk tree asked.index) asked old result new)
 
 -- the changes that are returned with a profile's index
 abbrev pub changes_returned : IndexChanges → List ApplyChange
 changes_returned r = r.changes.items
 
+-- the lines of a profile were printed, by its own request
 abbrev pub IsProfilePrinted : Profile → Changes → Option (List ℕ) → Result (List ApplyChange) Failure → Option (List ℕ) → Type 0
-IsProfilePrinted p wanted old result new = IsPlacePrinted p.place p.hash p.options p.index wanted old result new
+IsProfilePrinted p wanted old result new = IsPlacePrinted p.place (asked_in p wanted) old result new
 
 -- a text was read as a profile, and this was printed of it
 abbrev pub IsReadPrinted : Kind → List ℕ → Changes → Option (List ℕ) → Result (List ApplyChange) Failure → Option (List ℕ) → Type 0

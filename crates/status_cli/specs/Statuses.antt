@@ -23,8 +23,8 @@ use Rattle.status_joined.specs.declared.index_as_worktree_with_renames.types.Sor
 use Rattle.status_rewrites.specs.Renames.{IsIdentityAnswer}
 use Rattle.status_profile.specs.Options.{OptionValues}
 use Rattle.status_cli.specs.declared.failure.Failure.{Failure}
-use Rattle.status_cli.specs.declared.status.profile_status.Changes.{Changes}
-use Rattle.status_cli.specs.declared.status.profile_status.Changes.TheVariants.{Returned, Dropped}
+use Rattle.status_cli.specs.declared.status.inputs.Changes.{Changes}
+use Rattle.status_cli.specs.declared.status.inputs.Changes.TheVariants.{Returned, Dropped}
 use Rattle.status_cli.specs.Failures.{failure_of_joined, failure_of_status}
 use Rattle.status_cli.specs.Lines.{entry_line, total_line, visit_line}
 use Rattle.status_cli.specs.Printing.{IsBegun, IsPrinted, IsUnprinted}

@@ -1,12 +1,12 @@
 //! Lines that are written together.
 
-ghost use Rattle.std.specs.Prelude.{◌≡◌, ◌<◌, ◌^◌, []};
+ghost use Rattle.std.specs.Prelude.{◌≡◌, ◌<◌, ◌^◌, [], IfOk};
 ghost use Rattle.bstr.specs.BStr.{bstr_bytes};
 ghost use Rattle.status_call.specs.Outcomes.{skipped_of};
 ghost use Rattle.status_joined.specs.Entries.{reported_entry};
 ghost use Rattle.status_cli.specs.Buffering.{IsTextAdded, IsFinished};
 ghost use Rattle.status_cli.specs.Lines.{entry_line, record_line, run_line};
-ghost use Rattle.status_cli.specs.Statuses.{totals_text};
+ghost use Rattle.status_cli.specs.Statuses.{IsPrintEnd, closing, totals_text};
 
 use crate::failure::Failure;
 use crate::lines::{push_entry, push_record, push_run, push_totals};
@@ -143,4 +143,23 @@ impl LineBuffer {
         print(&self.lines, output)?;
         added
     }
+}
+
+/// Writes the totals of a status, if the profile has the option `counts`.
+///
+/// # Errors
+/// The status's failure, that of the output, or out of memory.
+pub fn print_closing<O: io::Write>(
+    alloc: Global,
+    answer: Result<Outcome, Failure>,
+    counts: bool,
+    output: &mut O,
+) -> Result<(), Failure>
+    requires { IfOk answer (λ o. skipped_of o < 2 ^ 64) }
+    ensures { IsPrintEnd (closing counts answer) answer (O.contents output.old) result (O.contents output.new) }
+{
+    let outcome = answer?;
+    let mut lines = LineBuffer::new(alloc);
+    let added = lines.add_totals(&outcome, counts, output);
+    lines.finish(added, output)
 }

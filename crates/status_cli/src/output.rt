@@ -1,34 +1,11 @@
 //! Reading the file of a profile, and writing to the output. On an error a beginning of what was to be written is written.
 
-ghost use Rattle.std.specs.Prelude.{◌<◌, ◌^◌, IfOk, ◌≡◌, ◌⊎◌, IfErr, IfSome};
-ghost use Rattle.status_call.specs.Outcomes.{skipped_of};
+ghost use Rattle.std.specs.Prelude.{IfOk, ◌≡◌, ◌⊎◌, IfErr, IfSome};
 ghost use Rattle.status_cli.specs.Printing.{IsAllWritten, spelled};
-ghost use Rattle.status_cli.specs.Statuses.{IsPrintEnd, closing};
 
 use crate::failure::Failure;
-use crate::line_buffer::LineBuffer;
-use gix_status::index_as_worktree::Outcome;
 use std::alloc::Global;
 use std::io;
-
-/// Writes the totals of a status, if the profile has the option `counts`.
-///
-/// # Errors
-/// The status's failure, that of the output, or out of memory.
-pub fn print_closing<O: io::Write>(
-    alloc: Global,
-    answer: Result<Outcome, Failure>,
-    counts: bool,
-    output: &mut O,
-) -> Result<(), Failure>
-    requires { IfOk answer (λ o. skipped_of o < 2 ^ 64) }
-    ensures { IsPrintEnd (closing counts answer) answer (O.contents output.old) result (O.contents output.new) }
-{
-    let outcome = answer?;
-    let mut lines = LineBuffer::new(alloc);
-    let added = lines.add_totals(&outcome, counts, output);
-    lines.finish(added, output)
-}
 
 /// Writes these parts, one after the other.
 pub fn print_parts<O: io::Write>(parts: &[&str], output: &mut O) -> Result<(), Failure>

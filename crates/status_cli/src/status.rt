@@ -4,29 +4,29 @@ ghost use Rattle.std.specs.Prelude.{◌≡◌, ◌⊎◌, [], Ok, IfErr, IfOk, I
 ghost use Rattle.status_base.specs.Trees.{empty_tree};
 ghost use Rattle.status_profile.specs.Nodes.{node_value};
 ghost use Rattle.status_cli.specs.Printing.{result_map};
-ghost use Rattle.status_cli.specs.ProfileStatuses.{IsPlacePrinted, IsProfilePrinted, IsProfileShown, IsStatusShown, IsUnplanted, changes_returned, planted, results_of};
+ghost use Rattle.status_cli.specs.ProfileStatuses.{IsPlacePrinted, IsPrintedOver, IsProfilePrinted, IsStatusOver, IsUnplanted};
 ghost use Rattle.status_cli.specs.ProfileStatuses.{IsTextFailed, IsTextPrinted, IsTextSucceeded};
+ghost use Rattle.status_cli.specs.ProfileStatuses.{asked_by, changes_returned, planted, results_of, walked_by};
 ghost use Rattle.status_index.specs.States.{index_of};
 ghost use Rattle.status_call.specs.IndexChanges.{AreInside};
 
+mod inputs;
 mod joined;
 mod plain;
-mod profile_status;
 
 use crate::failure::Failure;
 use crate::output::read_all;
+use crate::status::inputs::{ProfileStatus, Request};
+pub use crate::status::inputs::{Changes, IndexChanges};
 use crate::status::joined::{NoWalk, print_joined};
 use crate::status::plain::print_plain;
-use crate::status::profile_status::ProfileStatus;
-pub use crate::status::profile_status::{Changes, IndexChanges};
 use bstr::BString;
-use gix_status::index::{HashKind, State};
 use gix_status::index_as_worktree::ApplyChange;
 use gix_status::walk::{UntrackedWalk, Walk};
 use gix_status::worktree::{
     AllPaths, DiskWorktree, MemoryWorktree, Node, Pathspec, Prefix, Worktree,
 };
-use status_profile::{Kind, Place, Profile, ProfileOptions};
+use status_profile::{Kind, Place, Profile};
 use std::alloc::Global;
 use std::io;
 use std::path::Path;
@@ -96,37 +96,37 @@ where
         index,
         place,
     } = profile;
-    let changes = print_place(rt, &index, hash, options, place, changes, output)?;
+    let request = Request {
+        index: &index,
+        hash,
+        options,
+        changes,
+    };
+    let changes = print_place(rt, request, place, output)?;
     Ok(IndexChanges { index, changes })
 }
 
 /// Prints the status of an index against the worktree that is at a place.
 fn print_place<R: AllocGlobal + Files + Sync + Threads + Wait, O: io::Write>(
     rt: &R,
-    index: &State,
-    hash: HashKind,
-    options: ProfileOptions,
+    request: Request<'_>,
     place: Place,
-    changes: Changes,
     output: &mut O,
 ) -> Result<Vec<ApplyChange>, Failure>
 where
     R::File: Send,
     R::Dir: Send,
-    ensures inside { IfOk result (λ changes. AreInside changes.items (index_of index.now)) }
-    ensures printed { IsPlacePrinted place hash options index.now changes (O.contents output.old) (result_map vec_items result) (O.contents output.new) }
+    ensures inside { IfOk result (λ changes. AreInside changes.items (index_of request.entry.index.now)) }
+    ensures printed { IsPlacePrinted place (asked_by request.entry) (O.contents output.old) (result_map vec_items result) (O.contents output.new) }
 {
     match place {
-        Place::Nodes(nodes) => print_nodes(rt, index, hash, options, nodes, changes, output),
+        Place::Nodes(nodes) => print_nodes(rt, request, nodes, output),
         Place::Folder(folder) => {
             let worktree = DiskWorktree::new(rt, Path::new(folder.as_str()))?;
             let status = ProfileStatus {
-                index,
+                request,
                 worktree: &worktree,
                 walk: NoWalk,
-                hash,
-                options,
-                changes,
             };
             print_prefixed(rt, status, output)
         }
@@ -137,25 +137,19 @@ where
 /// remove a file.
 fn print_nodes<R: AllocGlobal + Threads + Wait, O: io::Write>(
     rt: &R,
-    index: &State,
-    hash: HashKind,
-    options: ProfileOptions,
+    request: Request<'_>,
     nodes: Vec<(BString, Node)>,
-    changes: Changes,
     output: &mut O,
 ) -> Result<Vec<ApplyChange>, Failure>
-    ensures inside { IfOk result (λ changes. AreInside changes.items (index_of index.now)) }
-    ensures printed { IsPlacePrinted (Place.Nodes nodes) hash options index.now changes (O.contents output.old) (result_map vec_items result) (O.contents output.new) }
+    ensures inside { IfOk result (λ changes. AreInside changes.items (index_of request.entry.index.now)) }
+    ensures printed { IsPlacePrinted (Place.Nodes nodes) (asked_by request.entry) (O.contents output.old) (result_map vec_items result) (O.contents output.new) }
 {
     let alloc = rt.alloc();
     let worktree = plant(alloc, nodes)?;
     let status = ProfileStatus {
-        index,
+        request,
         worktree: &worktree,
         walk: UntrackedWalk::new(alloc),
-        hash,
-        options,
-        changes,
     };
     print_prefixed(rt, status, output)
 }
@@ -185,11 +179,11 @@ fn print_prefixed<
 >(rt: &R, status: ProfileStatus<'_, W, K>, output: &mut O) -> Result<Vec<ApplyChange>, Failure>
 where
     W::File: Send,
-    ensures inside { IfOk result (λ changes. AreInside changes.items (index_of status.entry.index.now)) }
-    ensures printed { IsProfileShown (results_of W.modelled W.lstat_of W.open_of W.target_of) K.walking status.entry
+    ensures inside { IfOk result (λ changes. AreInside changes.items (index_of status.entry.request.index.now)) }
+    ensures printed { IsPrintedOver (results_of W.Worktree status.entry.worktree.now) (walked_by K.walking status.entry) (asked_by status.entry.request)
         (O.contents output.old) (result_map vec_items result) (O.contents output.new) }
 {
-    let prefix = status.options.prefix.as_bstr();
+    let prefix = status.request.options.prefix.as_bstr();
     if prefix.as_bytes().is_empty() {
         return print_paths(rt, status, AllPaths, output);
     }
@@ -213,11 +207,11 @@ fn print_paths<
 ) -> Result<Vec<ApplyChange>, Failure>
 where
     W::File: Send,
-    ensures inside { IfOk result (λ changes. AreInside changes.items (index_of status.entry.index.now)) }
-    ensures printed { IsStatusShown (results_of W.modelled W.lstat_of W.open_of W.target_of) K.walking status.entry (P.prefix pathspec) (P.included pathspec)
-        (O.contents output.old) (result_map vec_items result) (O.contents output.new) }
+    ensures inside { IfOk result (λ changes. AreInside changes.items (index_of status.entry.request.index.now)) }
+    ensures printed { IsStatusOver (results_of W.Worktree status.entry.worktree.now) (asked_by status.entry.request) (P.prefix pathspec) (P.included pathspec)
+        (walked_by K.walking status.entry (P.prefix pathspec) (P.included pathspec)) (O.contents output.old) (result_map vec_items result) (O.contents output.new) }
 {
-    if status.options.is_joined() {
+    if status.request.options.is_joined() {
         print_joined(rt, status, pathspec, output)?;
         return Ok(Vec::new(rt.alloc()));
     }

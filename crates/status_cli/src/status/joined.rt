@@ -6,13 +6,12 @@ ghost use Rattle.status_joined.specs.Entries.{reported_entry};
 ghost use Rattle.status_profile.specs.Options.{option_values};
 ghost use Rattle.status_cli.specs.Buffering.{IsTextAdded};
 ghost use Rattle.status_cli.specs.Printing.{IsPrinted};
-ghost use Rattle.status_cli.specs.ProfileStatuses.{IsJoinedReported, IsJoinedShown, results_of};
+ghost use Rattle.status_cli.specs.ProfileStatuses.{IsJoinedOver, IsJoinedReported, asked_by, results_of, walked_by};
 ghost use Rattle.status_cli.specs.Statuses.{entry_lines, joined_answered, joined_options};
 
 use crate::failure::Failure;
-use crate::line_buffer::LineBuffer;
-use crate::output::print_closing;
-use crate::status::profile_status::ProfileStatus;
+use crate::line_buffer::{LineBuffer, print_closing};
+use crate::status::inputs::ProfileStatus;
 use gix_status::index::{HashKind, State};
 use gix_status::index_as_worktree;
 use gix_status::index_as_worktree::traits::CompareBlobs;
@@ -42,11 +41,14 @@ pub fn print_joined<
 >(rt: &R, status: ProfileStatus<'a, W, K>, pathspec: P, output: &mut O) -> Result<(), Failure>
 where
     W::File: Send,
-    ensures { IsJoinedShown (results_of W.modelled W.lstat_of W.open_of W.target_of) K.walking status.entry (P.prefix pathspec) (P.included pathspec)
-        (O.contents output.old) result (O.contents output.new) }
+    ensures { IsJoinedOver (results_of W.Worktree status.entry.worktree.now) (asked_by status.entry.request) (P.prefix pathspec) (P.included pathspec)
+        (walked_by K.walking status.entry (P.prefix pathspec) (P.included pathspec)) (O.contents output.old) result (O.contents output.new) }
 {
     let alloc = rt.alloc();
-    let (counts, comparer) = (status.options.counts, status.options.comparer);
+    let (counts, comparer) = (
+        status.request.options.counts,
+        status.request.options.comparer,
+    );
     let mut recorder = Recorder::new(alloc);
     let answer = report_joined(rt, alloc, status, &mut recorder, pathspec, comparer);
     print_entries(alloc, recorder.records.as_slice(), output)?;
@@ -85,16 +87,13 @@ where
     W::File: Send,
     C::Output: Send + ExactClone + 'a,
     ensures { IsJoinedReported (⟦<Usual<'a, W, C, P> as Ask>⟧.query (usual status.entry.worktree compare pathspec))
-        (results_of W.modelled W.lstat_of W.open_of W.target_of) K.walking status.entry (P.prefix pathspec) (P.included pathspec)
+        (results_of W.Worktree status.entry.worktree.now) (asked_by status.entry.request) (walked_by K.walking status.entry (P.prefix pathspec) (P.included pathspec))
         V.fails (V.visits collector.old) result (V.visits collector.new) }
 {
     let ProfileStatus {
-        index,
+        request,
         worktree,
         walk,
-        hash,
-        options,
-        ..
     } = status;
     let context = Context {
         pathspec,
@@ -108,14 +107,14 @@ where
     index_as_worktree_with_renames(
         rt,
         alloc,
-        index,
+        request.index,
         worktree,
         collector,
         compare,
         NoSubmodules,
         objects,
         context,
-        joined_options(options, hash),
+        joined_options(request.options, request.hash),
     )
 }
 

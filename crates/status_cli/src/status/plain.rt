@@ -7,13 +7,12 @@ ghost use Rattle.status_call.specs.Outcomes.{skipped_of};
 ghost use Rattle.status_call.specs.RecorderVisits.{visit_of};
 ghost use Rattle.status_cli.specs.Buffering.{IsTextAdded};
 ghost use Rattle.status_cli.specs.Printing.{IsPrinted, result_map};
-ghost use Rattle.status_cli.specs.ProfileStatuses.{IsPlainShown, results_of};
+ghost use Rattle.status_cli.specs.ProfileStatuses.{IsPlainOver, asked_by, results_of};
 ghost use Rattle.status_cli.specs.Statuses.{answered, visit_lines};
 
 use crate::failure::Failure;
-use crate::line_buffer::LineBuffer;
-use crate::output::print_closing;
-use crate::status::profile_status::{Changes, ProfileStatus};
+use crate::line_buffer::{LineBuffer, print_closing};
+use crate::status::inputs::{Changes, ProfileStatus, Request};
 use gix_status::index_as_worktree::{
     ApplyChange, Error, Outcome, Record, Recorder, index_as_worktree_with_defaults,
 };
@@ -40,18 +39,28 @@ pub fn print_plain<
 ) -> Result<Vec<ApplyChange>, Failure>
 where
     W::File: Send,
-    ensures inside { IfOk result (λ changes. AreInside changes.items (index_of status.entry.index.now)) }
-    ensures printed { IsPlainShown (results_of W.modelled W.lstat_of W.open_of W.target_of) status.entry (P.prefix pathspec) (P.included pathspec)
+    ensures inside { IfOk result (λ changes. AreInside changes.items (index_of status.entry.request.index.now)) }
+    ensures printed { IsPlainOver (results_of W.Worktree status.entry.worktree.now) (asked_by status.entry.request) (P.prefix pathspec) (P.included pathspec)
         (O.contents output.old) (result_map vec_items result) (O.contents output.new) }
 {
     let alloc = rt.alloc();
-    let options = status.options;
+    let ProfileStatus {
+        request,
+        worktree,
+        ..
+    } = status;
+    let Request {
+        index,
+        options,
+        changes,
+        ..
+    } = request;
     let mut recorder = Recorder::new(alloc);
     let answer = index_as_worktree_with_defaults(
         rt,
         alloc,
-        status.index,
-        status.worktree,
+        index,
+        worktree,
         &mut recorder,
         options.comparer,
         pathspec,
@@ -59,7 +68,7 @@ where
     );
     print_records(alloc, recorder.records.as_slice(), output)?;
     print_closing(alloc, with_failure(answer), options.counts, output)?;
-    match status.changes {
+    match changes {
         Changes::Returned => Ok(recorder.changes()?),
         Changes::Dropped => Ok(Vec::new(alloc)),
     }

@@ -10,13 +10,13 @@ returns-in_err-print_joined-clause-printed g c =
     let e = c.in_err-print_joined.field-0.0 in
     let r = result_map vec_items c.from_residual.result in
     let failed = map_failed vec_items c.from_residual.result e (λ f. f ≡ e) c.from_residual.ensures.1 refl in
-    joined_over _ _ _ _ _ _ _ _ _ _ _ (sym c.if-is_joined.ensures) (if_failed r (λ f. f ≡ e) (λ changes. changes ≡ []) failed)
+    joined_over _ _ _ _ _ _ _ _ (sym c.if-is_joined.ensures) (if_failed r (λ f. f ≡ e) (λ changes. changes ≡ []) failed)
     (joined_alike c.print_joined.result r (failed_alike c.print_joined.result r e c.in_err-print_joined.was failed) _ _ _ _ _ _ c.print_joined.ensures)
 
 pub returns-then-is_joined-clause-printed : goal.returns-then-is_joined-clause-printed
 returns-then-is_joined-clause-printed g c =
-    joined_over _ _ _ _ _ _ _ _ _ _ _ (sym c.if-is_joined.ensures) c.new.ensures.items
+    joined_over _ _ _ _ _ _ _ _ (sym c.if-is_joined.ensures) c.new.ensures.items
     (joined_alike c.print_joined.result _ (done_alike _ c.in_ok-print_joined.field-0 _ c.in_ok-print_joined.was) _ _ _ _ _ _ c.print_joined.ensures)
 
 pub returns-clause-printed : goal.returns-clause-printed
-returns-clause-printed g c = plain_over _ _ _ _ _ _ _ _ _ _ _ (sym c.if-is_joined.ensures) c.print_plain.ensures.printed
+returns-clause-printed g c = plain_over _ _ _ _ _ _ _ _ (sym c.if-is_joined.ensures) c.print_plain.ensures.printed

@@ -1,7 +1,7 @@
 use Rattle.std.proofs.Common.{[], Ok, inr, sym, ap, subst, ◌∙◌}
 use Rattle.status_profile.specs.Profiles.{IsRead}
 use Rattle.status_profile.specs.declared.options.Kind.TheVariants.{Any}
-use Rattle.status_cli.specs.declared.status.profile_status.Changes.TheVariants.{Dropped}
+use Rattle.status_cli.specs.declared.status.inputs.Changes.TheVariants.{Dropped}
 use Rattle.status_cli.specs.Printing.{result_map}
 use Rattle.status_cli.specs.ProfileStatuses.{IsProfilePrinted, IsTextPrinted, changes_returned}
 use Rattle.status_cli.proofs.Commands.{map_err, of_known, place_dropped}
@@ -25,5 +25,5 @@ returns g c =
     let old = g.O.Write.contents c.args.output.now in let new = g.O.Write.contents c.print_profile.new.output in
     let read : IsRead Any text (Ok p) = rw c.as_slice.ensures.value at c.in_ok-profile.ensures.read in
     let done : IsProfilePrinted p Dropped old (Ok c.in_ok-print_profile.field-0.changes.items) new = subst (λ r. IsProfilePrinted p Dropped old r new) (ap (result_map changes_returned) c.in_ok-print_profile.was) c.print_profile.ensures.printed in
-    let printed = subst (λ changes. IsProfilePrinted p Dropped old (Ok changes) new) (place_dropped p.hash p.options p.index old _ new p.place done) done in
+    let printed = subst (λ changes. IsProfilePrinted p Dropped old (Ok changes) new) (place_dropped p old _ new p.place done) done in
     of_known (λ all. IsTextPrinted Any all Dropped old (Ok []) new) _ text c.in_ok-text.ensures.ok (inr (p, read, printed))

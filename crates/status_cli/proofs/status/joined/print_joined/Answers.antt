@@ -12,7 +12,7 @@ returns-in_err-print_entries g c =
     let call = c.report_joined-answer in
     let entries = reported_of_recorder call.new.collector in
     printed_joined _ _ _ _ _ entries call.result _ _ _ c.new-recorder.ensures call.ensures
-    (ended_early (entry_lines entries) (closing c.args.status.options.counts (joined_answered call.result)) (joined_answered call.result) _ _ _ c.from_residual.result c.from_residual.ensures.1
+    (ended_early (entry_lines entries) (closing c.args.status.request.options.counts (joined_answered call.result)) (joined_answered call.result) _ _ _ c.from_residual.result c.from_residual.ensures.1
     (rw c.as_slice.ensures.value at c.in_err-print_entries.ensures.0) c.in_err-print_entries.ensures.1)
 
 pub returns : goal.returns
@@ -20,5 +20,5 @@ returns g c =
     let call = c.report_joined-answer in
     let entries = reported_of_recorder call.new.collector in
     printed_joined _ _ _ _ _ entries call.result _ _ _ c.new-recorder.ensures call.ensures
-    (ended_after (entry_lines entries) (closing c.args.status.options.counts (joined_answered call.result)) (joined_answered call.result) _ _ _ _
+    (ended_after (entry_lines entries) (closing c.args.status.request.options.counts (joined_answered call.result)) (joined_answered call.result) _ _ _ _
     (rw c.as_slice.ensures.value at c.in_ok-print_entries.ensures) (rw c.with_failure.ensures at c.print_closing.ensures))

@@ -12,15 +12,15 @@ use Rattle.status_cli.proofs.status.plain.print_plain.Goals as goal
 pub returns-in-Returned-clause-inside : goal.returns-in-Returned-clause-inside
 returns-in-Returned-clause-inside g c =
     let inside = status_inside _ _ _ _ _ c.index_as_worktree_with_defaults-answer.ensures.all c.new-recorder.ensures in
-    subst (λ changes. AreInside changes (index_of c.args.status.index.now)) (sym c.in_ok-changes-in-Returned.ensures) inside
+    subst (λ changes. AreInside changes (index_of c.args.status.request.index.now)) (sym c.in_ok-changes-in-Returned.ensures) inside
 
 pub returns-in_err-print_records-clause-printed : goal.returns-in_err-print_records-clause-printed
 returns-in_err-print_records-clause-printed g c =
     let call = c.index_as_worktree_with_defaults-answer in
     let visits = visits_of call.new.collector in
     let failed = c.from_residual in
-    printed_failed vec_items c.args.status.options.comparer _ _ _ _ _ _ visits call.result _ _ failed.result _ failed.ensures.1 c.new-recorder.ensures call.ensures.all call.ensures.uninterrupted refl call.ensures.alone
-    (ended_early (visit_lines visits) (closing c.args.status.options.counts (answered call.result)) (answered call.result) _ _ _ failed.result failed.ensures.1
+    printed_failed vec_items c.args.status.request.options.comparer _ _ _ _ _ _ visits call.result _ _ failed.result _ failed.ensures.1 c.new-recorder.ensures call.ensures.all call.ensures.uninterrupted refl call.ensures.alone
+    (ended_early (visit_lines visits) (closing c.args.status.request.options.counts (answered call.result)) (answered call.result) _ _ _ failed.result failed.ensures.1
     (rw c.as_slice.ensures.value at c.in_err-print_records.ensures.0) c.in_err-print_records.ensures.1)
 
 pub returns-in_err-print_closing-clause-printed : goal.returns-in_err-print_closing-clause-printed
@@ -28,9 +28,9 @@ returns-in_err-print_closing-clause-printed g c =
     let call = c.index_as_worktree_with_defaults-answer in
     let visits = visits_of call.new.collector in
     let failed = c.from_residual-in_err-print_closing in
-    printed_failed vec_items c.args.status.options.comparer _ _ _ _ _ _ visits call.result _ _ failed.result _ failed.ensures.1 c.new-recorder.ensures call.ensures.all call.ensures.uninterrupted refl call.ensures.alone
+    printed_failed vec_items c.args.status.request.options.comparer _ _ _ _ _ _ visits call.result _ _ failed.result _ failed.ensures.1 c.new-recorder.ensures call.ensures.all call.ensures.uninterrupted refl call.ensures.alone
     (ended_failed Unit _ _ _ _ _ failed.result failed.ensures.1
-    (ended_after (visit_lines visits) (closing c.args.status.options.counts (answered call.result)) (answered call.result) _ _ _ _
+    (ended_after (visit_lines visits) (closing c.args.status.request.options.counts (answered call.result)) (answered call.result) _ _ _ _
     (rw c.as_slice.ensures.value at c.in_ok-print_records.ensures) (rw (c.in_err-print_closing.was, c.with_failure.ensures) at c.print_closing.ensures)))
 
 pub returns-in_err-changes-in-Returned-clause-printed : goal.returns-in_err-changes-in-Returned-clause-printed
@@ -38,18 +38,18 @@ returns-in_err-changes-in-Returned-clause-printed g c =
     let call = c.index_as_worktree_with_defaults-answer in
     let visits = visits_of call.new.collector in
     let failed = c.from_residual-in_err-changes-in-Returned in
-    printed_failed vec_items c.args.status.options.comparer _ _ _ _ _ _ visits call.result _ _ failed.result _ failed.ensures.1 c.new-recorder.ensures call.ensures.all call.ensures.uninterrupted refl call.ensures.alone
+    printed_failed vec_items c.args.status.request.options.comparer _ _ _ _ _ _ visits call.result _ _ failed.result _ failed.ensures.1 c.new-recorder.ensures call.ensures.all call.ensures.uninterrupted refl call.ensures.alone
     (ended_then Unit _ _ _ _ c.in_ok-print_closing.field-0 failed.result (memory_unprinted _ failed.ensures.1)
-    (ended_after (visit_lines visits) (closing c.args.status.options.counts (answered call.result)) (answered call.result) _ _ _ _
+    (ended_after (visit_lines visits) (closing c.args.status.request.options.counts (answered call.result)) (answered call.result) _ _ _ _
     (rw c.as_slice.ensures.value at c.in_ok-print_records.ensures) (rw (c.in_ok-print_closing.was, c.with_failure.ensures) at c.print_closing.ensures)))
 
 pub returns-in-Returned-clause-printed : goal.returns-in-Returned-clause-printed
 returns-in-Returned-clause-printed g c =
     let call = c.index_as_worktree_with_defaults-answer in
     let visits = visits_of call.new.collector in
-    printed_status c.args.status.options.comparer _ _ _ _ _ _ visits call.result _ _ _ c.new-recorder.ensures call.ensures.all call.ensures.uninterrupted refl call.ensures.alone
+    printed_status c.args.status.request.options.comparer _ _ _ _ _ _ visits call.result _ _ _ c.new-recorder.ensures call.ensures.all call.ensures.uninterrupted refl call.ensures.alone
     (ended_then Unit _ _ _ _ c.in_ok-print_closing.field-0 _ tt
-    (ended_after (visit_lines visits) (closing c.args.status.options.counts (answered call.result)) (answered call.result) _ _ _ _
+    (ended_after (visit_lines visits) (closing c.args.status.request.options.counts (answered call.result)) (answered call.result) _ _ _ _
     (rw c.as_slice.ensures.value at c.in_ok-print_records.ensures) (rw (c.in_ok-print_closing.was, c.with_failure.ensures) at c.print_closing.ensures)))
     (rw c.in-Returned.is c.in_ok-changes-in-Returned.ensures)
 
@@ -57,8 +57,8 @@ pub returns-clause-printed : goal.returns-clause-printed
 returns-clause-printed g c =
     let call = c.index_as_worktree_with_defaults-answer in
     let visits = visits_of call.new.collector in
-    printed_status c.args.status.options.comparer _ _ _ _ _ _ visits call.result _ _ _ c.new-recorder.ensures call.ensures.all call.ensures.uninterrupted refl call.ensures.alone
+    printed_status c.args.status.request.options.comparer _ _ _ _ _ _ visits call.result _ _ _ c.new-recorder.ensures call.ensures.all call.ensures.uninterrupted refl call.ensures.alone
     (ended_then Unit _ _ _ _ c.in_ok-print_closing.field-0 _ tt
-    (ended_after (visit_lines visits) (closing c.args.status.options.counts (answered call.result)) (answered call.result) _ _ _ _
+    (ended_after (visit_lines visits) (closing c.args.status.request.options.counts (answered call.result)) (answered call.result) _ _ _ _
     (rw c.as_slice.ensures.value at c.in_ok-print_records.ensures) (rw (c.in_ok-print_closing.was, c.with_failure.ensures) at c.print_closing.ensures)))
     (rw c.in-Dropped.is c.new.ensures.items)

@@ -1,24 +1,31 @@
-//! A profile's status, before it is computed.
+//! The inputs of a profile's status, and the changes to the index that it asks for.
 
 use gix_status::index::{HashKind, State};
 use gix_status::index_as_worktree::ApplyChange;
 use status_profile::ProfileOptions;
 
-/// The inputs of a profile's status.
+/// The request of a profile.
 #[derive(Drop)]
-pub struct ProfileStatus<'a, W, K> {
+pub struct Request<'a> {
     /// The index.
     pub index: &'a State,
-    /// The worktree.
-    pub worktree: &'a W,
-    /// Finds the untracked files, if the options have `untracked`.
-    pub walk: K,
     /// How the ids of untracked files are made.
     pub hash: HashKind,
     /// How the status is computed, and what is printed.
     pub options: ProfileOptions,
     /// Whether the changes to the index are returned.
     pub changes: Changes,
+}
+
+/// The inputs of a profile's status.
+#[derive(Drop)]
+pub struct ProfileStatus<'a, W, K> {
+    /// The profile's request.
+    pub request: Request<'a>,
+    /// The worktree.
+    pub worktree: &'a W,
+    /// Finds the untracked files, if the options have `untracked`.
+    pub walk: K,
 }
 
 /// What happens with the changes to the index that a plain status asks for.

@@ -1,6 +1,6 @@
 use Rattle.status_cli.specs.Statuses.{totals_text}
 use Rattle.status_cli.proofs.Buffered.{finished}
-use Rattle.status_cli.proofs.output.print_closing.Goals as goal
+use Rattle.status_cli.proofs.line_buffer.print_closing.Goals as goal
 
 pub returns : goal.returns
 returns g c =
