@@ -17,8 +17,8 @@ use Rattle.status_profile.specs.declared.profile.Profile.{Profile}
 use Rattle.status_joined.specs.Walkings.{Walking}
 use Rattle.status_profile.specs.Options.{OptionValues, is_joined, option_values}
 use Rattle.status_cli.specs.declared.failure.Failure.{Failure}
-use Rattle.status_cli.specs.declared.status.inputs.Changes.{Changes}
-use Rattle.status_cli.specs.declared.status.inputs.Changes.TheVariants.{Dropped}
+use Rattle.status_cli.specs.declared.status.inputs.WantedChanges.{WantedChanges}
+use Rattle.status_cli.specs.declared.status.inputs.WantedChanges.TheVariants.{Dropped}
 use Rattle.status_cli.specs.Printing.{result_map}
 use Rattle.status_cli.specs.Statuses.{IsJoinedPrinted, IsStatusPrinted, IsPrintEnd, JoinedInputs, answered, closing, visit_lines}
 use Rattle.status_cli.specs.ProfileStatuses.{IsPlacePrinted, IsPrintedOver, IsStatusOver, WorktreeResults, asked_in, folder_results, folder_walk, tree_results, tree_walk}
@@ -69,7 +69,7 @@ if_failed (Ok x) P Q h = absurd h
 if_failed (Err e) P Q h = tt
 
 -- a status failed while it was printed, or after it
-pub printed_failed : {U A : Type 0} (view : A → List ApplyChange) (c : Comparer) (query : Query (Option ObjectId) U) (limit : Option ℕ) (index : State) (counts : Bool) (wanted : Changes) (none visits : List (Visit (Option ObjectId) U)) (answer : Result Outcome Error) (old new : Option (List ℕ)) (r : Result A Failure) (P : Failure → Type 0)
+pub printed_failed : {U A : Type 0} (view : A → List ApplyChange) (c : Comparer) (query : Query (Option ObjectId) U) (limit : Option ℕ) (index : State) (counts : Bool) (wanted : WantedChanges) (none visits : List (Visit (Option ObjectId) U)) (answer : Result Outcome Error) (old new : Option (List ℕ)) (r : Result A Failure) (P : Failure → Type 0)
     → IsErrAnd r P → none ≡ [] → IsStatusReport query index none answer visits → IfOk answer (λ o. o.interrupted ≡ false) → query.compared ≡ compared_by c → OneThreadSpawnsNone query limit answer → IsPrintEnd (visit_lines visits ++ closing counts (answered answer)) (answered answer) old r new
     → IsStatusPrinted query limit index counts wanted old (result_map view r) new
 printed_failed view c query limit index counts wanted none visits answer old new (Ok x) P failed empty met whole by alone ended = absurd failed

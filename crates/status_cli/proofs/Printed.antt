@@ -9,7 +9,7 @@ use Rattle.status_call.specs.declared.index_as_worktree.apply.ApplyChange.{Apply
 use Rattle.status_call.specs.declared.index_as_worktree.types.Outcome.{Outcome}
 use Rattle.status_cli.specs.declared.failure.Failure.{Failure}
 use Rattle.status_cli.specs.declared.failure.Failure.TheVariants.{Memory, Output}
-use Rattle.status_cli.specs.declared.status.inputs.Changes.{Changes}
+use Rattle.status_cli.specs.declared.status.inputs.WantedChanges.{WantedChanges}
 use Rattle.status_cli.specs.FaultLines.{IsFaultWritten, memory_line}
 use Rattle.status_cli.specs.Printing.{IsBegun, IsPrinted, IsUnprinted, IsAllWritten}
 use Rattle.status_cli.specs.Statuses.{IsPrintEnd, IsJoinedAnswer, IsJoinedPrinted, IsStatusPrinted, JoinedInputs, answered, closing, entry_lines, joined_answered, returned_changes, visit_lines}
@@ -139,7 +139,7 @@ ended_then T text (Ok o) old new v (Err e) why ended = (all_begun text old new e
 ended_then T text (Err f) old new v result why ended = absurd ended
 
 -- a status reported to a collector that had no record, and this was printed of it
-pub printed_status : {U : Type 0} (c : Comparer) (query : Query (Option ObjectId) U) (limit : Option ℕ) (index : State) (counts : Bool) (wanted : Changes) (none visits : List (Visit (Option ObjectId) U)) (answer : Result Outcome Error) (old new : Option (List ℕ)) (result : Result (List ApplyChange) Failure)
+pub printed_status : {U : Type 0} (c : Comparer) (query : Query (Option ObjectId) U) (limit : Option ℕ) (index : State) (counts : Bool) (wanted : WantedChanges) (none visits : List (Visit (Option ObjectId) U)) (answer : Result Outcome Error) (old new : Option (List ℕ)) (result : Result (List ApplyChange) Failure)
     → none ≡ [] → IsStatusReport query index none answer visits → IfOk answer (λ o. o.interrupted ≡ false) → query.compared ≡ compared_by c → OneThreadSpawnsNone query limit answer → IsPrintEnd (visit_lines visits ++ closing counts (answered answer)) (answered answer) old result new
     → IfOk result (λ changes. changes ≡ returned_changes wanted visits) → IsStatusPrinted query limit index counts wanted old result new
 printed_status c query limit index counts wanted none visits answer old new result empty met whole by alone ended returned =

@@ -25,7 +25,7 @@ use Rattle.status_profile.specs.declared.profile.Profile.{Profile}
 use Rattle.status_profile.proofs.Keys.{no_profile}
 use Rattle.status_cli.specs.declared.failure.Failure.{Failure}
 use Rattle.status_cli.specs.declared.failure.Failure.TheVariants.{Unreadable, Memory}
-use Rattle.status_cli.specs.declared.status.inputs.Changes.TheVariants.{Returned}
+use Rattle.status_cli.specs.declared.status.inputs.WantedChanges.TheVariants.{Returned}
 use Rattle.status_cli.specs.Failures.{failure_of_profile}
 use Rattle.status_cli.specs.ProfileStatuses.{IsProfilePrinted}
 use Rattle.status_cli.specs.Refreshes.{IsIndexRefreshed, IsRefreshFailed, IsRefreshed, PrintedStatus}

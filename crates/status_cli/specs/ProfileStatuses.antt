@@ -42,8 +42,8 @@ use Rattle.status_profile.specs.declared.options.ProfileOptions.{ProfileOptions}
 use Rattle.status_profile.specs.declared.profile.Profile.{Profile}
 use Rattle.status_profile.specs.declared.error.ProfileError.{ProfileError}
 use Rattle.status_cli.specs.declared.failure.Failure.{Failure}
-use Rattle.status_cli.specs.declared.status.inputs.Changes.{Changes}
-use Rattle.status_cli.specs.declared.status.inputs.Changes.TheVariants.{Dropped}
+use Rattle.status_cli.specs.declared.status.inputs.WantedChanges.{WantedChanges}
+use Rattle.status_cli.specs.declared.status.inputs.WantedChanges.TheVariants.{Dropped}
 use Rattle.status_cli.specs.declared.status.inputs.IndexChanges.{IndexChanges}
 use Rattle.status_cli.specs.declared.status.inputs.ProfileStatus.{ProfileStatus}
 use Rattle.status_cli.specs.declared.status.inputs.Request.{Request}
@@ -58,14 +58,14 @@ pub record Asked : Type 0 where
   pub hash : HashKind
   pub options : ProfileOptions
   pub index : State
-  pub wanted : Changes
+  pub wanted : WantedChanges
 
 -- what a request asks for
 abbrev pub asked_by : Request → Asked
-asked_by r = record { hash = r.hash; options = r.options; index = r.index.now; wanted = r.changes }
+asked_by r = record { hash = r.hash; options = r.options; index = r.index.now; wanted = r.wanted }
 
 -- what a profile asks for, and whether the changes are returned
-abbrev pub asked_in : Profile → Changes → Asked
+abbrev pub asked_in : Profile → WantedChanges → Asked
 asked_in p wanted = record { hash = p.hash; options = p.options; index = p.index; wanted = wanted }
 
 -- the results of a worktree, and whether they are specified
@@ -184,16 +184,16 @@ abbrev pub changes_returned : IndexChanges → List ApplyChange
 changes_returned r = r.changes.items
 
 -- the lines of a profile were printed, by its own request
-abbrev pub IsProfilePrinted : Profile → Changes → Option (List ℕ) → Result (List ApplyChange) Failure → Option (List ℕ) → Type 0
+abbrev pub IsProfilePrinted : Profile → WantedChanges → Option (List ℕ) → Result (List ApplyChange) Failure → Option (List ℕ) → Type 0
 IsProfilePrinted p wanted old result new = IsPlacePrinted p.place (asked_in p wanted) old result new
 
 -- a text was read as a profile, and this was printed of it
-abbrev pub IsReadPrinted : Kind → List ℕ → Changes → Option (List ℕ) → Result (List ApplyChange) Failure → Option (List ℕ) → Type 0
+abbrev pub IsReadPrinted : Kind → List ℕ → WantedChanges → Option (List ℕ) → Result (List ApplyChange) Failure → Option (List ℕ) → Type 0
 IsReadPrinted kind text wanted old result new = (p : Profile) × IsRead kind text (Ok p) × IsProfilePrinted p wanted old result new
 
 -- a text was read as a profile, and this was printed of it; or it says none, and the command fails for this reason; or it can't be
 -- read. In both of these nothing was printed
-abbrev pub IsTextPrinted : Kind → List ℕ → Changes → Option (List ℕ) → Result (List ApplyChange) Failure → Option (List ℕ) → Type 0
+abbrev pub IsTextPrinted : Kind → List ℕ → WantedChanges → Option (List ℕ) → Result (List ApplyChange) Failure → Option (List ℕ) → Type 0
 IsTextPrinted kind text wanted old result new =
     (IsUnreadPrinted old result new ⊎ ((e : ProfileError) × IsRead kind text (Err e) × IsErrAnd result (λ f. f ≡ failure_of_profile e) × (new ≡ old)))
     ⊎ IsReadPrinted kind text wanted old result new

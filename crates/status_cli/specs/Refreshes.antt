@@ -14,7 +14,7 @@ use Rattle.status_profile.specs.declared.options.Kind.TheVariants.{Plain}
 use Rattle.status_profile.specs.declared.profile.Profile.{Profile}
 use Rattle.status_cli.specs.declared.failure.Failure.{Failure}
 use Rattle.status_cli.specs.declared.failure.Failure.TheVariants.{Memory}
-use Rattle.status_cli.specs.declared.status.inputs.Changes.TheVariants.{Returned}
+use Rattle.status_cli.specs.declared.status.inputs.WantedChanges.TheVariants.{Returned}
 use Rattle.status_cli.specs.ProfileStatuses.{IsProfilePrinted, IsTextPrinted}
 
 -- a profile's status was printed, and this is its index, with the changes that the status asks for and with this timestamp; or the status

@@ -23,8 +23,8 @@ use Rattle.status_joined.specs.declared.index_as_worktree_with_renames.types.Sor
 use Rattle.status_rewrites.specs.Renames.{IsIdentityAnswer}
 use Rattle.status_profile.specs.Options.{OptionValues}
 use Rattle.status_cli.specs.declared.failure.Failure.{Failure}
-use Rattle.status_cli.specs.declared.status.inputs.Changes.{Changes}
-use Rattle.status_cli.specs.declared.status.inputs.Changes.TheVariants.{Returned, Dropped}
+use Rattle.status_cli.specs.declared.status.inputs.WantedChanges.{WantedChanges}
+use Rattle.status_cli.specs.declared.status.inputs.WantedChanges.TheVariants.{Returned, Dropped}
 use Rattle.status_cli.specs.Failures.{failure_of_joined, failure_of_status}
 use Rattle.status_cli.specs.Lines.{entry_line, total_line, visit_line}
 use Rattle.status_cli.specs.Printing.{IsBegun, IsPrinted, IsUnprinted}
@@ -64,14 +64,14 @@ IsPrintEnd text (Err failure) old (Ok _) new = ⊥
 IsPrintEnd text (Err failure) old (Err e) new = (Appends old new text × (e ≡ failure)) ⊎ (IsBegun text old new × IsUnprinted e)
 
 -- the changes that records ask for, if they are to be returned
-abbrev pub returned_changes : {T U : Type 0} → Changes → List (Visit T U) → List ApplyChange
+abbrev pub returned_changes : {T U : Type 0} → WantedChanges → List (Visit T U) → List ApplyChange
 returned_changes Returned visits = changes_of visits
 returned_changes Dropped visits = []
 
 -- a status of this index was computed by this query; it wasn't interrupted if it succeeded; if it is modelled and this limit is one, it
 -- wasn't refused a thread; its lines, with `counts` also its totals, were printed as it ended; and the changes that its records ask for
 -- were returned, or dropped
-pub record IsStatusPrinted {T U : Type 0} (query : Query T U) (limit : Option ℕ) (index : State) (counts : Bool) (wanted : Changes) (old : Option (List ℕ)) (result : Result (List ApplyChange) Failure) (new : Option (List ℕ)) : Type 0 where
+pub record IsStatusPrinted {T U : Type 0} (query : Query T U) (limit : Option ℕ) (index : State) (counts : Bool) (wanted : WantedChanges) (old : Option (List ℕ)) (result : Result (List ApplyChange) Failure) (new : Option (List ℕ)) : Type 0 where
   pub visits : List (Visit T U)
   pub answer : Result Outcome Error
   pub met : IsStatusReport query index [] answer visits

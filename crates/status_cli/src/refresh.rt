@@ -6,7 +6,7 @@ ghost use Rattle.status_cli.specs.Refreshes.{IsIndexRefreshed, IsRefreshFailed, 
 
 use crate::failure::Failure;
 use crate::output::read_all;
-use crate::status::{Changes, IndexChanges, print_profile};
+use crate::status::{IndexChanges, WantedChanges, print_profile};
 use gix_status::index::{Moment, State};
 use gix_status::index_as_worktree::apply_changes;
 use status_profile::{Kind, MemberTexts, Profile};
@@ -107,7 +107,7 @@ where
     let IndexChanges { mut index, changes } = print_profile(
         rt,
         profile,
-        Changes::Returned,
+        WantedChanges::Returned,
         output,
     )?;
     apply_changes(&mut index, &changes);

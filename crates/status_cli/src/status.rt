@@ -17,7 +17,7 @@ mod plain;
 use crate::failure::Failure;
 use crate::output::read_all;
 use crate::status::inputs::{ProfileStatus, Request};
-pub use crate::status::inputs::{Changes, IndexChanges};
+pub use crate::status::inputs::{IndexChanges, WantedChanges};
 use crate::status::joined::{NoWalk, print_joined};
 use crate::status::plain::print_plain;
 use bstr::BString;
@@ -68,19 +68,19 @@ fn print_status<R: AllocGlobal + Files + Sync + Threads + Wait, I: io::Read, O: 
 where
     R::File: Send,
     R::Dir: Send,
-    ensures { IfSome (I.remaining profile.old) (λ text. IsTextPrinted Kind.Any text Changes.Dropped (O.contents output.old) (result_map (λ _. []) result) (O.contents output.new)) }
+    ensures { IfSome (I.remaining profile.old) (λ text. IsTextPrinted Kind.Any text WantedChanges.Dropped (O.contents output.old) (result_map (λ _. []) result) (O.contents output.new)) }
 {
     let text = read_all(rt.alloc(), profile)?;
     let profile = Profile::from_json(rt.alloc(), text.as_slice(), Kind::Any)?;
-    print_profile(rt, profile, Changes::Dropped, output)?;
+    print_profile(rt, profile, WantedChanges::Dropped, output)?;
     Ok(())
 }
 
-/// Prints the status of a profile. Returns its index, with the changes that a plain status asks for if `changes` says so.
+/// Prints the status of a profile. Returns its index, with the changes that a plain status asks for if they are wanted.
 pub fn print_profile<R: AllocGlobal + Files + Sync + Threads + Wait, O: io::Write>(
     rt: &R,
     profile: Profile,
-    changes: Changes,
+    wanted: WantedChanges,
     output: &mut O,
 ) -> Result<IndexChanges, Failure>
 where
@@ -88,7 +88,7 @@ where
     R::Dir: Send,
     ensures inside { IfOk result (λ r. AreInside r.changes.items (index_of r.index)) }
     ensures index { IfOk result (λ r. r.index ≡ profile.index) }
-    ensures printed { IsProfilePrinted profile changes (O.contents output.old) (result_map changes_returned result) (O.contents output.new) }
+    ensures printed { IsProfilePrinted profile wanted (O.contents output.old) (result_map changes_returned result) (O.contents output.new) }
 {
     let Profile {
         hash,
@@ -100,7 +100,7 @@ where
         index: &index,
         hash,
         options,
-        changes,
+        wanted,
     };
     let changes = print_place(rt, request, place, output)?;
     Ok(IndexChanges { index, changes })

@@ -14,7 +14,7 @@ pub struct Request<'a> {
     /// How the status is computed, and what is printed.
     pub options: ProfileOptions,
     /// Whether the changes to the index are returned.
-    pub changes: Changes,
+    pub wanted: WantedChanges,
 }
 
 /// The inputs of a profile's status.
@@ -30,7 +30,7 @@ pub struct ProfileStatus<'a, W, K> {
 
 /// What happens with the changes to the index that a plain status asks for.
 #[derive(Clone, Copy, Debug, PartialEq, Eq)]
-pub enum Changes {
+pub enum WantedChanges {
     /// They are returned.
     Returned,
     /// They are dropped.

@@ -12,7 +12,7 @@ ghost use Rattle.status_cli.specs.Statuses.{answered, visit_lines};
 
 use crate::failure::Failure;
 use crate::line_buffer::{LineBuffer, print_closing};
-use crate::status::inputs::{Changes, ProfileStatus, Request};
+use crate::status::inputs::{ProfileStatus, Request, WantedChanges};
 use gix_status::index_as_worktree::{
     ApplyChange, Error, Outcome, Record, Recorder, index_as_worktree_with_defaults,
 };
@@ -52,7 +52,7 @@ where
     let Request {
         index,
         options,
-        changes,
+        wanted,
         ..
     } = request;
     let mut recorder = Recorder::new(alloc);
@@ -68,9 +68,9 @@ where
     );
     print_records(alloc, recorder.records.as_slice(), output)?;
     print_closing(alloc, with_failure(answer), options.counts, output)?;
-    match changes {
-        Changes::Returned => Ok(recorder.changes()?),
-        Changes::Dropped => Ok(Vec::new(alloc)),
+    match wanted {
+        WantedChanges::Returned => Ok(recorder.changes()?),
+        WantedChanges::Dropped => Ok(Vec::new(alloc)),
     }
 }
 

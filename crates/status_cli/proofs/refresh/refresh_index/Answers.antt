@@ -1,5 +1,5 @@
 use Rattle.std.proofs.Common.{◌∙◌, ap, subst}
-use Rattle.status_cli.specs.declared.status.inputs.Changes.TheVariants.{Returned}
+use Rattle.status_cli.specs.declared.status.inputs.WantedChanges.TheVariants.{Returned}
 use Rattle.status_cli.specs.Printing.{result_map}
 use Rattle.status_cli.specs.ProfileStatuses.{IsProfilePrinted, changes_returned}
 use Rattle.status_cli.proofs.Refreshed.{index_kept, unrefreshed_index}

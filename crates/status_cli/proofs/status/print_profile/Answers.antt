@@ -7,10 +7,10 @@ use Rattle.status_cli.proofs.status.print_profile.Goals as goal
 
 pub returns-in_err-changes-clause-printed : goal.returns-in_err-changes-clause-printed
 returns-in_err-changes-clause-printed g c =
-    subst (λ r. IsProfilePrinted c.args.profile c.args.changes (g.O.Write.contents c.args.output.now) r (g.O.Write.contents c.print_place.new.output))
+    subst (λ r. IsProfilePrinted c.args.profile c.args.wanted (g.O.Write.contents c.args.output.now) r (g.O.Write.contents c.print_place.new.output))
     (ap (result_map vec_items) c.in_err-changes.was ∙ sym (map_err changes_returned c.from_residual.result c.in_err-changes.field-0.0 c.from_residual.ensures.1)) c.print_place.ensures.printed
 
 pub returns-clause-printed : goal.returns-clause-printed
 returns-clause-printed g c =
-    subst (λ r. IsProfilePrinted c.args.profile c.args.changes (g.O.Write.contents c.args.output.now) r (g.O.Write.contents c.print_place.new.output))
+    subst (λ r. IsProfilePrinted c.args.profile c.args.wanted (g.O.Write.contents c.args.output.now) r (g.O.Write.contents c.print_place.new.output))
     (ap (result_map vec_items) c.in_ok-changes.was) c.print_place.ensures.printed

@@ -1,7 +1,7 @@
 use Rattle.std.proofs.Common.{[], Ok, inr, sym, ap, subst, ◌∙◌}
 use Rattle.status_profile.specs.Profiles.{IsRead}
 use Rattle.status_profile.specs.declared.options.Kind.TheVariants.{Any}
-use Rattle.status_cli.specs.declared.status.inputs.Changes.TheVariants.{Dropped}
+use Rattle.status_cli.specs.declared.status.inputs.WantedChanges.TheVariants.{Dropped}
 use Rattle.status_cli.specs.Printing.{result_map}
 use Rattle.status_cli.specs.ProfileStatuses.{IsProfilePrinted, IsTextPrinted, changes_returned}
 use Rattle.status_cli.proofs.Commands.{map_err, of_known, place_dropped}

@@ -1,6 +1,6 @@
 use Rattle.std.proofs.Common.{ℕ, List, Err}
 use Rattle.status_profile.specs.declared.options.Kind.TheVariants.{Any}
-use Rattle.status_cli.specs.declared.status.inputs.Changes.TheVariants.{Dropped}
+use Rattle.status_cli.specs.declared.status.inputs.WantedChanges.TheVariants.{Dropped}
 use Rattle.status_cli.specs.ProfileStatuses.{IsFailed, IsTextPrinted}
 use Rattle.status_cli.proofs.Commands.{known_map}
 use Rattle.status_cli.proofs.status.run_status.Goals as goal
