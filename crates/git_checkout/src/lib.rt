@@ -1,0 +1,17 @@
+//! The status of a checkout on disk: all of the command `git dirty` but its command line, for programs that ask for it.
+//!
+//! Read `request` first, what is asked, and then `checkout`, the calls. They find the repository, read its index file
+//! (`index_file`) and select paths (`selection`). The contract of the comparison is that of `run_dirty` in the crate git_status.
+//! `refresh` writes the new index file, and `refused` is why a call can't begin.
+#![tactic(auto)]
+
+pub mod checkout;
+mod index_file;
+mod refresh;
+pub mod refused;
+pub mod request;
+mod selection;
+
+pub use checkout::{is_dirty, run};
+pub use refused::Refused;
+pub use request::Request;
