@@ -1,6 +1,6 @@
 //! The status of a checkout on disk: all of the command `git dirty` but its command line, for programs that ask for it.
 //!
-//! Read `request` first, what is asked, and then `checkout`, the calls. They find the repository, read its index file
+//! Read `request` first, the options of a call, and then `checkout`, the calls. They find the repository, read its index file
 //! (`index_file`) and select paths (`selection`). The contract of the comparison is that of `run_dirty` in the crate git_status.
 //! `refresh` writes the new index file, and `refused` is why a call can't begin.
 #![tactic(auto)]
@@ -8,10 +8,11 @@
 pub mod checkout;
 mod index_file;
 mod refresh;
-pub mod refused;
+mod refused;
 pub mod request;
 mod selection;
+#[cfg(test)]
+mod tests;
 
 pub use checkout::{is_dirty, run};
-pub use refused::Refused;
 pub use request::Request;

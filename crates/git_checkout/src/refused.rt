@@ -18,7 +18,7 @@ pub enum Refused {
     },
     /// A path isn't in the worktree.
     Outside {
-        /// The path as it was passed.
+        /// The path that was passed.
         path: String,
     },
     /// A path is empty.

@@ -1,8 +1,8 @@
-//! What is asked of a checkout.
+//! The options of a call.
 
 use std::alloc::Global;
 
-/// What is asked of a checkout.
+/// The options of a call, as those of the command line of `git dirty`.
 #[derive(Drop)]
 pub struct Request<'a> {
     /// A folder of the worktree. Relative PATHS begin there.
