@@ -170,7 +170,7 @@ class Docs(unittest.TestCase):
         for example, link in examples:
             with self.subTest(link=link, example=example):
                 path = os.path.normpath(os.path.join("docs", link))
-                self.assertRegex(path, r"^crates/(git_dirty|status_callers|status_tests|program_tests)/src/")
+                self.assertRegex(path, r"^crates/(git_checkout|status_callers|status_tests|program_tests)/src/")
                 self.assertIn("\n" + example, "\n" + text_of(path))
 
     def test_the_names_for_callers_are_in_their_modules(self):

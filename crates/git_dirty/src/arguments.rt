@@ -1,6 +1,7 @@
 //! The command line.
 
 use clap::{Arg, ArgAction, ArgMatches, Command, value_parser};
+use git_checkout::Request;
 use std::alloc::{AllocError, Global};
 
 /// What `--help` shows after the options.
@@ -13,48 +14,29 @@ Exit status: 0 if nothing differs, 1 if something does, 2 after a failure.
 A line has the letters of git status --porcelain. The index isn't compared with
 a commit, so the first letter is a space, except for a conflict.";
 
-/// The arguments.
-#[derive(Drop)]
-pub struct Arguments<'a> {
-    /// The folder in which the command works. Without one, and with an empty one, it is the working folder.
-    pub folder: &'a str,
-    /// Whether lines end with a zero byte, and paths aren't quoted.
-    pub zero: bool,
-    /// Whether nothing is printed, and the command stops at the first difference.
-    pub quiet: bool,
-    /// Whether the new stats of unchanged files are stored in the index.
-    pub refresh: bool,
-    /// Whether the counts are printed.
-    pub stats: bool,
-    /// The greatest number of threads, or `None` for the usual number.
-    pub threads: Option<usize>,
-    /// The files and folders that are compared, from the working folder. All if there is none.
-    pub paths: Vec<&'a str>,
-}
-
-impl<'a> Arguments<'a> {
-    /// Returns the arguments that were matched.
-    ///
-    /// # Errors
-    /// Out of memory.
-    pub fn of(alloc: Global, matches: &ArgMatches<'a>) -> Result<Arguments<'a>, AllocError> {
-        let paths = match matches.get_strs("paths") {
-            Some(paths) => Vec::from_slice(alloc, paths)?,
-            None => Vec::new(alloc),
-        };
-        Ok(Arguments {
-            folder: match matches.get_str("folder") {
-                Some(folder) if !folder.is_empty() => folder,
-                _ => ".",
-            },
-            zero: matches.get_flag("zero"),
-            quiet: matches.get_flag("quiet"),
-            refresh: matches.get_flag("refresh"),
-            stats: matches.get_flag("stats"),
-            threads: matches.get_one("threads"),
-            paths,
-        })
-    }
+/// Returns the request of the arguments that were matched.
+///
+/// # Errors
+/// Out of memory.
+pub fn request_of<'a>(alloc: Global, matches: &ArgMatches<'a>) -> Result<Request<'a>, AllocError> {
+    let paths = match matches.get_strs("paths") {
+        Some(paths) => Vec::from_slice(alloc, paths)?,
+        None => Vec::new(alloc),
+    };
+    let folder = match matches.get_str("folder") {
+        Some(folder) if !folder.is_empty() => folder,
+        _ => ".",
+    };
+    Ok(Request {
+        zero: matches.get_flag("zero"),
+        quiet: matches.get_flag("quiet"),
+        refresh: matches.get_flag("refresh"),
+        stats: matches.get_flag("stats"),
+        enter: true,
+        threads: matches.get_one("threads"),
+        paths,
+        ..Request::new(alloc, folder)
+    })
 }
 
 /// Returns the parser of the command line.

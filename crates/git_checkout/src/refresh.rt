@@ -1,4 +1,4 @@
-//! The option `--refresh`: the index file gets the stats that the status found.
+//! The refresh of an index file: it gets the stats that the status found.
 
 use crate::index_file::Written;
 use crate::refused::Refused;

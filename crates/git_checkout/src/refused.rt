@@ -1,4 +1,4 @@
-//! Why the command can't begin.
+//! Why a checkout isn't compared, or its index isn't refreshed.
 
 use git_repository::RepositoryError;
 use std::alloc::{AllocError, AllocFailed, Global};
@@ -18,13 +18,11 @@ pub enum Refused {
     },
     /// A path isn't in the worktree.
     Outside {
-        /// The word of the command line.
+        /// The path that was passed.
         path: String,
     },
     /// A path is empty.
     EmptyPath,
-    /// The arguments of the program can't be read.
-    Arguments,
     /// The index isn't refreshed, because the new one might hide a change from git.
     Unrefreshed {
         /// Why it might.
@@ -67,7 +65,6 @@ impl fmt::Display for Refused {
             ),
             Refused::Outside { path } => write!(f, "{path:?} is outside of the worktree"),
             Refused::EmptyPath => f.write_str("an empty path: use . for the working folder"),
-            Refused::Arguments => f.write_str("the arguments aren't UTF-8"),
             Refused::Unrefreshed { reason } => write!(
                 f,
                 "the index isn't refreshed, since {reason}: use git update-index --refresh"

@@ -1,4 +1,4 @@
-//! The paths that the command line selects, from the worktree's top.
+//! The paths that a request selects, from the worktree's top.
 
 use crate::refused::Refused;
 use std::alloc::Global;

@@ -1,4 +1,4 @@
-//! The index file as it is before the command.
+//! The index file before the call.
 
 use crate::refused::Refused;
 use git_repository::Repository;
