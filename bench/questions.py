@@ -4,14 +4,14 @@ bench/folder.py made.
 
     python3 bench/questions.py crates/git_dirty/out/git_dirty FOLDER... [--runs 31]
 
-Each folder is measured clean, and then touched, with another time of modification of each file, so that each is read. The
-columns have the least time on the clock, in milliseconds, with the usual settings of each command, and its quotient by
-that of the first one.
+Each folder is measured clean. A touched one would be clean after the first run of git diff, which stores the new stats even
+with GIT_OPTIONAL_LOCKS=0. The columns have the least time on the clock, in milliseconds, with the usual settings of each
+command, and its quotient by that of the first one.
 """
 
 import os
 
-from folder import STATES
+from folder import clean
 from turns import arguments_of, in_turns
 
 
@@ -30,13 +30,10 @@ def commands_of(program, top):
 def main():
     arguments = arguments_of(__doc__, "git_dirty", 31).parse_args()
     columns = {}
-    for state, bring in STATES.items():
-        for top in arguments.folders:
-            bring(top)
-            # git dirty and git diff end with 1 if a file differs.
-            taken = in_turns(commands_of(arguments.program, top), arguments.runs, (0, 1))
-            times = {name: min(run.clock for run in runs) for name, runs in taken.items()}
-            columns[f"{os.path.basename(top)}, {state}"] = times
+    for top in arguments.folders:
+        clean(top)
+        taken = in_turns(commands_of(arguments.program, top), arguments.runs)
+        columns[os.path.basename(top)] = {name: min(run.clock for run in runs) for name, runs in taken.items()}
     print("|", " | ".join(["command", *(f"{name} | quotient" for name in columns)]), "|")
     print("|" + "---|" * (1 + 2 * len(columns)))
     for name in commands_of("", ""):
