@@ -55,6 +55,20 @@ class Places(Dirty):
                 self.assertEqual((gits.returncode, as_dirty(gits.stdout)), (0, b" M a\n"))
                 self.assert_ends(ours, b" M a\n")
 
+    def test_a_configuration_without_a_version_names_no_worktree(self):
+        """Its extensions don't count either."""
+        self.write("a", "bars")
+        self.write(".git/config.worktree", "[core]\nbare = true\n")
+        os.makedirs(self.path("other"))
+        shutil.copy(self.path("d/b"), self.path("other/a"))
+        rows = ["[core]\nworktree = ../other\n", "[core]\nbare = true\n", "[extensions]\nobjectFormat = sha256\n"]
+        for text in [*rows, "[extensions]\nworktreeConfig = true\n"]:
+            with self.subTest(text):
+                self.write(".git/config", text)
+                self.assert_as_git(" M a\n")
+        self.write(".git/config", "[core]\nbare = x\n")
+        self.assert_both_fail("core.bare")
+
     def test_empty_names_of_worktrees_are_refused(self):
         self.assert_both_fail("GIT_WORK_TREE", GIT_WORK_TREE="")
         self.git("config", "core.worktree", "")

@@ -13,6 +13,9 @@ pub struct Format {
     pub kind: HashKind,
     /// Whether a worktree has a configuration of its own.
     pub has_worktree_config: bool,
+    /// Whether the configuration states a version of the format. Otherwise git ignores its extensions, and which worktree it
+    /// names.
+    pub is_stated: bool,
 }
 
 /// Reads the version of a repository's format, and its extensions.
@@ -31,9 +34,13 @@ pub fn read_format(alloc: Global, config: &Config) -> Result<Format, RepositoryE
             check_extension(alloc, name, variable.value(), version)?;
         }
     }
+    let kind = read_kind(alloc, config)?;
+    let has_own = switch(alloc, config, "extensions.worktreeconfig")?.unwrap_or(false);
+    let is_stated = version.is_some();
     Ok(Format {
-        kind: read_kind(alloc, config)?,
-        has_worktree_config: switch(alloc, config, "extensions.worktreeconfig")?.unwrap_or(false),
+        kind: if is_stated { kind } else { HashKind::Sha1 },
+        has_worktree_config: is_stated && has_own,
+        is_stated,
     })
 }
 

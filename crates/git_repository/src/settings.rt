@@ -57,10 +57,15 @@ pub fn read_settings<R: Files + Env + AllocGlobal>(
     if format.has_worktree_config {
         own.append(read_file(rt, joined(alloc, git_dir, "config.worktree")?.as_str())?)?;
     }
-    let (bare, worktree) = if is_linked {
+    let place = if is_linked {
         (None, None)
     } else {
         read_place(alloc, &own)?
+    };
+    let (bare, worktree) = if format.is_stated {
+        place
+    } else {
+        (None, None)
     };
     let mut config = read_outer(rt)?;
     config.append(own)?;
