@@ -11,15 +11,15 @@ import unittest
 from functools import partial
 
 from status_program.row_files import read_rows
-from stress import compare_dirty, draw_histories, draw_profiles, fuzz_profiles, mutate_index
+from stress import compare_dirty, draw_histories, draw_profiles, fuzz_profiles, mutate_index, mutate_settings
 from stress.draw_attributes import AttributeDrawing
 from stress.fuzz_profiles import is_json, is_rewritable
 from stress.seeds import run_all
 from support.programs import GIT_DIRTY, STATUS_PROGRAM, Ended
 from support.repositories import as_dirty, read, write
 
-# How many repositories are drawn, of each kind, and how many index files are mutated.
-REPOSITORIES, ATTRIBUTES, MUTATED = 1000, 200, 10000
+# How many repositories are drawn, of each kind, and how many index files and settings are mutated.
+REPOSITORIES, ATTRIBUTES, MUTATED, MUTATED_SETTINGS = 1000, 200, 10000, 10000
 # Default members of a profile, an entry and a node.
 OPTIONS = {"prefix": "", "comparer": "hash", "untracked": False, "renames": False, "sort": False}
 OPTIONS |= {"executable_bit": True, "counts": False}
@@ -161,6 +161,10 @@ class Drawn(unittest.TestCase):
         self.assertGreater(shapes["git's lines"], MUTATED // 10)
         self.assertGreater(len(shapes), 10)
 
+    def test_mutated_settings_are_read_or_refused_as_by_git(self):
+        kinds = self.run_seeds(mutate_settings.run, MUTATED_SETTINGS, mutate_settings.PART)
+        self.assertGreater(min(kinds["git's lines"], kinds["both fail"]), MUTATED_SETTINGS // 4)
+
 
 @unittest.skipUnless(STATUS_PROGRAM and GIT_DIRTY, "no built program")
 class Spoilt(unittest.TestCase):
@@ -169,7 +173,7 @@ class Spoilt(unittest.TestCase):
     # For each seed a script runs its program once, and some print at least two lines.
     SCRIPTS = [(partial(draw_histories.run, events=200), STATUS_PROGRAM, [24]), (draw_profiles.run, STATUS_PROGRAM, range(20))]
     SCRIPTS += [(partial(compare_dirty.compared, kind=AttributeDrawing), GIT_DIRTY, range(2))]
-    SCRIPTS += [(mutate_index.run, GIT_DIRTY, range(20))]
+    SCRIPTS += [(mutate_index.run, GIT_DIRTY, range(20)), (mutate_settings.run, GIT_DIRTY, range(20))]
 
     def test_each_spoilt_end_is_noticed(self):
         for number, (run, program, seeds) in enumerate(self.SCRIPTS):
