@@ -10,7 +10,7 @@ use Rattle.git_attributes.specs.contracts.attributes.Attributes as attributes
 use Rattle.git_attributes.specs.contracts.line.Macro as macros
 use Rattle.git_attributes.specs.contracts.line.Rule as rule
 use Rattle.git_attributes.specs.contracts.line_ends.LineEnds as line_ends
-use Rattle.git_attributes.specs.contracts.piece.Piece as piece
+use Rattle.git_attributes.specs.contracts.pattern.Piece as piece
 use Rattle.git_attributes.specs.contracts.set.Item as item
 
 Item-sync : IsSync item.the_row

@@ -1,7 +1,7 @@
 -- The code's types as the definitions have them.
 use Rattle.std.specs.Prelude.{map}
-use Rattle.git_attributes.specs.declared.piece.Piece.{Piece}
-use Rattle.git_attributes.specs.declared.piece.Piece.TheVariants.{Byte, Any as AnyPiece, Set as SetPiece, Name as NamePiece, Folders as FoldersPiece, Everything as EverythingPiece}
+use Rattle.git_attributes.specs.declared.pattern.Piece.{Piece}
+use Rattle.git_attributes.specs.declared.pattern.Piece.TheVariants.{Byte, Any as AnyPiece, Set as SetPiece, Name as NamePiece, Folders as FoldersPiece, Everything as EverythingPiece}
 use Rattle.git_attributes.specs.declared.assignment.Assignment.{Assignment}
 use Rattle.git_attributes.specs.declared.assignment.Value.{Value}
 use Rattle.git_attributes.specs.declared.assignment.Value.TheVariants.{Set as SetValue, Unset as UnsetValue, Unspecified as UnspecifiedValue, Text as TextValue}

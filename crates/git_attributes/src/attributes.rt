@@ -6,8 +6,7 @@ ghost use Rattle.git_attributes.specs.States.{below, is_for, name_of};
 ghost use Rattle.git_attributes.specs.Words.{first_at};
 ghost use Rattle.git_attributes.specs.Views.{attributes_view, given_of, line_view, rule_view, source_view};
 
-use crate::assignment::Assignment;
-use crate::given::give;
+use crate::assignment::{Assignment, give};
 use crate::line::{Line, Macro, Rule, line_of};
 use crate::table::matches;
 use crate::words::first_at;

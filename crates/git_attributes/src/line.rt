@@ -5,10 +5,8 @@ ghost use Rattle.git_attributes.specs.Lines.{ends_in_slash, has_slash, line_at, 
 ghost use Rattle.git_attributes.specs.Views.{line_view, macro_view, part_of, rule_view};
 
 use crate::assignment::{Assignment, assignments_of, is_name};
-use crate::pattern::{begins_with, pieces_of};
-use crate::piece::Piece;
-use crate::quoted::unquoted;
-use crate::words::{before, skip_blanks, word_of};
+use crate::pattern::{Piece, begins_with, pieces_of};
+use crate::words::{before, skip_blanks, unquoted, word_of};
 use std::alloc::{AllocError, Global};
 
 /// As git does, a line of so many bytes or more is left out.

@@ -1,14 +1,14 @@
 //! The filter that converts line ends as git does.
 
-ghost use Rattle.std.specs.Prelude.{◌≡◌, ◌++◌, [], OnOk, IfOk, refl};
+ghost use Rattle.std.specs.Prelude.{◌≡◌, ◌++◌, [], OnOk, IfOk, refl, List, ℕ};
 ghost use Rattle.bstr.specs.BStr.{bstr_bytes};
 ghost use Rattle.status_index.specs.States.{index_of};
-ghost use Rattle.git_attributes.specs.LineEnds.{has_stored, is_kept, line_ends, stored};
+ghost use Rattle.git_attributes.specs.LineEnds.{has_stored, is_kept, line_ends, stored, AutoLaw};
 ghost use Rattle.git_attributes.specs.Views.{attributes_view};
+ghost use Rattle.status_index.specs.Entries.{IndexEntry};
 
 use crate::attributes::Attributes;
-use crate::normalization::{Normalization, normalization_of};
-use crate::text::{has_crlf, is_binary, push_normalized};
+use crate::normalization::{Normalization, has_crlf, is_binary, normalization_of, push_normalized};
 use bstr::BStr;
 use status_base::worktree::{ToGit, ToGitOutcome};
 use status_index::{Fault, HashKind, ReadBytes, State, compute_hash, read_all};
@@ -115,3 +115,10 @@ impl ToGit for LineEnds<'_, '_, '_> {
         Ok(ToGitOutcome::Buffer(buffer))
     }
 }
+
+/// With `text=auto` git reads the blob of a path's entry to find out whether to convert the file. Here ids decide: what is
+/// stored is the blob exactly if that is so by git's rule. The premises are that the path has one entry, and that the file
+/// and the blob have different ids if their bytes differ.
+pub fn ids_decide_as_git_does(kind: HashKind)
+    ensures { (index : List IndexEntry) (path blob bytes : List ℕ) → AutoLaw kind index path blob bytes }
+{}

@@ -1,12 +1,13 @@
-//! Which files git takes for texts.
+//! Which files git takes for texts, and the bytes that it stores of a text.
 
-ghost use Rattle.std.specs.Prelude.{◌≡◌, map};
+ghost use Rattle.std.specs.Prelude.{◌≡◌, map, ◌++◌, OnOk};
 ghost use Rattle.git_attributes.specs.Normalization.{has_line_end, is_asked, is_unconverted, normalization_of, text_state};
 ghost use Rattle.git_attributes.specs.Views.{given_of, state_of};
+ghost use Rattle.git_attributes.specs.Text.{begins_with_lf, eof_at_end, has_crlf, is_binary, is_nonprintable, is_printable, nonprintables, normalized};
 
-use crate::assignment::{Assignment, Value};
-use crate::given::state_in;
+use crate::assignment::{Assignment, Value, state_in};
 use crate::words::is_word;
+use std::alloc::AllocError;
 
 /// How git stores the line ends of a file.
 #[derive(Clone, Copy, Debug, PartialEq, Eq)]
@@ -81,4 +82,100 @@ pub fn is_unconverted(known: &[Assignment<'_>]) -> bool
     is_asked(state_in(b"filter", known))
         || (is_asked(state_in(b"ident", known))
             || is_asked(state_in(b"working-tree-encoding", known)))
+}
+
+/// Control-Z, the end of a file of old systems.
+const END_OF_FILE: u8 = 26;
+
+/// Returns whether a line feed comes first.
+fn begins_with_lf(bytes: &[u8]) -> bool
+    ensures { result ≡ begins_with_lf bytes.now }
+{
+    match bytes {
+        [byte, ..] => *byte == b'\n',
+        [] => false,
+    }
+}
+
+/// Appends the bytes that git stores of a text: each CR directly before an LF is left out.
+///
+/// # Errors
+/// Out of memory.
+pub fn push_normalized(text: &[u8], stored: &mut Vec<u8>) -> Result<(), AllocError>
+    ensures { OnOk result (stored.new.items ≡ stored.old.items ++ normalized text.now) }
+{
+    let mut rest = text;
+    'bytes: while let [byte, after @ ..] = rest {
+        if *byte != b'\r' || !begins_with_lf(after) {
+            stored.push(*byte)?;
+        }
+        rest = after;
+    }
+    Ok(())
+}
+
+/// Returns whether a CR is directly before an LF.
+pub(crate) fn has_crlf(bytes: &[u8]) -> bool
+    ensures { result ≡ has_crlf bytes.now }
+{
+    let mut rest = bytes;
+    'bytes: while let [byte, after @ ..] = rest {
+        if *byte == b'\r' && begins_with_lf(after) {
+            return true;
+        }
+        rest = after;
+    }
+    false
+}
+
+/// Returns whether git counts a byte as printable: backspace, tab, form feed, escape, and what is neither a control
+/// character nor DEL.
+fn is_printable(byte: u8) -> bool
+    ensures { result ≡ is_printable byte }
+{
+    matches!(byte, 8 | 9 | 12 | 27 | 32..=126 | 128..=255)
+}
+
+/// Returns whether git counts a byte as not printable. LF and CR count as neither.
+fn is_nonprintable(byte: u8) -> bool
+    ensures { result ≡ is_nonprintable byte }
+{
+    !is_printable(byte) && byte != b'\n' && byte != b'\r'
+}
+
+/// Returns 1 if the last byte is the end of a file of old systems, and otherwise 0.
+fn eof_at_end(bytes: &[u8]) -> usize
+    ensures { result ≡ eof_at_end bytes.now }
+{
+    if !bytes.is_empty() && bytes[bytes.len() - 1] == END_OF_FILE {
+        1
+    } else {
+        0
+    }
+}
+
+/// Returns whether git takes a file for binary if it has to decide that by its bytes (`text=auto`, `core.autocrlf`): it has
+/// a CR without an LF after it, a NUL, or more than one byte in 128 printable ones that isn't printable.
+#[tactic(auto, using(crate::proofs::Binary::binary_cr, crate::proofs::Binary::binary_nul), unfolding(crate::specs::Text::is_binary, crate::specs::Text::nonprintables))]
+pub fn is_binary(bytes: &[u8]) -> bool
+    ensures { result ≡ is_binary bytes.now }
+{
+    let mut printable = 0usize;
+    let mut nonprintable = 0usize;
+    let mut rest = bytes;
+    'bytes: while let [byte, after @ ..] = rest {
+        if *byte == 0 {
+            return true;
+        }
+        if *byte == b'\r' && !begins_with_lf(after) {
+            return true;
+        }
+        if is_printable(*byte) {
+            printable += 1;
+        } else if is_nonprintable(*byte) {
+            nonprintable += 1;
+        }
+        rest = after;
+    }
+    printable / 128 < nonprintable.saturating_sub(eof_at_end(bytes))
 }

@@ -5,7 +5,7 @@ ghost use Rattle.git_attributes.specs.Tables.{carried_first, carried_on, tests, 
 ghost use Rattle.git_attributes.specs.Wildmatch.{Matches, after_piece, is_match};
 ghost use Rattle.git_attributes.specs.Views.{part_of};
 
-use crate::piece::{Piece, is_match};
+use crate::pattern::{Piece, is_match};
 use crate::set::is_in_set;
 use std::alloc::{AllocError, Global};
 

@@ -1,7 +1,6 @@
 //! The status of the checkout that has a folder.
 
-use crate::index_file::read_index_file;
-use crate::refresh::Refresh;
+use crate::refresh::{Refresh, read_index_file};
 use crate::refused::Refused;
 use crate::request::Request;
 use crate::selection::path_from_top;

@@ -6,7 +6,7 @@ ghost use Rattle.git_index.specs.RawEntry.{id_len};
 ghost use Rattle.git_index.specs.EntryViews.{raw_entry};
 ghost use Rattle.git_index.specs.Reading.{Reads, ended_at, fixed_at, flags_at, id_at, is_nul, mode_at, name_at, padded_at, raw_at, stripped_at};
 
-use crate::checksum::id_len_of;
+use crate::extensions::id_len_of;
 use crate::fault::Fault;
 use crate::number::{u16_of, u32_of, width_of};
 use bitflags::Flags as _;

@@ -10,9 +10,8 @@ ghost use Rattle.git_index.specs.WholeFile.{IsWholeFile};
 ghost use Rattle.git_index.specs.Refusals.{IsFileRefusal, sum_of};
 ghost use Rattle.git_index.specs.Counting.{IsEntriesError, IsExtensionError, AreEntries};
 
-use crate::checksum::{id_len_of, is_checksum};
 use crate::entry::{PREFIXED, raw_of};
-use crate::extensions::{NoExtension, check_extensions};
+use crate::extensions::{NoExtension, check_extensions, id_len_of, is_checksum};
 use crate::fault::{Fault, IndexFileError};
 use crate::index_file::IndexFile;
 use crate::number::u32_of;

@@ -8,8 +8,8 @@ ghost use Rattle.git_index.specs.RawEntry.{before_name, first_word, fixed_bytes,
 ghost use Rattle.git_index.specs.File.{AreExtensions, IsFileOf, header_bytes, is_version};
 ghost use Rattle.git_index.specs.Writing.{EntriesFit, checksum_bytes, common_len, file_bytes, raw_after};
 
-use crate::checksum::{digest, id_len_of};
 use crate::entry::PREFIXED;
+use crate::extensions::{digest, id_len_of};
 use crate::number::{put_u16, put_u32, put_width};
 use bitflags::Flags as _;
 use status_index::{Entry, HashKind, Mode, ObjectId, Stat, State};

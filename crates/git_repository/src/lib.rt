@@ -3,9 +3,8 @@
 //! Read `location` first, which finds the repository of a folder by `git_dir`. `settings` are those that a status depends
 //! on, with `format`, from what `sources` names and `parameters` reads. `config` has git's configuration, which `reader`
 //! reads by `state`, and `values` reads a variable's value. `worktree` is a worktree with all that git records of a file,
-//! and `path_buffer` has the paths of its calls. `attribute_files` finds its attribute files. `submodules` compares the
-//! heads of submodules, which `heads` finds. `files` reads small files, `lock` replaces the index file, and `error` has the
-//! errors.
+//! and `attribute_files` finds its attribute files. `submodules` compares the heads of submodules, which `heads` finds.
+//! `files` reads small files, and has the paths of calls. `lock` replaces the index file, and `error` has the errors.
 #![tactic(auto)]
 
 pub mod attribute_files;
@@ -18,7 +17,6 @@ mod heads;
 pub mod location;
 mod lock;
 mod parameters;
-mod path_buffer;
 pub mod reader;
 pub mod settings;
 mod sources;

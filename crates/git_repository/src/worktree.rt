@@ -1,6 +1,6 @@
 //! A worktree in a folder of the disk, with all that git records of a file.
 
-use crate::path_buffer::PathBuffer;
+use crate::files::PathBuffer;
 use bstr::BStr;
 use status_base::worktree::disk::fault_of;
 use status_base::worktree::{Fault, Metadata, NodeKind, Worktree};

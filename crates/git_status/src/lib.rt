@@ -1,10 +1,10 @@
 //! The command `git dirty`, over the bytes of an index file, any worktree and any writers.
 //!
-//! Read `dirty` first, which has the command, and `asked`, what it is asked. `status` computes the status. `refresh` has the
-//! command with the new bytes of the index file, and `kept` the changes in them. `lines` has git's lines, with paths as `quoting` prints them; `output`
-//! writes them. `paths` is a pathspec of files and folders. `watcher` stops at the first difference. `notes` are on files that
-//! the status doesn't convert. `failure` says why the command fails, `fault_place` at which path, and `laws` what a user
-//! relies on.
+//! Read `dirty` first, which has the command, and `asked`, what it is asked. `status` computes the status. `refresh`
+//! has the command with the new bytes of the index file, and `kept` the changes in them. `lines` has git's lines and
+//! quoted paths; `output` writes them. `paths` is a pathspec of files and folders. `watcher` stops at the first
+//! difference. `notes` are on files that the status doesn't convert. `failure` says why the command fails,
+//! `fault_place` at which path, and `laws` what a user relies on.
 #![tactic(auto)]
 
 mod asked;
@@ -17,7 +17,6 @@ pub mod lines;
 mod notes;
 mod output;
 mod paths;
-mod quoting;
 mod refresh;
 mod status;
 mod watcher;

@@ -1,17 +1,8 @@
 //! The command with the index file that it leaves: the stats of unchanged entries are renewed.
 
-ghost use Rattle.std.specs.Prelude.{◌≡◌, ◌≢◌, ◌⊎◌, ◌<◌, ◌^◌, ◌&&◌, ◌==◌, not, true, false, None, IfOk};
-ghost use Rattle.std.specs.List.{AllByRecursion};
-ghost use Rattle.status_index.specs.Entries.{IsIndex};
-ghost use Rattle.status_index.specs.States.{index_of};
-ghost use Rattle.status_call.specs.IndexChanges.{AreInside, applied};
+ghost use Rattle.std.specs.Prelude.{◌≡◌, ◌≢◌, ◌⊎◌, ◌<◌, true, false, None};
 ghost use Rattle.status_call.specs.Inputs.{settings};
-ghost use Rattle.status_call.specs.Outcomes.{skipped_of};
 ghost use Rattle.git_attributes.specs.Views.{attributes_view};
-ghost use Rattle.git_index.specs.File.{IsFileOf};
-ghost use Rattle.git_index.specs.RawEntry.{FixedFits};
-ghost use Rattle.git_index.specs.WholeFile.{IsWholeFile};
-ghost use Rattle.git_index.specs.Writing.{file_bytes};
 ghost use Rattle.git_status.specs.Printing.{IsFaultLine};
 ghost use Rattle.git_status.specs.Refreshes.{IsFoundRun, IsIndexFound, IsRefresh, IsRefreshExit, IsRefreshFailedExit};
 
@@ -19,15 +10,14 @@ use crate::asked::{Asked, Question, Settings};
 use crate::dirty::{Report, print_answer, print_besides, report_failure};
 use crate::failure::Failure;
 use crate::fault_place::Search;
-use crate::kept::{Kept, kept_changes};
+use crate::kept::{Kept, changed_bytes, has_all, kept_changes};
 use crate::notes::noted_paths;
 use crate::status::{Computed, compute, filter_of};
 use git_attributes::{AttributeFiles, LineEnds, attributes_of};
-use git_index::{IndexFile, read_index};
+use git_index::read_index;
 use status_base::worktree::{Pathspec, SubmoduleStatus, Worktree};
-use status_call::index_as_worktree::{ApplyChange, Outcome, apply_changes};
-use status_index::{Stat, State};
-use std::alloc::{AllocError, Global};
+use status_call::index_as_worktree::ApplyChange;
+use status_index::State;
 use std::io;
 use std::sync::Wait;
 use std::thread::Threads;
@@ -244,58 +234,4 @@ where
         changes,
         is_whole,
     })
-}
-
-/// Returns whether no record was left out, no entry was skipped, and the status didn't end early.
-fn has_all(are_all: bool, outcome: &Outcome) -> bool
-    requires { skipped_of outcome.now < 2 ^ 64 }
-    ensures { result ≡ (are_all && (skipped_of outcome.now == 0 && not outcome.now.interrupted)) }
-{
-    are_all && outcome.skipped() == 0 && !outcome.interrupted
-}
-
-/// Stores changes in an index file, and returns its bytes.
-fn changed_bytes(
-    alloc: Global,
-    file: &mut IndexFile<'_>,
-    changes: &[ApplyChange],
-) -> Result<Vec<u8>, AllocError>
-    requires whole { IsWholeFile file.old }
-    requires inside { AreInside changes.now (index_of file.old.state) }
-    ensures bytes { IfOk result (λ v. v.items ≡ file_bytes file.old.kind file.old.version (applied changes.now (index_of file.old.state)) file.old.extensions.now file.old.has_checksum) }
-    ensures file { IfOk result (λ v. IsFileOf file.old.kind v.items file.old.version (applied changes.now (index_of file.old.state)) file.old.extensions.now) }
-    ensures valid { IfOk result (λ v. IsIndex (applied changes.now (index_of file.old.state))) }
-{
-    apply_changes(&mut file.state, changes);
-    all_fit(&file.state);
-    file.to_bytes(alloc)
-}
-
-fn bounded(number: u32)
-    ensures { number < 2 ^ 32 }
-{}
-
-/// Each number of a stat has its width.
-fn fits(stat: &Stat)
-    ensures { FixedFits stat.now }
-{
-    bounded(stat.mtime.secs);
-    bounded(stat.mtime.nsecs);
-    bounded(stat.ctime.secs);
-    bounded(stat.ctime.nsecs);
-    bounded(stat.dev);
-    bounded(stat.ino);
-    bounded(stat.uid);
-    bounded(stat.gid);
-    bounded(stat.size);
-}
-
-/// Each number of each entry's stat has its width.
-fn all_fit(state: &State)
-    ensures widths { AllByRecursion (λ e. FixedFits e.stat) (index_of state.now) }
-    ensures valid { IsIndex (index_of state.now) }
-{
-    for entry in state.entries() {
-        fits(&entry.stat);
-    }
 }

@@ -18,7 +18,7 @@ use Rattle.std.proofs.lemmas.Bool.{true≢false, and_parts, and_from, eq-eqb}
 use Rattle.std.proofs.lemmas.Map.Keys.{sorted_head, sorted_tail}
 use Rattle.status_base.specs.MemoryTree.{Placed, Tree, has_below}
 use Rattle.status_base.specs.Nodes.{placed_of, placed_entries, placed_nodes, tree_of}
-use Rattle.status_base.specs.declared.worktree.memory.Node.{Node}
+use Rattle.status_base.specs.declared.worktree.node.Node.{Node}
 use Rattle.status_base.proofs.ListingTables.{key_cmp}
 use Rattle.status_base.proofs.Placed.{Nodes, Faults}
 use Rattle.status_base.proofs.PlantedReads.{entries-empty}

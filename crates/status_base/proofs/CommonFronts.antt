@@ -11,7 +11,7 @@ use Rattle.std.proofs.lemmas.Bool.{cases_lt}
 use Rattle.std.proofs.lemmas.Bool.Decides.{Decides-eqb}
 use Rattle.std.proofs.lemmas.Slice.Eq.{starts_is}
 use Rattle.status_index.specs.declared.fault.Fault.{Fault}
-use Rattle.status_index.specs.declared.metadata.Metadata.{Metadata}
+use Rattle.status_index.specs.declared.stat.Metadata.{Metadata}
 use Rattle.status_base.specs.Common.{IsCommon}
 use Rattle.status_base.specs.Paths.{is_slash, is_abnormal, components, abnormal_component, directories_below, joined, lies_above}
 use Rattle.status_base.specs.LinkCheck.{barrier_of}

@@ -1,7 +1,7 @@
 -- The state of a link check.
 use Rattle.std.specs.Prelude.{◌≡◌, ◌<◌, ℕ, IsTrue, List, length, take, None, Result, slice_index}
 use Rattle.status_index.specs.declared.fault.Fault.{Fault}
-use Rattle.status_index.specs.declared.metadata.Metadata.{Metadata}
+use Rattle.status_index.specs.declared.stat.Metadata.{Metadata}
 use Rattle.status_base.specs.Paths.{is_slash}
 use Rattle.status_base.specs.LinkCheck.{barrier_of}
 

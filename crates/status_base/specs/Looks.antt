@@ -6,7 +6,7 @@ use Rattle.std.specs.Cmp.Lexicographic.{slice_cmp}
 use Rattle.std.specs.declared.cmp.Ordering.TheVariants.{Less}
 use Rattle.bstr.specs.declared.bstr.BStr.{BStr}
 use Rattle.status_index.specs.declared.fault.Fault.{Fault}
-use Rattle.status_index.specs.declared.metadata.Metadata.{Metadata}
+use Rattle.status_index.specs.declared.stat.Metadata.{Metadata}
 use Rattle.status_base.specs.Paths.{directories, lies_above}
 use Rattle.status_base.specs.CheckState.{CheckState}
 use Rattle.status_base.specs.CheckAnswers.{IsAfterVerified}

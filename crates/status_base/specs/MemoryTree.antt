@@ -7,9 +7,9 @@ use Rattle.std.specs.FinMap as map
 use Rattle.status_index.specs.Content.{Content}
 use Rattle.status_index.specs.declared.fault.Fault.{Fault}
 use Rattle.status_index.specs.declared.fault.Fault.TheVariants as faults
-use Rattle.status_index.specs.declared.metadata.Metadata.{Metadata}
-use Rattle.status_index.specs.declared.metadata.NodeKind.{NodeKind}
-use Rattle.status_index.specs.declared.metadata.NodeKind.TheVariants as kinds
+use Rattle.status_index.specs.declared.stat.Metadata.{Metadata}
+use Rattle.status_index.specs.declared.stat.NodeKind.{NodeKind}
+use Rattle.status_index.specs.declared.stat.NodeKind.TheVariants as kinds
 use Rattle.status_base.specs.Paths.{directories, lies_above}
 
 -- A node's metadata, and its bytes: a file's content or a link's target.

@@ -2,14 +2,14 @@
 use Rattle.std.specs.Prelude.{◌≡◌, ◌⊎◌, ℕ, Bool, false, ◌==◌, ◌&&◌, ◌||◌, List, map, length, Option, Some, None, is_some, Result, Ok, Err, if◌then◌else◌}
 use Rattle.std.specs.FinMap as paths
 use Rattle.std.specs.Global.{Vec}
-use Rattle.status_index.specs.declared.metadata.NodeKind.{NodeKind}
+use Rattle.status_index.specs.declared.stat.NodeKind.{NodeKind}
 use Rattle.status_index.specs.declared.stat.Time.{Time}
 use Rattle.status_base.specs.Paths.{abnormal_component}
 use Rattle.status_base.specs.MemoryTree.{Placed, Planted, PathMap, Tree, has_below, has_file_above, is_no_directory_kind}
 use Rattle.status_base.specs.PathTables.{map_of}
-use Rattle.status_base.specs.declared.worktree.memory.Node.{Node}
-use Rattle.status_base.specs.declared.worktree.memory.TreeError.{TreeError}
-use Rattle.status_base.specs.declared.worktree.memory.TreeError.TheVariants.{BadPath, InTheWay, Memory}
+use Rattle.status_base.specs.declared.worktree.node.Node.{Node}
+use Rattle.status_base.specs.declared.worktree.node.TreeError.{TreeError}
+use Rattle.status_base.specs.declared.worktree.node.TreeError.TheVariants.{BadPath, InTheWay, Memory}
 
 -- The metadata that `lstat` reports of a node, and its bytes.
 abbrev pub placed_of : Node → Placed

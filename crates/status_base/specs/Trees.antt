@@ -4,9 +4,9 @@ use Rattle.std.specs.Coded.{Coded, code_by, coded×, coded_ℕ, coded_list, code
 use Rattle.std.specs.Ordering.{nat_cmp}
 use Rattle.std.specs.FinMap as map
 use Rattle.status_index.specs.contracts.fault.Fault as fault
-use Rattle.status_index.specs.contracts.metadata.Metadata as metadata
+use Rattle.status_index.specs.contracts.stat.Metadata as metadata
 use Rattle.status_index.specs.declared.fault.Fault.{Fault}
-use Rattle.status_index.specs.declared.metadata.Metadata.{Metadata}
+use Rattle.status_index.specs.declared.stat.Metadata.{Metadata}
 use Rattle.status_base.specs.MemoryTree.{Placed, Planted, PathMap, Tree}
 
 -- A worktree in memory has nodes by path, and faults planted at calls of a path, which come first. The empty tree has neither.

@@ -1,6 +1,6 @@
 -- The node that listings know at a path, by the look-ups in them.
 use Rattle.std.proofs.Common.{◌≡◌, sym, ap, ◌∙◌, ℕ, Bool, true, false, List, Option, Some, None, option_map, IsTrue}
-use Rattle.status_index.specs.declared.metadata.Metadata.{Metadata}
+use Rattle.status_index.specs.declared.stat.Metadata.{Metadata}
 use Rattle.status_base.specs.ListedNodes.{Listing, known_node, listed, listed_node}
 use Rattle.status_base.specs.declared.fscache.Stat.{Stat}
 use Rattle.status_call.specs.Modelled.{are_modelled}

@@ -1,9 +1,9 @@
 -- The parts of a modification, and the entries that aren't read.
 use Rattle.std.proofs.Common.{◌≡◌, ◌⊎◌, ◌∙◌, inl, inr, refl, sym, ap, subst, ℕ, Bool, true, false, not, ◌&&◌, List, Option, Some, None, is_some, Result, Ok, Err, IsTrue, IsFalse, if◌then◌else◌}
 use Rattle.std.proofs.lemmas.Bool.{and_parts}
-use Rattle.status_index.specs.declared.metadata.Metadata.{Metadata}
-use Rattle.status_index.specs.declared.metadata.NodeKind.{NodeKind}
-use Rattle.status_index.specs.declared.metadata.NodeKind.TheVariants as kinds
+use Rattle.status_index.specs.declared.stat.Metadata.{Metadata}
+use Rattle.status_index.specs.declared.stat.NodeKind.{NodeKind}
+use Rattle.status_index.specs.declared.stat.NodeKind.TheVariants as kinds
 use Rattle.status_index.specs.declared.mode.Mode.{Mode}
 use Rattle.status_index.specs.declared.mode.Mode.TheVariants as modes
 use Rattle.status_index.specs.declared.mode.Change.TheVariants.{TypeChange, ExecutableBit}

@@ -4,14 +4,14 @@ use Rattle.status_index.specs.Entries.{IndexEntry, stage_of}
 use Rattle.std.specs.List.{flat_map, filter_map, enumerate_from}
 use Rattle.status_index.specs.Absence.{is_absence}
 use Rattle.status_index.specs.Mode.{mode_change, mode_change_at, new_mode, other_type, other_executable}
-use Rattle.status_index.specs.declared.flags.TheConstants.Flags.{INTENT_TO_ADD}
+use Rattle.status_index.specs.declared.entry.TheConstants.Flags.{INTENT_TO_ADD}
 use Rattle.status_index.specs.declared.mode.Change.TheVariants.{TypeChange, ExecutableBit}
 use Rattle.status_index.specs.NodeStat.{stat_of}
 use Rattle.status_index.specs.Stat.{is_racy}
 use Rattle.status_index.specs.declared.fault.Fault.{Fault}
-use Rattle.status_index.specs.declared.metadata.Metadata.{Metadata}
-use Rattle.status_index.specs.declared.metadata.NodeKind.{NodeKind}
-use Rattle.status_index.specs.declared.metadata.NodeKind.TheVariants as kinds
+use Rattle.status_index.specs.declared.stat.Metadata.{Metadata}
+use Rattle.status_index.specs.declared.stat.NodeKind.{NodeKind}
+use Rattle.status_index.specs.declared.stat.NodeKind.TheVariants as kinds
 use Rattle.status_index.specs.declared.mode.Change.{Change as ModeChange}
 use Rattle.status_index.specs.declared.mode.Mode.{Mode}
 use Rattle.status_index.specs.declared.mode.Mode.TheVariants as modes

@@ -1,13 +1,13 @@
 -- The status table holds, its rows cover all entries, and no entry is in two.
 use Rattle.std.proofs.Common.{◌≡◌, ◌⊎◌, ◌∙◌, inl, inr, refl, sym, ap, ℕ, Bool, true, false, ◌&&◌, List, Option, Some, None, is_some, Result, Ok, Err, IsTrue, IsFalse, if◌then◌else◌}
 use Rattle.status_index.specs.declared.fault.Fault.{Fault}
-use Rattle.status_index.specs.declared.metadata.Metadata.{Metadata}
-use Rattle.status_index.specs.declared.metadata.NodeKind.{NodeKind}
-use Rattle.status_index.specs.declared.metadata.NodeKind.TheVariants as kinds
+use Rattle.status_index.specs.declared.stat.Metadata.{Metadata}
+use Rattle.status_index.specs.declared.stat.NodeKind.{NodeKind}
+use Rattle.status_index.specs.declared.stat.NodeKind.TheVariants as kinds
 use Rattle.status_index.specs.declared.mode.Mode.{Mode}
 use Rattle.status_index.specs.declared.mode.Change.{Change as ModeChange}
 use Rattle.status_index.specs.declared.stat.Stat.{Stat}
-use Rattle.status_index.specs.declared.flags.TheConstants.Flags.{INTENT_TO_ADD}
+use Rattle.status_index.specs.declared.entry.TheConstants.Flags.{INTENT_TO_ADD}
 use Rattle.status_index.specs.Entries.{IndexEntry}
 use Rattle.status_index.specs.Absence.{is_absence}
 use Rattle.status_index.specs.Mode.{is_submodule, mode_change}

@@ -4,7 +4,7 @@ use Rattle.std.proofs.lemmas.List.Sums.{sum_by-cons}
 use Rattle.status_index.specs.Content.{saturate}
 use Rattle.status_index.specs.Entries.{IndexEntry}
 use Rattle.status_index.specs.declared.id.ObjectId.{ObjectId}
-use Rattle.status_index.specs.declared.metadata.Metadata.{Metadata}
+use Rattle.status_index.specs.declared.stat.Metadata.{Metadata}
 use Rattle.status_compare.specs.Comparers.{size_decides, counts_after_hash}
 use Rattle.status_compare.specs.Reading.{Reading, fails, streams, target}
 use Rattle.status_compare.specs.Reads.{no_reads}

@@ -6,7 +6,7 @@ use Rattle.status_index.specs.BlobId.{id_kind}
 use Rattle.status_index.specs.Content.{Content}
 use Rattle.status_index.specs.declared.id.HashKind.{HashKind}
 use Rattle.status_index.specs.declared.id.ObjectId.{ObjectId}
-use Rattle.status_index.specs.declared.metadata.Metadata.{Metadata}
+use Rattle.status_index.specs.declared.stat.Metadata.{Metadata}
 use Rattle.status_index.specs.Entries.{IndexEntry, stage_of}
 use Rattle.status_index.specs.StreamId.{first_bytes_id}
 use Rattle.status_base.specs.Conversions.{Conversion, refused as turned_down, same, other}

@@ -2,8 +2,8 @@
 use Rattle.std.specs.Prelude.{ℕ, nat_lt, nat_le, Bool, not, ◌&&◌, ◌||◌, List, [], ◌∷◌, filter, if◌then◌else◌}
 use Rattle.std.specs.List.{list_any, position_or_len}
 use Rattle.std.specs.Str.{bytes_eq}
-use Rattle.status_index.specs.declared.flags.Flags.{Flags}
-use Rattle.status_index.specs.declared.flags.TheConstants.Flags.{ASSUME_VALID, FSMONITOR_VALID, SKIP_WORKTREE, UPTODATE}
+use Rattle.status_index.specs.declared.entry.Flags.{Flags}
+use Rattle.status_index.specs.declared.entry.TheConstants.Flags.{ASSUME_VALID, FSMONITOR_VALID, SKIP_WORKTREE, UPTODATE}
 use Rattle.status_index.specs.FlagBits.{has_bits}
 use Rattle.status_index.specs.Entries.{IndexEntry, index_entries, stage_of}
 use Rattle.status_index.specs.Mode.{is_submodule}

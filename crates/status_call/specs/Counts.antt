@@ -1,7 +1,7 @@
 -- Entries processed and skipped (not those over), `lstat` calls, racy entries, stats to update, modelled reads.
 use Rattle.std.specs.Prelude.{◌≡◌, ℕ, ◌+◌, ◌-◌, ◌≤◌, ◌==◌, Bool, true, false, not, ◌&&◌, List, length, count_by, sum_by, Option, Some, is_some, unwrap_or, Result, Ok, IsTrue, if◌then◌else◌}
 use Rattle.status_index.specs.Content.{saturate}
-use Rattle.status_index.specs.declared.metadata.Metadata.{Metadata}
+use Rattle.status_index.specs.declared.stat.Metadata.{Metadata}
 use Rattle.status_index.specs.Entries.{IndexEntry, stage_of}
 use Rattle.status_base.specs.LinkCheck.{LinkCheck, accepted, empty_path, not_normal, through_link, faulty, link_check}
 use Rattle.status_compare.specs.declared.error.Error.{Error}

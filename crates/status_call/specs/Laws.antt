@@ -2,8 +2,8 @@
 -- reads a blob, and their reads are modelled. Each of these laws follows from the definitions.
 use Rattle.std.specs.Prelude.{◌≡◌, ◌⊎◌, ℕ, ◌<◌, Bool, true, List, [], length, take, drop, map, All, AllPairs, Option, Some, None, option_map, is_some, Ok, Err, IsTrue, IsFalse}
 use Rattle.std.specs.List.{slice_index_or}
-use Rattle.status_index.specs.declared.metadata.Metadata.{Metadata}
-use Rattle.status_index.specs.declared.metadata.NodeKind.TheVariants as kinds
+use Rattle.status_index.specs.declared.stat.Metadata.{Metadata}
+use Rattle.status_index.specs.declared.stat.NodeKind.TheVariants as kinds
 use Rattle.status_index.specs.declared.mode.Mode.{Mode}
 use Rattle.status_index.specs.declared.mode.Mode.TheVariants as modes
 use Rattle.status_index.specs.declared.stat.Stat.{Stat}

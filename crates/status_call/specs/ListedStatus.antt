@@ -2,7 +2,7 @@
 use Rattle.std.specs.Prelude.{◌≡◌, ℕ, false, true, List, None, IfSome, Result, Ok, Err}
 use Rattle.status_index.specs.Entries.{IndexEntry}
 use Rattle.status_index.specs.declared.fault.Fault.{Fault}
-use Rattle.status_index.specs.declared.metadata.Metadata.{Metadata}
+use Rattle.status_index.specs.declared.stat.Metadata.{Metadata}
 use Rattle.status_base.specs.LinkCheck.{accepted, link_check}
 use Rattle.status_base.specs.ListedNodes.{Listing, known_node, listed, listed_node}
 use Rattle.status_call.specs.Query.{Query}

@@ -4,7 +4,7 @@ use Rattle.status_index.specs.Content.{Content}
 use Rattle.status_index.specs.Entries.{IndexEntry}
 use Rattle.status_index.specs.declared.fault.Fault.{Fault}
 use Rattle.status_index.specs.declared.id.ObjectId.{ObjectId}
-use Rattle.status_index.specs.declared.metadata.Metadata.{Metadata}
+use Rattle.status_index.specs.declared.stat.Metadata.{Metadata}
 use Rattle.status_index.specs.declared.stat.Moment.{Moment}
 use Rattle.status_index.specs.declared.stat.Options.{Options}
 use Rattle.status_base.specs.Conversions.{Conversion}

@@ -3,12 +3,12 @@
 use Rattle.std.specs.Prelude.{◌≡◌, ◌⊎◌, ℕ, Bool, true, false, ◌&&◌, List, Option, Some, None, is_some, Result, Ok, Err, IsTrue, IsFalse}
 use Rattle.status_index.specs.declared.fault.Fault.{Fault}
 use Rattle.status_index.specs.declared.fault.Fault.TheVariants as faults
-use Rattle.status_index.specs.declared.metadata.Metadata.{Metadata}
-use Rattle.status_index.specs.declared.metadata.NodeKind.TheVariants as kinds
+use Rattle.status_index.specs.declared.stat.Metadata.{Metadata}
+use Rattle.status_index.specs.declared.stat.NodeKind.TheVariants as kinds
 use Rattle.status_index.specs.declared.mode.Mode.{Mode}
 use Rattle.status_index.specs.declared.mode.Change.TheVariants.{TypeChange, ExecutableBit}
 use Rattle.status_index.specs.declared.stat.Stat.{Stat}
-use Rattle.status_index.specs.declared.flags.TheConstants.Flags.{INTENT_TO_ADD}
+use Rattle.status_index.specs.declared.entry.TheConstants.Flags.{INTENT_TO_ADD}
 use Rattle.status_index.specs.Entries.{IndexEntry}
 use Rattle.status_index.specs.Absence.{is_absence}
 use Rattle.status_index.specs.Mode.{is_submodule, mode_change}

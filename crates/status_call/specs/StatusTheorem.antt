@@ -2,7 +2,7 @@
 -- and its result.
 use Rattle.std.specs.Prelude.{◌≡◌, ◌≢◌, ℕ, ◌<◌, ◌≤◌, ◌^◌, false, true, IsTrue, List, ◌++◌, [], length, take, map, All, AllPairs, Some, None, Result, Err, IfOk, IfErr}
 use Rattle.std.specs.List.{slice_index_or}
-use Rattle.status_index.specs.declared.metadata.Metadata.{Metadata}
+use Rattle.status_index.specs.declared.stat.Metadata.{Metadata}
 use Rattle.status_index.specs.declared.state.State.{State}
 use Rattle.status_index.specs.Entries.{IndexEntry}
 use Rattle.status_index.specs.States.{entries_of, backing_of, index_of}

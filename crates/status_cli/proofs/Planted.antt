@@ -8,8 +8,8 @@ use Rattle.status_base.specs.Nodes.{put_fault}
 use Rattle.status_call.specs.declared.index_as_worktree.apply.ApplyChange.{ApplyChange}
 use Rattle.status_cli.specs.declared.failure.Failure.{Failure}
 use Rattle.status_base.specs.Trees.{empty_tree}
-use Rattle.status_base.specs.declared.worktree.memory.TreeError.{TreeError}
-use Rattle.status_base.specs.declared.worktree.memory.TreeError.TheVariants.{Memory}
+use Rattle.status_base.specs.declared.worktree.node.TreeError.{TreeError}
+use Rattle.status_base.specs.declared.worktree.node.TreeError.TheVariants.{Memory}
 use Rattle.status_cli.specs.Failures.{failure_of_node}
 use Rattle.status_cli.specs.ProfileStatuses.{Asked, IsJoinedOver, IsPlainOver, IsStatusOver, IsUnplanted, WorktreeResults, begins_with, planted}
 use Rattle.status_joined.specs.Walkings.{Walking}

@@ -2,8 +2,8 @@
 use Rattle.std.specs.Prelude.{ℕ, Bool, true, false, if◌then◌else◌}
 use Rattle.status_index.specs.declared.fault.Fault.{Fault}
 use Rattle.status_index.specs.declared.fault.Fault.TheVariants as faults
-use Rattle.status_base.specs.declared.worktree.memory.TreeError.{TreeError}
-use Rattle.status_base.specs.declared.worktree.memory.TreeError.TheVariants as tree_errors
+use Rattle.status_base.specs.declared.worktree.node.TreeError.{TreeError}
+use Rattle.status_base.specs.declared.worktree.node.TreeError.TheVariants as tree_errors
 use Rattle.status_base.specs.declared.worktree.objects.FindError.{FindError}
 use Rattle.status_base.specs.declared.worktree.objects.FindError.TheVariants as find_errors
 use Rattle.status_compare.specs.declared.error.Error.{Error}

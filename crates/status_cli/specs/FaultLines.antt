@@ -4,8 +4,8 @@ use Rattle.status_index.specs.declared.fault.Fault.{Fault}
 use Rattle.status_index.specs.declared.fault.Fault.TheVariants as faults
 use Rattle.status_index.specs.declared.state.IndexError.{IndexError}
 use Rattle.status_index.specs.declared.state.IndexError.TheVariants as index_errors
-use Rattle.status_base.specs.declared.worktree.memory.TreeError.{TreeError}
-use Rattle.status_base.specs.declared.worktree.memory.TreeError.TheVariants as tree_errors
+use Rattle.status_base.specs.declared.worktree.node.TreeError.{TreeError}
+use Rattle.status_base.specs.declared.worktree.node.TreeError.TheVariants as tree_errors
 use Rattle.status_compare.specs.declared.error.Error.{Error}
 use Rattle.status_compare.specs.declared.error.Error.TheVariants as errors
 use Rattle.status_joined.specs.declared.index_as_worktree_with_renames.error.Error.{Error as JoinedError}

@@ -11,14 +11,14 @@ use Rattle.status_index.specs.declared.fault.Fault.{Fault}
 use Rattle.status_index.specs.declared.fault.Fault.TheVariants.{NotFound}
 use Rattle.status_index.specs.declared.id.HashKind.{HashKind}
 use Rattle.status_index.specs.declared.id.ObjectId.{ObjectId}
-use Rattle.status_index.specs.declared.metadata.Metadata.{Metadata}
+use Rattle.status_index.specs.declared.stat.Metadata.{Metadata}
 use Rattle.status_index.specs.declared.stat.Moment.{Moment}
 use Rattle.status_index.specs.declared.state.State.{State}
 use Rattle.status_base.specs.Conversions.{same}
 use Rattle.status_base.specs.MemoryTree.{Placed, Tree, lstat_in, open_in, target_in}
 use Rattle.status_base.specs.Nodes.{put_fault}
 use Rattle.status_base.specs.Trees.{empty_tree}
-use Rattle.status_base.specs.declared.worktree.memory.TreeError.{TreeError}
+use Rattle.status_base.specs.declared.worktree.node.TreeError.{TreeError}
 use Rattle.status_base.specs.declared.worktree.tree.Worktree as worktree
 use Rattle.status_call.specs.Inputs.{settings}
 use Rattle.status_call.specs.Query.{Query}

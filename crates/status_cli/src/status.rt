@@ -15,7 +15,7 @@ mod joined;
 mod plain;
 
 use crate::failure::Failure;
-use crate::output::read_all;
+use crate::line_buffer::read_all;
 use crate::status::inputs::{ProfileStatus, Request};
 pub use crate::status::inputs::{IndexChanges, WantedChanges};
 use crate::status::joined::{NoWalk, print_joined};

@@ -11,8 +11,8 @@ use Rattle.status_index.specs.declared.stat.Time.{Time}
 use Rattle.status_index.specs.Entries.{IndexEntry}
 use Rattle.status_index.specs.FlagBits.{stage_of_bits}
 use Rattle.status_format.specs.StoredEntry.{stored_entry}
-use Rattle.status_format.specs.declared.error.FieldError.{FieldError}
-use Rattle.status_format.specs.declared.error.FieldError.TheVariants.{Form, Memory}
+use Rattle.status_format.specs.declared.read.FieldError.{FieldError}
+use Rattle.status_format.specs.declared.read.FieldError.TheVariants.{Form, Memory}
 
 -- A number that has 32 bits.
 abbrev pub Fits32 : ℕ → Type 0

@@ -1,18 +1,56 @@
-//! Reads a field, and the words that name modes, flags and ids. A field with a default may be missing, but may not have a
-//! wrong form.
+//! Reads a field, and the words that name modes, flags and ids, or says why it can't. A field with a default may be
+//! missing, but may not have a wrong form.
 
 ghost use Rattle.status_index.specs.declared.mode.Mode.TheVariants.{File};
 ghost use Rattle.status_format.specs.Field.{number_in, text_in};
 ghost use Rattle.status_format.specs.Reading.{flags_in, id_in, mode_in, stage_in, stamp_in, time_in};
-ghost use Rattle.status_format.specs.Reads.{Reads, needed, or_default};
+ghost use Rattle.status_format.specs.Reads.{Reads, needed, or_default, error_of_digits};
 ghost use Rattle.std.specs.Prelude.{◌≡◌, option_map};
 ghost use Rattle.status_format.specs.Words.{flag_named, id_named, mode_digits, mode_named};
+ghost use Rattle.status_format.specs.declared.read.FieldError.TheVariants.{Memory};
 
-use crate::error::FieldError;
 use crate::value::JsonValue;
 use bitflags::Flags as _;
-use hex::FromHex;
+use hex::{FromHex, FromHexError};
 use status_index::{Flags, Mode, Moment, ObjectId, Time};
+use std::alloc::{AllocError, AllocFailed};
+
+/// Why a field isn't read, or an entry isn't written.
+#[derive(Clone, Copy, Debug, PartialEq, Eq)]
+pub enum FieldError {
+    /// The field is missing, has a wrong form, or asks for something that isn't supported. Of an entry to write: its path
+    /// isn't UTF-8.
+    Form,
+    /// Memory ran out.
+    Memory,
+}
+
+impl From<AllocError> for FieldError {
+    ghost from_gives = { λ _ e. e ≡ Memory };
+
+    fn from(_error: AllocError) -> FieldError {
+        FieldError::Memory
+    }
+}
+
+impl<T: Drop> From<AllocFailed<T>> for FieldError {
+    ghost from_gives = { λ _ e. e ≡ Memory };
+
+    fn from(_refused: AllocFailed<T>) -> FieldError {
+        FieldError::Memory
+    }
+}
+
+impl From<FromHexError> for FieldError {
+    ghost from_gives = { λ error e. e ≡ error_of_digits error };
+
+    fn from(error: FromHexError) -> FieldError {
+        match error {
+            FromHexError::OutOfMemory => FieldError::Memory,
+            _ => FieldError::Form,
+        }
+    }
+}
 
 /// Reads a text.
 pub fn text_of<J: JsonValue>(value: &J) -> Result<&str, FieldError>

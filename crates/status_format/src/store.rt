@@ -1,4 +1,4 @@
-//! Stores an entry as a JSON value.
+//! Reads an entry of a JSON value, and stores one.
 
 ghost use Rattle.std.specs.Prelude.{◌≡◌, ◌<◌, ◌++◌, length, map, IfOk, OnOk};
 ghost use Rattle.serde_json.specs.Data.{object, string};
@@ -7,14 +7,79 @@ ghost use Rattle.status_index.specs.Entries.{entry_at, index_entry};
 ghost use Rattle.status_format.specs.Words.{flag_words, word_in};
 ghost use Rattle.status_format.specs.Storable.{IsEntryStored, FitsStat, FitsId};
 ghost use Rattle.status_format.specs.StoredEntry.{stored_stamp, stored_entry};
+ghost use Rattle.status_format.specs.Entry.{entry_of};
+ghost use Rattle.status_format.specs.Reading.{entry_in, stat_in};
+ghost use Rattle.status_format.specs.Reads.{Reads};
 
-use crate::error::FieldError;
-use crate::read::mode_word;
+use crate::read::{
+    FieldError, flags_at, id_at, mode_at, mode_word, number_at, stage_at, text_at, time_at,
+};
+use crate::value::JsonValue;
 use bitflags::Flags as _;
 use serde_json::{Value, json};
-use status_index::{Entry, Flags, ObjectId, PathStorage, Stat};
+use status_index::{Entry, Flags, Mode, ObjectId, PathStorage, Stat, Time};
 use std::alloc::{AllocError, Global};
 use std::str;
+
+/// An entry, with its path in the JSON value that it was read from.
+#[derive(Clone, Copy)]
+pub struct EntryFields<'v> {
+    /// The path, which is UTF-8.
+    pub path: &'v str,
+    /// The stat.
+    pub stat: Stat,
+    /// The id of the content.
+    pub id: ObjectId,
+    /// The flags, with the stage.
+    pub flags: Flags,
+    /// The mode.
+    pub mode: Mode,
+}
+
+/// Reads an entry. Other keys than those of an entry are ignored.
+///
+/// # Errors
+/// A key without a default is missing, or a key of an entry has a wrong form.
+#[tactic(auto, unfolding(crate::specs::Reading::entry_in))]
+pub fn read_entry<J: JsonValue>(object: &J) -> Result<EntryFields<'_>, FieldError>
+    ensures { Reads entry_of result (entry_in (J.fields object.now)) }
+{
+    let path = text_at(object, "path")?;
+    let id = id_at(object, "id")?;
+    let stage = stage_at(object, "stage")?;
+    let flags = flags_at(object, "flags", Flags::from_stage(stage))?;
+    let mode = mode_at(object, "mode")?;
+    let size = number_at(object, "size")?;
+    let stat = stat_of(object, size)?;
+    Ok(EntryFields {
+        path,
+        stat,
+        id,
+        flags,
+        mode,
+    })
+}
+
+/// Reads the stat of a file of this size from the object of an entry or a node. If the ctime is missing, it is the mtime.
+///
+/// # Errors
+/// A key of a stat has a wrong form.
+#[tactic(auto, unfolding(crate::specs::Reading::stat_in))]
+pub fn stat_of<J: JsonValue>(object: &J, size: u32) -> Result<Stat, FieldError>
+    ensures { Reads (λ s. s) result (stat_in size (J.fields object.now)) }
+{
+    let mtime = time_at(object, "mtime", Time { secs: 0, nsecs: 0 })?;
+    let ctime = time_at(object, "ctime", mtime)?;
+    Ok(Stat {
+        mtime,
+        ctime,
+        dev: number_at(object, "dev")?,
+        ino: number_at(object, "ino")?,
+        uid: number_at(object, "uid")?,
+        gid: number_at(object, "gid")?,
+        size,
+    })
+}
 
 /// Returns the JSON object of an entry, with all twelve keys. `backing` is the storage of its path. Bits that name no stage or
 /// flag aren't stored.

@@ -6,9 +6,9 @@ use Rattle.status_index.specs.declared.mode.EntryKind.{EntryKind}
 use Rattle.status_index.specs.declared.mode.EntryKind.TheVariants as entry_kinds
 use Rattle.status_index.specs.declared.mode.Change.{Change}
 use Rattle.status_index.specs.declared.mode.Change.TheVariants.{TypeChange, ExecutableBit}
-use Rattle.status_index.specs.declared.metadata.Metadata.{Metadata}
-use Rattle.status_index.specs.declared.metadata.NodeKind.{NodeKind}
-use Rattle.status_index.specs.declared.metadata.NodeKind.TheVariants as kinds
+use Rattle.status_index.specs.declared.stat.Metadata.{Metadata}
+use Rattle.status_index.specs.declared.stat.NodeKind.{NodeKind}
+use Rattle.status_index.specs.declared.stat.NodeKind.TheVariants as kinds
 
 -- Modes are octal 040000, 100644, 100755, 120000 and, for submodules, 160000.
 abbrev pub mode_bits : Mode → ℕ

@@ -2,7 +2,7 @@
 use Rattle.std.specs.Prelude.{◌%◌, ◌^◌, Option, Some, None}
 use Rattle.status_index.specs.declared.stat.Time.{Time}
 use Rattle.status_index.specs.declared.stat.Stat.{Stat}
-use Rattle.status_index.specs.declared.metadata.Metadata.{Metadata}
+use Rattle.status_index.specs.declared.stat.Metadata.{Metadata}
 
 -- The stat of a node with these times, if both are known.
 abbrev pub stat_with : Metadata → Option Time → Option Time → Option Stat

@@ -4,7 +4,7 @@ use Rattle.std.specs.Prelude.{ℕ}
 use Rattle.std.specs.Ordering.{nat_cmp, ordering_then}
 use Rattle.std.specs.Cmp.Lexicographic.{slice_cmp}
 use Rattle.std.specs.declared.cmp.Ordering.{Ordering}
-use Rattle.status_index.specs.declared.flags.Flags.{Flags}
+use Rattle.status_index.specs.declared.entry.Flags.{Flags}
 use Rattle.status_index.specs.declared.id.HashKind.{HashKind}
 use Rattle.status_index.specs.declared.id.HashKind.TheVariants.{Sha1, Sha256}
 use Rattle.status_index.specs.declared.id.ObjectId.{ObjectId}

@@ -3,7 +3,7 @@
 ghost use Rattle.std.specs.Prelude.{◌≡◌};
 ghost use Rattle.status_index.specs.Mode.{new_mode, mode_change, mode_bits, mode_from_bits, is_submodule, entry_kind_of};
 
-use crate::metadata::{Metadata, NodeKind};
+use crate::stat::{Metadata, NodeKind};
 
 /// The mode of an index entry: one of git's five modes, in the order of their bits.
 #[derive(Clone, Copy, Debug, PartialEq, Eq, PartialOrd, Ord)]

@@ -3,7 +3,7 @@
 ghost use Rattle.std.specs.Prelude.{◌≡◌};
 ghost use Rattle.status_index.specs.Orders.{moment_cmp, time_cmp, stat_cmp, id_cmp, flags_cmp, mode_cmp};
 
-use crate::flags::Flags;
+use crate::entry::Flags;
 use crate::id::ObjectId;
 use crate::mode::Mode;
 use crate::stat::{Moment, Stat, Time};

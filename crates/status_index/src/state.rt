@@ -6,16 +6,13 @@ ghost use Rattle.status_index.specs.Entries.{IsIndex, index_entries};
 mod lookup;
 mod staging;
 
-use crate::entry::{Entry, NewEntry, PathStorage};
-use crate::flags::Flags;
+use crate::entry::{Entry, Flags, NewEntry, PathStorage};
 use crate::id::ObjectId;
 use crate::mode::Mode;
-use crate::probe::{Question, front_len};
 use crate::stat::{Moment, Stat};
 use bstr::BStr;
 use std::alloc::{AllocError, AllocFailed, Global};
 use std::cmp::Ordering;
-use std::ops::Range;
 use thiserror::Error;
 
 /// Why a list of entries is not a valid index. `at` is the lowest invalid position.
@@ -76,14 +73,13 @@ pub struct State {
 }
 
 impl State {
-    ghost use Rattle.std.specs.Prelude.{◌≡◌, ℕ, ◌*◌, ◌<◌, ◌≤◌, ◌^◌, length, map, [], ◌∷◌, ◌++◌, IfOk, IfErr, OnOk, OnErr};
+    ghost use Rattle.std.specs.Prelude.{◌≡◌, map, [], ◌∷◌, ◌++◌, IfOk, IfErr, OnOk, OnErr};
     ghost use Rattle.bstr.specs.BStr.{bstr_bytes};
     ghost use Rattle.std.specs.Ordering.{nat_cmp, ordering_then};
     ghost use Rattle.std.specs.Cmp.Lexicographic.{slice_cmp};
     ghost use Rattle.status_index.specs.FlagBits.{stage_of_bits};
     ghost use Rattle.status_index.specs.Entries.{IsIndex, IsRefusal, new_entry, entry_of_fields, path_in};
-    ghost use Rattle.status_index.specs.States.{entries_of, backing_of, timestamp_of, index_of, ChangesAt, with_stat, smudged};
-    ghost use Rattle.status_index.specs.Stretch.{IsPrefixed};
+    ghost use Rattle.status_index.specs.States.{entries_of, backing_of, timestamp_of, index_of};
 
     /// Returns the index of these entries. The paths are copied into one buffer. On an error the list is dropped.
     ///
@@ -244,68 +240,6 @@ impl State {
         ensures { result ≡ timestamp_of self.now }
     {
         self.timestamp
-    }
-
-    /// Returns the range of entries whose paths start with `prefix`. It is the whole list for an empty prefix, and None
-    /// if the prefix isn't empty and no path starts with it.
-    pub fn prefixed_entries_range(&self, prefix: BStr<'_>) -> Option<Range<usize>>
-        ensures { IsPrefixed (index_of self.now) (bstr_bytes prefix.entry) result }
-    {
-        self.prefixed_entries_range_counted(prefix).0
-    }
-
-    /// Returns the same range, and how many paths were compared with the prefix. These are none for an empty prefix,
-    /// and otherwise at most twice as many as the number of entries has binary digits.
-    ///
-    /// The clauses bound only the returned number. They don't say that each comparison is counted.
-    pub fn prefixed_entries_range_counted(&self, prefix: BStr<'_>) -> (Option<Range<usize>>, u32)
-        ensures range { IsPrefixed (index_of self.now) (bstr_bytes prefix.entry) result.0 }
-        ensures few { (digits : ℕ) → length (entries_of self.now) < 2 ^ digits → result.1 ≤ 2 * digits }
-        ensures empty { bstr_bytes prefix.entry ≡ [] → result.1 ≡ 0 }
-    {
-        let prefix = prefix.as_bytes();
-        if prefix.is_empty() {
-            return (Some(0..self.entries.len()), 0);
-        }
-        let (start, below) = front_len(&self.entries, &self.backing, prefix, Question::Below);
-        let rest = &self.entries[start..];
-        let (count, under) = front_len(rest, &self.backing, prefix, Question::Under);
-        let compared = below.saturating_add(under);
-        if count == 0 {
-            return (None, compared);
-        }
-        (Some(start..start + count), compared)
-    }
-
-    /// Replaces the stat of the entry at `i`.
-    pub fn set_stat(&mut self, i: usize, stat: Stat)
-        requires { i < length (entries_of self.old) }
-        ensures len { length (entries_of self.new) ≡ length (entries_of self.old) }
-        ensures index { ChangesAt (with_stat stat) i (index_of self.old) (index_of self.new) }
-        ensures backing { backing_of self.new ≡ backing_of self.old }
-        ensures timestamp { timestamp_of self.new ≡ timestamp_of self.old }
-    {
-        self.entries[i].stat = stat;
-    }
-
-    /// Sets the size in the stat of the entry at `i` to 0, so that the next status compares its content.
-    pub fn smudge(&mut self, i: usize)
-        requires { i < length (entries_of self.old) }
-        ensures len { length (entries_of self.new) ≡ length (entries_of self.old) }
-        ensures index { ChangesAt smudged i (index_of self.old) (index_of self.new) }
-        ensures backing { backing_of self.new ≡ backing_of self.old }
-        ensures timestamp { timestamp_of self.new ≡ timestamp_of self.old }
-    {
-        self.entries[i].stat.size = 0;
-    }
-
-    /// Sets the moment at which the index was written.
-    pub fn set_timestamp(&mut self, timestamp: Moment)
-        ensures timestamp { timestamp_of self.new ≡ timestamp }
-        ensures entries { entries_of self.new ≡ entries_of self.old }
-        ensures backing { backing_of self.new ≡ backing_of self.old }
-    {
-        self.timestamp = timestamp;
     }
 }
 

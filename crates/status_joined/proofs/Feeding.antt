@@ -4,8 +4,8 @@ use Rattle.std.proofs.lemmas.List.{append-nil}
 use Rattle.std.proofs.lemmas.Bool.{false≢true}
 use Rattle.std.proofs.lemmas.List.Elements.{All-head, All-tail, All-nil, All-append, All-push}
 use Rattle.std.proofs.Math.Seq.{take-append_seam}
-use Rattle.status_rewrites.specs.declared.item.Rewritten.{Rewritten}
-use Rattle.status_rewrites.specs.declared.item.Rewritten.TheVariants.{Alone, Rewrite}
+use Rattle.status_rewrites.specs.declared.rewrites.Rewritten.{Rewritten}
+use Rattle.status_rewrites.specs.declared.rewrites.Rewritten.TheVariants.{Alone, Rewrite}
 use Rattle.status_rewrites.specs.Entries.{IsLed}
 use Rattle.status_joined.specs.Feeding.{AreReported}
 use Rattle.status_joined.specs.Items.{Item, Reported, tracked, walked, modification, contents, rewrite, is_walked, IsReported}

@@ -13,8 +13,8 @@ use Rattle.std.proofs.lemmas.List.Kept.{AllPairs-cons}
 use Rattle.std.proofs.lemmas.List.Sorted.{ranks_by, sorted_far}
 use Rattle.std.proofs.lemmas.Simd.{map-map}
 use Rattle.status_index.specs.declared.id.HashKind.{HashKind}
-use Rattle.status_rewrites.specs.declared.item.Rewritten.{Rewritten}
-use Rattle.status_rewrites.specs.declared.item.Rewritten.TheVariants.{Alone, Rewrite}
+use Rattle.status_rewrites.specs.declared.rewrites.Rewritten.{Rewritten}
+use Rattle.status_rewrites.specs.declared.rewrites.Rewritten.TheVariants.{Alone, Rewrite}
 use Rattle.status_rewrites.specs.AfterRewrites.{after_rewrites, pair_to, pairs_of, entries_here, item_left}
 use Rattle.status_rewrites.specs.Parts.{renames_from}
 use Rattle.status_rewrites.specs.declared.tracker.Pair.{Pair}

@@ -11,7 +11,7 @@ use Rattle.status_rewrites.specs.Entries.{IsLed, map_rewritten}
 use Rattle.status_rewrites.specs.Lawful.{AreLawful}
 use Rattle.status_rewrites.specs.declared.rewrites.Refused.{Refused}
 use Rattle.status_rewrites.specs.declared.rewrites.Refused.TheVariants as refusals
-use Rattle.status_rewrites.specs.declared.item.Rewritten.{Rewritten}
+use Rattle.status_rewrites.specs.declared.rewrites.Rewritten.{Rewritten}
 use Rattle.status_rewrites.proofs.Led.{destinations_walked}
 use Rattle.status_rewrites.proofs.Mapped.{bad_pair_mapped, rewritten_mapped}
 use Rattle.status_rewrites.specs.TrackedChanges.{Changed}

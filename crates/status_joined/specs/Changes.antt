@@ -7,8 +7,8 @@ use Rattle.status_index.specs.declared.mode.Mode.TheVariants as modes
 use Rattle.status_rewrites.specs.TrackedChanges.{Changed}
 use Rattle.status_rewrites.specs.declared.tracker.ChangeKind.{ChangeKind}
 use Rattle.status_rewrites.specs.declared.tracker.ChangeKind.TheVariants.{Deletion, Modification, Addition}
-use Rattle.status_walk.specs.declared.entry.Kind.{Kind}
-use Rattle.status_walk.specs.declared.entry.Kind.TheVariants.{Untrackable, File, Symlink, Directory, Repository}
+use Rattle.status_walk.specs.declared.walk.Kind.{Kind}
+use Rattle.status_walk.specs.declared.walk.Kind.TheVariants.{Untrackable, File, Symlink, Directory, Repository}
 use Rattle.status_joined.specs.Items.{Item, tracked, walked, is_removal}
 
 -- The kind of a record's change: by whether its path is removed.

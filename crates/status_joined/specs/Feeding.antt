@@ -1,6 +1,6 @@
 -- The reports of a list's entries to a collector.
 use Rattle.std.specs.Prelude.{◌≡◌, ℕ, ◌<◌, Bool, IsTrue, List, [], ◌∷◌, ◌++◌, length, take, Result, Ok, Err, ⊤}
-use Rattle.status_rewrites.specs.declared.item.Rewritten.{Rewritten}
+use Rattle.status_rewrites.specs.declared.rewrites.Rewritten.{Rewritten}
 use Rattle.status_joined.specs.Items.{Item, Reported, IsReported}
 
 -- One entry was reported; or nothing was, if the collector may fail.

@@ -5,8 +5,8 @@ use Rattle.status_call.specs.declared.index_as_worktree.types.Change.TheVariants
 use Rattle.status_call.specs.declared.index_as_worktree.types.EntryStatus.{EntryStatus}
 use Rattle.status_call.specs.declared.index_as_worktree.types.EntryStatus.TheVariants as statuses
 use Rattle.status_call.specs.Visits.{Visit}
-use Rattle.status_rewrites.specs.declared.item.Rewritten.{Rewritten}
-use Rattle.status_rewrites.specs.declared.item.Rewritten.TheVariants.{Alone, Rewrite}
+use Rattle.status_rewrites.specs.declared.rewrites.Rewritten.{Rewritten}
+use Rattle.status_rewrites.specs.declared.rewrites.Rewritten.TheVariants.{Alone, Rewrite}
 use Rattle.status_walk.specs.WalkedNodes.{Walked}
 
 -- An item of the list: a record of the status, or a node that was kept of the walk, with its id.

@@ -6,8 +6,8 @@ use Rattle.status_index.specs.declared.id.HashKind.{HashKind}
 use Rattle.status_call.specs.declared.index_as_worktree.types.Options.{Options as StatusOptions}
 use Rattle.status_rewrites.specs.AfterRewrites.{IsRewritten}
 use Rattle.status_rewrites.specs.Lawful.{AreLawful, IsBadPair}
-use Rattle.status_rewrites.specs.declared.item.Rewritten.{Rewritten}
-use Rattle.status_rewrites.specs.declared.item.Rewritten.TheVariants.{Alone}
+use Rattle.status_rewrites.specs.declared.rewrites.Rewritten.{Rewritten}
+use Rattle.status_rewrites.specs.declared.rewrites.Rewritten.TheVariants.{Alone}
 use Rattle.status_rewrites.specs.TrackedChanges.{Changed}
 use Rattle.status_rewrites.specs.Trackers.{TrackerFault, bad_pair, refused}
 use Rattle.status_rewrites.specs.declared.tracker.Pair.{Pair}

@@ -1,9 +1,9 @@
 -- The nodes that are kept of a walk.
 use Rattle.std.specs.Prelude.{Bool, true, false, not, ◌&&◌, List, map, Option, Some}
-use Rattle.status_walk.specs.declared.entry.Kind.{Kind}
-use Rattle.status_walk.specs.declared.entry.Kind.TheVariants.{Untrackable}
-use Rattle.status_walk.specs.declared.entry.Status.{Status}
-use Rattle.status_walk.specs.declared.entry.Status.TheVariants.{Tracked}
+use Rattle.status_walk.specs.declared.walk.Kind.{Kind}
+use Rattle.status_walk.specs.declared.walk.Kind.TheVariants.{Untrackable}
+use Rattle.status_walk.specs.declared.walk.Status.{Status}
+use Rattle.status_walk.specs.declared.walk.Status.TheVariants.{Tracked}
 use Rattle.status_walk.specs.WalkedNodes.{DelegateState, Walked, walked_of}
 use Rattle.status_joined.specs.declared.untracked.Kept.{Kept}
 

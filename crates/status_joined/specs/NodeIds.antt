@@ -8,7 +8,7 @@ use Rattle.status_index.specs.declared.fault.Fault.{Fault}
 use Rattle.status_index.specs.declared.fault.Fault.TheVariants.{Memory}
 use Rattle.status_index.specs.declared.id.HashKind.{HashKind}
 use Rattle.status_index.specs.declared.id.ObjectId.{ObjectId}
-use Rattle.status_index.specs.declared.metadata.Metadata.{Metadata}
+use Rattle.status_index.specs.declared.stat.Metadata.{Metadata}
 use Rattle.status_base.specs.Conversions.{Conversion}
 use Rattle.status_walk.specs.WalkedNodes.{Walked}
 use Rattle.status_walk.specs.WorktreeIds.{worktree_id, fault_of}

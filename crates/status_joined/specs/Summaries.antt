@@ -6,8 +6,8 @@ use Rattle.std.specs.declared.cmp.Ordering.{Ordering}
 use Rattle.status_call.specs.declared.index_as_worktree.types.Change.TheVariants as changes
 use Rattle.status_call.specs.declared.index_as_worktree.types.EntryStatus.{EntryStatus}
 use Rattle.status_call.specs.declared.index_as_worktree.types.EntryStatus.TheVariants as statuses
-use Rattle.status_walk.specs.declared.entry.Status.{Status}
-use Rattle.status_walk.specs.declared.entry.Status.TheVariants as nodes
+use Rattle.status_walk.specs.declared.walk.Status.{Status}
+use Rattle.status_walk.specs.declared.walk.Status.TheVariants as nodes
 use Rattle.status_joined.specs.declared.index_as_worktree_with_renames.entry.Summary.{Summary}
 use Rattle.status_joined.specs.declared.index_as_worktree_with_renames.entry.Summary.TheVariants.{Removed, Added, Modified, TypeChange, Renamed, Copied, IntentToAdd, Conflict}
 use Rattle.status_joined.specs.Items.{Reported, modification, contents, rewrite, path_of}

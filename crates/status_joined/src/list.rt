@@ -12,8 +12,7 @@ ghost use Rattle.status_joined.specs.Lists.{list_cmp, unsorted, IsList};
 ghost use Rattle.status_index.specs.declared.id.HashKind.{HashKind as KindOfIds};
 ghost use Rattle.status_joined.specs.NodeIds.{forget, HasIdBy, HaveIdsBy};
 
-use crate::identifier::Identify;
-use crate::item::ModificationOrDirwalkEntry;
+use crate::item::{Identify, ModificationOrDirwalkEntry};
 use crate::untracked::Kept;
 use status_call::index_as_worktree::Record;
 use status_index::{HashKind, ObjectId};

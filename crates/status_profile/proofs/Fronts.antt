@@ -10,8 +10,8 @@ use Rattle.status_profile.specs.Failures.{error_of_json}
 use Rattle.status_profile.specs.Steps.{AreItems, AreRead, IsListRead, IsUnread, IsValueRead}
 use Rattle.status_profile.specs.declared.error.ProfileError.{ProfileError}
 use Rattle.status_profile.specs.declared.error.ProfileError.TheVariants as errors
-use Rattle.status_format.specs.declared.error.FieldError.{FieldError}
-use Rattle.status_format.specs.declared.error.FieldError.TheVariants.{Form, Memory}
+use Rattle.status_format.specs.declared.read.FieldError.{FieldError}
+use Rattle.status_format.specs.declared.read.FieldError.TheVariants.{Form, Memory}
 
 -- these values, and then the items
 abbrev pub items_onto : List Json → Items → Items

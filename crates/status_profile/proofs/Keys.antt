@@ -11,8 +11,8 @@ use Rattle.status_index.specs.declared.state.IndexError.{IndexError}
 use Rattle.status_index.specs.declared.state.IndexError.TheVariants as index_errors
 use Rattle.status_index.specs.Entries.{IndexEntry, IsRefusal}
 use Rattle.status_profile.specs.declared.entries.Entries.{Entries}
-use Rattle.status_format.specs.declared.error.FieldError.{FieldError}
-use Rattle.status_format.specs.declared.error.FieldError.TheVariants.{Form, Memory}
+use Rattle.status_format.specs.declared.read.FieldError.{FieldError}
+use Rattle.status_format.specs.declared.read.FieldError.TheVariants.{Form, Memory}
 use Rattle.status_profile.specs.declared.error.Key.{Key}
 use Rattle.status_profile.specs.declared.error.Key.TheVariants as keys
 use Rattle.status_profile.specs.declared.error.ProfileError.{ProfileError}

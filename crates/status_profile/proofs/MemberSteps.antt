@@ -7,8 +7,8 @@ use Rattle.json.specs.Token.{Token}
 use Rattle.json.specs.Json.{Json, Items, Members as MembersOf, null, boolean, number, string, array, object, no_members, member, parse_map}
 use Rattle.json.specs.Find.{as_object, get_member, later_or}
 use Rattle.status_profile.specs.declared.entries.Entries.{Entries}
-use Rattle.status_format.specs.declared.error.FieldError.{FieldError}
-use Rattle.status_format.specs.declared.error.FieldError.TheVariants.{Form, Memory}
+use Rattle.status_format.specs.declared.read.FieldError.{FieldError}
+use Rattle.status_format.specs.declared.read.FieldError.TheVariants.{Form, Memory}
 use Rattle.status_profile.specs.declared.members.Members.{Members}
 use Rattle.status_profile.specs.declared.node.Nodes.{Nodes}
 use Rattle.status_profile.specs.Entries.{entries_in, json_entry}

@@ -4,8 +4,8 @@ use Rattle.json.specs.declared.error.Error.{Error}
 use Rattle.json.specs.declared.error.Error.TheVariants as json
 use Rattle.status_index.specs.declared.state.IndexError.{IndexError}
 use Rattle.status_index.specs.declared.state.IndexError.TheVariants as index_errors
-use Rattle.status_format.specs.declared.error.FieldError.{FieldError}
-use Rattle.status_format.specs.declared.error.FieldError.TheVariants as fields
+use Rattle.status_format.specs.declared.read.FieldError.{FieldError}
+use Rattle.status_format.specs.declared.read.FieldError.TheVariants as fields
 use Rattle.status_profile.specs.declared.error.Key.{Key}
 use Rattle.status_profile.specs.declared.error.ProfileError.{ProfileError}
 use Rattle.status_profile.specs.declared.error.ProfileError.TheVariants.{NotJson, Bad, Index, Memory}

@@ -7,8 +7,8 @@ use Rattle.status_index.specs.Entries.{IndexEntry, IsRefusal}
 use Rattle.status_index.specs.States.{index_of}
 use Rattle.status_base.specs.MemoryTree.{Placed}
 use Rattle.status_profile.specs.declared.entries.Entries.{Entries}
-use Rattle.status_format.specs.declared.error.FieldError.{FieldError}
-use Rattle.status_format.specs.declared.error.FieldError.TheVariants.{Form, Memory}
+use Rattle.status_format.specs.declared.read.FieldError.{FieldError}
+use Rattle.status_format.specs.declared.read.FieldError.TheVariants.{Form, Memory}
 use Rattle.status_profile.specs.declared.node.Nodes.{Nodes}
 use Rattle.status_profile.specs.Entries.{AreUtf8, json_entry}
 use Rattle.status_profile.specs.Forms.{each}

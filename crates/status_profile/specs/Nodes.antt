@@ -6,10 +6,10 @@ use Rattle.bstr.specs.declared.bstring.BString.{BString}
 use Rattle.hex.specs.Hex.{decode_of}
 use Rattle.json.specs.Json.{Json}
 use Rattle.json.specs.Find.{get, as_array, as_bool, as_str}
-use Rattle.status_index.specs.declared.metadata.NodeKind.TheVariants.{File}
+use Rattle.status_index.specs.declared.stat.NodeKind.TheVariants.{File}
 use Rattle.status_base.specs.MemoryTree.{Placed}
 use Rattle.status_base.specs.Nodes.{placed_of}
-use Rattle.status_base.specs.declared.worktree.memory.Node.{Node}
+use Rattle.status_base.specs.declared.worktree.node.Node.{Node}
 use Rattle.status_format.specs.Reads.{◌>>=◌, or_default}
 use Rattle.status_profile.specs.Forms.{each}
 use Rattle.status_format.specs.JsonFields.{json_fields}

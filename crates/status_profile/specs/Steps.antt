@@ -11,8 +11,8 @@ use Rattle.status_profile.specs.declared.items.Begun.{Begun}
 use Rattle.status_profile.specs.declared.items.Begun.TheVariants as begun
 use Rattle.status_profile.specs.declared.error.ProfileError.{ProfileError}
 use Rattle.status_profile.specs.declared.error.ProfileError.TheVariants as errors
-use Rattle.status_format.specs.declared.error.FieldError.{FieldError}
-use Rattle.status_format.specs.declared.error.FieldError.TheVariants.{Form, Memory}
+use Rattle.status_format.specs.declared.read.FieldError.{FieldError}
+use Rattle.status_format.specs.declared.read.FieldError.TheVariants.{Form, Memory}
 
 -- how deep the value of a profile's member may nest, and an item of a list there
 abbrev pub member_depth : ℕ

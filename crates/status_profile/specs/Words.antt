@@ -5,8 +5,8 @@ use Rattle.json.specs.Json.{Json}
 use Rattle.json.specs.Find.{as_str}
 use Rattle.status_index.specs.declared.id.HashKind.{HashKind}
 use Rattle.status_index.specs.declared.id.HashKind.TheVariants.{Sha1, Sha256}
-use Rattle.status_index.specs.declared.metadata.NodeKind.{NodeKind}
-use Rattle.status_index.specs.declared.metadata.NodeKind.TheVariants as kinds
+use Rattle.status_index.specs.declared.stat.NodeKind.{NodeKind}
+use Rattle.status_index.specs.declared.stat.NodeKind.TheVariants as kinds
 use Rattle.status_compare.specs.declared.compare.Comparer.{Comparer}
 use Rattle.status_compare.specs.declared.compare.Comparer.TheVariants.{Hash, Fast}
 use Rattle.status_format.specs.Reads.{◌>>=◌}

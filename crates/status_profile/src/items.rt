@@ -5,7 +5,7 @@ ghost use Rattle.json.specs.Find.{as_array};
 ghost use Rattle.json.specs.Json.{Items as ItemsOf, Json, items, skip_value, value};
 ghost use Rattle.json.specs.Reads.{skip_items, skip_members};
 ghost use Rattle.json.specs.Value.{value_view};
-ghost use Rattle.status_format.specs.declared.error.FieldError.TheVariants.{Memory};
+ghost use Rattle.status_format.specs.declared.read.FieldError.TheVariants.{Memory};
 ghost use Rattle.status_profile.specs.Steps.{AreItems, AreRead, Begins, IsListRead, IsUnread, IsValueRead, item_depth, member_depth};
 
 use crate::error::ProfileError;
@@ -24,7 +24,7 @@ pub trait Items: Sized + Drop {
     ghost use Rattle.std.specs.Prelude.{◌≡◌, ◌++◌, List, [], ◌∷◌, Bool, true, false, Err, OnOk};
     ghost use Rattle.json.specs.Json.{Json};
     ghost use Rattle.json.specs.Value.{value_view};
-    ghost use Rattle.status_format.specs.declared.error.FieldError.TheVariants.{Form};
+    ghost use Rattle.status_format.specs.declared.read.FieldError.TheVariants.{Form};
 
     /// The items of these values are held.
     ghost holds: { Self → List Json → Type 0 };

@@ -3,7 +3,7 @@
 ghost use Rattle.std.specs.Prelude.{Option, option_and_then};
 ghost use Rattle.json.specs.Json.{Json};
 ghost use Rattle.json.specs.Value.{value_view};
-ghost use Rattle.status_index.specs.declared.metadata.NodeKind.TheVariants.{File};
+ghost use Rattle.status_index.specs.declared.stat.NodeKind.TheVariants.{File};
 ghost use Rattle.status_format.specs.Reads.{Reads, or_default};
 ghost use Rattle.status_profile.specs.Forms.{json_at};
 ghost use Rattle.status_profile.specs.Nodes.{bytes_of, digits_in, node_in, node_value, nodes_in, place_in, place_value};

@@ -4,7 +4,7 @@ use Rattle.std.specs.List.{enumerate_from}
 use Rattle.std.proofs.lemmas.List.Folds.{flat_map-map}
 use Rattle.status_rewrites.specs.declared.tracker.Pair.{Pair}
 use Rattle.status_rewrites.specs.declared.place.Place.{Place}
-use Rattle.status_rewrites.specs.declared.item.Rewritten.{Rewritten}
+use Rattle.status_rewrites.specs.declared.rewrites.Rewritten.{Rewritten}
 use Rattle.status_rewrites.specs.AfterRewrites.{IsRewritten, after_rewrites, pair_to, pairs_of, parts, entries_here, item_left}
 use Rattle.status_rewrites.specs.Lawful.{AreLawful}
 use Rattle.status_rewrites.specs.Parts.{renames_from}

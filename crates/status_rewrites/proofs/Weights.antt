@@ -5,7 +5,7 @@ use Rattle.std.proofs.lemmas.List.Sums.{sum_by-append, sum_by-cons, sum_by-set}
 use Rattle.std.proofs.lemmas.Option.{get_or_from_slice_get, slice_get_within}
 use Rattle.status_rewrites.specs.declared.tracker.Pair.{Pair}
 use Rattle.status_rewrites.specs.declared.place.Place.{Place}
-use Rattle.status_rewrites.specs.declared.item.Rewritten.TheVariants.{Rewrite}
+use Rattle.status_rewrites.specs.declared.rewrites.Rewritten.TheVariants.{Rewrite}
 use Rattle.status_rewrites.specs.AfterRewrites.{parts}
 use Rattle.status_rewrites.specs.Places.{free, left_by, reached_by, standing_in}
 use Rattle.status_rewrites.proofs.Placing.{place_of}

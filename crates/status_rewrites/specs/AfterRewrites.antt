@@ -5,8 +5,8 @@ use Rattle.std.specs.List.{All, enumerate_from, flat_map, sum_by}
 use Rattle.status_rewrites.specs.declared.tracker.Pair.{Pair}
 use Rattle.status_rewrites.specs.declared.rewrites.Refused.{Refused}
 use Rattle.status_rewrites.specs.declared.rewrites.Refused.TheVariants.{BadPair, Memory}
-use Rattle.status_rewrites.specs.declared.item.Rewritten.{Rewritten}
-use Rattle.status_rewrites.specs.declared.item.Rewritten.TheVariants.{Alone, Rewrite}
+use Rattle.status_rewrites.specs.declared.rewrites.Rewritten.{Rewritten}
+use Rattle.status_rewrites.specs.declared.rewrites.Rewritten.TheVariants.{Alone, Rewrite}
 use Rattle.status_rewrites.specs.Lawful.{AreLawful, IsBadPair}
 use Rattle.status_rewrites.specs.Parts.{renames_from}
 

@@ -1,7 +1,7 @@
 -- The entries of a list with its rewrites.
 use Rattle.std.specs.Prelude.{◌≡◌, Bool, true, ⊤}
-use Rattle.status_rewrites.specs.declared.item.Rewritten.{Rewritten}
-use Rattle.status_rewrites.specs.declared.item.Rewritten.TheVariants.{Alone, Rewrite}
+use Rattle.status_rewrites.specs.declared.rewrites.Rewritten.{Rewritten}
+use Rattle.status_rewrites.specs.declared.rewrites.Rewritten.TheVariants.{Alone, Rewrite}
 
 -- An entry with each of its items mapped.
 abbrev pub map_rewritten : {I J : Type 0} → (I → J) → Rewritten I → Rewritten J

@@ -3,7 +3,7 @@
 ghost use Rattle.std.specs.Prelude.{◌≡◌, Option, option_to_list};
 ghost use Rattle.status_rewrites.specs.Places.{passes, is_free, may_go, left_by, reached_by, standing_in, IsLeft};
 
-use crate::item::{Item, Rewritten};
+use crate::rewrites::{Item, Rewritten};
 use std::alloc::AllocError;
 
 /// The state of one position of the list.

@@ -6,8 +6,8 @@ use Rattle.status_index.specs.declared.state.IndexError.TheVariants as refusals
 use Rattle.status_index.specs.declared.state.State.{State}
 use Rattle.status_index.specs.Entries.{IndexEntry, IsIndex, IsRefusal}
 use Rattle.status_index.specs.States.{index_of, timestamp_of}
-use Rattle.status_format.specs.declared.error.FieldError.{FieldError}
-use Rattle.status_format.specs.declared.error.FieldError.TheVariants as fields
+use Rattle.status_format.specs.declared.read.FieldError.{FieldError}
+use Rattle.status_format.specs.declared.read.FieldError.TheVariants as fields
 use Rattle.status_stored.specs.declared.error.LoadError.{LoadError}
 use Rattle.status_stored.specs.declared.error.LoadError.TheVariants.{Form, Index, Memory}
 

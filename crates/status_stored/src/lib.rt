@@ -1,19 +1,15 @@
 //! The stored index: an index as a JSON value, read back, and histories in which that happens between events.
 //!
-//! Read `store` and `load` first, and `error`. `reopen` stores an index as JSON text and loads it again, the index of a
-//! state or of a world, and `laws` states which index is read back. `replay` replays a history in which the index is
-//! opened again between events.
+//! Read `store` first, which stores an index and loads one, and `error`. `laws` states which index is read back.
+//! `replay` stores an index as JSON text and loads it again, and replays a history in which that happens between
+//! events.
 #![tactic(auto)]
 
 mod error;
 pub mod laws;
-mod load;
-mod reopen;
 mod replay;
 mod store;
 
 pub use error::{LoadError, ReopenError, StoreError};
-pub use load::load_index;
-pub use reopen::reopened;
-pub use replay::{ReopenedReplay, Stop, replay_reopening};
-pub use store::{store_index, store_one};
+pub use replay::{ReopenedReplay, Stop, reopened, replay_reopening};
+pub use store::{load_index, store_index, store_one};

@@ -11,7 +11,7 @@ use Rattle.std.proofs.lemmas.List.Elements.{filter-append}
 use Rattle.status_index.specs.Entries.{IndexEntry}
 use Rattle.status_base.specs.MemoryTree.{Placed, Tree}
 use Rattle.status_base.specs.Nodes.{placed_entries}
-use Rattle.status_base.specs.declared.worktree.memory.Node.{Node}
+use Rattle.status_base.specs.declared.worktree.node.Node.{Node}
 use Rattle.status_walk.specs.Untracked.{untracked_at, untracked_walk}
 use Rattle.status_walk.specs.WalkedNodes.{Walked}
 

@@ -5,13 +5,13 @@ use Rattle.std.specs.FinMap as paths
 use Rattle.status_index.specs.Entries.{IndexEntry}
 use Rattle.status_index.specs.Mode.{is_submodule}
 use Rattle.status_index.specs.Stretch.{is_at}
-use Rattle.status_index.specs.declared.metadata.NodeKind.{NodeKind}
-use Rattle.status_index.specs.declared.metadata.NodeKind.TheVariants as nodes
+use Rattle.status_index.specs.declared.stat.NodeKind.{NodeKind}
+use Rattle.status_index.specs.declared.stat.NodeKind.TheVariants as nodes
 use Rattle.status_base.specs.MemoryTree.{Tree}
 use Rattle.status_base.specs.Paths.{directories}
-use Rattle.status_walk.specs.declared.entry.Kind.{Kind}
-use Rattle.status_walk.specs.declared.entry.Kind.TheVariants as kinds
-use Rattle.status_walk.specs.declared.entry.Status.TheVariants as statuses
+use Rattle.status_walk.specs.declared.walk.Kind.{Kind}
+use Rattle.status_walk.specs.declared.walk.Kind.TheVariants as kinds
+use Rattle.status_walk.specs.declared.walk.Status.TheVariants as statuses
 use Rattle.status_walk.specs.WalkedNodes.{Walked}
 use Rattle.status_walk.specs.Walks.{WalkResult}
 

@@ -4,9 +4,9 @@ use Rattle.std.specs.Option.{option_to_list}
 use Rattle.bstr.specs.Owned.{bstring_bytes}
 use Rattle.status_walk.specs.declared.walk.Action.{Action}
 use Rattle.status_walk.specs.declared.walk.Action.TheVariants.{Continue, Cancel}
-use Rattle.status_walk.specs.declared.entry.DirEntry.{DirEntry}
-use Rattle.status_walk.specs.declared.entry.Kind.{Kind}
-use Rattle.status_walk.specs.declared.entry.Status.{Status}
+use Rattle.status_walk.specs.declared.walk.DirEntry.{DirEntry}
+use Rattle.status_walk.specs.declared.walk.Kind.{Kind}
+use Rattle.status_walk.specs.declared.walk.Status.{Status}
 
 -- A node that was found, and the status of the collapsed directory that represents it, if there is one.
 pub record Walked : Type 0 where

@@ -7,10 +7,10 @@ use Rattle.status_index.specs.declared.fault.Fault.{Fault}
 use Rattle.status_index.specs.declared.fault.Fault.TheVariants.{NotFound, PermissionDenied, Interrupted, Memory}
 use Rattle.status_index.specs.declared.id.HashKind.{HashKind}
 use Rattle.status_index.specs.declared.id.ObjectId.{ObjectId}
-use Rattle.status_index.specs.declared.metadata.Metadata.{Metadata}
+use Rattle.status_index.specs.declared.stat.Metadata.{Metadata}
 use Rattle.status_base.specs.Conversions.{Conversion, refused, same, other}
-use Rattle.status_walk.specs.declared.entry.Kind.{Kind}
-use Rattle.status_walk.specs.declared.entry.Kind.TheVariants.{Untrackable, File, Symlink, Directory, Repository}
+use Rattle.status_walk.specs.declared.walk.Kind.{Kind}
+use Rattle.status_walk.specs.declared.walk.Kind.TheVariants.{Untrackable, File, Symlink, Directory, Repository}
 use Rattle.status_walk.specs.declared.id.IdError.{IdError}
 use Rattle.status_walk.specs.declared.id.IdError.TheVariants.{Open, Hash, ReadLink, Convert}
 

@@ -4,7 +4,7 @@ ghost use Rattle.std.specs.Prelude.{◌≡◌, IsTrue};
 ghost use Rattle.bstr.specs.BStr.{bstr_bytes};
 ghost use Rattle.status_walk.specs.WorktreeIds.{IsId, IsIdOfFile, converted_id, file_id, is_passed_over, link_id, stored_id, worktree_id};
 
-use crate::entry::Kind;
+use crate::walk::Kind;
 use bstr::BStr;
 use status_base::worktree::{Fault, ToGit, ToGitOutcome, Worktree};
 use status_index::{HashKind, ObjectId, compute_hash, compute_stream_hash};

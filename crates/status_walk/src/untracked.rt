@@ -10,8 +10,7 @@ ghost use Rattle.status_walk.specs.Untracked.{emitted_kind, is_below_submodule, 
 ghost use Rattle.status_walk.specs.WalkedNodes.{walked_of, is_cancelling, kept_more};
 ghost use Rattle.status_walk.specs.Walks.{IsWalk};
 
-use crate::entry::{DirEntry, Kind, Status};
-use crate::walk::{Action, Delegate, Outcome, Walk, WalkError};
+use crate::walk::{Action, Delegate, DirEntry, Kind, Outcome, Status, Walk, WalkError};
 use bstr::{BStr, BString};
 use status_base::worktree::{MemoryWorktree, NodeKind, Pathspec};
 use status_index::{Entry, State};

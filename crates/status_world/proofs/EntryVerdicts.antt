@@ -6,13 +6,13 @@ use Rattle.std.specs.FinMap as paths
 use Rattle.std.proofs.lemmas.Bool.{cond-true, cond-false, or_from}
 use Rattle.std.proofs.lemmas.List.Elements.{All-head, All-tail, All-weaker, All-cons, All-nil}
 use Rattle.std.proofs.lemmas.List.Folds.{list_any_none}
-use Rattle.status_index.specs.declared.flags.Flags.{Flags}
-use Rattle.status_index.specs.declared.flags.TheConstants.Flags.{ASSUME_VALID, FSMONITOR_VALID, SKIP_WORKTREE, UPTODATE, INTENT_TO_ADD}
+use Rattle.status_index.specs.declared.entry.Flags.{Flags}
+use Rattle.status_index.specs.declared.entry.TheConstants.Flags.{ASSUME_VALID, FSMONITOR_VALID, SKIP_WORKTREE, UPTODATE, INTENT_TO_ADD}
 use Rattle.status_index.specs.declared.id.ObjectId.{ObjectId}
 use Rattle.status_index.specs.declared.fault.Fault.{Fault}
-use Rattle.status_index.specs.declared.metadata.Metadata.{Metadata}
-use Rattle.status_index.specs.declared.metadata.NodeKind.{NodeKind}
-use Rattle.status_index.specs.declared.metadata.NodeKind.TheVariants.{File, Link, Directory, Other}
+use Rattle.status_index.specs.declared.stat.Metadata.{Metadata}
+use Rattle.status_index.specs.declared.stat.NodeKind.{NodeKind}
+use Rattle.status_index.specs.declared.stat.NodeKind.TheVariants.{File, Link, Directory, Other}
 use Rattle.status_index.specs.Absence.{is_absence}
 use Rattle.status_index.specs.Entries.{IndexEntry, stage_of}
 use Rattle.status_index.specs.FlagBits.{has_bits, bits_of_stage, stage_of_bits}

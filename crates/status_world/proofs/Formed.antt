@@ -7,8 +7,8 @@ use Rattle.status_index.specs.FlagBits.{bits_of_stage}
 use Rattle.status_index.specs.Mode.{new_mode}
 use Rattle.status_index.specs.NodeStat.{stat_of}
 use Rattle.status_index.specs.States.{with_stat, smudged}
-use Rattle.status_index.specs.declared.metadata.NodeKind.{NodeKind}
-use Rattle.status_index.specs.declared.metadata.NodeKind.TheVariants.{File, Link, Directory, Other}
+use Rattle.status_index.specs.declared.stat.NodeKind.{NodeKind}
+use Rattle.status_index.specs.declared.stat.NodeKind.TheVariants.{File, Link, Directory, Other}
 use Rattle.status_index.specs.declared.stat.Moment.{Moment}
 use Rattle.status_index.specs.declared.stat.Stat.{Stat}
 use Rattle.status_index.specs.declared.stat.Time.{Time}

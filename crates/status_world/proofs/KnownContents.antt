@@ -4,7 +4,7 @@ use Rattle.std.specs.FinMap as paths
 use Rattle.bstr.specs.Owned.{bstring_bytes}
 use Rattle.status_index.specs.declared.id.HashKind.{HashKind}
 use Rattle.status_index.specs.BlobId.{blob_id}
-use Rattle.status_index.specs.declared.metadata.NodeKind.TheVariants.{File, Link}
+use Rattle.status_index.specs.declared.stat.NodeKind.TheVariants.{File, Link}
 use Rattle.status_base.specs.MemoryTree.{Placed}
 use Rattle.status_world.specs.declared.world.event.Event.{Event}
 use Rattle.status_world.specs.declared.world.event.Event.TheVariants as events

@@ -1,7 +1,7 @@
 -- The stat of a node that was put is known, and its size is the number of the bytes.
 use Rattle.std.proofs.Common.{◌≡◌, ◌∙◌, ap, ℕ, ◌<◌, ◌%◌, ◌^◌, length, Some, arith}
 use Rattle.status_index.specs.NodeStat.{stat_of, stat_with}
-use Rattle.status_index.specs.declared.metadata.Metadata.{Metadata}
+use Rattle.status_index.specs.declared.stat.Metadata.{Metadata}
 use Rattle.status_index.specs.declared.stat.Moment.{Moment}
 use Rattle.status_index.specs.declared.stat.Stat.{Stat}
 use Rattle.status_index.specs.declared.stat.Time.{Time}

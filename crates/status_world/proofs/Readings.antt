@@ -7,8 +7,8 @@ use Rattle.status_index.specs.Content.{Content}
 use Rattle.status_index.specs.Entries.{IndexEntry}
 use Rattle.status_index.specs.Mode.{new_mode}
 use Rattle.status_index.specs.declared.fault.Fault.{Fault}
-use Rattle.status_index.specs.declared.metadata.NodeKind.{NodeKind}
-use Rattle.status_index.specs.declared.metadata.NodeKind.TheVariants.{File, Link, Directory, Other}
+use Rattle.status_index.specs.declared.stat.NodeKind.{NodeKind}
+use Rattle.status_index.specs.declared.stat.NodeKind.TheVariants.{File, Link, Directory, Other}
 use Rattle.status_base.specs.Conversions.{Conversion, same}
 use Rattle.status_base.specs.MemoryTree.{Tree, Placed, Planted, planted_or_none, or_planted, content_of, planted_content, open_of_kind, target_of_kind, fault_without_node, open_of_node, target_of_node, open_in, target_in}
 use Rattle.status_base.proofs.PlantedReads.{entries-empty}

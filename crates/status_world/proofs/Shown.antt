@@ -5,8 +5,8 @@ use Rattle.std.specs.Cmp.Lexicographic.{slice_cmp}
 use Rattle.std.specs.FinMap as paths
 use Rattle.std.proofs.lemmas.Cmp.{nat_list_cmp_total}
 use Rattle.bstr.specs.Owned.{bstring_bytes}
-use Rattle.status_index.specs.declared.metadata.NodeKind.{NodeKind}
-use Rattle.status_index.specs.declared.metadata.NodeKind.TheVariants.{File, Link, Directory, Other}
+use Rattle.status_index.specs.declared.stat.NodeKind.{NodeKind}
+use Rattle.status_index.specs.declared.stat.NodeKind.TheVariants.{File, Link, Directory, Other}
 use Rattle.status_base.specs.MemoryTree.{Placed, PathMap}
 use Rattle.status_world.specs.declared.world.event.Event.{Event}
 use Rattle.status_world.specs.declared.world.event.Event.TheVariants as events

@@ -3,7 +3,7 @@ use Rattle.std.proofs.Common.{◌≡◌, refl, sym, subst, ℕ, Bool, false, Lis
 use Rattle.std.specs.FinMap as paths
 use Rattle.bstr.specs.Owned.{bstring_bytes}
 use Rattle.status_index.specs.declared.id.HashKind.{HashKind}
-use Rattle.status_index.specs.declared.metadata.NodeKind.TheVariants.{File, Link}
+use Rattle.status_index.specs.declared.stat.NodeKind.TheVariants.{File, Link}
 use Rattle.status_index.specs.declared.stat.Moment.{Moment}
 use Rattle.status_index.specs.declared.stat.Options.{Options}
 use Rattle.status_index.specs.Entries.{IndexEntry}

@@ -13,7 +13,7 @@ use Rattle.std.proofs.lemmas.Cmp.{nat_list_cmp_total}
 use Rattle.status_base.specs.MemoryTree.{PathMap}
 use Rattle.status_world.specs.PlainWorld.{Plain, with_value}
 use Rattle.status_world.specs.StagedPaths.{plain_staged, staged_entries, staged_of}
-use Rattle.status_world.specs.declared.world.staged.Staged.{Staged}
+use Rattle.status_world.specs.declared.world.staging.Staged.{Staged}
 use Rattle.status_world.proofs.EntryLists.{is_path, is_path-itself, path_of}
 use Rattle.status_world.proofs.TreeLaws.{get-with}
 

@@ -5,7 +5,7 @@ use Rattle.status_index.specs.BlobId.{is_empty_blob}
 use Rattle.status_index.specs.Entries.{IndexEntry}
 use Rattle.status_index.specs.NodeStat.{stat_of}
 use Rattle.status_index.specs.Stat.{stat_agrees, is_racy}
-use Rattle.status_index.specs.declared.metadata.NodeKind.{NodeKind}
+use Rattle.status_index.specs.declared.stat.NodeKind.{NodeKind}
 use Rattle.status_index.specs.declared.stat.Moment.{Moment}
 use Rattle.status_index.specs.declared.stat.Options.{Options}
 use Rattle.status_index.specs.declared.stat.Stat.{Stat}

@@ -14,9 +14,9 @@ use Rattle.std.proofs.lemmas.Slice.Eq.{starts_is}
 use Rattle.status_index.specs.Absence.{is_absence}
 use Rattle.status_index.specs.declared.fault.Fault.{Fault}
 use Rattle.status_index.specs.declared.fault.Fault.TheVariants as faults
-use Rattle.status_index.specs.declared.metadata.Metadata.{Metadata}
-use Rattle.status_index.specs.declared.metadata.NodeKind.{NodeKind}
-use Rattle.status_index.specs.declared.metadata.NodeKind.TheVariants.{File, Link, Directory, Other}
+use Rattle.status_index.specs.declared.stat.Metadata.{Metadata}
+use Rattle.status_index.specs.declared.stat.NodeKind.{NodeKind}
+use Rattle.status_index.specs.declared.stat.NodeKind.TheVariants.{File, Link, Directory, Other}
 use Rattle.status_base.specs.LinkCheck.{LinkCheck, accepted, empty_path, not_normal, through_link, faulty, barrier_of_kind, barrier_of, decided, leftmost_barrier, link_check}
 use Rattle.status_base.specs.MemoryTree.{Tree, Placed, PathMap, Planted, planted_or_none, or_planted, lstat_of_node, lstat_in, has_below, has_file_above, absence, bare_directory}
 use Rattle.status_base.specs.Nodes.{is_bad_path, put_fault}

@@ -3,8 +3,8 @@ use Rattle.std.specs.Prelude.{◌≡◌, ◌≢◌, ◌⊎◌, ℕ, List, ◌++�
 use Rattle.std.specs.Option.{option_to_list}
 use Rattle.status_base.specs.MemoryTree.{Placed}
 use Rattle.status_base.specs.Nodes.{IsLookedBelow}
-use Rattle.status_base.specs.declared.worktree.memory.TreeError.{TreeError}
-use Rattle.status_base.specs.declared.worktree.memory.TreeError.TheVariants.{BadPath, InTheWay, Memory}
+use Rattle.status_base.specs.declared.worktree.node.TreeError.{TreeError}
+use Rattle.status_base.specs.declared.worktree.node.TreeError.TheVariants.{BadPath, InTheWay, Memory}
 use Rattle.status_compare.specs.declared.error.Error.TheVariants as errors
 use Rattle.status_call.specs.Records.{first_fault}
 use Rattle.status_world.specs.declared.world.event.Event.{Event}

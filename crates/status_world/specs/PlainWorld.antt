@@ -2,8 +2,8 @@
 use Rattle.std.specs.Prelude.{◌≡◌, ◌≢◌, ◌⊎◌, ℕ, Bool, false, List, Option, Some, None, IsTrue, ⊤}
 use Rattle.std.specs.FinMap as paths
 use Rattle.bstr.specs.Owned.{bstring_bytes}
-use Rattle.status_index.specs.declared.metadata.NodeKind.{NodeKind}
-use Rattle.status_index.specs.declared.metadata.NodeKind.TheVariants.{File, Link, Directory, Other}
+use Rattle.status_index.specs.declared.stat.NodeKind.{NodeKind}
+use Rattle.status_index.specs.declared.stat.NodeKind.TheVariants.{File, Link, Directory, Other}
 use Rattle.status_base.specs.MemoryTree.{PathMap}
 use Rattle.status_world.specs.declared.world.event.Event.{Event}
 use Rattle.status_world.specs.declared.world.event.Event.TheVariants as events

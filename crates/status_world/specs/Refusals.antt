@@ -2,8 +2,8 @@
 -- A refusal is due if it follows from the event and the world, not from memory or threads.
 use Rattle.std.specs.Prelude.{◌≡◌, ◌≢◌, ℕ, nat_lt, nat_le, Bool, true, false, not, ◌||◌, List, length, Option, Some, None, is_some, if◌then◌else◌, ⊤}
 use Rattle.bstr.specs.Owned.{bstring_bytes}
-use Rattle.status_index.specs.declared.metadata.NodeKind.{NodeKind}
-use Rattle.status_index.specs.declared.metadata.NodeKind.TheVariants.{File, Link, Directory, Other}
+use Rattle.status_index.specs.declared.stat.NodeKind.{NodeKind}
+use Rattle.status_index.specs.declared.stat.NodeKind.TheVariants.{File, Link, Directory, Other}
 use Rattle.status_index.specs.declared.stat.Moment.{Moment}
 use Rattle.status_base.specs.MemoryTree.{Placed, has_below, has_file_above}
 use Rattle.status_base.specs.Nodes.{is_bad_path, IsLookedBelow}

@@ -4,7 +4,7 @@ use Rattle.std.specs.FinMap as ids
 use Rattle.status_index.specs.Content.{Content}
 use Rattle.status_index.specs.Entries.{IndexEntry}
 use Rattle.status_index.specs.declared.fault.Fault.{Fault}
-use Rattle.status_index.specs.declared.metadata.Metadata.{Metadata}
+use Rattle.status_index.specs.declared.stat.Metadata.{Metadata}
 use Rattle.status_index.specs.declared.stat.Moment.{Moment}
 use Rattle.status_base.specs.Conversions.{same}
 use Rattle.status_base.specs.ListedNodes.{known_node}

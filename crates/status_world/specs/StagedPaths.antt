@@ -3,10 +3,10 @@ use Rattle.std.specs.Prelude.{ℕ, Bool, List, map, refl}
 use Rattle.std.specs.Coded.{Coded, code_by, coded×, coded_ℕ, coded_bool, coded_list}
 use Rattle.std.specs.FinMap as paths
 use Rattle.std.specs.Global.{Vec}
-use Rattle.status_index.specs.contracts.metadata.NodeKind as node_kind
-use Rattle.status_index.specs.declared.metadata.NodeKind.{NodeKind}
+use Rattle.status_index.specs.contracts.stat.NodeKind as node_kind
+use Rattle.status_index.specs.declared.stat.NodeKind.{NodeKind}
 use Rattle.status_base.specs.MemoryTree.{PathMap}
-use Rattle.status_world.specs.declared.world.staged.Staged.{Staged}
+use Rattle.status_world.specs.declared.world.staging.Staged.{Staged}
 use Rattle.status_world.specs.PlainWorld.{Plain}
 
 abbrev pub plain_code : Coded Plain

@@ -9,9 +9,9 @@ use Rattle.std.specs.Str.{bytes_eq}
 use Rattle.bstr.specs.Owned.{bstring_bytes}
 use Rattle.status_index.specs.declared.id.HashKind.{HashKind}
 use Rattle.status_index.specs.declared.id.ObjectId.{ObjectId}
-use Rattle.status_index.specs.declared.metadata.NodeKind.{NodeKind}
+use Rattle.status_index.specs.declared.stat.NodeKind.{NodeKind}
 use Rattle.status_index.specs.declared.mode.Mode.{Mode}
-use Rattle.status_index.specs.declared.metadata.NodeKind.TheVariants.{File, Link, Directory, Other}
+use Rattle.status_index.specs.declared.stat.NodeKind.TheVariants.{File, Link, Directory, Other}
 use Rattle.status_index.specs.declared.stat.Moment.{Moment}
 use Rattle.status_index.specs.declared.stat.Options.{Options as StatOptions}
 use Rattle.status_index.specs.declared.stat.Stat.{Stat}

@@ -1,14 +1,14 @@
 -- The fields of a world, as a stamped world.
 use Rattle.std.specs.Prelude.{ℕ, Bool, List, refl}
 use Rattle.std.specs.Coded.{Coded, code_by, coded×, coded_ℕ, coded_bool, coded_list}
-use Rattle.status_index.specs.contracts.flags.Flags as flags
+use Rattle.status_index.specs.contracts.entry.Flags as flags
 use Rattle.status_index.specs.contracts.id.HashKind as kind
 use Rattle.status_index.specs.contracts.id.ObjectId as id
 use Rattle.status_index.specs.contracts.mode.Mode as mode
 use Rattle.status_index.specs.contracts.stat.Moment as moment
 use Rattle.status_index.specs.contracts.stat.Options as options
 use Rattle.status_index.specs.contracts.stat.Stat as stat
-use Rattle.status_index.specs.declared.flags.Flags.{Flags}
+use Rattle.status_index.specs.declared.entry.Flags.{Flags}
 use Rattle.status_index.specs.declared.id.HashKind.{HashKind}
 use Rattle.status_index.specs.declared.id.ObjectId.{ObjectId}
 use Rattle.status_index.specs.declared.mode.Mode.{Mode}

@@ -2,7 +2,7 @@
 
 ghost use Rattle.std.specs.Prelude.{ℕ, Bool, List, Result};
 ghost use Rattle.status_index.specs.declared.fault.Fault.{Fault};
-ghost use Rattle.status_index.specs.declared.metadata.Metadata.{Metadata};
+ghost use Rattle.status_index.specs.declared.stat.Metadata.{Metadata};
 ghost use Rattle.status_base.specs.CheckState.{CheckState};
 ghost use Rattle.status_base.specs.Looks.{LooksLaw, ListedOnceLaw};
 

@@ -1,140 +1,29 @@
 //! A worktree in memory.
 
-ghost use Rattle.std.specs.Prelude.{◌≡◌, ◌⊎◌, ℕ, ◌<◌, ◌^◌, [], length, None, Some, IfOk, IfErr, OnOk, MatchOption};
+ghost use Rattle.std.specs.Prelude.{◌≡◌, ◌⊎◌, ℕ, ◌<◌, ◌^◌, length, None, Some, IfOk, IfErr, OnOk};
 ghost use Rattle.std.specs.Global.{Vec as ByteVec};
 ghost use Rattle.std.specs.Map.Iter.{ShowsInOrder, deref_pair};
 ghost use Rattle.std.specs.Option.{option_map};
 ghost use Rattle.std.specs.FinMap as paths;
 ghost use Rattle.bstr.specs.BStr.{bstr_bytes};
-ghost use Rattle.status_base.specs.MemoryTree.{is_no_directory, has_below, has_file_above, absence, bare_directory, planted_or_none, planted_at, planted_content, fault_without_node};
-ghost use Rattle.status_base.specs.Nodes.{placed_of, placed_entries, plain_node, is_bad_path, put_fault, IsLookedBelow, IsPut};
+ghost use Rattle.status_base.specs.MemoryTree.{is_no_directory, has_below, has_file_above, absence, bare_directory, planted_or_none, planted_at, fault_without_node};
+ghost use Rattle.status_base.specs.Nodes.{placed_of, placed_entries, is_bad_path, put_fault, IsLookedBelow, IsPut};
 ghost use Rattle.status_base.specs.Points.{IsPlanted};
-ghost use Rattle.status_base.specs.declared.worktree.memory.Node.{Node as NodeValue};
+ghost use Rattle.status_base.specs.declared.worktree.node.Node.{Node as NodeValue};
 ghost use Rattle.status_base.specs.Trees.{empty_tree};
 
 use crate::components::has_abnormal_component;
 use crate::worktree::Worktree;
+use crate::worktree::node::{Node, TreeError, bare_directory};
 use crate::worktree::planted::{
-    PlantedFaults, Point, first_read_fault, lstat_fault, open_fault, read_link_fault,
+    MemoryFile, PlantedFaults, Point, lstat_fault, open_fault, read_link_fault,
 };
 use bstr::BStr;
-use status_index::{Fault, Metadata, NodeKind, ReadBytes, Time};
-use std::alloc::{AllocError, AllocFailed, Global};
+use status_index::{Fault, Metadata, NodeKind};
+use std::alloc::{AllocError, Global};
 use std::collections::BTreeMap;
 use std::collections::btree_map::Iter;
 use std::marker::Model;
-use thiserror::Error;
-
-/// A node of a worktree in memory: the metadata that `lstat` reports, and the node's bytes.
-#[derive(Debug, Drop)]
-pub struct Node {
-    /// The type of the node.
-    pub kind: NodeKind,
-    /// The bytes of a file's content, or a link's target.
-    pub bytes: Vec<u8>,
-    /// The length that `lstat` reports, which may differ from the number of bytes.
-    pub len: u64,
-    /// Whether a regular file's owner may execute it.
-    pub executable: bool,
-    /// When the content was last changed. None if that is unknown.
-    pub mtime: Option<Time>,
-    /// When the metadata was last changed. None if that is unknown.
-    pub ctime: Option<Time>,
-    /// The device.
-    pub dev: u32,
-    /// The inode.
-    pub ino: u32,
-    /// The owner.
-    pub uid: u32,
-    /// The owner's group.
-    pub gid: u32,
-}
-
-impl Node {
-    /// Returns a regular file of this content, which isn't executable. Both times are the given one. Device, inode and
-    /// owners are 0.
-    pub fn file(content: Vec<u8>, time: Time) -> Node
-        ensures { placed_of result ≡ plain_node NodeKind.File content.items time }
-    {
-        Node::plain(NodeKind::File, content, time)
-    }
-
-    /// Returns a symbolic link to this target. Both times are the given one. Device, inode and owners are 0.
-    pub fn link(target: Vec<u8>, time: Time) -> Node
-        ensures { placed_of result ≡ plain_node NodeKind.Link target.items time }
-    {
-        Node::plain(NodeKind::Link, target, time)
-    }
-
-    /// Returns a directory. Its times are 1970, and everything else is 0. A directory needs to be put only if no node
-    /// is below it.
-    pub fn directory(alloc: Global) -> Node
-        ensures { placed_of result ≡ plain_node NodeKind.Directory [] (record { secs = 0; nsecs = 0 }) }
-    {
-        let never = Time { secs: 0, nsecs: 0 };
-        Node::plain(NodeKind::Directory, Vec::new(alloc), never)
-    }
-
-    /// Returns a node of these bytes, whose length is their number.
-    fn plain(kind: NodeKind, bytes: Vec<u8>, time: Time) -> Node
-        ensures { placed_of result ≡ plain_node kind bytes.items time }
-    {
-        Node {
-            kind,
-            len: bytes.len() as u64,
-            bytes,
-            executable: false,
-            mtime: Some(time),
-            ctime: Some(time),
-            dev: 0,
-            ino: 0,
-            uid: 0,
-            gid: 0,
-        }
-    }
-
-    /// Returns the metadata that `lstat` reports of the node.
-    pub fn metadata(&self) -> Metadata
-        ensures { result ≡ (placed_of self.now).metadata }
-    {
-        Metadata {
-            kind: self.kind,
-            len: self.len,
-            executable: self.executable,
-            mtime: self.mtime,
-            ctime: self.ctime,
-            dev: self.dev,
-            ino: self.ino,
-            uid: self.uid,
-            gid: self.gid,
-        }
-    }
-}
-
-/// Why a node can't be put.
-#[derive(Clone, Copy, Debug, PartialEq, Eq, Error)]
-pub enum TreeError {
-    /// The path is empty, or a component is empty, `.` or `..`.
-    #[error("bad path")]
-    BadPath,
-    /// A node above the path isn't a directory, or the node isn't a directory and another is below the path.
-    #[error("in the way")]
-    InTheWay,
-    /// Out of memory.
-    #[error("Out of memory")]
-    Memory,
-}
-
-impl From<AllocError> for TreeError {
-    ghost use Rattle.std.specs.Prelude.{◌≡◌};
-    ghost use Rattle.status_base.specs.declared.worktree.memory.TreeError.TheVariants.{Memory};
-
-    ghost from_gives = { λ _ e. e ≡ Memory };
-
-    fn from(_error: AllocError) -> TreeError {
-        TreeError::Memory
-    }
-}
 
 /// A worktree in memory. Directories needn't be put: a path with a node below it is a directory.
 #[derive(Drop)]
@@ -350,93 +239,6 @@ pub fn is_bad_path(path: BStr<'_>) -> bool
 {
     let path = path.as_bytes();
     path.is_empty() || has_abnormal_component(path)
-}
-
-/// Returns the metadata that `lstat` reports of a directory that wasn't put.
-fn bare_directory() -> Metadata
-    ensures { result ≡ bare_directory }
-{
-    let never = Some(Time { secs: 0, nsecs: 0 });
-    Metadata {
-        kind: NodeKind::Directory,
-        len: 0,
-        executable: false,
-        mtime: never,
-        ctime: never,
-        dev: 0,
-        ino: 0,
-        uid: 0,
-        gid: 0,
-    }
-}
-
-/// An open file of a worktree in memory: a copy of its bytes, and the fault that replaces their end, if one is
-/// planted.
-#[derive(Drop)]
-pub struct MemoryFile {
-    bytes: Vec<u8>,
-    position: usize,
-    fault: Option<Fault>,
-}
-
-impl Model for MemoryFile {
-    ghost use Rattle.std.specs.Prelude.{◌≤◌, drop};
-    ghost use Rattle.std.specs.Vec.{vec_len};
-    ghost use Rattle.status_index.specs.Content.{Content};
-
-    ghost Value = { Content };
-
-    ghost view = { λ a. record { bytes = drop a.position a.bytes.items; fault = a.fault } };
-
-    ghost invariant = { λ a. a.position ≤ vec_len a.bytes };
-}
-
-impl MemoryFile {
-    /// Returns a file with a copy of these bytes, up to the first read at which a fault is planted.
-    fn new(
-        alloc: Global,
-        bytes: &[u8],
-        planted: Option<&PlantedFaults>,
-    ) -> Result<MemoryFile, AllocError>
-        ensures { IfOk result (λ file. file ≡ planted_content bytes.now (planted_or_none (option_map (λ p. p.now) planted.entry))) }
-    {
-        let (end, fault) = match first_read_fault(planted) {
-            Some((count, fault)) => (count.min(bytes.len() as u64) as usize, Some(fault)),
-            None => (bytes.len(), None),
-        };
-        Ok(MemoryFile {
-            bytes: Vec::from_slice(alloc, &bytes[..end])?,
-            position: 0,
-            fault,
-        })
-    }
-
-    /// Returns the fault after the bytes, if no bytes are left.
-    fn fault_at_end(&self) -> Option<Fault>
-        ensures { MatchOption result (self.now.bytes ≡ [] → self.now.fault ≡ None) (λ fault. (self.now.bytes ≡ []) × (self.now.fault ≡ Some fault)) }
-    {
-        if self.position < self.bytes.len() {
-            return None;
-        }
-        self.fault
-    }
-}
-
-impl ReadBytes for MemoryFile {
-    ghost use Rattle.std.specs.Prelude.{Some};
-
-    ghost left = { Some };
-
-    fn read_bytes(&mut self, buffer: &mut [u8]) -> Result<usize, Fault> {
-        if let Some(fault) = self.fault_at_end() {
-            return Err(fault);
-        }
-        let rest = &self.bytes[self.position..];
-        let count = rest.len().min(buffer.len());
-        buffer[..count].copy_from_slice(&rest[..count]);
-        self.position += count;
-        Ok(count)
-    }
 }
 
 impl Worktree for MemoryWorktree {

@@ -4,7 +4,7 @@ ghost use Rattle.std.specs.Prelude.{IsTrue, Bool, List, ℕ, Result};
 ghost use Rattle.bstr.specs.BStr.{bstr_bytes};
 ghost use Rattle.status_index.specs.Content.{Content};
 ghost use Rattle.status_index.specs.declared.fault.Fault.{Fault as WorktreeFault};
-ghost use Rattle.status_index.specs.declared.metadata.Metadata.{Metadata as NodeMetadata};
+ghost use Rattle.status_index.specs.declared.stat.Metadata.{Metadata as NodeMetadata};
 ghost use Rattle.status_index.specs.Answer.{IsAnswer};
 ghost use Rattle.status_base.specs.Lawful.{IsOpened, IsTarget};
 

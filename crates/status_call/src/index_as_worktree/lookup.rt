@@ -5,7 +5,7 @@ ghost use Rattle.bstr.specs.BStr.{bstr_bytes};
 ghost use Rattle.status_base.specs.CheckState.{IsClear};
 ghost use Rattle.status_base.specs.LinkCheck.{LinkCheck};
 ghost use Rattle.status_base.specs.CheckAnswers.{IsCheckError};
-ghost use Rattle.status_index.specs.declared.metadata.Metadata.{Metadata as NodeMetadata};
+ghost use Rattle.status_index.specs.declared.stat.Metadata.{Metadata as NodeMetadata};
 ghost use Rattle.status_index.specs.declared.fault.Fault.{Fault as WorktreeFault};
 ghost use Rattle.status_call.specs.EntryParts.{IsLook};
 ghost use Rattle.status_call.specs.Counts.{is_accepted};

@@ -1,17 +1,18 @@
-//! Finds the entries of a path by binary search.
+//! Finds entries by binary search: those of a path, and those whose paths start with a prefix.
 
 use super::State;
 use crate::entry::Entry;
 use crate::probe::{Question, front_len};
 use bstr::BStr;
+use std::ops::Range;
 
 impl State {
-    ghost use Rattle.std.specs.Prelude.{◌≡◌, ◌≤◌, filter, length};
+    ghost use Rattle.std.specs.Prelude.{◌≡◌, ℕ, ◌*◌, ◌<◌, ◌≤◌, ◌^◌, [], filter, length};
     ghost use Rattle.std.specs.List.{prefix_len};
     ghost use Rattle.bstr.specs.BStr.{bstr_bytes};
     ghost use Rattle.status_index.specs.Entries.{index_entries};
     ghost use Rattle.status_index.specs.States.{entries_of, backing_of, index_of};
-    ghost use Rattle.status_index.specs.Stretch.{is_at, is_below, is_up_to};
+    ghost use Rattle.status_index.specs.Stretch.{IsPrefixed, is_at, is_below, is_up_to};
 
     /// Returns the entries of a path, by their stages: none, one, or those of a conflict.
     pub fn entries_at(&self, path: BStr<'_>) -> &[Entry]
@@ -32,5 +33,36 @@ impl State {
         let (start, _) = front_len(&self.entries, &self.backing, path, Question::Below);
         let (end, _) = front_len(&self.entries, &self.backing, path, Question::UpTo);
         (start, end)
+    }
+
+    /// Returns the range of entries whose paths start with `prefix`. It is the whole list for an empty prefix, and None
+    /// if the prefix isn't empty and no path starts with it.
+    pub fn prefixed_entries_range(&self, prefix: BStr<'_>) -> Option<Range<usize>>
+        ensures { IsPrefixed (index_of self.now) (bstr_bytes prefix.entry) result }
+    {
+        self.prefixed_entries_range_counted(prefix).0
+    }
+
+    /// Returns the same range, and how many paths were compared with the prefix. These are none for an empty prefix,
+    /// and otherwise at most twice as many as the number of entries has binary digits.
+    ///
+    /// The clauses bound only the returned number. They don't say that each comparison is counted.
+    pub fn prefixed_entries_range_counted(&self, prefix: BStr<'_>) -> (Option<Range<usize>>, u32)
+        ensures range { IsPrefixed (index_of self.now) (bstr_bytes prefix.entry) result.0 }
+        ensures few { (digits : ℕ) → length (entries_of self.now) < 2 ^ digits → result.1 ≤ 2 * digits }
+        ensures empty { bstr_bytes prefix.entry ≡ [] → result.1 ≡ 0 }
+    {
+        let prefix = prefix.as_bytes();
+        if prefix.is_empty() {
+            return (Some(0..self.entries.len()), 0);
+        }
+        let (start, below) = front_len(&self.entries, &self.backing, prefix, Question::Below);
+        let rest = &self.entries[start..];
+        let (count, under) = front_len(rest, &self.backing, prefix, Question::Under);
+        let compared = below.saturating_add(under);
+        if count == 0 {
+            return (None, compared);
+        }
+        (Some(start..start + count), compared)
     }
 }

@@ -1,19 +1,18 @@
-//! Puts entries into an index and removes them, path by path, as `git add` does.
+//! Changes an index: puts entries and removes them, path by path, as `git add` does, and replaces stats.
 
 use super::{IndexError, State};
-use crate::entry::Entry;
-use crate::flags::Flags;
+use crate::entry::{Entry, Flags};
 use crate::id::ObjectId;
 use crate::mode::Mode;
-use crate::stat::Stat;
+use crate::stat::{Moment, Stat};
 use bstr::BStr;
 
 impl State {
-    ghost use Rattle.std.specs.Prelude.{◌≡◌, ◌≢◌, IsOk, IfErr, OnOk, OnErr};
+    ghost use Rattle.std.specs.Prelude.{◌≡◌, ◌≢◌, ◌<◌, length, IsOk, IfErr, OnOk, OnErr};
     ghost use Rattle.std.specs.List.{Any, prefix_len};
     ghost use Rattle.bstr.specs.BStr.{bstr_bytes};
     ghost use Rattle.status_index.specs.Entries.{IsIndex, entry_of_fields};
-    ghost use Rattle.status_index.specs.States.{backing_of, timestamp_of, index_of};
+    ghost use Rattle.status_index.specs.States.{ChangesAt, backing_of, entries_of, index_of, smudged, timestamp_of, with_stat};
     ghost use Rattle.status_index.specs.Stretch.{is_below, is_up_to};
     ghost use Rattle.status_index.specs.Staging.{IsPutRefusal, with_entry, with_put};
 
@@ -76,6 +75,37 @@ impl State {
     {
         let (start, end) = self.places_of(path.as_bytes());
         self.entries.drain(start..end);
+    }
+
+    /// Replaces the stat of the entry at `i`.
+    pub fn set_stat(&mut self, i: usize, stat: Stat)
+        requires { i < length (entries_of self.old) }
+        ensures len { length (entries_of self.new) ≡ length (entries_of self.old) }
+        ensures index { ChangesAt (with_stat stat) i (index_of self.old) (index_of self.new) }
+        ensures backing { backing_of self.new ≡ backing_of self.old }
+        ensures timestamp { timestamp_of self.new ≡ timestamp_of self.old }
+    {
+        self.entries[i].stat = stat;
+    }
+
+    /// Sets the size in the stat of the entry at `i` to 0, so that the next status compares its content.
+    pub fn smudge(&mut self, i: usize)
+        requires { i < length (entries_of self.old) }
+        ensures len { length (entries_of self.new) ≡ length (entries_of self.old) }
+        ensures index { ChangesAt smudged i (index_of self.old) (index_of self.new) }
+        ensures backing { backing_of self.new ≡ backing_of self.old }
+        ensures timestamp { timestamp_of self.new ≡ timestamp_of self.old }
+    {
+        self.entries[i].stat.size = 0;
+    }
+
+    /// Sets the moment at which the index was written.
+    pub fn set_timestamp(&mut self, timestamp: Moment)
+        ensures timestamp { timestamp_of self.new ≡ timestamp }
+        ensures entries { entries_of self.new ≡ entries_of self.old }
+        ensures backing { backing_of self.new ≡ backing_of self.old }
+    {
+        self.timestamp = timestamp;
     }
 
     /// Checks whether an entry may be put at a path, whose entries are at `start..end`. The id is compared with only

@@ -2,11 +2,9 @@
 
 mod entry;
 mod error;
-mod exact_clone;
 mod function;
 mod halves;
 pub mod inputs;
-mod joined_by;
 mod recorder;
 pub mod rewrites;
 mod rewriting;
@@ -15,8 +13,7 @@ mod types;
 pub use crate::ModificationOrDirwalkEntry;
 pub use entry::{Entry, RewriteSource, Summary};
 pub use error::Error;
-pub use exact_clone::ExactClone;
 pub use function::index_as_worktree_with_renames;
 pub use recorder::{Recorder, VisitEntry};
 pub(crate) use types::Call;
-pub use types::{Context, DirwalkContext, Options, Outcome, Sorting};
+pub use types::{Context, DirwalkContext, ExactClone, Options, Outcome, Sorting};

@@ -4,7 +4,7 @@ ghost use Rattle.std.specs.Prelude.{◌≡◌, ◌++◌, ◌∷◌, [], Bool, Is
 ghost use Rattle.status_joined.specs.Items.{Reported, is_walked, IsReported};
 ghost use Rattle.status_joined.specs.Entries.{reported_entry, reported_source};
 ghost use Rattle.status_rewrites.specs.Entries.{map_rewritten, IsLed};
-ghost use Rattle.status_rewrites.specs.declared.item.Rewritten.TheVariants.{Alone, Rewrite};
+ghost use Rattle.status_rewrites.specs.declared.rewrites.Rewritten.TheVariants.{Alone, Rewrite};
 ghost use Rattle.status_joined.specs.Feeding.{IsFed, IsReportedOne};
 ghost use Rattle.status_joined.specs.ListItems.{item_of};
 

@@ -7,12 +7,11 @@ ghost use Rattle.status_joined.specs.Items.{is_walked};
 ghost use Rattle.status_joined.specs.ListItems.{item_of};
 ghost use Rattle.status_joined.specs.RewritingAnswers.{IsListFedBy, IsRewritingAnswer};
 
-use crate::identifier::Identify;
 use crate::index_as_worktree_with_renames::error::{Error, id_error, refused_error};
-use crate::index_as_worktree_with_renames::exact_clone::ExactClone;
 use crate::index_as_worktree_with_renames::recorder::{VisitEntry, feed_items, feed_rewritten};
 use crate::index_as_worktree_with_renames::rewrites::Outcome;
-use crate::index_as_worktree_with_renames::types::Call;
+use crate::index_as_worktree_with_renames::types::{Call, ExactClone};
+use crate::item::Identify;
 use crate::{ModificationOrDirwalkEntry, identify};
 use status_rewrites::{Pair, Rewrites, Rewritten, Tracker, rewrite};
 

@@ -6,7 +6,6 @@ pub mod laws;
 mod nodes;
 mod reopening;
 mod run;
-mod staged;
 mod staging;
 mod state;
 

@@ -7,7 +7,7 @@ ghost use Rattle.status_world.specs.Sound.{IsFormed, IsSound};
 ghost use Rattle.status_world.specs.StampedWorld.{empty_world};
 
 use crate::world::event::Refusal;
-use crate::world::staged::StagedFiles;
+use crate::world::staging::StagedFiles;
 use status_base::worktree::MemoryWorktree;
 use status_index::{HashKind, Moment, State, stat};
 use std::alloc::Global;

@@ -4,7 +4,7 @@ use Rattle.std.specs.Vec.Iter.{into_iter_items}
 use Rattle.bstr.specs.Owned.{bstring_bytes}
 use Rattle.bstr.specs.declared.bstring.BString.{BString}
 use Rattle.status_base.specs.Nodes.{IsPut, placed_of}
-use Rattle.status_base.specs.declared.worktree.memory.Node.{Node}
+use Rattle.status_base.specs.declared.worktree.node.Node.{Node}
 use Rattle.status_profile.specs.Nodes.{node_value}
 use Rattle.status_cli.specs.ProfileStatuses.{planted}
 use Rattle.status_cli.proofs.Planted.{planted_next, unplanted}

@@ -1,7 +1,7 @@
 use Rattle.std.proofs.Common.{List, map, sym, ap, ◌∙◌}
 use Rattle.std.specs.Vec.Iter.{into_iter_items}
 use Rattle.std.proofs.lemmas.List.{nil_from_length}
-use Rattle.status_rewrites.specs.declared.item.Rewritten.TheVariants.{Alone}
+use Rattle.status_rewrites.specs.declared.rewrites.Rewritten.TheVariants.{Alone}
 use Rattle.status_joined.specs.declared.item.ModificationOrDirwalkEntry.{ModificationOrDirwalkEntry}
 use Rattle.status_joined.specs.ListItems.{item_of}
 use Rattle.status_joined.proofs.Feeding.{none_reported, one_more, all_reported, reported_until, alone_led}

@@ -1,6 +1,6 @@
 use Rattle.std.proofs.Common.{map}
 use Rattle.std.specs.Vec.Iter.{into_iter_items}
-use Rattle.status_rewrites.specs.declared.item.Rewritten.TheVariants.{Alone}
+use Rattle.status_rewrites.specs.declared.rewrites.Rewritten.TheVariants.{Alone}
 use Rattle.status_joined.specs.ListItems.{item_of}
 use Rattle.status_joined.proofs.Feeding.{IsReportedSoFar}
 use Rattle.status_joined.proofs.index_as_worktree_with_renames.recorder.feed_items.Given as goal

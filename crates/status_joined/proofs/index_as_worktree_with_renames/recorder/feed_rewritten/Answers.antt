@@ -1,7 +1,7 @@
 use Rattle.std.proofs.Common.{List, map, refl, sym, ap, ◌∙◌}
 use Rattle.std.specs.Vec.Iter.{into_iter_items}
 use Rattle.std.proofs.lemmas.List.{nil_from_length}
-use Rattle.status_rewrites.specs.declared.item.Rewritten.{Rewritten}
+use Rattle.status_rewrites.specs.declared.rewrites.Rewritten.{Rewritten}
 use Rattle.status_rewrites.specs.Entries.{IsLed, map_rewritten}
 use Rattle.status_joined.specs.declared.item.ModificationOrDirwalkEntry.{ModificationOrDirwalkEntry}
 use Rattle.status_joined.specs.Items.{is_walked}

@@ -1,7 +1,7 @@
 use Rattle.std.proofs.Common.{rules, ◌≡◌, None, Result, refl, sym, ap, subst, ◌∙◌, inl}
 use Rattle.bstr.specs.BStr.{bstr_bytes}
 use Rattle.status_base.specs.Nodes.{placed_of, put_fault, tree_of, IsLookedBelow, IsPut}
-use Rattle.status_base.specs.declared.worktree.memory.TreeError.{TreeError}
+use Rattle.status_base.specs.declared.worktree.node.TreeError.{TreeError}
 use Rattle.status_base.proofs.Placed.{looked_below, tree-insert}
 use Rattle.status_base.proofs.worktree.memory.MemoryWorktree.put.Goals as goal
 use Rattle.status_base.proofs.worktree.memory.MemoryWorktree.put.Goals.{in-Ok+in-Some-1, in-Ok+in-None-1, in-Err}
