@@ -1,6 +1,7 @@
 -- The parts of an entry's decision.
 use Rattle.std.specs.Prelude.{◌≡◌, ◌⊎◌, ℕ, Bool, false, not, ◌&&◌, List, Option, IfSome, is_some, Result, Ok, Err, IsTrue, if◌then◌else◌}
-use Rattle.status_index.specs.Entries.{IndexEntry}
+use Rattle.bstr.specs.BStr.{bstr_bytes}
+use Rattle.status_index.specs.Entries.{IndexEntry, entry_at}
 use Rattle.status_index.specs.Stat.{is_racy}
 use Rattle.status_index.specs.declared.fault.Fault.{Fault}
 use Rattle.status_index.specs.declared.stat.Metadata.{Metadata}
@@ -14,11 +15,16 @@ use Rattle.status_call.specs.declared.index_as_worktree.step.Decided.{Decided}
 use Rattle.status_call.specs.declared.index_as_worktree.lookup.Look.{Look}
 use Rattle.status_call.specs.declared.index_as_worktree.lookup.AtPath.{AtPath}
 use Rattle.status_call.specs.declared.index_as_worktree.lookup.AtPath.TheVariants as presences
+use Rattle.status_call.specs.declared.index_as_worktree.content.Candidate.{Candidate}
 use Rattle.status_call.specs.declared.index_as_worktree.content.Comparison.{Comparison}
 use Rattle.status_base.specs.LinkCheck.{link_check}
 use Rattle.status_call.specs.Counts.{is_accepted, is_racy_case, is_compared_case}
 use Rattle.status_call.specs.Query.{Query}
 use Rattle.status_call.specs.Status.{Found, nothing, refused, directory, present, Case, compared, answer, found_by, cached_or, case_of_found, case_of_content, is_trusted, readings}
+
+-- The index entry of a candidate.
+abbrev pub candidate_entry : Candidate → IndexEntry
+candidate_entry c = entry_at (bstr_bytes c.path) c.entry.now
 
 -- The node at a path, from a look-up's result.
 abbrev pub found_presence : AtPath → Found

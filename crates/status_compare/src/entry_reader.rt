@@ -1,9 +1,9 @@
 //! Reading one entry's file and blob.
 
-ghost use Rattle.std.specs.Prelude.{◌≡◌, ◌∷◌, IsTrue, Some, None, length, if◌then◌else◌, OnOk, OnErr};
+ghost use Rattle.std.specs.Prelude.{◌≡◌, IsTrue, OnOk, OnErr};
 ghost use Rattle.bstr.specs.BStr.{bstr_bytes};
 ghost use Rattle.status_compare.specs.EntryReadings.{entry_readings, if_modelled};
-ghost use Rattle.status_compare.specs.Reads.{no_reads, with_file};
+ghost use Rattle.status_compare.specs.Reads.{with_file};
 ghost use Rattle.status_compare.specs.Reading.{IsReading, target_reading, file_at, counts_at_stream};
 
 use crate::error::Error;
@@ -30,45 +30,11 @@ pub struct EntryReader<'w, 'r, W, T, O> {
     pub is_link: bool,
     /// The file's length.
     pub len: u64,
-    /// The counts of reads so far.
+    /// The counts of reads so far, at first [`Reads::none`].
     pub reads: Reads,
 }
 
 impl<'w, 'r, W: Worktree, T: ToGit, O: Find> EntryReader<'w, 'r, W, T, O> {
-    /// Makes a reader that has read nothing.
-    pub fn new(
-        worktree: &'w W,
-        filter: &'r T,
-        objects: &'r O,
-        id: ObjectId,
-        path: BStr<'r>,
-        is_link: bool,
-        len: u64,
-    ) -> EntryReader<'w, 'r, W, T, O>
-        ensures { result
-            ≡ record {
-              worktree = worktree.entry;
-              filter = filter.entry;
-              objects = objects.entry;
-              id = id;
-              path = path.entry;
-              is_link = is_link;
-              len = len;
-              reads = no_reads;
-            } }
-    {
-        EntryReader {
-            worktree,
-            filter,
-            objects,
-            id,
-            path,
-            is_link,
-            len,
-            reads: Reads::none(),
-        }
-    }
-
     // Reads the link's target into `buffer`, and counts it at once. The stream doesn't count it again.
     fn stream_target<'a>(&mut self, buffer: &'a mut Vec<u8>) -> Result<Stream<'a, W::File>, Error>
         ensures stream { let r = self.old in IsTrue (W.modelled r.worktree.now)

@@ -2,10 +2,9 @@
 
 ghost use Rattle.std.specs.Prelude.{◌≡◌, ◌==◌, not, ◌&&◌, ◌||◌, false};
 ghost use Rattle.status_index.specs.BlobId.{is_empty_blob};
-ghost use Rattle.status_index.specs.Entries.{entry_at};
 ghost use Rattle.status_index.specs.Stat.{stat_agrees};
 ghost use Rattle.status_compare.specs.Reads.{no_reads};
-ghost use Rattle.status_call.specs.EntryParts.{IsContentCompared, IsDecisionOf};
+ghost use Rattle.status_call.specs.EntryParts.{IsContentCompared, IsDecisionOf, candidate_entry};
 ghost use Rattle.status_call.specs.Status.{reads_link, same_bool};
 
 use crate::index_as_worktree::inputs::{Ask, Inputs, Settings};
@@ -18,6 +17,17 @@ use status_base::worktree::{
 use status_compare::{CompareBlobs, EntryReader, Reads};
 use status_index::{Entry, Mode, Stat, stat};
 use std::alloc::Global;
+
+/// An entry of stage 0 with the node at its path, which is no directory.
+#[derive(Clone, Copy)]
+pub struct Candidate<'a> {
+    /// The entry.
+    pub entry: &'a Entry,
+    /// Its path.
+    pub path: BStr<'a>,
+    /// The node.
+    pub node: Metadata,
+}
 
 /// A comparer's result for an entry.
 pub struct Comparison<T> {
@@ -45,31 +55,27 @@ pub(crate) fn compare_node<
     inputs: &mut Inputs<'w, W, C, S, O, P, T, L>,
     settings: Settings,
     buffer: &mut Vec<u8>,
-    entry: &Entry,
-    path: &[u8],
-    node: &Metadata,
+    candidate: &Candidate<'_>,
 ) -> Result<Comparison<C::Output>, Error>
     ensures compared { IsContentCompared
         (⟦<Inputs<'w, W, C, S, O, P, T, L> as Ask>⟧.query inputs.old settings)
-        (entry_at path.now entry.now) node.now result }
+        (candidate_entry candidate.now) candidate.now.node result }
     ensures only { inputs.new ≡ record inputs.old { compare = inputs.new.compare } }
     ensures same { ⟦<Inputs<'w, W, C, S, O, P, T, L> as Ask>⟧.query inputs.new
         ≡ ⟦<Inputs<'w, W, C, S, O, P, T, L> as Ask>⟧.query inputs.old }
 {
+    let Candidate { entry, path, node } = candidate;
     buffer.clear();
-    let is_link = reads_link(entry.mode, node.kind, settings.fs.symlink);
-    let (filter, objects) = (&inputs.filter, &inputs.objects);
-    // Reborrowed, so that the reader's references have one lifetime.
-    let path = BStr::new(&*path);
-    let mut reader = EntryReader::new(
-        inputs.worktree,
-        &*filter,
-        &*objects,
-        entry.id,
-        path,
-        is_link,
-        node.len,
-    );
+    let mut reader = EntryReader {
+        worktree: inputs.worktree,
+        filter: &inputs.filter,
+        objects: &inputs.objects,
+        id: entry.id,
+        path: *path,
+        is_link: reads_link(entry.mode, node.kind, settings.fs.symlink),
+        len: node.len,
+        reads: Reads::none(),
+    };
     let compare = &mut inputs.compare;
     let change = compare.compare_blobs(alloc, entry, node.len, &mut reader, buffer)?;
     Ok(Comparison {

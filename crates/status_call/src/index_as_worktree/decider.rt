@@ -10,10 +10,10 @@ ghost use Rattle.status_call.specs.LookUps.{Keeps};
 ghost use Rattle.status_call.specs.Status.{answer, in_submodule};
 
 use crate::index_as_worktree::content::{
-    compare_node, decision_of, is_trusted, needs_comparison, unread,
+    Candidate, compare_node, decision_of, is_trusted, needs_comparison, unread,
 };
 use crate::index_as_worktree::inputs::{Ask, Inputs, Settings};
-use crate::index_as_worktree::lookup::{AtPath, Look, look_up};
+use crate::index_as_worktree::lookup::{AtPath, Known, Look, look_up};
 use crate::index_as_worktree::step::{Decide, Decided};
 use crate::index_as_worktree::types::{Change, EntryStatus, Error};
 use bitflags::Flags as _;
@@ -34,13 +34,12 @@ pub struct Decider<'w, W: Worktree, C, S, O, P, T, L: Lister> {
     alloc: Global,
     inputs: Inputs<'w, W, C, S, O, P, T, L>,
     settings: Settings,
-    check: SymlinkCheck,
-    listings: Listings,
+    known: Known,
     buffer: Vec<u8>,
     ghost clear: { IsTrue (W.modelled inputs.worktree.now)
-        → IsClear (W.lstat_of inputs.worktree.now) check.path },
+        → IsClear (W.lstat_of inputs.worktree.now) known.check.path },
     ghost kept: { Keeps (L.modelled inputs.lister)
-        (L.listing inputs.lister) listings } by { Prim.hlevel props },
+        (L.listing inputs.lister) known.listings } by { Prim.hlevel props },
 }
 
 impl<
@@ -57,7 +56,7 @@ where
     C::Output: Drop,
     S::Output: Drop,
 {
-    ghost use Rattle.status_call.specs.EntryParts.{IsNodeDecided, IsContentDecided, IsLooked};
+    ghost use Rattle.status_call.specs.EntryParts.{IsNodeDecided, IsContentDecided, IsLooked, candidate_entry};
 
     /// Makes a decider with these settings.
     pub fn new(
@@ -75,8 +74,7 @@ where
             alloc,
             inputs,
             settings,
-            check,
-            listings,
+            known: Known { check, listings },
             buffer: Vec::new(alloc),
         }
     }
@@ -93,10 +91,9 @@ where
     {
         look_up(
             self.inputs.worktree,
-            &mut self.check,
+            &mut self.known,
             self.settings.fscache,
             &self.inputs.lister,
-            &mut self.listings,
             path,
         )
     }
@@ -107,16 +104,15 @@ where
     /// A time of the node isn't known, or the comparer's error.
     fn decide_node(
         &mut self,
-        entry: &Entry,
-        path: BStr<'_>,
-        node: &Metadata,
+        candidate: &Candidate<'_>,
     ) -> Result<Decided<C::Output, S::Output>, Error>
         ensures decided { IsNodeDecided
             (⟦<Decider<'w, W, C, S, O, P, T, L> as Decide>⟧.query self.old)
-            (entry_at (bstr_bytes path.entry) entry.now) node.now result }
+            (candidate_entry candidate.now) candidate.now.node result }
         ensures same { ⟦<Decider<'w, W, C, S, O, P, T, L> as Decide>⟧.query self.new
             ≡ ⟦<Decider<'w, W, C, S, O, P, T, L> as Decide>⟧.query self.old }
     {
+        let Candidate { entry, node, .. } = candidate;
         if entry.flags.intersects(Flags::INTENT_TO_ADD) {
             return Ok(unread(Some(EntryStatus::IntentToAdd), false));
         }
@@ -132,8 +128,8 @@ where
                 };
                 Ok(unread(Some(EntryStatus::Change(change)), false))
             }
-            Some(mode::Change::ExecutableBit) => self.decide_content(entry, path, node, stat, true),
-            None => self.decide_content(entry, path, node, stat, false),
+            Some(mode::Change::ExecutableBit) => self.decide_content(candidate, stat, true),
+            None => self.decide_content(candidate, stat, false),
         }
     }
 
@@ -144,36 +140,25 @@ where
     /// The comparer's error.
     fn decide_content(
         &mut self,
-        entry: &Entry,
-        path: BStr<'_>,
-        node: &Metadata,
+        candidate: &Candidate<'_>,
         stat: Stat,
         executable_bit_changed: bool,
     ) -> Result<Decided<C::Output, S::Output>, Error>
         ensures decided { IsContentDecided
             (⟦<Decider<'w, W, C, S, O, P, T, L> as Decide>⟧.query self.old)
-            (entry_at (bstr_bytes path.entry) entry.now) node.now stat
+            (candidate_entry candidate.now) candidate.now.node stat
             executable_bit_changed result }
         ensures same { ⟦<Decider<'w, W, C, S, O, P, T, L> as Decide>⟧.query self.new
             ≡ ⟦<Decider<'w, W, C, S, O, P, T, L> as Decide>⟧.query self.old }
     {
-        let trusted = is_trusted(entry, &stat, self.settings.stat);
+        let trusted = is_trusted(candidate.entry, &stat, self.settings.stat);
         let racy = stat.is_racy(self.settings.timestamp, self.settings.stat);
         let compares = needs_comparison(executable_bit_changed, trusted, racy);
         if !compares {
             return Ok(unread(None, false));
         }
         let (inputs, buffer) = (&mut self.inputs, &mut self.buffer);
-        let path = path.as_bytes();
-        let comparison = compare_node(
-            self.alloc,
-            inputs,
-            self.settings,
-            buffer,
-            entry,
-            path,
-            node,
-        )?;
+        let comparison = compare_node(self.alloc, inputs, self.settings, buffer, candidate)?;
         Ok(decision_of(comparison, stat, executable_bit_changed, trusted, racy))
     }
 }
@@ -228,7 +213,7 @@ where
                 lstat_called,
             )),
             AtPath::Node(node) => {
-                let decided = self.decide_node(entry, path, &node)?;
+                let decided = self.decide_node(&Candidate { entry, path, node })?;
                 Ok(Decided {
                     lstat_called,
                     ..decided

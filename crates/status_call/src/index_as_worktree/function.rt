@@ -9,7 +9,7 @@ use crate::index_as_worktree::decider::Decider;
 use crate::index_as_worktree::inputs::{Ask, Inputs, Settings};
 use crate::index_as_worktree::status_by::{status_by, status_serially};
 use crate::index_as_worktree::types::{Context, Error, Options, Outcome, VisitEntry};
-use crate::index_as_worktree::workers::Limits;
+use crate::index_as_worktree::workers::Execution;
 use status_base::worktree::{
     Find, Lister, MemoryObjects, NoFilter, NoLister, NoSubmodules, Pathspec, SubmoduleStatus,
     ToGit, Worktree,
@@ -77,16 +77,8 @@ where
     let inputs = Inputs::of(worktree, compare, submodule, objects, context);
     let settings = Settings::of(&options, index);
     let mut decider = Decider::new(alloc, inputs, settings);
-    let limits = Limits::of(&options);
-    status_by(
-        rt,
-        alloc,
-        index,
-        &mut decider,
-        should_interrupt,
-        limits,
-        collector,
-    )
+    let execution = Execution::of(alloc, &options, should_interrupt);
+    status_by(rt, index, &mut decider, &execution, collector)
 }
 
 /// A worktree, a comparer and a pathspec, with the usual interfaces.
@@ -186,12 +178,6 @@ pub fn index_as_worktree_without_threads<
     let should_interrupt = context.should_interrupt;
     let inputs = Inputs::of(worktree, compare, submodule, objects, context);
     let mut decider = Decider::new(alloc, inputs, Settings::of(&options, index));
-    status_serially(
-        alloc,
-        index,
-        &mut decider,
-        should_interrupt,
-        options.chunk_size,
-        collector,
-    )
+    let execution = Execution::of(alloc, &options, should_interrupt);
+    status_serially(index, &mut decider, &execution, collector)
 }

@@ -39,6 +39,15 @@ pub(crate) struct Look {
     pub(crate) lstat_called: bool,
 }
 
+/// What is known of directories of a worktree.
+#[derive(Drop)]
+pub(crate) struct Known {
+    /// Which have no link or fault above them.
+    pub(crate) check: SymlinkCheck,
+    /// Which nodes are in them, if listings are used.
+    pub(crate) listings: Listings,
+}
+
 /// Returns the node at a path. The link check comes first. Only if it accepts each directory above the path, the path
 /// itself is looked up, by `lstat` only if no listing knows it.
 ///
@@ -46,26 +55,25 @@ pub(crate) struct Look {
 /// A path that isn't normal, a fault other than one of absence, or out of memory.
 pub(crate) fn look_up<W: Worktree, L: Lister>(
     worktree: &W,
-    check: &mut SymlinkCheck,
+    known: &mut Known,
     fscache: bool,
     lister: &L,
-    listings: &mut Listings,
     path: BStr<'_>,
 ) -> Result<Look, Error>
     ensures look { IsTrue (W.modelled worktree.now)
-        → IsLookUp fscache (L.modelled lister.now) (L.listing lister.now) listings.old
+        → IsLookUp fscache (L.modelled lister.now) (L.listing lister.now) known.old.listings
         (bstr_bytes path.entry)
-        (W.lstat_of worktree.now) check.old.path result }
+        (W.lstat_of worktree.now) known.old.check.path result }
     ensures clear { IsTrue (W.modelled worktree.now)
-        → IsClear (W.lstat_of worktree.now) check.old.path
-        → IsClear (W.lstat_of worktree.now) check.new.path }
-    ensures kept { Keeps (L.modelled lister.now) (L.listing lister.now) listings.old
-        → Keeps (L.modelled lister.now) (L.listing lister.now) listings.new }
+        → IsClear (W.lstat_of worktree.now) known.old.check.path
+        → IsClear (W.lstat_of worktree.now) known.new.check.path }
+    ensures kept { Keeps (L.modelled lister.now) (L.listing lister.now) known.old.listings
+        → Keeps (L.modelled lister.now) (L.listing lister.now) known.new.listings }
 {
-    if let Err(error) = check.verified_path(worktree, path) {
+    if let Err(error) = known.check.verified_path(worktree, path) {
         return look_refused(error);
     }
-    if let Some(node) = known_at(fscache, lister, listings, path)? {
+    if let Some(node) = known_at(fscache, lister, &mut known.listings, path)? {
         return Ok(look_at(node, false));
     }
     match worktree.lstat(path) {

@@ -10,22 +10,10 @@ use crate::index_as_worktree::counts::{Progress, Totals};
 use crate::index_as_worktree::piece::{feed_piece, piece_end, walk_piece};
 use crate::index_as_worktree::step::Decide;
 use crate::index_as_worktree::types::{Error, VisitEntry};
-use std::alloc::Global;
-use std::sync::atomic::AtomicBool;
+use crate::index_as_worktree::workers::Execution;
 
-/// How the caller's thread works alone.
-#[derive(Drop)]
-pub(crate) struct Alone<'a> {
-    /// Allocates the findings of a piece.
-    pub alloc: Global,
-    /// The number of entries of a piece.
-    pub chunk: usize,
-    /// The interrupt flag that is checked.
-    pub interrupt: Option<&'a AtomicBool>,
-}
-
-/// Processes the considered entries in pieces of `alone.chunk` entries, and reports a piece's findings to the collector
-/// before the next piece is processed. Ends early if the interrupt flag is seen set.
+/// Processes the considered entries in pieces, and reports a piece's findings to the collector before the next piece is
+/// processed. Ends early if the interrupt flag is seen set.
 ///
 /// # Errors
 /// The first fault, after the records before it were reported. Out of memory.
@@ -35,20 +23,27 @@ pub(crate) fn run_serially<
     V: VisitEntry<'index, ContentChange = D::Content, SubmoduleStatus = D::Submodule>,
 >(
     considered: &Considered<'index>,
-    alone: &Alone<'_>,
+    execution: &Execution<'_>,
     decide: &mut D,
     collector: &mut V,
 ) -> Result<Progress, Error>
     ensures { let c = considered.entry.now in
         IsReportedWork (D.query decide.old) c.start (part_entries c) 0 (IsFaithfulTo c)
-        (is_some alone.now.interrupt) 1 (length (part_entries c))
+        (is_some execution.now.interrupt) 1 (length (part_entries c))
         (V.visits collector.old) result (V.visits collector.new) }
 {
+    let piece_len = execution.piece_len();
     let mut totals = Totals::none();
     let mut at = 0;
     while at < considered.len() {
-        let to = piece_end(considered, at, alone.chunk);
-        let piece = walk_piece(alone.alloc, considered, at..to, alone.interrupt, decide);
+        let to = piece_end(considered, at, piece_len);
+        let piece = walk_piece(
+            execution.alloc,
+            considered,
+            at..to,
+            execution.interrupt,
+            decide,
+        );
         let fed = feed_piece(considered, piece, collector)?;
         totals.add(&fed.totals);
         if fed.interrupted {

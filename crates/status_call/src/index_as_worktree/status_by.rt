@@ -4,23 +4,17 @@ ghost use Rattle.std.specs.Prelude.{◌≡◌, None, IfOk, false, length};
 ghost use Rattle.status_call.specs.Outcomes.{outcome_of};
 ghost use Rattle.status_call.specs.StatusOf.{IsFaultOrMemory, IsThreadless, OneThreadSpawnsNone};
 ghost use Rattle.status_call.specs.StatusTheorem.{IsStatusReport};
-ghost use Rattle.status_call.specs.Workers.{chunk_size_of};
 
 use crate::index_as_worktree::considered::Considered;
 use crate::index_as_worktree::counts::Progress;
 use crate::index_as_worktree::run_rounds::run_rounds;
-use crate::index_as_worktree::run_serially::{Alone, run_serially};
+use crate::index_as_worktree::run_serially::run_serially;
 use crate::index_as_worktree::step::Decide;
 use crate::index_as_worktree::types::{Error, Outcome, VisitEntry};
-use crate::index_as_worktree::workers::{Limits, Workers};
+use crate::index_as_worktree::workers::{Execution, Workers};
 use status_index::State;
-use std::alloc::Global;
 use std::sync::Wait;
-use std::sync::atomic::AtomicBool;
 use std::thread::Threads;
-
-/// The usual number of entries of a piece of work, as in git.
-const CHUNK_SIZE: usize = 500;
 
 /// Returns the outcome of a call that made this progress with the considered entries.
 fn outcome_of(progress: Progress, considered: &Considered<'_>) -> Outcome
@@ -29,16 +23,6 @@ fn outcome_of(progress: Progress, considered: &Considered<'_>) -> Outcome
 {
     let range = considered.start..considered.end;
     Outcome::of(progress, considered.entries.len(), range)
-}
-
-/// Returns the number of entries of a piece, by the options' `chunk_size`.
-fn chunk_size_of(chunk_size: usize) -> usize
-    ensures { result ≡ chunk_size_of chunk_size }
-{
-    match chunk_size {
-        0 => CHUNK_SIZE,
-        chunk_size => chunk_size,
-    }
 }
 
 /// Reports to `collector` how the worktree that `decider` compares differs from `index`, entry by entry in index order,
@@ -54,34 +38,25 @@ pub fn status_by<
     V: VisitEntry<'index, ContentChange = D::Content, SubmoduleStatus = D::Submodule>,
 >(
     rt: &R,
-    alloc: Global,
     index: &'index State,
     decider: &mut D,
-    interrupt: Option<&AtomicBool>,
-    limits: Limits,
+    execution: &Execution<'_>,
     collector: &mut V,
 ) -> Result<Outcome, Error>
 where
     D::Content: Send,
     D::Submodule: Send,
     ensures all { IsStatusReport (D.query decider.old) index.now (V.visits collector.old) result (V.visits collector.new) }
-    ensures uninterrupted { interrupt.entry ≡ None → IfOk result (λ o. o.interrupted ≡ false) }
-    ensures alone { OneThreadSpawnsNone (D.query decider.old) limits.thread_limit result }
+    ensures uninterrupted { execution.now.interrupt ≡ None → IfOk result (λ o. o.interrupted ≡ false) }
+    ensures alone { OneThreadSpawnsNone (D.query decider.old) execution.now.thread_limit result }
 {
-    if limits.thread_limit == Some(1) {
-        return status_serially(
-            alloc,
-            index,
-            decider,
-            interrupt,
-            limits.chunk_size,
-            collector,
-        );
+    if execution.thread_limit == Some(1) {
+        return status_serially(index, decider, execution, collector);
     }
     let considered = Considered::of(index, decider.common_prefix());
-    let chunk = chunk_size_of(limits.chunk_size);
-    let workers = Workers::by_limit(rt, alloc, limits.thread_limit, interrupt);
-    match run_rounds(&considered, chunk, &workers, decider, collector) {
+    let piece_len = execution.piece_len();
+    let workers = Workers::of(rt, execution);
+    match run_rounds(&considered, piece_len, &workers, decider, collector) {
         Ok(progress) => Ok(outcome_of(progress, &considered)),
         Err(error) => Err(error),
     }
@@ -98,24 +73,17 @@ pub fn status_serially<
     D: Decide,
     V: VisitEntry<'index, ContentChange = D::Content, SubmoduleStatus = D::Submodule>,
 >(
-    alloc: Global,
     index: &'index State,
     decider: &mut D,
-    interrupt: Option<&AtomicBool>,
-    chunk_size: usize,
+    execution: &Execution<'_>,
     collector: &mut V,
 ) -> Result<Outcome, Error>
     ensures all { IsStatusReport (D.query decider.old) index.now (V.visits collector.old) result (V.visits collector.new) }
-    ensures uninterrupted { interrupt.entry ≡ None → IfOk result (λ o. o.interrupted ≡ false) }
+    ensures uninterrupted { execution.now.interrupt ≡ None → IfOk result (λ o. o.interrupted ≡ false) }
     ensures threadless { IsThreadless (D.query decider.old) result }
     ensures fault { IsFaultOrMemory (D.query decider.old) index.now (V.visits collector.old) result (V.visits collector.new) }
 {
     let considered = Considered::of(index, decider.common_prefix());
-    let alone = Alone {
-        alloc,
-        chunk: chunk_size_of(chunk_size),
-        interrupt,
-    };
-    let progress = run_serially(&considered, &alone, decider, collector)?;
+    let progress = run_serially(&considered, execution, decider, collector)?;
     Ok(outcome_of(progress, &considered))
 }

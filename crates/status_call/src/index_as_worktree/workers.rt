@@ -1,7 +1,7 @@
-//! The number of workers, and how they run.
+//! How a call works: the number of workers, and how they run.
 
 ghost use Rattle.std.specs.Prelude.{◌≡◌, ◌≤◌, min};
-ghost use Rattle.status_call.specs.Workers.{most_workers};
+ghost use Rattle.status_call.specs.Workers.{chunk_size_of, most_workers};
 
 use crate::index_as_worktree::types::Options;
 use std::alloc::Global;
@@ -13,24 +13,43 @@ const MOST_WORKERS: usize = 64;
 /// The usual number of workers.
 const WORKERS: usize = 4;
 
-/// How the work is shared among workers.
-#[derive(Clone, Copy, Debug)]
-pub struct Limits {
+/// The usual number of entries of a piece of work, as in git.
+const CHUNK_SIZE: usize = 500;
+
+/// How a call works: with which allocator and workers, in pieces of how many entries, and what interrupts it.
+#[derive(Clone, Copy)]
+pub struct Execution<'a> {
+    /// Allocates what the workers need.
+    pub alloc: Global,
     /// The greatest number of workers, which is the usual number for `None` and 0.
     pub thread_limit: Option<usize>,
     /// The number of entries of a piece of work, or 0 for the usual number.
     pub chunk_size: usize,
+    /// The interrupt flag that the workers check.
+    pub interrupt: Option<&'a AtomicBool>,
 }
 
-impl Limits {
-    /// Returns the limits of these options.
-    pub fn of(options: &Options) -> Limits
+impl<'a> Execution<'a> {
+    /// Returns how a call with these options works.
+    pub fn of(alloc: Global, options: &Options, interrupt: Option<&'a AtomicBool>) -> Execution<'a>
         ensures thread_limit { result.thread_limit ≡ options.now.thread_limit }
-        ensures chunk_size { result.chunk_size ≡ options.now.chunk_size }
+        ensures interrupt { result.interrupt ≡ interrupt.entry }
     {
-        Limits {
+        Execution {
+            alloc,
             thread_limit: options.thread_limit,
             chunk_size: options.chunk_size,
+            interrupt,
+        }
+    }
+
+    /// Returns the number of entries of a piece.
+    pub(crate) fn piece_len(&self) -> usize
+        ensures { result ≡ chunk_size_of self.now.chunk_size }
+    {
+        match self.chunk_size {
+            0 => CHUNK_SIZE,
+            chunk_size => chunk_size,
         }
     }
 }
@@ -53,22 +72,17 @@ pub struct Workers<'a, R> {
 }
 
 impl<'a, R> Workers<'a, R> {
-    /// Returns the workers that a thread limit allows, with the usual stacks.
-    pub(crate) fn by_limit(
-        rt: &'a R,
-        alloc: Global,
-        limit: Option<usize>,
-        interrupt: Option<&'a AtomicBool>,
-    ) -> Workers<'a, R>
-        ensures most { result.most ≡ most_workers limit }
-        ensures interrupt { result.interrupt ≡ interrupt.entry }
+    /// Returns the workers that the thread limit allows, with the usual stacks.
+    pub(crate) fn of(rt: &'a R, execution: &Execution<'a>) -> Workers<'a, R>
+        ensures most { result.most ≡ most_workers execution.now.thread_limit }
+        ensures interrupt { result.interrupt ≡ execution.now.interrupt }
     {
         Workers {
             rt,
-            alloc,
-            most: most_workers(limit),
+            alloc: execution.alloc,
+            most: most_workers(execution.thread_limit),
             stack_size: None,
-            interrupt,
+            interrupt: execution.interrupt,
         }
     }
 

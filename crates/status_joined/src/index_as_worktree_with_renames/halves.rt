@@ -12,7 +12,7 @@ use crate::untracked::{FindUntracked, Kept, walk_untracked};
 use crate::{ModificationOrDirwalkEntry, list_of};
 use status_call::index_as_worktree::status_by::status_by;
 use status_call::index_as_worktree::step::Decide;
-use status_call::index_as_worktree::workers::Limits;
+use status_call::index_as_worktree::workers::Execution;
 use status_call::index_as_worktree::{self, Record, Recorder};
 use std::sync::Wait;
 use std::sync::atomic::AtomicBool;
@@ -202,17 +202,10 @@ where
     ensures { IsRecorded (D.query decider) call.now.options.tracked_file_modifications.thread_limit call.now.index.now
         (is_some interrupt.entry) result }
 {
-    let limits = Limits::of(&call.options.tracked_file_modifications);
+    let options = &call.options.tracked_file_modifications;
+    let execution = Execution::of(call.alloc, options, interrupt);
     let mut recorder = Recorder::new(call.alloc);
-    match status_by(
-        rt,
-        call.alloc,
-        call.index,
-        &mut decider,
-        interrupt,
-        limits,
-        &mut recorder,
-    ) {
+    match status_by(rt, call.index, &mut decider, &execution, &mut recorder) {
         Ok(outcome) => Ok((recorder.records, outcome)),
         Err(error) => Err(error),
     }

@@ -106,15 +106,16 @@ where
         fault: None,
     });
     let path = BStr::new(b"foo");
-    let mut reader = EntryReader::new(
-        &tree,
-        &NoFilter,
-        &NoObjects,
-        entry.id,
+    let mut reader = EntryReader {
+        worktree: &tree,
+        filter: &NoFilter,
+        objects: &NoObjects,
+        id: entry.id,
         path,
-        case.is_link,
-        case.len,
-    );
+        is_link: case.is_link,
+        len: case.len,
+        reads: Reads::none(),
+    };
     let mut buffer = Vec::new(alloc);
     let change = comparer.compare_blobs(alloc, entry, case.len, &mut reader, &mut buffer)?;
     Ok((change, reader.reads))

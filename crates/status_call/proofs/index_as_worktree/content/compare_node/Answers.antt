@@ -9,12 +9,12 @@ use Rattle.status_call.proofs.index_as_worktree.content.compare_node.Goals as go
 pub returns-in_err-change-clause-compared : goal.returns-in_err-change-clause-compared
 returns-in_err-change-clause-compared g c = λ modelled.
     let i = c.args.inputs.now in
-    let path = bstr_bytes c.new-path.result in
-    let specified = entry_readings c.reads_link-is_link.result (λ x. g.T.ToGit.conversion i.filter x path) c.args.node.now.len
-    (g.W.Worktree.open_of i.worktree.now path) (g.W.Worktree.target_of i.worktree.now path) (g.O.Find.found i.objects c.args.entry.now.id) in
+    let path = bstr_bytes c.args.candidate.now.path in
+    let specified = entry_readings c.reads_link.result (λ x. g.T.ToGit.conversion i.filter x path) c.args.candidate.now.node.len
+    (g.W.Worktree.open_of i.worktree.now path) (g.W.Worktree.target_of i.worktree.now path) (g.O.Find.found i.objects c.args.candidate.now.entry.now.id) in
     let some = all_specified (g.W.Worktree.modelled i.worktree.now) (g.O.Find.modelled i.objects) (g.S.SubmoduleStatus.modelled i.submodule)
     (are_modelled c.args.settings.fscache (g.L.Lister.modelled i.lister)) specified modelled in
-    let answer = rw (c.new-reader.ensures, some) at (c.in_err-change.ensures.answer c.args.path.now) in
+    let answer = rw some at (c.in_err-change.ensures.answer path) in
     search rules
 
 pub returns-in_err-change-clause-same : goal.returns-in_err-change-clause-same
@@ -43,13 +43,13 @@ returns-in_err-change-clause-same g c =
 pub returns-clause-compared : goal.returns-clause-compared
 returns-clause-compared g c = λ modelled.
     let i = c.args.inputs.now in
-    let path = bstr_bytes c.new-path.result in
-    let specified = entry_readings c.reads_link-is_link.result (λ x. g.T.ToGit.conversion i.filter x path) c.args.node.now.len
-    (g.W.Worktree.open_of i.worktree.now path) (g.W.Worktree.target_of i.worktree.now path) (g.O.Find.found i.objects c.args.entry.now.id) in
+    let path = bstr_bytes c.args.candidate.now.path in
+    let specified = entry_readings c.reads_link.result (λ x. g.T.ToGit.conversion i.filter x path) c.args.candidate.now.node.len
+    (g.W.Worktree.open_of i.worktree.now path) (g.W.Worktree.target_of i.worktree.now path) (g.O.Find.found i.objects c.args.candidate.now.entry.now.id) in
     let some = all_specified (g.W.Worktree.modelled i.worktree.now) (g.O.Find.modelled i.objects) (g.S.SubmoduleStatus.modelled i.submodule)
     (are_modelled c.args.settings.fscache (g.L.Lister.modelled i.lister)) specified modelled in
-    let answer = rw (c.new-reader.ensures, some) at (c.in_ok-change.ensures.answer c.args.path.now) in
-    let counts = rw (c.new-reader.ensures, some) at (c.in_ok-change.ensures.counts c.args.path.now) in
+    let answer = rw some at (c.in_ok-change.ensures.answer path) in
+    let counts = rw some at (c.in_ok-change.ensures.counts path) in
     search rules
 
 pub returns-clause-same : goal.returns-clause-same

@@ -11,4 +11,4 @@ returns-clause-all g c = met_along _ _ (rw (c.of-inputs.ensures, c.of-settings.e
 
 pub returns-clause-alone : goal.returns-clause-alone
 returns-clause-alone g c =
-    unspawned_along _ _ (rw (c.of-inputs.ensures, c.of-settings.ensures) at c.new-decider.ensures) _ _ c.of-limits.ensures.thread_limit _ c.status_by.ensures.alone
+    unspawned_along _ _ (rw (c.of-inputs.ensures, c.of-settings.ensures) at c.new-decider.ensures) _ _ c.of-execution.ensures.thread_limit _ c.status_by.ensures.alone

@@ -14,7 +14,7 @@ returns-in-Ok-clause-all g c =
     let part = rw c.common_prefix.ensures at part_is.ensures.part in
     let start = rw c.common_prefix.ensures at part_is.ensures.start in
     let whole = map-part (index_entry (backing_of index)) (entries_of index) considered.start considered.end ∙ part in
-    let work = rw (part_is.ensures.entries, part_is.ensures.backing, c.by_limit-workers.ensures.interrupt) at c.in-Ok.ensures in
+    let work = rw (part_is.ensures.entries, part_is.ensures.backing, c.of-workers.ensures.interrupt) at c.in-Ok.ensures in
     let kept = work_kept _ _ _ _ _ _ _ _ _ _ _ _ refl start whole work in
     let len = length-map (entries_of index) (index_entry (backing_of index)) in
     let order = part_is.ensures.order in
@@ -34,7 +34,7 @@ returns-in-Err-clause-all g c =
     let part = rw c.common_prefix.ensures at part_is.ensures.part in
     let start = rw c.common_prefix.ensures at part_is.ensures.start in
     let whole = map-part (index_entry (backing_of index)) (entries_of index) considered.start considered.end ∙ part in
-    let work = rw (part_is.ensures.entries, part_is.ensures.backing, c.by_limit-workers.ensures.interrupt) at c.in-Err.ensures in
+    let work = rw (part_is.ensures.entries, part_is.ensures.backing, c.of-workers.ensures.interrupt) at c.in-Err.ensures in
     status_err _ _ _ _ _ _ c.in-Err.error (work_kept _ _ _ _ _ _ _ _ _ _ _ _ refl start whole work)
 
 pub returns-in-Err-clause-alone : goal.returns-in-Err-clause-alone
@@ -45,5 +45,5 @@ returns-in-Err-clause-alone g c =
     let part = rw c.common_prefix.ensures at part_is.ensures.part in
     let start = rw c.common_prefix.ensures at part_is.ensures.start in
     let whole = map-part (index_entry (backing_of index)) (entries_of index) considered.start considered.end ∙ part in
-    let work = rw (part_is.ensures.entries, part_is.ensures.backing, c.by_limit-workers.ensures.interrupt) at c.in-Err.ensures in
-    status_alone _ index _ _ _ _ c.in-Err.error (work_kept _ _ _ _ _ _ _ _ _ _ _ _ refl start whole work) c.args.limits.thread_limit c.by_limit-workers.ensures.most
+    let work = rw (part_is.ensures.entries, part_is.ensures.backing, c.of-workers.ensures.interrupt) at c.in-Err.ensures in
+    status_alone _ index _ _ _ _ c.in-Err.error (work_kept _ _ _ _ _ _ _ _ _ _ _ _ refl start whole work) c.args.execution.now.thread_limit c.of-workers.ensures.most

@@ -12,7 +12,7 @@ returns-in-Ok g c =
       ascends = rw grew m.ascends;
       complete = rw grew m.complete;
       interrupted = rw grew m.interrupted;
-      uninterrupted = λ unset. c.in-Ok.ensures.uninterrupted (none_of _ unset);
+      uninterrupted = λ unset. c.in-Ok.ensures.uninterrupted (c.of-execution.ensures.interrupt ∙ none_of _ unset);
       fits = m.fits;
     }
 
@@ -20,5 +20,5 @@ pub returns : goal.returns
 returns g c = record {
   found = map finding_of c.in-Err.ensures.all.more;
   first = c.in-Err.ensures.all.fault;
-  alone = λ modelled one never same. c.in-Err.ensures.alone modelled (c.of-limits.ensures.thread_limit ∙ one) never (ap Err same);
+  alone = λ modelled one never same. c.in-Err.ensures.alone modelled (c.of-execution.ensures.thread_limit ∙ one) never (ap Err same);
 }

@@ -18,7 +18,7 @@ returns-in_err-comparison-clause-same g c =
 
 pub returns-in_err-comparison-clause-decided : goal.returns-in_err-comparison-clause-decided
 returns-in_err-comparison-clause-decided g c =
-    let compared = rw c.as_bytes-path.ensures at c.in_err-comparison.ensures.compared in
+    let compared = c.in_err-comparison.ensures.compared in
     search rules
 
 pub returns-clause-same : goal.returns-clause-same
@@ -48,9 +48,9 @@ returns-clause-decided g c =
       compared = g.C.CompareBlobs.answer i.compare;
       counted = g.C.CompareBlobs.counts_after i.compare;
     } in
-    let e = entry_at (bstr_bytes c.args.path) c.args.entry.now in
-    let n = c.args.node.now in
+    let e = entry_at (bstr_bytes c.args.candidate.now.path) c.args.candidate.now.entry.now in
+    let n = c.args.candidate.now.node in
     λ modelled.
-    let answer = (rw c.as_bytes-path.ensures at c.in_ok-comparison.ensures.compared) modelled in
+    let answer = c.in_ok-comparison.ensures.compared modelled in
     compared_of_case q e n c.args.stat c.args.executable_bit_changed c.is_trusted-trusted.result c.is_racy-racy.result c.needs_comparison-compares.result c.in_ok-comparison.comparison.change (counted_of q e n) c.decision_of.result
     c.is_trusted-trusted.ensures c.is_racy-racy.ensures c.needs_comparison-compares.ensures c.if-not-compares.false answer.0 (c.decision_of.ensures e.path (counted_of q e n) answer.1)
