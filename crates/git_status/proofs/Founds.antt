@@ -15,7 +15,7 @@ use Rattle.status_index.specs.Entries.{IndexEntry, IsIndex}
 use Rattle.status_index.specs.States.{index_of, timestamp_of}
 use Rattle.git_status.specs.Failures.{failure_of_index}
 use Rattle.git_status.specs.declared.refresh.RefreshedFile.{RefreshedFile}
-use Rattle.status_call.specs.Outcomes.{skipped_of}
+use Rattle.status_call.specs.Counts.{skipped_of}
 use Rattle.status_call.specs.Query.{Query}
 use Rattle.status_call.specs.Visits.{Visit}
 use Rattle.status_call.specs.declared.index_as_worktree.types.Outcome.{Outcome}

@@ -4,7 +4,7 @@ use Rattle.std.specs.List.{list_any}
 use Rattle.git_attributes.specs.Files.{Said, states_of}
 use Rattle.git_attributes.specs.Normalization.{is_unconverted}
 use Rattle.status_call.specs.IndexChanges.{changes_of}
-use Rattle.status_call.specs.Outcomes.{skipped_of}
+use Rattle.status_call.specs.Counts.{skipped_of}
 use Rattle.status_call.specs.Visits.{Visit}
 use Rattle.status_call.specs.declared.index_as_worktree.apply.ApplyChange.{ApplyChange}
 use Rattle.status_call.specs.declared.index_as_worktree.types.Outcome.{Outcome}

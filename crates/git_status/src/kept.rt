@@ -8,7 +8,7 @@ ghost use Rattle.std.specs.List.{AllByRecursion};
 ghost use Rattle.status_index.specs.Entries.{IsIndex};
 ghost use Rattle.status_index.specs.States.{index_of};
 ghost use Rattle.status_call.specs.IndexChanges.{AreInside, applied};
-ghost use Rattle.status_call.specs.Outcomes.{skipped_of};
+ghost use Rattle.status_call.specs.Counts.{skipped_of};
 ghost use Rattle.git_index.specs.File.{IsFileOf};
 ghost use Rattle.git_index.specs.RawEntry.{FixedFits};
 ghost use Rattle.git_index.specs.WholeFile.{IsWholeFile};

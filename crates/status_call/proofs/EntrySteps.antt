@@ -10,12 +10,13 @@ use Rattle.status_compare.specs.Reads.{no_reads}
 use Rattle.status_call.specs.declared.index_as_worktree.step.Decided.{Decided}
 use Rattle.status_call.specs.declared.index_as_worktree.step.Step.{Step}
 use Rattle.status_call.specs.Conflicts.{run_at}
+use Rattle.status_call.specs.Counts.{conflict_counts, decided_counts, excluded_counts, flagged_counts}
 use Rattle.status_call.specs.Considered.{is_flagged, is_excluded, is_skipped}
 use Rattle.status_call.specs.Decisions.{IsDecided}
 use Rattle.status_call.specs.Pieces.{IsFaultAt}
 use Rattle.status_call.specs.Query.{Query}
 use Rattle.status_call.specs.Records.{conflict_status}
-use Rattle.status_call.specs.Steps.{IsFresh, IsNext, processed_counts, decided_counts}
+use Rattle.status_call.specs.Steps.{IsFresh, IsNext}
 use Rattle.status_compare.specs.Reads.{plus_reads}
 use Rattle.status_call.proofs.Steps.{IsSelf, next_flagged, next_excluded, next_conflict, next_decided, next_fault, run_some}
 
@@ -29,11 +30,11 @@ module _ (b : PathStorage) (es : List IndexEntry) (i : ℕ) (entry : Entry) (pat
       sym (stored d) ∙ ap (λ (p : List ℕ). entry_at p entry) (sym own)
 
   module _ {T U : Type 0} (q : Query T U) (fresh : IsFresh q (take i es) (drop i es)) (flagged : Bool) (flags : (p : List ℕ) → flagged ≡ is_flagged (entry_at p entry)) where
-    pub head_flagged : flagged ≡ true → (s : Step T U) → IsSelf s 1 (processed_counts 1 0) → s.status ≡ None → s.totals.reads ≡ no_reads → IsNext q es i s
+    pub head_flagged : flagged ≡ true → (s : Step T U) → IsSelf s 1 flagged_counts → s.status ≡ None → s.totals.reads ≡ no_reads → IsNext q es i s
     head_flagged h s self none read = next_flagged es index i head within here q fresh s self none read (sym (flags path) ∙ h)
 
     module _ (unflagged : flagged ≡ false) (included : Bool) (includes : included ≡ not (is_excluded q head)) where
-      pub head_excluded : included ≡ false → (s : Step T U) → IsSelf s 1 (processed_counts 0 1) → s.status ≡ None → s.totals.reads ≡ no_reads → IsNext q es i s
+      pub head_excluded : included ≡ false → (s : Step T U) → IsSelf s 1 excluded_counts → s.status ≡ None → s.totals.reads ≡ no_reads → IsNext q es i s
       head_excluded h s self none read =
           next_excluded es index i head within here q fresh s self none read (sym (flags path) ∙ unflagged) (not-false (is_excluded q head) (sym includes ∙ h))
 
@@ -45,7 +46,7 @@ module _ (b : PathStorage) (es : List IndexEntry) (i : ℕ) (entry : Entry) (pat
         pub head_some : (stage ≡ 0 → ⊥) → 0 < length (run_at es i path)
         head_some h = run_some es index i head within here q fresh kept (omega (arith, h))
 
-        pub head_conflict : (stage ≡ 0 → ⊥) → (s : Step T U) → IsSelf s (length (run_at es i path)) (processed_counts 0 0) → s.status ≡ conflict_status (run_at es i path) → s.totals.reads ≡ no_reads → IsNext q es i s
+        pub head_conflict : (stage ≡ 0 → ⊥) → (s : Step T U) → IsSelf s (length (run_at es i path)) conflict_counts → s.status ≡ conflict_status (run_at es i path) → s.totals.reads ≡ no_reads → IsNext q es i s
         head_conflict h s self reported read =
             next_conflict es index i head within here q fresh kept (omega (arith, h)) s self reported read
 

@@ -12,16 +12,16 @@ use Rattle.status_call.specs.declared.index_as_worktree.types.EntryStatus.{Entry
 use Rattle.status_call.specs.declared.index_as_worktree.types.Finding.{Finding}
 use Rattle.status_call.specs.declared.index_as_worktree.counts.Totals.{Totals}
 use Rattle.status_call.specs.Considered.{same_path, takes_over}
-use Rattle.status_call.specs.Counts.{counts_in, reads_in}
+use Rattle.status_call.specs.Counts.{IsWithin, counts_in, reads_in}
 use Rattle.status_call.specs.declared.index_as_worktree.counts.Counts.{Counts}
 use Rattle.status_call.specs.Pieces.{IsCut, IsAsSpecified, IsDone}
-use Rattle.status_call.specs.Counts.{IsWithin}
 use Rattle.status_call.specs.Query.{Query}
 use Rattle.status_call.specs.Records.{record_by, records_in, faults_in}
 use Rattle.status_call.specs.Steps.{IsFresh, IsNext}
-use Rattle.status_call.specs.Counts.{no_counts, no_totals, plus_counts, plus_totals}
+use Rattle.status_call.specs.Counts.{no_totals, plus_counts, plus_totals}
 use Rattle.status_compare.specs.Reads.{plus_reads}
-use Rattle.status_call.proofs.Records.{records-append, faults-append, counts-append, reads-append}
+use Rattle.status_call.proofs.Counts.{IsWithin-more, IsWithin-none, IsWithin-sum, counts-append}
+use Rattle.status_call.proofs.Records.{records-append, faults-append, reads-append}
 use Rattle.status_call.proofs.Stretch.{All-take_at, All-drop_at, All-take_from, All-drop_from, All-part_at, AllPairs-append, length-part, part_none, part_split}
 
 -- Of two, the first is false.
@@ -32,44 +32,6 @@ or_false false b c e h = e
 some_entry : (es : List IndexEntry) → 0 < length es → IndexEntry
 some_entry [] h = absurd (omega arith)
 some_entry (e ∷ es) h = e
-
-pub IsWithin-same : (n : ℕ) (a b : Counts) → a ≡ b → IsWithin n b → IsWithin n a
-IsWithin-same n a b e h =
-    let P : Counts → Type 0 = λ k. IsWithin n k in
-    subst P (sym e) h
-
-IsWithin-sum : (m n k : ℕ) (a b : Counts) → m + n ≤ k → IsWithin m a → IsWithin n b → IsWithin k (plus_counts a b)
-IsWithin-sum m n k a b l h w = record {
-  processed = omega (arith, h.processed, w.processed);
-  skipped_by_flags = omega (arith, h.skipped_by_flags, w.skipped_by_flags);
-  skipped_by_pathspec = omega (arith, h.skipped_by_pathspec, w.skipped_by_pathspec);
-  skipped = omega (arith, h.skipped, w.skipped);
-  lstat_calls = omega (arith, h.lstat_calls, w.lstat_calls);
-  racy_clean = omega (arith, h.racy_clean, w.racy_clean);
-  to_update = omega (arith, h.to_update, w.to_update);
-}
-
-pub IsWithin-more : (m n : ℕ) (a : Counts) → m ≤ n → IsWithin m a → IsWithin n a
-IsWithin-more m n a l h = record {
-  processed = omega (arith, h.processed);
-  skipped_by_flags = omega (arith, h.skipped_by_flags);
-  skipped_by_pathspec = omega (arith, h.skipped_by_pathspec);
-  skipped = omega (arith, h.skipped);
-  lstat_calls = omega (arith, h.lstat_calls);
-  racy_clean = omega (arith, h.racy_clean);
-  to_update = omega (arith, h.to_update);
-}
-
-IsWithin-none : (n : ℕ) → IsWithin n no_counts
-IsWithin-none n = record {
-  processed = omega arith;
-  skipped_by_flags = omega arith;
-  skipped_by_pathspec = omega arith;
-  skipped = omega arith;
-  lstat_calls = omega arith;
-  racy_clean = omega arith;
-  to_update = omega arith;
-}
 
 module _ {T U : Type 0} where
   -- The entry's position is at least `low` and below `high`.

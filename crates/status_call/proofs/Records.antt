@@ -1,4 +1,4 @@
--- Records, faults, counts and reads of parts of the considered entries, and of one entry.
+-- Records, faults and reads of parts of the considered entries, and of one entry.
 use Rattle.std.proofs.Common.{◌≡◌, refl, sym, ap, ◌∙◌, ℕ, ◌+◌, ◌≤◌, min, Bool, true, false, not, ◌&&◌, ◌||◌, ◌==◌, List, [], ◌∷◌, ◌++◌, length, map, All, sum_by, count_by, Option, Some, None, option_map, Ok, arith}
 use Rattle.std.specs.List.{flat_map, enumerate_from, cons_option}
 use Rattle.std.proofs.lemmas.Bool.{cond-true, cond-false, and_from, and_left, and_right, or_left, or_right, or_from, or_parts, not_from_true, not_from_false}
@@ -12,33 +12,19 @@ use Rattle.status_compare.specs.declared.error.Error.{Error}
 use Rattle.status_compare.specs.declared.read_data.Reads.{Reads}
 use Rattle.status_compare.specs.Reads.{no_reads}
 use Rattle.status_call.specs.declared.index_as_worktree.step.Decided.{Decided}
-use Rattle.status_call.specs.declared.index_as_worktree.step.Step.{Step}
 use Rattle.status_call.specs.declared.index_as_worktree.types.Conflict.{Conflict}
 use Rattle.status_call.specs.declared.index_as_worktree.types.ConflictIndexEntry.{ConflictIndexEntry}
 use Rattle.status_call.specs.declared.index_as_worktree.types.EntryStatus.TheVariants as statuses
 use Rattle.status_call.specs.declared.index_as_worktree.types.Finding.{Finding}
 use Rattle.status_call.specs.Conflicts.{conflict_of, kept_of, places_of}
 use Rattle.status_call.specs.Considered.{is_flagged, is_excluded, is_skipped, is_over, stages_from}
-use Rattle.status_call.specs.Counts.{counts_in, reads_in, reads_of, is_looked_at, calls_lstat, is_racy_case, is_update, ModelsReads}
-use Rattle.status_call.specs.declared.index_as_worktree.counts.Counts.{Counts}
+use Rattle.status_call.specs.Counts.{reads_in, reads_of, is_looked_at, ModelsReads}
 use Rattle.status_call.specs.Decisions.{IsDecision}
 use Rattle.status_call.specs.Query.{Query}
 use Rattle.status_call.specs.Records.{verdict, records_in, record_by, faults_in, fault_by, conflict_status}
 use Rattle.status_call.specs.Status.{case_of, status_of}
-use Rattle.status_call.specs.Steps.{IsStepOf, processed_counts, decided_counts}
-use Rattle.status_call.specs.Counts.{plus_counts}
 use Rattle.status_compare.specs.Reads.{plus_reads}
-use Rattle.status_call.proofs.Stretch.{weight, count_first, sum_by_none, enumerate-append}
-
-pub same_counts : (a b : Counts) → a.processed ≡ b.processed → a.skipped_by_flags ≡ b.skipped_by_flags → a.skipped_by_pathspec ≡ b.skipped_by_pathspec → a.lstat_calls ≡ b.lstat_calls → a.racy_clean ≡ b.racy_clean → a.to_update ≡ b.to_update → a ≡ b
-same_counts a b p f s l r u i = record {
-  processed = p i;
-  skipped_by_flags = f i;
-  skipped_by_pathspec = s i;
-  lstat_calls = l i;
-  racy_clean = r i;
-  to_update = u i;
-}
+use Rattle.status_call.proofs.Stretch.{sum_by_none, enumerate-append}
 
 pub same_reads : (a b : Reads) → a.bytes ≡ b.bytes → a.files ≡ b.files → a.object_bytes ≡ b.object_bytes → a.objects ≡ b.objects → a ≡ b
 same_reads a b p f o k i = record { bytes = p i; files = f i; object_bytes = o i; objects = k i }
@@ -49,15 +35,7 @@ min_sum m a b = omega arith
 saturate_sum : (a b : ℕ) → saturate (a + b) ≡ saturate (saturate a + saturate b)
 saturate_sum a b = min_sum 18446744073709551615 a b
 
-pub weight_le : (b : Bool) → weight b ≤ 1
-weight_le true = omega arith
-weight_le false = omega arith
-
 module _ {T U : Type 0} (q : Query T U) where
-  no_update : (entries : List (Option ConflictIndexEntry)) (o : Option Conflict) → is_update {T = T} {U = U} (Ok (option_map (λ c. statuses.Conflict c entries) o)) ≡ false
-  no_update entries None = refl
-  no_update entries (Some c) = refl
-
   read_append : (f : IndexEntry → ℕ) (xs ys : List IndexEntry) → saturate (sum_by f (xs ++ ys)) ≡ saturate (saturate (sum_by f xs) + saturate (sum_by f ys))
   read_append f xs ys = ap saturate (sum_by-append f xs ys) ∙ saturate_sum (sum_by f xs) (sum_by f ys)
 
@@ -78,42 +56,14 @@ module _ {T U : Type 0} (q : Query T U) (es : List IndexEntry) where
   pub faults-append : (xs ys : List IndexEntry) → faults_in q es (xs ++ ys) ≡ faults_in q es xs ++ faults_in q es ys
   faults-append xs ys = filter_map-append (λ (e : IndexEntry). fault_by (verdict q es e)) xs ys
 
-  -- The tests by which an entry adds 1 to a count.
-  abbrev is_processed : IndexEntry → Bool
-  is_processed e = not (is_over q es e)
-
-  abbrev is_left_by_flags : IndexEntry → Bool
-  is_left_by_flags e = is_flagged e && not (is_over q es e)
-
-  abbrev is_left_by_pathspec : IndexEntry → Bool
-  is_left_by_pathspec e = not (is_flagged e) && is_excluded q e && not (is_over q es e)
-
-  abbrev is_statted : IndexEntry → Bool
-  is_statted e = is_looked_at q e && calls_lstat q e
-
-  abbrev is_racy : IndexEntry → Bool
-  is_racy e = is_looked_at q e && is_racy_case (case_of q e)
-
-  abbrev is_updated : IndexEntry → Bool
-  is_updated e = is_update (verdict q es e)
-
-  count_append : (p : IndexEntry → Bool) (xs ys : List IndexEntry) → count_by p (xs ++ ys) ≡ count_by p xs + count_by p ys
-  count_append p xs ys = sum_by-append (λ e. weight (p e)) xs ys
-
-  pub counts-append : (xs ys : List IndexEntry) → counts_in q es (xs ++ ys) ≡ plus_counts (counts_in q es xs) (counts_in q es ys)
-  counts-append xs ys =
-      same_counts (counts_in q es (xs ++ ys)) (plus_counts (counts_in q es xs) (counts_in q es ys))
-      (count_append is_processed xs ys) (count_append is_left_by_flags xs ys) (count_append is_left_by_pathspec xs ys)
-      (count_append is_statted xs ys) (count_append is_racy xs ys) (count_append is_updated xs ys)
-
-  records_none : (xs : List IndexEntry) → All (λ e. verdict q es e ≡ Ok None) xs → (i : ℕ) → records_in q es i xs ≡ []
+  pub records_none : (xs : List IndexEntry) → All (λ e. verdict q es e ≡ Ok None) xs → (i : ℕ) → records_in q es i xs ≡ []
   records_none [] h i = refl
   records_none (x ∷ xs) h i =
       ap (λ (ys : List (Finding T U)). record_by i (verdict q es x) ++ ys) (records_none xs (All-tail (λ (e : IndexEntry). verdict q es e ≡ Ok None) x xs h) (i + 1))
       ∙ append-nil (record_by i (verdict q es x))
       ∙ ap (record_by i) (All-head (λ (e : IndexEntry). verdict q es e ≡ Ok None) x xs h)
 
-  faults_none : (xs : List IndexEntry) → All (λ e. verdict q es e ≡ Ok None) xs → faults_in q es xs ≡ []
+  pub faults_none : (xs : List IndexEntry) → All (λ e. verdict q es e ≡ Ok None) xs → faults_in q es xs ≡ []
   faults_none [] h = refl
   faults_none (x ∷ xs) h =
       ap (λ (o : Option Error). cons_option o (faults_in q es xs)) (ap fault_by (All-head (λ (e : IndexEntry). verdict q es e ≡ Ok None) x xs h))
@@ -124,62 +74,24 @@ module _ {T U : Type 0} (q : Query T U) (es : List IndexEntry) where
     pub over : is_over q es e ≡ true
     pub staged : (stage_of e == 0) ≡ false
 
-  later_verdict : (e : IndexEntry) → IsLater e → verdict q es e ≡ Ok None
+  pub later_verdict : (e : IndexEntry) → IsLater e → verdict q es e ≡ Ok None
   later_verdict e h = cond-true (is_skipped q e || is_over q es e) _ _ (or_right _ _ h.over)
 
   later_reads : (e : IndexEntry) → IsLater e → reads_of q e ≡ no_reads
   later_reads e h = cond-false (is_looked_at q e) _ _ (and_right _ _ h.staged)
 
-  -- The counts of one entry.
-  abbrev pub one_counts : IndexEntry → Counts
-  one_counts x = record {
-    processed = weight (is_processed x);
-    skipped_by_flags = weight (is_left_by_flags x);
-    skipped_by_pathspec = weight (is_left_by_pathspec x);
-    lstat_calls = weight (is_statted x);
-    racy_clean = weight (is_racy x);
-    to_update = weight (is_updated x);
-  }
-
   -- An entry, and the later stages of its conflict.
   module _ (x : IndexEntry) (xs : List IndexEntry) (later : All IsLater xs) where
-    count_head : (p : IndexEntry → Bool) → ((e : IndexEntry) → IsLater e → p e ≡ false) → count_by p (x ∷ xs) ≡ weight (p x)
-    count_head p h = count_first p x xs (All-weaker IsLater (λ e. p e ≡ false) h xs later)
-
-    counts_head : counts_in q es (x ∷ xs) ≡ one_counts x
-    counts_head =
-        same_counts (counts_in q es (x ∷ xs)) (one_counts x)
-        (count_head is_processed (λ e h. not_from_true _ h.over))
-        (count_head is_left_by_flags (λ e h. and_right _ _ (not_from_true _ h.over)))
-        (count_head is_left_by_pathspec (λ e h. and_right _ _ (not_from_true _ h.over)))
-        (count_head is_statted (λ e h. and_left _ _ (and_right _ _ h.staged)))
-        (count_head is_racy (λ e h. and_left _ _ (and_right _ _ h.staged)))
-        (count_head is_updated (λ e h. ap is_update (later_verdict e h)))
-
     read_head : (f : Reads → ℕ) → f no_reads ≡ 0 → saturate (sum_by (λ e. f (reads_of q e)) (x ∷ xs)) ≡ saturate (0 + f (reads_of q x))
     read_head f none =
         let rest = sum_by_none (λ e. f (reads_of q e)) xs (All-weaker IsLater (λ e. f (reads_of q e) ≡ 0) (λ e h. ap f (later_reads e h) ∙ none) xs later) in
         let all : sum_by (λ e. f (reads_of q e)) (x ∷ xs) ≡ 0 + f (reads_of q x) = omega (arith, sum_by-cons (λ (e : IndexEntry). f (reads_of q e)) x xs, rest) in
         ap saturate all
 
-    reads_head : reads_in q (x ∷ xs) ≡ plus_reads no_reads (reads_of q x)
+    pub reads_head : reads_in q (x ∷ xs) ≡ plus_reads no_reads (reads_of q x)
     reads_head =
         same_reads (reads_in q (x ∷ xs)) (plus_reads no_reads (reads_of q x))
         (read_head (λ r. r.bytes) refl) (read_head (λ r. r.files) refl) (read_head (λ r. r.object_bytes) refl) (read_head (λ r. r.objects) refl)
-
-    pub step_of : (part : List IndexEntry) (s : Step T U) → part ≡ x ∷ xs → verdict q es x ≡ Ok s.status → s.totals.counts ≡ one_counts x → (ModelsReads q → s.totals.reads ≡ plus_reads no_reads (reads_of q x)) → IsStepOf q es part s
-    step_of part s same reported counted read =
-        let quiet = All-weaker IsLater (λ e. verdict q es e ≡ Ok None) later_verdict xs later in
-        record {
-          records = λ j. ap (records_in q es j) same
-              ∙ ap (λ (ys : List (Finding T U)). record_by j (verdict q es x) ++ ys) (records_none xs quiet (j + 1))
-              ∙ append-nil (record_by j (verdict q es x)) ∙ ap (record_by j) reported;
-          counts = counted ∙ sym (ap (counts_in q es) same ∙ counts_head);
-          reads = λ t. read t ∙ sym (ap (reads_in q) same ∙ reads_head);
-          clear = ap (faults_in q es) same
-              ∙ ap (λ (o : Option Error). cons_option o (faults_in q es xs)) (ap fault_by reported)
-              ∙ faults_none xs quiet;
-        }
 
   -- One entry that isn't a later stage.
   module _ (x : IndexEntry) (first : is_over q es x ≡ false) where
@@ -188,28 +100,6 @@ module _ {T U : Type 0} (q : Query T U) (es : List IndexEntry) where
 
     pub skipped_reads : is_skipped q x ≡ true → reads_of q x ≡ no_reads
     skipped_reads h = cond-false (is_looked_at q x) _ _ (and_left _ _ (not_from_true _ h))
-
-    pub flagged_counts : is_flagged x ≡ true → one_counts x ≡ processed_counts 1 0
-    flagged_counts h =
-        let out : is_looked_at q x ≡ false = and_left _ _ (not_from_true _ (or_left _ _ h)) in
-        same_counts (one_counts x) (processed_counts 1 0)
-        (ap weight (not_from_false _ first))
-        (ap weight (and_from _ _ h (not_from_false _ first)))
-        (ap weight (and_left _ _ (and_left _ _ (not_from_true _ h))))
-        (ap weight (and_left _ _ out))
-        (ap weight (and_left _ _ out))
-        (ap weight (ap is_update (skipped_verdict (or_left _ _ h))))
-
-    pub excluded_counts : is_flagged x ≡ false → is_excluded q x ≡ true → one_counts x ≡ processed_counts 0 1
-    excluded_counts f h =
-        let out : is_looked_at q x ≡ false = and_left _ _ (not_from_true _ (or_right _ _ h)) in
-        same_counts (one_counts x) (processed_counts 0 1)
-        (ap weight (not_from_false _ first))
-        (ap weight (and_left _ _ f))
-        (ap weight (and_from _ _ (and_from _ _ (not_from_false _ f) h) (not_from_false _ first)))
-        (ap weight (and_left _ _ out))
-        (ap weight (and_left _ _ out))
-        (ap weight (ap is_update (skipped_verdict (or_right _ _ h))))
 
     module _ (kept : is_skipped q x ≡ false) where
       pub conflict_verdict : (stage_of x == 0) ≡ false → verdict q es x ≡ Ok (conflict_status (stages_from es x))
@@ -220,36 +110,12 @@ module _ {T U : Type 0} (q : Query T U) (es : List IndexEntry) where
       status_verdict plain =
           cond-false (is_skipped q x || is_over q es x) _ _ (or_from _ _ kept first) ∙ cond-true (stage_of x == 0) _ _ plain
 
-      pub conflict_counts : (stage_of x == 0) ≡ false → one_counts x ≡ processed_counts 0 0
-      conflict_counts staged =
-          let out : is_looked_at q x ≡ false = and_right _ _ staged in
-          let parts = or_parts (is_flagged x) (is_excluded q x) kept in
-          let run = stages_from es x in
-          same_counts (one_counts x) (processed_counts 0 0)
-          (ap weight (not_from_false _ first))
-          (ap weight (and_left _ _ parts.0))
-          (ap weight (and_left _ _ (and_right _ _ parts.1)))
-          (ap weight (and_left _ _ out))
-          (ap weight (and_left _ _ out))
-          (ap weight (ap is_update (conflict_verdict staged) ∙ no_update q (map (option_map kept_of) (places_of run)) (conflict_of run)))
-
       pub conflict_reads : (stage_of x == 0) ≡ false → reads_of q x ≡ no_reads
       conflict_reads staged = cond-false (is_looked_at q x) _ _ (and_right _ _ staged)
 
       module _ (plain : (stage_of x == 0) ≡ true) (d : Decided T U) (h : IsDecision q x d) where
-        looked_at : is_looked_at q x ≡ true
+        pub looked_at : is_looked_at q x ≡ true
         looked_at = and_from _ _ (not_from_false _ kept) plain
-
-        pub decision_counts : one_counts x ≡ decided_counts d
-        decision_counts =
-            let parts = or_parts (is_flagged x) (is_excluded q x) kept in
-            same_counts (one_counts x) (decided_counts d)
-            (ap weight (not_from_false _ first))
-            (ap weight (and_left _ _ parts.0))
-            (ap weight (and_left _ _ (and_right _ _ parts.1)))
-            (ap weight (ap (λ (b : Bool). b && calls_lstat q x) looked_at ∙ sym h.lstat_called))
-            (ap weight (ap (λ (b : Bool). b && is_racy_case (case_of q x)) looked_at ∙ sym h.racy))
-            (ap weight (ap is_update (status_verdict plain ∙ h.status)))
 
         pub decision_reads : ModelsReads q → reads_of q x ≡ d.reads
         decision_reads t = cond-true (is_looked_at q x) _ _ looked_at ∙ sym (h.reads t)

@@ -13,12 +13,9 @@ use Rattle.status_compare.specs.declared.error.Error.{Error}
 use Rattle.status_compare.specs.declared.error.Error.TheVariants.{Memory, SpawnThread}
 use Rattle.status_call.specs.declared.index_as_worktree.types.Finding.{Finding}
 use Rattle.status_call.specs.declared.index_as_worktree.types.Outcome.{Outcome}
-use Rattle.status_call.specs.declared.index_as_worktree.counts.Counts.{Counts}
 use Rattle.status_call.specs.declared.index_as_worktree.counts.Progress.{Progress}
-use Rattle.status_compare.specs.declared.read_data.Reads.{Reads}
-use Rattle.status_call.specs.Counts.{IsOutcome, counts_in, reads_in, ModelsReads}
+use Rattle.status_call.specs.Counts.{IsOutcome, counts_in, outcome_of, reads_in, skipped_of}
 use Rattle.status_call.specs.Pieces.{IsAsSpecified, IsFaultAt}
-use Rattle.status_call.specs.Outcomes.{outcome_of, skipped_of}
 use Rattle.status_call.specs.Query.{Query}
 use Rattle.status_call.specs.Records.{records_in, records_of, faults_in, first_fault, verdict}
 use Rattle.status_call.specs.StatusOf.{IsFaultOrMemory, IsThreadless, OneThreadSpawnsNone}
@@ -26,6 +23,7 @@ use Rattle.status_call.specs.StatusTheorem.{IsBeginning, IsComplete, IsStatusRep
 use Rattle.status_call.specs.Visits.{Visit, finding_of, IsFaithful}
 use Rattle.status_call.specs.WorkInOrder.{IsShortage, IsWorkStopped, IsReportedWork}
 use Rattle.status_call.specs.Workers.{most_workers}
+use Rattle.status_call.proofs.Counts.{counted_outcome}
 use Rattle.status_call.proofs.Records.{records-append}
 use Rattle.status_call.proofs.LawRecords.{fault_law}
 use Rattle.status_call.proofs.NoThread.{never_spawned}
@@ -120,22 +118,7 @@ module _ {T U : Type 0} (q : Query T U) (index : State) (has_flag : Bool) (old n
     -- The counts of the outcome for the first considered entries.
     front_outcome : (n : ℕ) (reported : List (Finding T U)) → IsAsSpecified q start es 0 n reported p.totals → IsOutcome q (index_of index) es (take n es) outcome
     front_outcome n reported m =
-        let counts : p.totals.counts ≡ counts_in q es (take n es) = m.counts ∙ ap (counts_in q es) (part_front es n) in
-        let reads : ModelsReads q → p.totals.reads ≡ reads_in q (take n es) = λ r. m.reads r ∙ ap (reads_in q) (part_front es n) in
-        record {
-          to_process = process;
-          skipped_by_prefix = rest;
-          processed = ap (λ (k : Counts). k.processed) counts;
-          skipped_by_flags = ap (λ (k : Counts). k.skipped_by_flags) counts;
-          skipped_by_pathspec = ap (λ (k : Counts). k.skipped_by_pathspec) counts;
-          lstat_calls = ap (λ (k : Counts). k.lstat_calls) counts;
-          racy_clean = ap (λ (k : Counts). k.racy_clean) counts;
-          to_update = ap (λ (k : Counts). k.to_update) counts;
-          bytes = λ r. ap (λ (k : Reads). k.bytes) (reads r);
-          files = λ r. ap (λ (k : Reads). k.files) (reads r);
-          object_bytes = λ r. ap (λ (k : Reads). k.object_bytes) (reads r);
-          objects = λ r. ap (λ (k : Reads). k.objects) (reads r);
-        }
+        counted_outcome q (index_of index) es (take n es) p all range process rest (m.counts ∙ ap (counts_in q es) (part_front es n)) (λ r. m.reads r ∙ ap (reads_in q) (part_front es n))
 
     -- The first of the considered entries were processed.
     first_status : IsTrue q.modelled → IsStatusOf q index work.ended.place (map finding_of work.fed.more) outcome

@@ -1,7 +1,9 @@
 -- The next step: one entry that is skipped or decided, or a conflict.
-use Rattle.std.proofs.Common.{◌≡◌, refl, sym, ap, ◌∙◌, ℕ, ◌+◌, ◌<◌, ◌≤◌, inl, inr, true, false, ◌==◌, List, [], ◌∷◌, ◌++◌, length, take, drop, slice_index_or, All, None, Ok, Err, IsTrue, arith}
+use Rattle.std.proofs.Common.{◌≡◌, refl, sym, ap, ◌∙◌, ℕ, ◌+◌, ◌<◌, ◌≤◌, inl, inr, true, false, ◌==◌, List, [], ◌∷◌, ◌++◌, length, take, drop, slice_index_or, All, Option, None, Ok, Err, IsTrue, arith}
 use Rattle.std.proofs.lemmas.Bool.{and_left, and_right, not_from_true, or_left, or_right, ne_eqb, eq-eqb, le-ltb}
-use Rattle.std.proofs.lemmas.List.Elements.{All-nil}
+use Rattle.std.specs.List.{cons_option}
+use Rattle.std.proofs.lemmas.List.{append-nil}
+use Rattle.std.proofs.lemmas.List.Elements.{All-nil, All-weaker}
 use Rattle.std.proofs.lemmas.List.Folds.{length-prefix_len}
 use Rattle.status_index.specs.Entries.{IndexEntry, IsIndex, stage_of}
 use Rattle.status_index.specs.Stretch.{part_of}
@@ -11,18 +13,18 @@ use Rattle.status_call.specs.declared.index_as_worktree.step.Decided.{Decided}
 use Rattle.status_call.specs.declared.index_as_worktree.step.Step.{Step}
 use Rattle.status_call.specs.Conflicts.{is_in_run, run_at}
 use Rattle.status_call.specs.Considered.{is_flagged, is_excluded, is_skipped, is_over, same_path, takes_over}
-use Rattle.status_call.specs.Counts.{no_totals, reads_of, ModelsReads}
+use Rattle.status_call.specs.Counts.{IsWithin, ModelsReads, conflict_counts, counts_in, decided_counts, excluded_counts, flagged_counts, no_totals, reads_in, reads_of}
 use Rattle.status_call.specs.declared.index_as_worktree.counts.Counts.{Counts}
 use Rattle.status_call.specs.Decisions.{IsDecided}
 use Rattle.status_call.specs.Pieces.{IsFaultAt}
-use Rattle.status_call.specs.Counts.{IsWithin}
 use Rattle.status_call.specs.Query.{Query}
-use Rattle.status_call.specs.Records.{verdict, conflict_status}
-use Rattle.status_call.specs.Steps.{IsFresh, IsStepOf, IsNext, processed_counts, decided_counts}
+use Rattle.status_call.specs.declared.index_as_worktree.types.Finding.{Finding}
+use Rattle.status_call.specs.Records.{conflict_status, fault_by, faults_in, record_by, records_in, verdict}
+use Rattle.status_call.specs.Steps.{IsFresh, IsStepOf, IsNext}
 use Rattle.status_compare.specs.Reads.{plus_reads}
 use Rattle.status_call.proofs.IndexOrder.{same_back, same_from_path}
-use Rattle.status_call.proofs.Pieces.{IsWithin-same, IsWithin-more}
-use Rattle.status_call.proofs.Records.{IsLater, one_counts, step_of, weight_le, skipped_verdict, skipped_reads, flagged_counts, excluded_counts, conflict_verdict, conflict_counts, conflict_reads, status_verdict, decision_counts, decision_reads}
+use Rattle.status_call.proofs.Counts.{IsWithin-same, IsWithin-more, conflict_within, counts_head, decided_within, excluded_within, flagged_within, one-conflict, one-decided, one-excluded, one-flagged, one_counts}
+use Rattle.status_call.proofs.Records.{IsLater, conflict_reads, conflict_verdict, decision_reads, faults_none, later_verdict, reads_head, records_none, skipped_reads, skipped_verdict, status_verdict}
 use Rattle.status_call.proofs.Stretch.{All-part_from, part_one, part_split}
 use Rattle.status_call.proofs.ConflictRuns.{not_over, fresh_more, climb, count, inside, some, run_same, part_is_run, stages_are, later_over, run_apart}
 
@@ -31,33 +33,27 @@ pub record IsSelf {T U : Type 0} (s : Step T U) (len : ℕ) (counts : Counts) : 
   pub long : s.len ≡ len
   pub counted : s.totals.counts ≡ counts
 
-pub skipped_self : {T U : Type 0} (s : Step T U) (flags pathspec : ℕ) → s ≡ record { status = None; len = 1; totals = record no_totals { counts = processed_counts flags pathspec } } → IsSelf s 1 (processed_counts flags pathspec)
-skipped_self {T} {U} s flags pathspec h = record {
+pub skipped_self : {T U : Type 0} (s : Step T U) (k : Counts) → s ≡ record { status = None; len = 1; totals = record no_totals { counts = k } } → IsSelf s 1 k
+skipped_self {T} {U} s k h = record {
   long = ap (λ (x : Step T U). x.len) h;
   counted = ap (λ (x : Step T U). x.totals.counts) h;
 }
 
-processed_within : (n flags pathspec : ℕ) → 1 ≤ n → flags + pathspec ≤ 1 → IsWithin n (processed_counts flags pathspec)
-processed_within n flags pathspec l few = record {
-  processed = l;
-  skipped_by_flags = omega arith;
-  skipped_by_pathspec = omega arith;
-  skipped = omega arith;
-  lstat_calls = omega arith;
-  racy_clean = omega arith;
-  to_update = omega arith;
-}
-
-decided_within : {T U : Type 0} (d : Decided T U) → IsWithin 1 (decided_counts d)
-decided_within d = record {
-  processed = omega arith;
-  skipped_by_flags = omega arith;
-  skipped_by_pathspec = omega arith;
-  skipped = omega arith;
-  lstat_calls = weight_le d.lstat_called;
-  racy_clean = weight_le d.racy;
-  to_update = weight_le _;
-}
+-- The step of an entry and the later stages of its conflict.
+module _ {T U : Type 0} (q : Query T U) (es : List IndexEntry) (x : IndexEntry) (xs : List IndexEntry) (later : All (IsLater q es) xs) where
+  step_of : (part : List IndexEntry) (s : Step T U) → part ≡ x ∷ xs → verdict q es x ≡ Ok s.status → s.totals.counts ≡ one_counts q es x → (ModelsReads q → s.totals.reads ≡ plus_reads no_reads (reads_of q x)) → IsStepOf q es part s
+  step_of part s same reported counted read =
+      let quiet = All-weaker (IsLater q es) (λ e. verdict q es e ≡ Ok None) (later_verdict q es) xs later in
+      record {
+        records = λ j. ap (records_in q es j) same
+            ∙ ap (λ (ys : List (Finding T U)). record_by j (verdict q es x) ++ ys) (records_none q es xs quiet (j + 1))
+            ∙ append-nil (record_by j (verdict q es x)) ∙ ap (record_by j) reported;
+        counts = counted ∙ sym (ap (counts_in q es) same ∙ counts_head q es x xs later);
+        reads = λ t. read t ∙ sym (ap (reads_in q) same ∙ reads_head q es x xs later);
+        clear = ap (faults_in q es) same
+            ∙ ap (λ (o : Option Error). cons_option o (faults_in q es xs)) (ap fault_by reported)
+            ∙ faults_none q es xs quiet;
+      }
 
 module _ (es : List IndexEntry) (index : IsIndex es) (i : ℕ) (x : IndexEntry) (l : i < length es) (here : (d : IndexEntry) → slice_index_or es i d ≡ x) where
   only_here : (k : ℕ) (d : IndexEntry) → i ≤ k → k < i + 1 → slice_index_or es k d ≡ x
@@ -97,17 +93,17 @@ module _ (es : List IndexEntry) (index : IsIndex es) (i : ℕ) (x : IndexEntry) 
     skipped_step s h none counted read =
         step_of_one s (skipped_verdict q es x first h ∙ ap Ok (sym none)) counted (λ _. read ∙ ap (plus_reads no_reads) (sym (skipped_reads q es x first h)))
 
-    pub next_flagged : (s : Step T U) → IsSelf s 1 (processed_counts 1 0) → s.status ≡ None → s.totals.reads ≡ no_reads → is_flagged x ≡ true → IsNext q es i s
+    pub next_flagged : (s : Step T U) → IsSelf s 1 flagged_counts → s.status ≡ None → s.totals.reads ≡ no_reads → is_flagged x ≡ true → IsNext q es i s
     next_flagged s self none read h =
         let skipped : is_skipped q x ≡ true = or_left _ _ h in
-        one_next s (processed_counts 1 0) self (processed_within 1 1 0 (omega arith) (omega arith)) (skipped_apart skipped)
-        (λ _. skipped_step s skipped none (self.counted ∙ sym (flagged_counts q es x first h)) read)
+        one_next s flagged_counts self flagged_within (skipped_apart skipped)
+        (λ _. skipped_step s skipped none (self.counted ∙ sym (one-flagged q es x first h)) read)
 
-    pub next_excluded : (s : Step T U) → IsSelf s 1 (processed_counts 0 1) → s.status ≡ None → s.totals.reads ≡ no_reads → is_flagged x ≡ false → is_excluded q x ≡ true → IsNext q es i s
+    pub next_excluded : (s : Step T U) → IsSelf s 1 excluded_counts → s.status ≡ None → s.totals.reads ≡ no_reads → is_flagged x ≡ false → is_excluded q x ≡ true → IsNext q es i s
     next_excluded s self none read f h =
         let skipped : is_skipped q x ≡ true = or_right _ _ h in
-        one_next s (processed_counts 0 1) self (processed_within 1 0 1 (omega arith) (omega arith)) (skipped_apart skipped)
-        (λ _. skipped_step s skipped none (self.counted ∙ sym (excluded_counts q es x first f h)) read)
+        one_next s excluded_counts self excluded_within (skipped_apart skipped)
+        (λ _. skipped_step s skipped none (self.counted ∙ sym (one-excluded q es x first f h)) read)
 
     module _ (kept : is_skipped q x ≡ false) where
       pub next_fault : (error : Error) → stage_of x ≡ 0 → IsDecided q x (Err error) → IsFaultAt q es i error
@@ -122,7 +118,7 @@ module _ (es : List IndexEntry) (index : IsIndex es) (i : ℕ) (x : IndexEntry) 
           (λ t.
           let h = decided t in
           step_of_one s (status_verdict q es x first kept zero ∙ h.status ∙ ap Ok (sym same))
-          (self.counted ∙ sym (decision_counts q es x first kept zero d h))
+          (self.counted ∙ sym (one-decided q es x first kept zero d h))
           (λ r. read ∙ ap (plus_reads no_reads) (sym (decision_reads q es x first kept zero d h r))))
 
       -- x is the head of a conflict.
@@ -148,7 +144,7 @@ module _ (es : List IndexEntry) (index : IsIndex es) (i : ℕ) (x : IndexEntry) 
         run_some =
             omega (arith, some es index i x l here 3 three staged, length-prefix_len (is_in_run x.path) (take 3 (drop i es)))
 
-        pub next_conflict : (s : Step T U) → IsSelf s (length (run_at es i x.path)) (processed_counts 0 0) → s.status ≡ conflict_status (run_at es i x.path) → s.totals.reads ≡ no_reads → IsNext q es i s
+        pub next_conflict : (s : Step T U) → IsSelf s (length (run_at es i x.path)) conflict_counts → s.status ≡ conflict_status (run_at es i x.path) → s.totals.reads ≡ no_reads → IsNext q es i s
         next_conflict s self reported read =
             let long : s.len ≡ n = self.long ∙ length-prefix_len (is_in_run x.path) (take 3 (drop i es)) in
             let more = some es index i x l here 3 three staged in
@@ -160,12 +156,12 @@ module _ (es : List IndexEntry) (index : IsIndex es) (i : ℕ) (x : IndexEntry) 
             record {
               more = omega arith;
               inside = omega arith;
-              few = IsWithin-same s.len s.totals.counts (processed_counts 0 0) self.counted (processed_within s.len 0 0 (omega arith) (omega arith));
+              few = IsWithin-same s.len s.totals.counts conflict_counts self.counted (conflict_within s.len (omega arith));
               fresh = fresh_more es index i x l here q fresh (i + s.len) (omega arith) (λ j k d e m o p u v. run_apart es index i x l here 3 three staged q j k d e m (omega arith) (omega arith) v);
               one_path = λ d. All-part_from es i (i + s.len) (λ r. same_path (slice_index_or es i d) r ≡ true) (λ j e m o p.
                   rw (here d) (same_back (slice_index_or es j e) x (run_same es index i x l here 3 three staged j e m (omega arith))));
               specified = λ _. step_of q es x (part_of es (i + 1) (i + n)) later (part_of es i (i + s.len)) s same
                   (conflict_verdict q es x first kept zero ∙ ap (λ (ys : List IndexEntry). Ok (conflict_status ys)) stages ∙ ap Ok (sym reported))
-                  (self.counted ∙ sym (conflict_counts q es x first kept zero))
+                  (self.counted ∙ sym (one-conflict q es x first kept zero))
                   (λ _. read ∙ ap (plus_reads no_reads) (sym (conflict_reads q es x first kept zero)));
             }

@@ -1,5 +1,7 @@
--- Entries processed and skipped (not those over), `lstat` calls, racy entries, stats to update, modelled reads.
+-- Entries processed and skipped (not those over), `lstat` calls, racy entries, stats to update, modelled reads: of one
+-- entry, of a part of the entries, and in an outcome.
 use Rattle.std.specs.Prelude.{◌≡◌, ℕ, ◌+◌, ◌-◌, ◌≤◌, ◌==◌, Bool, true, false, not, ◌&&◌, List, length, count_by, sum_by, Option, Some, is_some, unwrap_or, Result, Ok, IsTrue, if◌then◌else◌}
+use Rattle.std.specs.declared.ops.Range.{Range}
 use Rattle.status_index.specs.Content.{saturate}
 use Rattle.status_index.specs.declared.stat.Metadata.{Metadata}
 use Rattle.status_index.specs.Entries.{IndexEntry, stage_of}
@@ -11,6 +13,8 @@ use Rattle.status_call.specs.declared.index_as_worktree.types.EntryStatus.{Entry
 use Rattle.status_call.specs.declared.index_as_worktree.types.EntryStatus.TheVariants as statuses
 use Rattle.status_call.specs.declared.index_as_worktree.counts.Counts.{Counts}
 use Rattle.status_call.specs.declared.index_as_worktree.counts.Totals.{Totals}
+use Rattle.status_call.specs.declared.index_as_worktree.counts.Progress.{Progress}
+use Rattle.status_call.specs.declared.index_as_worktree.step.Decided.{Decided}
 use Rattle.status_call.specs.declared.index_as_worktree.types.Outcome.{Outcome}
 use Rattle.status_call.specs.Considered.{is_flagged, is_excluded, is_skipped, is_over}
 use Rattle.status_call.specs.Query.{Query}
@@ -107,6 +111,38 @@ module _ {T U : Type 0} (q : Query T U) where
   ModelsReads = (e : IndexEntry) (n : Metadata)
       → IsTrue (is_some (q.counted e n.len (readings q e n) no_reads))
 
+-- The counts of an entry that isn't compared with the worktree.
+abbrev pub processed_counts : ℕ → ℕ → Counts
+processed_counts flags pathspec = record {
+  processed = 1;
+  skipped_by_flags = flags;
+  skipped_by_pathspec = pathspec;
+  lstat_calls = 0;
+  racy_clean = 0;
+  to_update = 0;
+}
+
+-- The counts of an entry that is.
+abbrev pub decided_counts : {T U : Type 0} → Decided T U → Counts
+decided_counts d = record {
+  processed = 1;
+  skipped_by_flags = 0;
+  skipped_by_pathspec = 0;
+  lstat_calls = if d.lstat_called then 1 else 0;
+  racy_clean = if d.racy then 1 else 0;
+  to_update = if is_update (Ok d.status) then 1 else 0;
+}
+
+-- The counts of an entry that its flags skip, of one that the pathspec skips, and of a conflict.
+abbrev pub flagged_counts : Counts
+flagged_counts = processed_counts 1 0
+
+abbrev pub excluded_counts : Counts
+excluded_counts = processed_counts 0 1
+
+abbrev pub conflict_counts : Counts
+conflict_counts = processed_counts 0 0
+
 -- The counts of a part of the considered entries, `es` being all of them.
 abbrev pub counts_in : {T U : Type 0} → Query T U → List IndexEntry → List IndexEntry → Counts
 counts_in q es part = record {
@@ -144,3 +180,26 @@ pub record IsOutcome {T U : Type 0} (q : Query T U) (all es : List IndexEntry)
   pub files : ModelsReads q → o.worktree_files_read ≡ (reads_in q part).files
   pub object_bytes : ModelsReads q → o.odb_bytes ≡ (reads_in q part).object_bytes
   pub objects : ModelsReads q → o.odb_objects_read ≡ (reads_in q part).objects
+
+-- The outcome of work on the range `considered` of an index with this many entries.
+abbrev pub outcome_of : Progress → ℕ → Range ℕ → Outcome
+outcome_of p entries considered = record {
+  entries_to_process = considered.end - considered.start;
+  entries_processed = p.totals.counts.processed;
+  entries_skipped_by_common_prefix = entries - (considered.end - considered.start);
+  entries_skipped_by_pathspec = p.totals.counts.skipped_by_pathspec;
+  entries_skipped_by_entry_flags = p.totals.counts.skipped_by_flags;
+  symlink_metadata_calls = p.totals.counts.lstat_calls;
+  entries_to_update = p.totals.counts.to_update;
+  racy_clean = p.totals.counts.racy_clean;
+  worktree_bytes = p.totals.reads.bytes;
+  worktree_files_read = p.totals.reads.files;
+  odb_bytes = p.totals.reads.object_bytes;
+  odb_objects_read = p.totals.reads.objects;
+  interrupted = p.interrupted;
+}
+
+-- The number of skipped entries.
+abbrev pub skipped_of : Outcome → ℕ
+skipped_of o = o.entries_skipped_by_common_prefix + o.entries_skipped_by_pathspec
+    + o.entries_skipped_by_entry_flags

@@ -11,7 +11,6 @@ pub mod Laws
 pub mod ListedStatus
 pub mod LookUps
 pub mod Modelled
-pub mod Outcomes
 pub mod PieceReporting
 pub mod Pieces
 pub mod Query

@@ -12,7 +12,7 @@ use Rattle.status_call.specs.declared.index_as_worktree.types.Outcome.{Outcome}
 use Rattle.status_call.specs.declared.index_as_worktree.types.Finding.{Finding}
 use Rattle.status_call.specs.Considered.{considered, considered_start}
 use Rattle.status_call.specs.Counts.{IsOutcome}
-use Rattle.status_call.specs.Outcomes.{skipped_of}
+use Rattle.status_call.specs.Counts.{skipped_of}
 use Rattle.status_call.specs.Query.{Query}
 use Rattle.status_call.specs.Records.{records_of, records_in, faults_in, first_fault, verdict}
 use Rattle.status_call.specs.Status.{readings}

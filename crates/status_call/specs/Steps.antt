@@ -1,39 +1,15 @@
 -- The next step over the considered entries: one entry, or a conflict's first entry with its later stages.
-use Rattle.std.specs.Prelude.{◌≡◌, ℕ, ◌+◌, ◌<◌, ◌≤◌, true, false, IsTrue, List, [], length, take, drop, All, Result, Ok, Err, if◌then◌else◌}
+use Rattle.std.specs.Prelude.{◌≡◌, ℕ, ◌+◌, ◌<◌, ◌≤◌, true, false, IsTrue, List, [], length, take, drop, All, Result, Ok, Err}
 use Rattle.std.specs.List.{slice_index_or, list_any}
 use Rattle.status_index.specs.Entries.{IndexEntry}
 use Rattle.status_index.specs.Stretch.{part_of}
 use Rattle.status_compare.specs.declared.error.Error.{Error}
-use Rattle.status_call.specs.declared.index_as_worktree.counts.Counts.{Counts}
-use Rattle.status_call.specs.declared.index_as_worktree.step.Decided.{Decided}
 use Rattle.status_call.specs.declared.index_as_worktree.step.Step.{Step}
 use Rattle.status_call.specs.Considered.{same_path, takes_over}
-use Rattle.status_call.specs.Counts.{counts_in, is_update, reads_in, IsWithin, ModelsReads}
+use Rattle.status_call.specs.Counts.{counts_in, reads_in, IsWithin, ModelsReads}
 use Rattle.status_call.specs.Pieces.{IsFaultAt}
 use Rattle.status_call.specs.Query.{Query}
 use Rattle.status_call.specs.Records.{records_in, record_by, faults_in}
-
--- The counts of an entry that isn't compared with the worktree.
-abbrev pub processed_counts : ℕ → ℕ → Counts
-processed_counts flags pathspec = record {
-  processed = 1;
-  skipped_by_flags = flags;
-  skipped_by_pathspec = pathspec;
-  lstat_calls = 0;
-  racy_clean = 0;
-  to_update = 0;
-}
-
--- The counts of an entry that is.
-abbrev pub decided_counts : {T U : Type 0} → Decided T U → Counts
-decided_counts d = record {
-  processed = 1;
-  skipped_by_flags = 0;
-  skipped_by_pathspec = 0;
-  lstat_calls = if d.lstat_called then 1 else 0;
-  racy_clean = if d.racy then 1 else 0;
-  to_update = if is_update (Ok d.status) then 1 else 0;
-}
 
 module _ {T U : Type 0} (q : Query T U) where
   -- No entry of the first part takes over one of the second.

@@ -4,7 +4,7 @@ ghost use Rattle.std.specs.Prelude.{◌≡◌, ◌<◌, ◌^◌, [], IfOk, OnErr
 ghost use Rattle.status_index.specs.States.{index_of, timestamp_of};
 ghost use Rattle.status_call.specs.IndexChanges.{AreInside, DifferInStats, changes_of};
 ghost use Rattle.status_call.specs.Inputs.{usual};
-ghost use Rattle.status_call.specs.Outcomes.{skipped_of};
+ghost use Rattle.status_call.specs.Counts.{skipped_of};
 ghost use Rattle.status_callers.specs.Clean.{FailsAtFirstFault, SaysClean};
 
 use gix_status::index::{Moment, State};

@@ -1,7 +1,7 @@
 -- The totals of a status with untracked files, renames or sorted lines.
 use Rattle.std.proofs.Common.{◌<◌, ◌^◌, Bool, List, Option, Result, Ok, Err, IfOk}
 use Rattle.status_index.specs.declared.state.State.{State}
-use Rattle.status_call.specs.Outcomes.{skipped_of}
+use Rattle.status_call.specs.Counts.{skipped_of}
 use Rattle.status_call.specs.Query.{Query}
 use Rattle.status_rewrites.specs.TrackedChanges.{Changed}
 use Rattle.status_rewrites.specs.Trackers.{TrackerFault}

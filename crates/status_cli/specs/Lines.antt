@@ -9,7 +9,7 @@ use Rattle.status_call.specs.declared.index_as_worktree.types.Conflict.TheVarian
 use Rattle.status_call.specs.declared.index_as_worktree.types.EntryStatus.{EntryStatus}
 use Rattle.status_call.specs.declared.index_as_worktree.types.EntryStatus.TheVariants as statuses
 use Rattle.status_call.specs.declared.index_as_worktree.types.Outcome.{Outcome}
-use Rattle.status_call.specs.Outcomes.{skipped_of}
+use Rattle.status_call.specs.Counts.{skipped_of}
 use Rattle.status_call.specs.Visits.{Visit}
 use Rattle.status_format.specs.Words.{mode_digits}
 use Rattle.status_joined.specs.Items.{Reported, modification, contents, rewrite, path_of}

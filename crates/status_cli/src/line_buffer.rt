@@ -2,7 +2,7 @@
 
 ghost use Rattle.std.specs.Prelude.{◌≡◌, ◌<◌, ◌^◌, [], IfOk, ◌⊎◌, IfErr, IfSome};
 ghost use Rattle.bstr.specs.BStr.{bstr_bytes};
-ghost use Rattle.status_call.specs.Outcomes.{skipped_of};
+ghost use Rattle.status_call.specs.Counts.{skipped_of};
 ghost use Rattle.status_joined.specs.Entries.{reported_entry};
 ghost use Rattle.status_cli.specs.Buffering.{IsTextAdded, IsFinished};
 ghost use Rattle.status_cli.specs.Lines.{entry_line, record_line, run_line};

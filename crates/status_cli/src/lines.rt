@@ -4,7 +4,7 @@
 ghost use Rattle.std.specs.Prelude.{◌≡◌, ◌++◌, ◌∷◌, [], ◌<◌, ◌^◌, OnOk};
 ghost use Rattle.bstr.specs.BStr.{bstr_bytes};
 ghost use Rattle.json.specs.Print.{quoted};
-ghost use Rattle.status_call.specs.Outcomes.{skipped_of};
+ghost use Rattle.status_call.specs.Counts.{skipped_of};
 ghost use Rattle.status_joined.specs.Entries.{reported_entry};
 ghost use Rattle.status_cli.specs.Lines.{conflict_text, letter_text, path_text, record_line, run_line, total_line};
 ghost use Rattle.status_cli.specs.Lines.{entry_line as line_of_entry};

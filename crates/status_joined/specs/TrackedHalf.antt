@@ -5,7 +5,7 @@ use Rattle.status_index.specs.declared.state.State.{State}
 use Rattle.status_index.specs.States.{entries_of, backing_of}
 use Rattle.status_compare.specs.declared.error.Error.{Error}
 use Rattle.status_compare.specs.declared.error.Error.TheVariants.{Memory, SpawnThread}
-use Rattle.status_call.specs.Outcomes.{skipped_of}
+use Rattle.status_call.specs.Counts.{skipped_of}
 use Rattle.status_call.specs.Query.{Query}
 use Rattle.status_call.specs.RecorderVisits.{visit_of}
 use Rattle.status_call.specs.StatusTheorem.{IsComplete, IsFirstFault, IsStatusOfSome, NeverSpawns}

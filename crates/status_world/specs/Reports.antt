@@ -11,7 +11,7 @@ use Rattle.status_call.specs.declared.index_as_worktree.types.EntryStatus.{Entry
 use Rattle.status_call.specs.declared.index_as_worktree.types.EntryStatus.TheVariants as statuses
 use Rattle.status_call.specs.declared.index_as_worktree.types.Outcome.{Outcome}
 use Rattle.status_call.specs.IndexChanges.{change_of}
-use Rattle.status_call.specs.Outcomes.{skipped_of}
+use Rattle.status_call.specs.Counts.{skipped_of}
 use Rattle.status_world.specs.declared.world.run.Report.{Report}
 use Rattle.status_world.specs.declared.world.run.ReportRecord.{ReportRecord}
 

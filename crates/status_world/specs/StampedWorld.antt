@@ -29,7 +29,7 @@ use Rattle.status_compare.specs.declared.compare.Comparer.{Comparer}
 use Rattle.status_call.specs.declared.index_as_worktree.types.Options.{Options}
 use Rattle.status_call.specs.Counts.{counts_in, reads_in}
 use Rattle.status_call.specs.IndexChanges.{change_of, updated_entry}
-use Rattle.status_call.specs.Outcomes.{outcome_of}
+use Rattle.status_call.specs.Counts.{outcome_of}
 use Rattle.status_call.specs.Query.{Query}
 use Rattle.status_call.specs.Records.{verdict}
 use Rattle.status_world.specs.declared.world.event.Event.{Event}

@@ -64,24 +64,54 @@ pub(crate) fn compare_node<
     ensures same { ⟦<Inputs<'w, W, C, S, O, P, T, L> as Ask>⟧.query inputs.new
         ≡ ⟦<Inputs<'w, W, C, S, O, P, T, L> as Ask>⟧.query inputs.old }
 {
-    let Candidate { entry, path, node } = candidate;
     buffer.clear();
-    let mut reader = EntryReader {
-        worktree: inputs.worktree,
-        filter: &inputs.filter,
-        objects: &inputs.objects,
-        id: entry.id,
-        path: *path,
-        is_link: reads_link(entry.mode, node.kind, settings.fs.symlink),
-        len: node.len,
-        reads: Reads::none(),
-    };
+    let is_link = reads_link(candidate.entry.mode, candidate.node.kind, settings.fs.symlink);
+    let (filter, objects) = (&inputs.filter, &inputs.objects);
+    let mut reader = reader_of(inputs.worktree, &*filter, &*objects, candidate, is_link);
     let compare = &mut inputs.compare;
-    let change = compare.compare_blobs(alloc, entry, node.len, &mut reader, buffer)?;
+    let change = compare.compare_blobs(
+        alloc,
+        candidate.entry,
+        candidate.node.len,
+        &mut reader,
+        buffer,
+    )?;
     Ok(Comparison {
         change,
         reads: reader.reads,
     })
+}
+
+/// Returns a reader of a candidate's node and blob that has read nothing.
+fn reader_of<'w, 'r, W, T, O>(
+    worktree: &'w W,
+    filter: &'r T,
+    objects: &'r O,
+    candidate: &'r Candidate<'_>,
+    is_link: bool,
+) -> EntryReader<'w, 'r, W, T, O>
+    ensures { result
+        ≡ record {
+          worktree = worktree.entry;
+          filter = filter.entry;
+          objects = objects.entry;
+          id = candidate.now.entry.now.id;
+          path = candidate.now.path;
+          is_link = is_link;
+          len = candidate.now.node.len;
+          reads = no_reads;
+        } }
+{
+    EntryReader {
+        worktree,
+        filter,
+        objects,
+        id: candidate.entry.id,
+        path: candidate.path,
+        is_link,
+        len: candidate.node.len,
+        reads: Reads::none(),
+    }
 }
 
 /// Returns whether an entry is read as a link's target: it is a link, and so is the node or the file system has links.

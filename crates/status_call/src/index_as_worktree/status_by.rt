@@ -1,7 +1,7 @@
 //! The status of an index, for any decider of its entries.
 
 ghost use Rattle.std.specs.Prelude.{◌≡◌, None, IfOk, false, length};
-ghost use Rattle.status_call.specs.Outcomes.{outcome_of};
+ghost use Rattle.status_call.specs.Counts.{outcome_of};
 ghost use Rattle.status_call.specs.StatusOf.{IsFaultOrMemory, IsThreadless, OneThreadSpawnsNone};
 ghost use Rattle.status_call.specs.StatusTheorem.{IsStatusReport};
 

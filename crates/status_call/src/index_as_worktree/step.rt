@@ -7,9 +7,9 @@ ghost use Rattle.status_index.specs.Entries.{entry_at};
 ghost use Rattle.status_call.specs.Conflicts.{kept_of, run_at};
 ghost use Rattle.status_call.specs.Considered.{is_flagged, part_entries, is_excluded};
 ghost use Rattle.status_compare.specs.Reads.{no_reads, plus_reads};
-ghost use Rattle.status_call.specs.Counts.{no_totals};
+ghost use Rattle.status_call.specs.Counts.{conflict_counts, decided_counts, no_totals, processed_counts};
 ghost use Rattle.status_call.specs.Records.{conflict_status};
-ghost use Rattle.status_call.specs.Steps.{IsFresh, IsStep, processed_counts, decided_counts};
+ghost use Rattle.status_call.specs.Steps.{IsFresh, IsStep};
 ghost use Rattle.status_call.specs.Query.{Query};
 
 use crate::index_as_worktree::considered::Considered;
@@ -113,7 +113,7 @@ fn conflict_step<T: Drop, U: Drop>(
         (run_at (part_entries considered.now) at (bstr_bytes path.entry)) }
     ensures len { result.len
         ≡ length (run_at (part_entries considered.now) at (bstr_bytes path.entry)) }
-    ensures totals { result.totals ≡ record no_totals { counts = processed_counts 0 0 } }
+    ensures totals { result.totals ≡ record no_totals { counts = conflict_counts } }
 {
     let (part, backing) = (considered.part(), considered.backing);
     let Some(found) = Conflict::try_from_entry(part, backing, at, path) else {

@@ -196,7 +196,7 @@ pub struct Outcome {
 }
 
 impl Outcome {
-    ghost use Rattle.status_call.specs.Outcomes.{outcome_of, skipped_of};
+    ghost use Rattle.status_call.specs.Counts.{outcome_of, skipped_of};
     ghost use Rattle.std.specs.Prelude.{◌≡◌, ◌≤◌, ◌<◌, ◌^◌};
 
     /// Returns the number of skipped entries: by common prefix, by pathspec and by flags.

@@ -1,7 +1,7 @@
 use Rattle.std.proofs.Common.{◌∙◌, map, sym, arith}
 use Rattle.git_attributes.specs.Views.{given_of, macro_view}
 use Rattle.git_attributes.proofs.Giving.{assigned_known, assigned_start}
-use Rattle.git_attributes.proofs.given.+give.Goals as goal
+use Rattle.git_attributes.proofs.assignment.+give.Goals as goal
 
 pub give-given-init : goal.give-given-init
 give-given-init t c = record {

@@ -1,7 +1,7 @@
 use Rattle.std.proofs.Common.{◌≡◌, ◌≤◌, ◌+◌, ◌*◌, length, map, drop}
 use Rattle.git_attributes.specs.States.{assigned}
 use Rattle.git_attributes.specs.Views.{given_of, macro_view}
-use Rattle.git_attributes.proofs.given.+give.Given as goal
+use Rattle.git_attributes.proofs.assignment.+give.Given as goal
 
 abbrev pub decreases-give : goal.decreases-give
 decreases-give l = 2 * l.depth + 1

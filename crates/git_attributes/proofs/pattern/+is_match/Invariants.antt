@@ -1,7 +1,7 @@
 use Rattle.std.proofs.Common.{◌≡◌, ◌≤◌, ◌+◌, length, map}
 use Rattle.git_attributes.specs.Views.{part_of}
 use Rattle.git_attributes.specs.Wildmatch.{after_slash, is_match}
-use Rattle.git_attributes.proofs.piece.+is_match.Given as goal
+use Rattle.git_attributes.proofs.pattern.+is_match.Given as goal
 
 abbrev pub decreases-is_match : goal.decreases-is_match
 decreases-is_match l = length l.pieces.now + length l.path.now

@@ -1,6 +1,6 @@
 use Rattle.std.proofs.Common.{◌∙◌, ◌&&◌, ◌==◌, not, ap}
 use Rattle.git_attributes.specs.Views.{attributes_view}
-use Rattle.status_call.specs.Outcomes.{skipped_of}
+use Rattle.status_call.specs.Counts.{skipped_of}
 use Rattle.status_call.specs.RecorderVisits.{visits_of}
 use Rattle.git_status.proofs.Founds.{found_run, late_run, skipped_fits, unfound_run}
 use Rattle.git_status.proofs.refresh.find_changes.Goals as goal

@@ -10,11 +10,11 @@ pub returns-in_err-change-clause-compared : goal.returns-in_err-change-clause-co
 returns-in_err-change-clause-compared g c = λ modelled.
     let i = c.args.inputs.now in
     let path = bstr_bytes c.args.candidate.now.path in
-    let specified = entry_readings c.reads_link.result (λ x. g.T.ToGit.conversion i.filter x path) c.args.candidate.now.node.len
+    let specified = entry_readings c.reads_link-is_link.result (λ x. g.T.ToGit.conversion i.filter x path) c.args.candidate.now.node.len
     (g.W.Worktree.open_of i.worktree.now path) (g.W.Worktree.target_of i.worktree.now path) (g.O.Find.found i.objects c.args.candidate.now.entry.now.id) in
     let some = all_specified (g.W.Worktree.modelled i.worktree.now) (g.O.Find.modelled i.objects) (g.S.SubmoduleStatus.modelled i.submodule)
     (are_modelled c.args.settings.fscache (g.L.Lister.modelled i.lister)) specified modelled in
-    let answer = rw some at (c.in_err-change.ensures.answer path) in
+    let answer = rw (c.reader_of-reader.ensures, some) at (c.in_err-change.ensures.answer path) in
     search rules
 
 pub returns-in_err-change-clause-same : goal.returns-in_err-change-clause-same
@@ -44,12 +44,12 @@ pub returns-clause-compared : goal.returns-clause-compared
 returns-clause-compared g c = λ modelled.
     let i = c.args.inputs.now in
     let path = bstr_bytes c.args.candidate.now.path in
-    let specified = entry_readings c.reads_link.result (λ x. g.T.ToGit.conversion i.filter x path) c.args.candidate.now.node.len
+    let specified = entry_readings c.reads_link-is_link.result (λ x. g.T.ToGit.conversion i.filter x path) c.args.candidate.now.node.len
     (g.W.Worktree.open_of i.worktree.now path) (g.W.Worktree.target_of i.worktree.now path) (g.O.Find.found i.objects c.args.candidate.now.entry.now.id) in
     let some = all_specified (g.W.Worktree.modelled i.worktree.now) (g.O.Find.modelled i.objects) (g.S.SubmoduleStatus.modelled i.submodule)
     (are_modelled c.args.settings.fscache (g.L.Lister.modelled i.lister)) specified modelled in
-    let answer = rw some at (c.in_ok-change.ensures.answer path) in
-    let counts = rw some at (c.in_ok-change.ensures.counts path) in
+    let answer = rw (c.reader_of-reader.ensures, some) at (c.in_ok-change.ensures.answer path) in
+    let counts = rw (c.reader_of-reader.ensures, some) at (c.in_ok-change.ensures.counts path) in
     search rules
 
 pub returns-clause-same : goal.returns-clause-same

@@ -13,7 +13,7 @@ returns-then-is_flagged-clause-next g c =
     head_flagged c.args.considered.now.backing.now (part_entries c.args.considered.now) c.args.at _ _ c.entry-entry.ensures c.path-path.ensures c.requires.inside (part_is_index c.args.considered.now)
     (g.D.Decide.query c.args.decide.now) c.requires.fresh
     c.is_flagged.result c.is_flagged.ensures c.if-is_flagged.true
-    c.skipped_step.result (skipped_self _ _ _ said) (ap (λ (s : Step _ _). s.status) said) (ap (λ (s : Step _ _). s.totals.reads) said)
+    c.skipped_step.result (skipped_self _ _ said) (ap (λ (s : Step _ _). s.status) said) (ap (λ (s : Step _ _). s.totals.reads) said)
 
 pub returns-then-not-includes-clause-next : goal.returns-then-not-includes-clause-next
 returns-then-not-includes-clause-next g c =
@@ -22,7 +22,7 @@ returns-then-not-includes-clause-next g c =
     (g.D.Decide.query c.args.decide.now) c.requires.fresh
     c.is_flagged.result c.is_flagged.ensures c.if-is_flagged.false
     c.includes.result c.includes.ensures c.if-not-includes.true
-    c.skipped_step-then-not-includes.result (skipped_self _ _ _ said) (ap (λ (s : Step _ _). s.status) said) (ap (λ (s : Step _ _). s.totals.reads) said)
+    c.skipped_step-then-not-includes.result (skipped_self _ _ said) (ap (λ (s : Step _ _). s.status) said) (ap (λ (s : Step _ _). s.totals.reads) said)
 
 pub conflict_step-requires : goal.conflict_step-requires
 conflict_step-requires g c =
