@@ -65,7 +65,11 @@ pub(crate) fn compare_node<
         ≡ ⟦<Inputs<'w, W, C, S, O, P, T, L> as Ask>⟧.query inputs.old }
 {
     buffer.clear();
-    let is_link = reads_link(candidate.entry.mode, candidate.node.kind, settings.fs.symlink);
+    let is_link = reads_link(
+        candidate.entry.mode,
+        candidate.node.kind,
+        settings.fs.symlink,
+    );
     let (filter, objects) = (&inputs.filter, &inputs.objects);
     let mut reader = reader_of(inputs.worktree, &*filter, &*objects, candidate, is_link);
     let compare = &mut inputs.compare;

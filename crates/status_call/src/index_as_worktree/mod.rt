@@ -16,7 +16,6 @@ pub mod run_rounds;
 mod run_serially;
 pub mod status_by;
 pub mod step;
-pub mod traits;
 mod types;
 pub mod workers;
 
@@ -29,3 +28,8 @@ pub use types::{
     Capabilities, Change, Conflict, ConflictIndexEntry, Context, EntryStatus, Error, Finding,
     Options, Outcome, VisitEntry,
 };
+
+/// The comparison of a worktree's files with the blobs that an index names.
+pub mod traits {
+    pub use status_compare::{CompareBlobs, FastEq, HashEq, ReadData, Stream};
+}

@@ -6,7 +6,6 @@ mod function;
 mod halves;
 pub mod inputs;
 mod recorder;
-pub mod rewrites;
 mod rewriting;
 mod types;
 
@@ -17,3 +16,15 @@ pub use function::index_as_worktree_with_renames;
 pub use recorder::{Recorder, VisitEntry};
 pub(crate) use types::Call;
 pub use types::{Context, DirwalkContext, ExactClone, Options, Outcome, Sorting};
+
+/// The outcome of the search for renames and copies.
+pub mod rewrites {
+    /// The numbers of renames and copies that were found.
+    #[derive(Clone, Copy, Debug, Default, PartialEq, Eq)]
+    pub struct Outcome {
+        /// The number of renames.
+        pub renames: usize,
+        /// The number of copies.
+        pub copies: usize,
+    }
+}

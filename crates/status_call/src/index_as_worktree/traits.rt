@@ -1,3 +1,0 @@
-//! Comparison of a worktree's files with the blobs that an index names.
-
-pub use status_compare::{CompareBlobs, FastEq, HashEq, ReadData, Stream};
