@@ -182,18 +182,21 @@ class Docs(unittest.TestCase):
                 if is_crate:
                     self.assertIn(name, re.findall(r"\w+", text_of("crates", module, "src", "lib.rt")))
                     continue
-                # A module of gix_status is a file of names, or one of the modules that its root or such a file re-exports.
+                # A module of gix_status is in its root, or one of the modules that its root or such a module re-exports.
                 top, _, inner = module.partition("::")
                 root = text_of("crates", "gix_status", "src", "lib.rt")
-                if re.search(rf"^pub mod {top};$", root, re.M):
-                    names = text_of("crates", "gix_status", "src", top + ".rt")
+                own = re.search(rf"^pub mod {top} \{{\n(.*?)^\}}$", root, re.M | re.S)
+                if own:
+                    names = own[1]
                 else:
                     self.assertRegex(root, rf"\b{top}\b")
                     names = "\n".join(texts_of(f"crates/status_*/src/{top}.rt", f"crates/status_*/src/{top}/mod.rt").values())
                 if inner:
                     self.assertRegex(names, rf"\b{inner}\b")
                     inside = (f"crates/status_*/src/{folder}{inner}.rt" for folder in (top + "/", ""))
-                    names = "\n".join(texts_of(*inside).values())
+                    files = "\n".join(texts_of(*inside).values())
+                    parents = "\n".join(texts_of(f"crates/status_*/src/{top}/mod.rt").values())
+                    names = files or re.search(rf"^pub mod {inner} \{{\n(.*?)^\}}$", parents, re.M | re.S)[1]
                 self.assertRegex(names, rf"\bpub (use|struct|enum)\b[^;{{]*\{{?[^;}}]*\b{name}\b")
 
     def test_the_members_that_an_interface_has_to_write_are_those_of_its_trait(self):

@@ -39,7 +39,7 @@ pub(crate) struct Look {
     pub(crate) lstat_called: bool,
 }
 
-/// What is known of directories of a worktree.
+/// The directories of a worktree that earlier look-ups met.
 #[derive(Drop)]
 pub(crate) struct Known {
     /// Which have no link or fault above them.
