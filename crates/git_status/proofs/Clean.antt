@@ -19,7 +19,7 @@ use Rattle.status_call.specs.declared.index_as_worktree.types.Outcome.{Outcome}
 use Rattle.status_compare.specs.declared.error.Error.{Error}
 use Rattle.status_index.specs.Entries.{IndexEntry}
 use Rattle.status_index.specs.declared.state.State.{State}
-use Rattle.git_status.specs.Runs.{CleanLaw, HasNoDifference, IsCommandEnd, IsReport, IsCommandRun, IsStatusRun, is_difference}
+use Rattle.git_status.specs.Runs.{Asking, CleanLaw, HasNoDifference, IsCommandEnd, IsReport, IsCommandRun, IsStatusRun, is_difference}
 use Rattle.git_status.specs.declared.asked.Settings.{Settings}
 use Rattle.git_status.specs.declared.dirty.Report.{Report}
 
@@ -89,8 +89,8 @@ module _ {T U : Type 0} where
       reported visits answer (inl found) = found.1
       reported visits answer (inr failed) = absurd failed
 
-  pub clean_law : (query : LineEnds → StatusSettings → Query T U) (are_files : State → List File → Type 0) (s : Settings) (bytes : List ℕ) → CleanLaw query are_files s bytes
+  pub clean_law : (a : Asking T U) (bytes : List ℕ) → CleanLaw a bytes
   unfolding IsCommandRun
-  clean_law query are_files s bytes modelled old new exit =
-      let read = exit.2.0 in let asked = settings s.options read.index in
-      (read, run_clean (query read.converting.filter asked) read.index s old exit.0 new (modelled read.converting.filter asked) exit.2.1 exit.1)
+  clean_law a bytes modelled old new exit =
+      let read = exit.2.0 in let asked = settings a.settings.options read.index in
+      (read, run_clean (a.query read.converting.filter asked) read.index a.settings old exit.0 new (modelled read.converting.filter asked) exit.2.1 exit.1)

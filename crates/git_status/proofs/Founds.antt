@@ -22,7 +22,7 @@ use Rattle.status_call.specs.declared.index_as_worktree.types.Outcome.{Outcome}
 use Rattle.status_compare.specs.declared.error.Error.{Error}
 use Rattle.status_index.specs.declared.state.State.{State}
 use Rattle.git_status.specs.Refreshes.{IsFileRefreshed, IsFoundIn, IsFoundRun, IsIndexFound, IsRefresh, IsRefreshedFile, IsUnrefreshed}
-use Rattle.git_status.specs.Runs.{Converting, IsComputed, IsCommandEnd, IsCommandRun, IsStatusRun, ReadFile}
+use Rattle.git_status.specs.Runs.{Asking, Converting, IsComputed, IsCommandEnd, IsCommandRun, IsStatusRun, ReadFile}
 use Rattle.git_status.specs.declared.asked.Settings.{Settings}
 use Rattle.git_status.specs.declared.dirty.Report.{Report}
 use Rattle.git_status.specs.declared.failure.Failure.{Failure}
@@ -67,81 +67,81 @@ module _ {T U : Type 0} where
       subst (λ changes. AreInside changes (index_of index)) (sym run.1.0) (kept_inside said query index run.0.answer run.0.visits run.0.computed.met)
 
   -- an index whose line ends are converted, and the changes that its status asks for
-  pub index_found : (query : LineEnds → StatusSettings → Query T U) (are_files : State → List File → Type 0) (index : State) (s : Settings) (files : List File) (filter : LineEnds) (old : Option (List ℕ)) (result : Result Found Failure) (new : Option (List ℕ))
-      → are_files index files → attributes_view filter.attributes.now ≡ attributes_of files → filter.auto ≡ s.auto_line_ends → filter.index.now ≡ index → filter.kind ≡ s.kind
-      → IsFoundRun (attributes_view filter.attributes.now) (query filter (settings s.options index)) index s old result new → IsIndexFound query are_files index s old result new
+  pub index_found : (a : Asking T U) (index : State) (files : List File) (filter : LineEnds) (old : Option (List ℕ)) (result : Result Found Failure) (new : Option (List ℕ))
+      → a.are_files index files → attributes_view filter.attributes.now ≡ attributes_of files → filter.auto ≡ a.settings.auto_line_ends → filter.index.now ≡ index → filter.kind ≡ a.settings.kind
+      → IsFoundRun (attributes_view filter.attributes.now) (a.query filter (settings a.settings.options index)) index a.settings old result new → IsIndexFound a index old result new
   unfolding IsIndexFound
-  index_found query are_files index s files filter old result new found attributes auto entries kind run =
+  index_found a index files filter old result new found attributes auto entries kind run =
       inl (
         record { files = files; found = found; filter = filter; attributes = attributes; auto = auto; entries = entries; kind = kind },
-        subst (λ said. IsFoundRun said (query filter (settings s.options index)) index s old result new) attributes run,
+        subst (λ said. IsFoundRun said (a.query filter (settings a.settings.options index)) index a.settings old result new) attributes run,
       )
 
   -- memory ran out before the status of an index
-  pub unfound_index : (query : LineEnds → StatusSettings → Query T U) (are_files : State → List File → Type 0) (index : State) (s : Settings) (known : Option (List ℕ)) (result : Result Found Failure)
-      → IsErrAnd result (λ f. f ≡ Memory) → IsIndexFound query are_files index s known result known
+  pub unfound_index : (a : Asking T U) (index : State) (known : Option (List ℕ)) (result : Result Found Failure)
+      → IsErrAnd result (λ f. f ≡ Memory) → IsIndexFound a index known result known
   unfolding IsIndexFound
-  unfound_index query are_files index s known result failed = inr (failed, refl)
+  unfound_index a index known result failed = inr (failed, refl)
 
   -- the changes that were found
-  abbrev FoundIn : (LineEnds → StatusSettings → Query T U) → (State → List File → Type 0) → State → Settings → Option (List ℕ) → Found → Option (List ℕ) → Type 0
-  FoundIn query are_files index s old found new = (c : Converting are_files s index) × IsFoundRun (attributes_of c.files) (query c.filter (settings s.options index)) index s old (Ok found) new
+  abbrev FoundIn : Asking T U → State → Option (List ℕ) → Found → Option (List ℕ) → Type 0
+  FoundIn a index old found new = (c : Converting a index) × IsFoundRun (attributes_of c.files) (a.query c.filter (settings a.settings.options index)) index a.settings old (Ok found) new
 
-  found_in : (query : LineEnds → StatusSettings → Query T U) (are_files : State → List File → Type 0) (index : State) (s : Settings) (old : Option (List ℕ)) (found : Found) (new : Option (List ℕ))
-      → IsIndexFound query are_files index s old (Ok found) new → FoundIn query are_files index s old found new
+  found_in : (a : Asking T U) (index : State) (old : Option (List ℕ)) (found : Found) (new : Option (List ℕ))
+      → IsIndexFound a index old (Ok found) new → FoundIn a index old found new
   unfolding IsIndexFound
-  found_in query are_files index s old found new (inl run) = run
-  found_in query are_files index s old found new (inr early) = absurd early.0
+  found_in a index old found new (inl run) = run
+  found_in a index old found new (inr early) = absurd early.0
 
   -- they are of entries of the index
-  pub index_inside : (query : LineEnds → StatusSettings → Query T U) (are_files : State → List File → Type 0) (index : State) (s : Settings) (old : Option (List ℕ)) (found : Found) (new : Option (List ℕ))
-      → IsIndexFound query are_files index s old (Ok found) new → AreInside found.changes.items (index_of index)
-  index_inside query are_files index s old found new run =
-      let c = found_in query are_files index s old found new run in found_inside (attributes_of c.0.files) (query c.0.filter (settings s.options index)) index s old found new c.1
+  pub index_inside : (a : Asking T U) (index : State) (old : Option (List ℕ)) (found : Found) (new : Option (List ℕ))
+      → IsIndexFound a index old (Ok found) new → AreInside found.changes.items (index_of index)
+  index_inside a index old found new run =
+      let c = found_in a index old found new run in found_inside (attributes_of c.0.files) (a.query c.0.filter (settings a.settings.options index)) index a.settings old found new c.1
 
-  module _ (query : LineEnds → StatusSettings → Query T U) (are_files : State → List File → Type 0) (s : Settings) (bytes : List ℕ) (old : Option (List ℕ)) (index : State) (version : ℕ) (extensions : List ℕ)
-      (file : IsFileOf s.kind bytes version (index_of index) extensions) (time : timestamp_of index ≡ s.timestamp) where
-    abbrev read_by : Converting are_files s index → ReadFile are_files s bytes
+  module _ (a : Asking T U) (bytes : List ℕ) (old : Option (List ℕ)) (index : State) (version : ℕ) (extensions : List ℕ)
+      (file : IsFileOf a.settings.kind bytes version (index_of index) extensions) (time : timestamp_of index ≡ a.settings.timestamp) where
+    abbrev read_by : Converting a index → ReadFile a bytes
     read_by c = record { index = index; version = version; extensions = extensions; file = file; time = time; converting = c }
 
     -- a file that was read, and its new bytes
-    pub refreshed_file : (found : Found) (refreshed new : Option (List ℕ)) → IsIndexFound query are_files index s old (Ok found) new
-        → IsRefreshedFile s.kind bytes version extensions (index_of index) found.changes.items refreshed → IsFileRefreshed query are_files s bytes old found.report found.is_whole extensions refreshed new
+    pub refreshed_file : (found : Found) (refreshed new : Option (List ℕ)) → IsIndexFound a index old (Ok found) new
+        → IsRefreshedFile a.settings.kind bytes version extensions (index_of index) found.changes.items refreshed → IsFileRefreshed a bytes old found.report found.is_whole extensions refreshed new
     refreshed_file found refreshed new run fits =
-        let c = found_in query are_files index s old found new run in
+        let c = found_in a index old found new run in
         record {
           run = (read_by c.0, c.1.0);
           kept = refl;
           whole = c.1.1.1;
-          file = subst (λ changes. IsRefreshedFile s.kind bytes version extensions (index_of index) changes refreshed) c.1.1.0 fits;
+          file = subst (λ changes. IsRefreshedFile a.settings.kind bytes version extensions (index_of index) changes refreshed) c.1.1.0 fits;
         }
 
     -- a file that was read, and whose status fails, or memory ran out after it
-    unrefreshed : (f : Failure) (new : Option (List ℕ)) (c : Converting are_files s index) → IsFoundRun (attributes_of c.files) (query c.filter (settings s.options index)) index s old (Err f) new → IsUnrefreshed query are_files s bytes old f new
-    unrefreshed f new c (inl run) = inl (file_run query are_files s bytes old (Err f) new (read_by c) run)
-    unrefreshed f new c (inr late) = inr (late.0, file_run query are_files s bytes old (Ok late.0) new (read_by c) late.1, late.2)
+    unrefreshed : (f : Failure) (new : Option (List ℕ)) (c : Converting a index) → IsFoundRun (attributes_of c.files) (a.query c.filter (settings a.settings.options index)) index a.settings old (Err f) new → IsUnrefreshed a bytes old f new
+    unrefreshed f new c (inl run) = inl (file_run a bytes old (Err f) new (read_by c) run)
+    unrefreshed f new c (inr late) = inr (late.0, file_run a bytes old (Ok late.0) new (read_by c) late.1, late.2)
 
-    failed_by : (f : Failure) (new : Option (List ℕ)) → IsIndexFound query are_files index s old (Err f) new → IsUnrefreshed query are_files s bytes old f new
+    failed_by : (f : Failure) (new : Option (List ℕ)) → IsIndexFound a index old (Err f) new → IsUnrefreshed a bytes old f new
     unfolding IsIndexFound
     failed_by f new (inl run) = unrefreshed f new run.0 run.1
-    failed_by f new (inr early) = inl (subst (λ after. IsCommandRun query are_files s bytes old (Err f) after) (sym early.1) (early_run query are_files s bytes old (Err f) early.0))
+    failed_by f new (inr early) = inl (subst (λ after. IsCommandRun a bytes old (Err f) after) (sym early.1) (early_run a bytes old (Err f) early.0))
 
-    pub unrefreshed_file : (f : Failure) (result : Result RefreshedFile Failure) (new : Option (List ℕ)) → IsIndexFound query are_files index s old (Err f) new → IsErrAnd result (λ e. e ≡ f) → IsRefresh query are_files s bytes old result new
+    pub unrefreshed_file : (f : Failure) (result : Result RefreshedFile Failure) (new : Option (List ℕ)) → IsIndexFound a index old (Err f) new → IsErrAnd result (λ e. e ≡ f) → IsRefresh a bytes old result new
     unfolding IsRefresh
     unrefreshed_file f (Ok r) new run failed = absurd failed
-    unrefreshed_file f (Err e) new run failed = subst (λ e. IsUnrefreshed query are_files s bytes old e new) (sym failed) (failed_by f new run)
+    unrefreshed_file f (Err e) new run failed = subst (λ e. IsUnrefreshed a bytes old e new) (sym failed) (failed_by f new run)
 
     -- memory ran out after the changes were found
-    pub late_file : (found : Found) (result : Result RefreshedFile Failure) (new : Option (List ℕ)) → IsIndexFound query are_files index s old (Ok found) new → IsErrAnd result (λ e. e ≡ Memory) → IsRefresh query are_files s bytes old result new
+    pub late_file : (found : Found) (result : Result RefreshedFile Failure) (new : Option (List ℕ)) → IsIndexFound a index old (Ok found) new → IsErrAnd result (λ e. e ≡ Memory) → IsRefresh a bytes old result new
     unfolding IsRefresh
     late_file found (Ok r) new run failed = absurd failed
     late_file found (Err e) new run failed =
-        let c = found_in query are_files index s old found new run in inr (found.report, file_run query are_files s bytes old (Ok found.report) new (read_by c.0) c.1.0, failed)
+        let c = found_in a index old found new run in inr (found.report, file_run a bytes old (Ok found.report) new (read_by c.0) c.1.0, failed)
 
   -- a file that was refused
-  pub refused_file : (query : LineEnds → StatusSettings → Query T U) (are_files : State → List File → Type 0) (s : Settings) (bytes : List ℕ) (known : Option (List ℕ)) (result : Result RefreshedFile Failure) (error : IndexFileError)
-      → IsFileRefusal s.kind bytes error → ((es : List IndexEntry) → IsIndexFile s.kind bytes es → IsIndex es → error ≡ index_errors.Memory)
-      → IsErrAnd result (λ f. f ≡ failure_of_index error) → IsRefresh query are_files s bytes known result known
+  pub refused_file : (a : Asking T U) (bytes : List ℕ) (known : Option (List ℕ)) (result : Result RefreshedFile Failure) (error : IndexFileError)
+      → IsFileRefusal a.settings.kind bytes error → ((es : List IndexEntry) → IsIndexFile a.settings.kind bytes es → IsIndex es → error ≡ index_errors.Memory)
+      → IsErrAnd result (λ f. f ≡ failure_of_index error) → IsRefresh a bytes known result known
   unfolding IsRefresh
-  refused_file query are_files s bytes known (Ok r) error refusal valid failed = absurd failed
-  refused_file query are_files s bytes known (Err f) error refusal valid failed = inl (refused_run query are_files s bytes known (Err f) error refusal valid failed)
+  refused_file a bytes known (Ok r) error refusal valid failed = absurd failed
+  refused_file a bytes known (Err f) error refusal valid failed = inl (refused_run a bytes known (Err f) error refusal valid failed)

@@ -21,7 +21,7 @@ use Rattle.status_index.specs.Entries.{IndexEntry, IsIndex}
 use Rattle.status_index.specs.States.{index_of, timestamp_of}
 use Rattle.status_index.specs.declared.state.State.{State}
 use Rattle.git_status.specs.Failures.{failure_of_index}
-use Rattle.git_status.specs.Runs.{IsComputed, IsCommandEnd, IsIndexRun, IsCommandRun, IsStatusRun, ReadFile}
+use Rattle.git_status.specs.Runs.{Asking, IsComputed, IsCommandEnd, IsIndexRun, IsCommandRun, IsStatusRun, ReadFile}
 use Rattle.git_status.specs.declared.asked.Settings.{Settings}
 use Rattle.git_status.specs.declared.dirty.Report.{Report}
 use Rattle.git_status.specs.declared.failure.Failure.{Failure}
@@ -44,48 +44,48 @@ module _ {T U : Type 0} where
   status_run query index s visits answer old result new computed ended = record { visits = visits; answer = answer; computed = computed; ended = ended }
 
   -- an index whose line ends are converted, and its status
-  pub index_run : (query : LineEnds → StatusSettings → Query T U) (are_files : State → List File → Type 0) (index : State) (s : Settings) (files : List File) (filter : LineEnds) (old : Option (List ℕ)) (result : Result Report Failure) (new : Option (List ℕ))
-      → are_files index files → attributes_view filter.attributes.now ≡ attributes_of files → filter.auto ≡ s.auto_line_ends → filter.index.now ≡ index → filter.kind ≡ s.kind
-      → IsStatusRun (query filter (settings s.options index)) index s old result new → IsIndexRun query are_files index s old result new
+  pub index_run : (a : Asking T U) (index : State) (files : List File) (filter : LineEnds) (old : Option (List ℕ)) (result : Result Report Failure) (new : Option (List ℕ))
+      → a.are_files index files → attributes_view filter.attributes.now ≡ attributes_of files → filter.auto ≡ a.settings.auto_line_ends → filter.index.now ≡ index → filter.kind ≡ a.settings.kind
+      → IsStatusRun (a.query filter (settings a.settings.options index)) index a.settings old result new → IsIndexRun a index old result new
   unfolding IsIndexRun
-  index_run query are_files index s files filter old result new found attributes auto entries kind run =
+  index_run a index files filter old result new found attributes auto entries kind run =
       inl (record { files = files; found = found; filter = filter; attributes = attributes; auto = auto; entries = entries; kind = kind }, run)
 
   -- memory ran out before the status of an index
-  pub unread_run : (query : LineEnds → StatusSettings → Query T U) (are_files : State → List File → Type 0) (index : State) (s : Settings) (known : Option (List ℕ)) (result : Result Report Failure)
-      → IsErrAnd result (λ f. f ≡ Memory) → IsIndexRun query are_files index s known result known
+  pub unread_run : (a : Asking T U) (index : State) (known : Option (List ℕ)) (result : Result Report Failure)
+      → IsErrAnd result (λ f. f ≡ Memory) → IsIndexRun a index known result known
   unfolding IsIndexRun
-  unread_run query are_files index s known result failed = inr (failed, refl)
+  unread_run a index known result failed = inr (failed, refl)
 
   -- a file that was read, and the status of its index
-  pub file_run : (query : LineEnds → StatusSettings → Query T U) (are_files : State → List File → Type 0) (s : Settings) (bytes : List ℕ) (old : Option (List ℕ)) (result : Result Report Failure) (new : Option (List ℕ)) (read : ReadFile are_files s bytes)
-      → IsStatusRun (query read.converting.filter (settings s.options read.index)) read.index s old result new → IsCommandRun query are_files s bytes old result new
+  pub file_run : (a : Asking T U) (bytes : List ℕ) (old : Option (List ℕ)) (result : Result Report Failure) (new : Option (List ℕ)) (read : ReadFile a bytes)
+      → IsStatusRun (a.query read.converting.filter (settings a.settings.options read.index)) read.index a.settings old result new → IsCommandRun a bytes old result new
   unfolding IsCommandRun
-  file_run query are_files s bytes old (Ok r) new read run = (read, run)
-  file_run query are_files s bytes old (Err f) new read run = inl (read, run)
+  file_run a bytes old (Ok r) new read run = (read, run)
+  file_run a bytes old (Err f) new read run = inl (read, run)
 
   -- a file that was refused
-  pub refused_run : (query : LineEnds → StatusSettings → Query T U) (are_files : State → List File → Type 0) (s : Settings) (bytes : List ℕ) (known : Option (List ℕ)) (result : Result Report Failure) (error : IndexFileError)
-      → IsFileRefusal s.kind bytes error → ((es : List IndexEntry) → IsIndexFile s.kind bytes es → IsIndex es → error ≡ index.Memory)
-      → IsErrAnd result (λ f. f ≡ failure_of_index error) → IsCommandRun query are_files s bytes known result known
+  pub refused_run : (a : Asking T U) (bytes : List ℕ) (known : Option (List ℕ)) (result : Result Report Failure) (error : IndexFileError)
+      → IsFileRefusal a.settings.kind bytes error → ((es : List IndexEntry) → IsIndexFile a.settings.kind bytes es → IsIndex es → error ≡ index.Memory)
+      → IsErrAnd result (λ f. f ≡ failure_of_index error) → IsCommandRun a bytes known result known
   unfolding IsCommandRun
-  refused_run query are_files s bytes known (Ok r) error refusal valid failed = absurd failed
-  refused_run query are_files s bytes known (Err f) error refusal valid failed = inr (record { error = error; refusal = refusal; valid = valid; failure = failed; unchanged = refl })
+  refused_run a bytes known (Ok r) error refusal valid failed = absurd failed
+  refused_run a bytes known (Err f) error refusal valid failed = inr (record { error = error; refusal = refusal; valid = valid; failure = failed; unchanged = refl })
 
   -- memory ran out before the status
-  pub early_run : (query : LineEnds → StatusSettings → Query T U) (are_files : State → List File → Type 0) (s : Settings) (bytes : List ℕ) (known : Option (List ℕ)) (result : Result Report Failure)
-      → IsErrAnd result (λ f. f ≡ Memory) → IsCommandRun query are_files s bytes known result known
-  early_run query are_files s bytes known result failed = refused_run query are_files s bytes known result index.Memory (record { applies = tt; passes = tt }) (λ es file valid. refl) failed
+  pub early_run : (a : Asking T U) (bytes : List ℕ) (known : Option (List ℕ)) (result : Result Report Failure)
+      → IsErrAnd result (λ f. f ≡ Memory) → IsCommandRun a bytes known result known
+  early_run a bytes known result failed = refused_run a bytes known result index.Memory (record { applies = tt; passes = tt }) (λ es file valid. refl) failed
 
   -- the status of an index that was read
-  pub read_run : (query : LineEnds → StatusSettings → Query T U) (are_files : State → List File → Type 0) (s : Settings) (bytes : List ℕ) (old : Option (List ℕ)) (result : Result Report Failure) (new : Option (List ℕ)) (index : State) (version : ℕ) (extensions : List ℕ)
-      → IsFileOf s.kind bytes version (index_of index) extensions → timestamp_of index ≡ s.timestamp
-      → IsIndexRun query are_files index s old result new → IsCommandRun query are_files s bytes old result new
+  pub read_run : (a : Asking T U) (bytes : List ℕ) (old : Option (List ℕ)) (result : Result Report Failure) (new : Option (List ℕ)) (index : State) (version : ℕ) (extensions : List ℕ)
+      → IsFileOf a.settings.kind bytes version (index_of index) extensions → timestamp_of index ≡ a.settings.timestamp
+      → IsIndexRun a index old result new → IsCommandRun a bytes old result new
   unfolding IsIndexRun
-  read_run query are_files s bytes old result new index version extensions file time (inl run) =
-      file_run query are_files s bytes old result new (record { index = index; version = version; extensions = extensions; file = file; time = time; converting = run.0 }) run.1
-  read_run query are_files s bytes old result new index version extensions file time (inr early) =
-      subst (λ after. IsCommandRun query are_files s bytes old result after) (sym early.1) (early_run query are_files s bytes old result early.0)
+  read_run a bytes old result new index version extensions file time (inl run) =
+      file_run a bytes old result new (record { index = index; version = version; extensions = extensions; file = file; time = time; converting = run.0 }) run.1
+  read_run a bytes old result new index version extensions file time (inr early) =
+      subst (λ after. IsCommandRun a bytes old result after) (sym early.1) (early_run a bytes old result early.0)
 
 -- nothing isn't something
 pub none_not_some : {A : Type 0} (x : Option A) → x ≡ None → is_some x ≡ true → ⊥

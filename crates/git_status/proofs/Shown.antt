@@ -19,7 +19,7 @@ use Rattle.status_index.specs.States.{backing_of, entries_of, index_of}
 use Rattle.status_index.specs.declared.state.State.{State}
 use Rattle.git_status.specs.Differences.{LinesLaw, difference_lines, entry_line, finding_line}
 use Rattle.git_status.specs.Lines.{status_line, visit_line, visit_lines}
-use Rattle.git_status.specs.Runs.{IsCommandEnd, IsCommandRun, IsStatusRun, printed_text}
+use Rattle.git_status.specs.Runs.{Asking, IsCommandEnd, IsCommandRun, IsStatusRun, printed_text}
 use Rattle.git_status.specs.declared.asked.Settings.{Settings}
 use Rattle.git_status.specs.declared.dirty.Report.{Report}
 use Rattle.git_status.specs.declared.lines.LineStyle.{LineStyle}
@@ -57,8 +57,8 @@ module _ {T U : Type 0} (style : LineStyle) (index : State) where
       printed visits answer (inr failed) = absurd failed
 
 module _ {T U : Type 0} where
-  pub lines_law : (query : LineEnds → StatusSettings → Query T U) (are_files : State → List File → Type 0) (s : Settings) (bytes : List ℕ) → LinesLaw query are_files s bytes
+  pub lines_law : (a : Asking T U) (bytes : List ℕ) → LinesLaw a bytes
   unfolding IsCommandRun
-  lines_law query are_files s bytes modelled style loud dirty old new exit =
-      let read = exit.2.0 in let asked = settings s.options read.index in
-      (read, run_lines style read.index (query read.converting.filter asked) s old exit.0 new (modelled read.converting.filter asked) loud exit.2.1)
+  lines_law a bytes modelled style loud dirty old new exit =
+      let read = exit.2.0 in let asked = settings a.settings.options read.index in
+      (read, run_lines style read.index (a.query read.converting.filter asked) a.settings old exit.0 new (modelled read.converting.filter asked) loud exit.2.1)

@@ -15,7 +15,7 @@ use Rattle.status_index.specs.Entries.{IndexEntry}
 use Rattle.status_index.specs.States.{index_of}
 use Rattle.status_index.specs.declared.state.State.{State}
 use Rattle.git_status.specs.Lines.{status_line}
-use Rattle.git_status.specs.Runs.{IsExit, ReadFile}
+use Rattle.git_status.specs.Runs.{Asking, IsExit, ReadFile}
 use Rattle.git_status.specs.declared.asked.Settings.{Settings}
 use Rattle.git_status.specs.declared.lines.LineStyle.{LineStyle}
 
@@ -34,12 +34,12 @@ module _ {T U : Type 0} where
   difference_lines style q index = flat_map (finding_line style (index_of index)) (records_of q (start_of q index) (considered_entries q index))
 
   -- The bytes are an index file, and the output grew by exactly the lines of its entries that differ.
-  abbrev pub PrintsDifferences : (LineEnds → StatusSettings → Query T U) → (State → List File → Type 0) → Settings → LineStyle → List ℕ → Option (List ℕ) → Option (List ℕ) → Type 0
-  PrintsDifferences query are_files s style bytes old new =
-      (read : ReadFile are_files s bytes) × Appends old new (difference_lines style (query read.converting.filter (settings s.options read.index)) read.index)
+  abbrev pub PrintsDifferences : Asking T U → LineStyle → List ℕ → Option (List ℕ) → Option (List ℕ) → Type 0
+  PrintsDifferences a style bytes old new =
+      (read : ReadFile a bytes) × Appends old new (difference_lines style (a.query read.converting.filter (settings a.settings.options read.index)) read.index)
 
   -- Over a modelled worktree a command that ended with exit status 0 or 1 printed so, unless it is quiet.
-  abbrev pub LinesLaw : (LineEnds → StatusSettings → Query T U) → (State → List File → Type 0) → Settings → List ℕ → Type 0
-  LinesLaw query are_files s bytes =
-      ((filter : LineEnds) (settings : StatusSettings) → IsTrue (query filter settings).modelled) → (style : LineStyle) → s.lines ≡ Some style
-      → (dirty : Bool) (old new : Option (List ℕ)) → IsExit query are_files s bytes dirty old new → PrintsDifferences query are_files s style bytes old new
+  abbrev pub LinesLaw : Asking T U → List ℕ → Type 0
+  LinesLaw a bytes =
+      ((filter : LineEnds) (settings : StatusSettings) → IsTrue (a.query filter settings).modelled) → (style : LineStyle) → a.settings.lines ≡ Some style
+      → (dirty : Bool) (old new : Option (List ℕ)) → IsExit a bytes dirty old new → PrintsDifferences a style bytes old new

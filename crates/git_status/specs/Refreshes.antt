@@ -19,7 +19,7 @@ use Rattle.status_index.specs.States.{index_of}
 use Rattle.status_index.specs.declared.id.HashKind.{HashKind}
 use Rattle.status_index.specs.declared.state.State.{State}
 use Rattle.git_status.specs.Kept.{is_whole, kept_changes}
-use Rattle.git_status.specs.Runs.{Converting, IsFileRun, IsCommandRun, IsStatusRun}
+use Rattle.git_status.specs.Runs.{Asking, Converting, IsFileRun, IsCommandRun, IsStatusRun}
 use Rattle.git_status.specs.declared.asked.Settings.{Settings}
 use Rattle.git_status.specs.declared.dirty.Report.{Report}
 use Rattle.git_status.specs.declared.failure.Failure.{Failure}
@@ -52,31 +52,31 @@ module _ {T U : Type 0} where
   IsFoundRun said query index s old (Err f) new = IsStatusRun query index s old (Err f) new ⊎ ((r : Report) × IsStatusRun query index s old (Ok r) new × (f ≡ Memory))
 
   -- The same, with line ends converted; or memory ran out before it.
-  unfoldable pub IsIndexFound : (LineEnds → StatusSettings → Query T U) → (State → List File → Type 0) → State → Settings → Option (List ℕ) → Result Found Failure → Option (List ℕ) → Type 0
-  IsIndexFound query are_files index s old result new =
-      ((c : Converting are_files s index) × IsFoundRun (attributes_of c.files) (query c.filter (settings s.options index)) index s old result new) ⊎ (IsErrAnd result (λ f. f ≡ Memory) × (new ≡ old))
+  unfoldable pub IsIndexFound : Asking T U → State → Option (List ℕ) → Result Found Failure → Option (List ℕ) → Type 0
+  IsIndexFound a index old result new =
+      ((c : Converting a index) × IsFoundRun (attributes_of c.files) (a.query c.filter (settings a.settings.options index)) index a.settings old result new) ⊎ (IsErrAnd result (λ f. f ≡ Memory) × (new ≡ old))
 
   -- The status of an index file was printed, these are the file's extensions and its new bytes, and this states whether the refresh is whole.
-  pub record IsFileRefreshed (query : LineEnds → StatusSettings → Query T U) (are_files : State → List File → Type 0) (s : Settings) (bytes : List ℕ) (old : Option (List ℕ)) (r : Report) (all : Bool) (extensions : List ℕ) (refreshed new : Option (List ℕ)) : Type 0 where
-    pub run : IsFileRun query are_files s bytes old (Ok r) new
+  pub record IsFileRefreshed (a : Asking T U) (bytes : List ℕ) (old : Option (List ℕ)) (r : Report) (all : Bool) (extensions : List ℕ) (refreshed new : Option (List ℕ)) : Type 0 where
+    pub run : IsFileRun a bytes old (Ok r) new
     pub kept : extensions ≡ run.0.extensions
     pub whole : all ≡ is_whole (attributes_of run.0.converting.files) run.1.visits r.outcome
-    pub file : IsRefreshedFile s.kind bytes run.0.version run.0.extensions (index_of run.0.index) (kept_changes (attributes_of run.0.converting.files) run.1.visits) refreshed
+    pub file : IsRefreshedFile a.settings.kind bytes run.0.version run.0.extensions (index_of run.0.index) (kept_changes (attributes_of run.0.converting.files) run.1.visits) refreshed
 
   -- The refresh of an index file fails as its status does, or since memory ran out after the status was printed.
-  abbrev pub IsUnrefreshed : (LineEnds → StatusSettings → Query T U) → (State → List File → Type 0) → Settings → List ℕ → Option (List ℕ) → Failure → Option (List ℕ) → Type 0
-  IsUnrefreshed query are_files s bytes old f new = IsCommandRun query are_files s bytes old (Err f) new ⊎ ((r : Report) × IsCommandRun query are_files s bytes old (Ok r) new × (f ≡ Memory))
+  abbrev pub IsUnrefreshed : Asking T U → List ℕ → Option (List ℕ) → Failure → Option (List ℕ) → Type 0
+  IsUnrefreshed a bytes old f new = IsCommandRun a bytes old (Err f) new ⊎ ((r : Report) × IsCommandRun a bytes old (Ok r) new × (f ≡ Memory))
 
   -- The result of a refresh over the bytes of an index file and a worktree.
-  unfoldable pub IsRefresh : (LineEnds → StatusSettings → Query T U) → (State → List File → Type 0) → Settings → List ℕ → Option (List ℕ) → Result RefreshedFile Failure → Option (List ℕ) → Type 0
-  IsRefresh query are_files s bytes old (Ok r) new = IsFileRefreshed query are_files s bytes old r.report r.is_whole r.extensions.now (option_map (λ v. v.items) r.bytes) new
-  IsRefresh query are_files s bytes old (Err f) new = IsUnrefreshed query are_files s bytes old f new
+  unfoldable pub IsRefresh : Asking T U → List ℕ → Option (List ℕ) → Result RefreshedFile Failure → Option (List ℕ) → Type 0
+  IsRefresh a bytes old (Ok r) new = IsFileRefreshed a bytes old r.report r.is_whole r.extensions.now (option_map (λ v. v.items) r.bytes) new
+  IsRefresh a bytes old (Err f) new = IsUnrefreshed a bytes old f new
 
   -- With exit status 0 the refresh found no difference, and with 1 it found one.
-  abbrev pub IsRefreshExit : (LineEnds → StatusSettings → Query T U) → (State → List File → Type 0) → Settings → List ℕ → Bool → Refreshed → Option (List ℕ) → Option (List ℕ) → Type 0
-  IsRefreshExit query are_files s bytes dirty result old new =
-      (r : Report) × (r.dirty ≡ dirty) × IsFileRefreshed query are_files s bytes old r result.is_whole result.extensions.now (option_map (λ v. v.items) result.bytes) new
+  abbrev pub IsRefreshExit : Asking T U → List ℕ → Bool → Refreshed → Option (List ℕ) → Option (List ℕ) → Type 0
+  IsRefreshExit a bytes dirty result old new =
+      (r : Report) × (r.dirty ≡ dirty) × IsFileRefreshed a bytes old r result.is_whole result.extensions.now (option_map (λ v. v.items) result.bytes) new
 
   -- With exit status 2 it failed.
-  abbrev pub IsRefreshFailedExit : (LineEnds → StatusSettings → Query T U) → (State → List File → Type 0) → Settings → List ℕ → Option (List ℕ) → Option (List ℕ) → Type 0
-  IsRefreshFailedExit query are_files s bytes old new = (f : Failure) × IsUnrefreshed query are_files s bytes old f new
+  abbrev pub IsRefreshFailedExit : Asking T U → List ℕ → Option (List ℕ) → Option (List ℕ) → Type 0
+  IsRefreshFailedExit a bytes old new = (f : Failure) × IsUnrefreshed a bytes old f new

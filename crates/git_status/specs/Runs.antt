@@ -40,24 +40,30 @@ pub record IsRefusedFile (s : Settings) (bytes : List ℕ) (old : Option (List �
   pub failure : f ≡ failure_of_index error
   pub unchanged : new ≡ old
 
+-- How a worktree is compared with an index after line ends are converted, which attribute files may be found, and the settings.
+pub record Asking (T U : Type 0) : Type 1 where
+  pub query : LineEnds → StatusSettings → Query T U
+  pub are_files : State → List File → Type 0
+  pub settings : Settings
+
 -- Line ends are converted by what these attribute files say, which were found for this index, and by the settings.
-pub record Converting (are_files : State → List File → Type 0) (s : Settings) (index : State) : Type 0 where
+pub record Converting {T U : Type 0} (a : Asking T U) (index : State) : Type 0 where
   pub files : List File
-  pub found : are_files index files
+  pub found : a.are_files index files
   pub filter : LineEnds
   pub attributes : attributes_view filter.attributes.now ≡ attributes_of files
-  pub auto : filter.auto ≡ s.auto_line_ends
+  pub auto : filter.auto ≡ a.settings.auto_line_ends
   pub entries : filter.index.now ≡ index
-  pub kind : filter.kind ≡ s.kind
+  pub kind : filter.kind ≡ a.settings.kind
 
 -- The bytes are an index file of this index, which has the settings' timestamp, and line ends are converted.
-pub record ReadFile (are_files : State → List File → Type 0) (s : Settings) (bytes : List ℕ) : Type 0 where
+pub record ReadFile {T U : Type 0} (a : Asking T U) (bytes : List ℕ) : Type 0 where
   pub index : State
   pub version : ℕ
   pub extensions : List ℕ
-  pub file : IsFileOf s.kind bytes version (index_of index) extensions
-  pub time : timestamp_of index ≡ s.timestamp
-  pub converting : Converting are_files s index
+  pub file : IsFileOf a.settings.kind bytes version (index_of index) extensions
+  pub time : timestamp_of index ≡ a.settings.timestamp
+  pub converting : Converting a index
 
 module _ {T U : Type 0} where
   -- A record of an entry that differs from the worktree.
@@ -109,27 +115,27 @@ module _ {T U : Type 0} where
     pub ended : IsCommandEnd s.lines visits answer old result new
 
   -- A status of this index was printed, with line ends converted; or memory ran out before it.
-  unfoldable pub IsIndexRun : (LineEnds → StatusSettings → Query T U) → (State → List File → Type 0) → State → Settings → Option (List ℕ) → Result Report Failure → Option (List ℕ) → Type 0
-  IsIndexRun query are_files index s old result new =
-      ((c : Converting are_files s index) × IsStatusRun (query c.filter (settings s.options index)) index s old result new) ⊎ (IsErrAnd result (λ f. f ≡ Memory) × (new ≡ old))
+  unfoldable pub IsIndexRun : Asking T U → State → Option (List ℕ) → Result Report Failure → Option (List ℕ) → Type 0
+  IsIndexRun a index old result new =
+      ((c : Converting a index) × IsStatusRun (a.query c.filter (settings a.settings.options index)) index a.settings old result new) ⊎ (IsErrAnd result (λ f. f ≡ Memory) × (new ≡ old))
 
   -- The status of an index that was read was printed.
-  abbrev pub IsFileRun : (LineEnds → StatusSettings → Query T U) → (State → List File → Type 0) → Settings → List ℕ → Option (List ℕ) → Result Report Failure → Option (List ℕ) → Type 0
-  IsFileRun query are_files s bytes old result new =
-      (read : ReadFile are_files s bytes) × IsStatusRun (query read.converting.filter (settings s.options read.index)) read.index s old result new
+  abbrev pub IsFileRun : Asking T U → List ℕ → Option (List ℕ) → Result Report Failure → Option (List ℕ) → Type 0
+  IsFileRun a bytes old result new =
+      (read : ReadFile a bytes) × IsStatusRun (a.query read.converting.filter (settings a.settings.options read.index)) read.index a.settings old result new
 
   -- The result of the command over the bytes of an index file and a worktree.
-  unfoldable pub IsCommandRun : (LineEnds → StatusSettings → Query T U) → (State → List File → Type 0) → Settings → List ℕ → Option (List ℕ) → Result Report Failure → Option (List ℕ) → Type 0
-  IsCommandRun query are_files s bytes old (Ok r) new = IsFileRun query are_files s bytes old (Ok r) new
-  IsCommandRun query are_files s bytes old (Err f) new = IsFileRun query are_files s bytes old (Err f) new ⊎ IsRefusedFile s bytes old f new
+  unfoldable pub IsCommandRun : Asking T U → List ℕ → Option (List ℕ) → Result Report Failure → Option (List ℕ) → Type 0
+  IsCommandRun a bytes old (Ok r) new = IsFileRun a bytes old (Ok r) new
+  IsCommandRun a bytes old (Err f) new = IsFileRun a bytes old (Err f) new ⊎ IsRefusedFile a.settings bytes old f new
 
   -- With exit status 0 the command found no difference, and with 1 it found one.
-  abbrev pub IsExit : (LineEnds → StatusSettings → Query T U) → (State → List File → Type 0) → Settings → List ℕ → Bool → Option (List ℕ) → Option (List ℕ) → Type 0
-  IsExit query are_files s bytes dirty old new = (r : Report) × (r.dirty ≡ dirty) × IsCommandRun query are_files s bytes old (Ok r) new
+  abbrev pub IsExit : Asking T U → List ℕ → Bool → Option (List ℕ) → Option (List ℕ) → Type 0
+  IsExit a bytes dirty old new = (r : Report) × (r.dirty ≡ dirty) × IsCommandRun a bytes old (Ok r) new
 
   -- With exit status 2 it failed.
-  abbrev pub IsFailedExit : (LineEnds → StatusSettings → Query T U) → (State → List File → Type 0) → Settings → List ℕ → Option (List ℕ) → Option (List ℕ) → Type 0
-  IsFailedExit query are_files s bytes old new = (f : Failure) × IsCommandRun query are_files s bytes old (Err f) new
+  abbrev pub IsFailedExit : Asking T U → List ℕ → Option (List ℕ) → Option (List ℕ) → Type 0
+  IsFailedExit a bytes old new = (f : Failure) × IsCommandRun a bytes old (Err f) new
 
   -- An entry has no difference: it has no record, or one that only asks for a new stat.
   abbrev pub HasNoDifference : Result (Option (EntryStatus T U)) Error → Type 0
@@ -142,10 +148,10 @@ module _ {T U : Type 0} where
   NoneDiffers query index = All (λ e. HasNoDifference (verdict query (considered_entries query index) e)) (considered_entries query index)
 
   -- An index was read of which no considered entry differs from the worktree.
-  abbrev pub IsClean : (LineEnds → StatusSettings → Query T U) → (State → List File → Type 0) → Settings → List ℕ → Type 0
-  IsClean query are_files s bytes = (read : ReadFile are_files s bytes) × NoneDiffers (query read.converting.filter (settings s.options read.index)) read.index
+  abbrev pub IsClean : Asking T U → List ℕ → Type 0
+  IsClean a bytes = (read : ReadFile a bytes) × NoneDiffers (a.query read.converting.filter (settings a.settings.options read.index)) read.index
 
   -- Over a modelled worktree, a command that ended with exit status 0 means this.
-  abbrev pub CleanLaw : (LineEnds → StatusSettings → Query T U) → (State → List File → Type 0) → Settings → List ℕ → Type 0
-  CleanLaw query are_files s bytes =
-      ((filter : LineEnds) (settings : StatusSettings) → IsTrue (query filter settings).modelled) → (old new : Option (List ℕ)) → IsExit query are_files s bytes false old new → IsClean query are_files s bytes
+  abbrev pub CleanLaw : Asking T U → List ℕ → Type 0
+  CleanLaw a bytes =
+      ((filter : LineEnds) (settings : StatusSettings) → IsTrue (a.query filter settings).modelled) → (old new : Option (List ℕ)) → IsExit a bytes false old new → IsClean a bytes

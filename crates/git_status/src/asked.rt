@@ -1,12 +1,7 @@
 //! The question that the command is asked: an index file's kind and time, a worktree, and how they are compared.
 
-ghost use Rattle.std.specs.Prelude.{List};
-ghost use Rattle.git_attributes.specs.Files.{File};
-ghost use Rattle.git_attributes.specs.declared.line_ends.LineEnds.{LineEnds as Filter};
-ghost use Rattle.status_call.specs.Query.{Query};
-ghost use Rattle.status_call.specs.declared.index_as_worktree.inputs.Settings.{Settings as StatusSettings};
-ghost use Rattle.status_index.specs.declared.state.State.{State};
 ghost use Rattle.git_status.specs.Inputs.{asked_inputs};
+ghost use Rattle.git_status.specs.Runs.{Asking};
 
 use crate::lines::LineStyle;
 use crate::status::Compared;
@@ -55,18 +50,17 @@ pub trait Question {
     /// A submodule's report of a change.
     type Submodule;
 
-    /// All that a status with these settings depends on, with line ends converted by this filter.
-    ghost query: { Self → Filter → StatusSettings → Query (Unit {0}) Self.Submodule };
-
-    /// Which attribute files may be found for an index.
-    ghost are_files: { Self → State → List File → Type 0 };
+    /// How the worktree is compared after line ends are converted, which attribute files may be found, and the settings.
+    ghost asking: { Self → Asking (Unit {0}) Self.Submodule };
 }
 
 impl<'a, W: Worktree, S: SubmoduleStatus, P: Pathspec, A: AttributeFiles> Question
     for Asked<'a, W, S, P, A> {
     type Submodule = S::Output;
 
-    ghost query = { λ asked filter. ⟦<Compared<'a, 'a, 'a, 'a, W, S, P> as Ask>⟧.query (asked_inputs asked filter) };
-
-    ghost are_files = { λ asked. A.are_files asked.attributes };
+    ghost asking = { λ asked. record {
+      query = λ filter. ⟦<Compared<'a, 'a, 'a, 'a, W, S, P> as Ask>⟧.query (asked_inputs asked filter);
+      are_files = A.are_files asked.attributes;
+      settings = asked.settings;
+    } };
 }

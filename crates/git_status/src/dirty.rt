@@ -57,9 +57,9 @@ where
     W::File: Send,
     S::Output: Send,
     ensures status { (result ≡ 0) ⊎ ((result ≡ 1) ⊎ (result ≡ 2)) }
-    ensures clean { result ≡ 0 → IsExit (⟦<Asked<'a, W, S, P, A> as Question>⟧.query asked.entry) (⟦<Asked<'a, W, S, P, A> as Question>⟧.are_files asked.entry) asked.entry.settings bytes.now false (O.contents output.old) (O.contents output.new) }
-    ensures dirty { result ≡ 1 → IsExit (⟦<Asked<'a, W, S, P, A> as Question>⟧.query asked.entry) (⟦<Asked<'a, W, S, P, A> as Question>⟧.are_files asked.entry) asked.entry.settings bytes.now true (O.contents output.old) (O.contents output.new) }
-    ensures failed { result ≡ 2 → IsFailedExit (⟦<Asked<'a, W, S, P, A> as Question>⟧.query asked.entry) (⟦<Asked<'a, W, S, P, A> as Question>⟧.are_files asked.entry) asked.entry.settings bytes.now (O.contents output.old) (O.contents output.new) }
+    ensures clean { result ≡ 0 → IsExit (⟦<Asked<'a, W, S, P, A> as Question>⟧.asking asked.entry) bytes.now false (O.contents output.old) (O.contents output.new) }
+    ensures dirty { result ≡ 1 → IsExit (⟦<Asked<'a, W, S, P, A> as Question>⟧.asking asked.entry) bytes.now true (O.contents output.old) (O.contents output.new) }
+    ensures failed { result ≡ 2 → IsFailedExit (⟦<Asked<'a, W, S, P, A> as Question>⟧.asking asked.entry) bytes.now (O.contents output.old) (O.contents output.new) }
     ensures line { result ≡ 2 → IsFaultLine (E.contents faults.old) (E.contents faults.new) }
     ensures quiet { result ≢ 2 → asked.entry.settings.stats ≡ false → asked.entry.settings.notes ≡ false → E.contents faults.new ≡ E.contents faults.old }
 {
@@ -152,7 +152,7 @@ pub fn print_file<
 where
     W::File: Send,
     S::Output: Send,
-    ensures { IsCommandRun (⟦<Asked<'a, W, S, P, A> as Question>⟧.query asked.entry) (⟦<Asked<'a, W, S, P, A> as Question>⟧.are_files asked.entry) asked.entry.settings bytes.now (O.contents output.old) result (O.contents output.new) }
+    ensures { IsCommandRun (⟦<Asked<'a, W, S, P, A> as Question>⟧.asking asked.entry) bytes.now (O.contents output.old) result (O.contents output.new) }
 {
     let Settings {
         kind,
@@ -179,7 +179,7 @@ fn print_index<
 where
     W::File: Send,
     S::Output: Send,
-    ensures { IsIndexRun (⟦<Asked<'a, W, S, P, A> as Question>⟧.query asked.entry) (⟦<Asked<'a, W, S, P, A> as Question>⟧.are_files asked.entry) index.now asked.entry.settings (O.contents output.old) result (O.contents output.new) }
+    ensures { IsIndexRun (⟦<Asked<'a, W, S, P, A> as Question>⟧.asking asked.entry) index.now (O.contents output.old) result (O.contents output.new) }
 {
     let alloc = rt.alloc();
     let files = asked.attributes.find(alloc, index)?;
@@ -213,7 +213,7 @@ fn print_status<
 where
     W::File: Send,
     S::Output: Send,
-    ensures { IsStatusRun (⟦<Asked<'a, W, S, P, A> as Question>⟧.query asked.entry filter.entry (settings asked.entry.settings.options index.now)) index.now asked.entry.settings (O.contents output.old) result (O.contents output.new) }
+    ensures { IsStatusRun ((⟦<Asked<'a, W, S, P, A> as Question>⟧.asking asked.entry).query filter.entry (settings asked.entry.settings.options index.now)) index.now asked.entry.settings (O.contents output.old) result (O.contents output.new) }
 {
     let alloc = rt.alloc();
     let Settings { lines, notes, .. } = asked.settings;

@@ -13,11 +13,13 @@ use git_attributes::AttributeFiles;
 /// Over a modelled worktree, exit status 0 means that no entry of the index differs from the worktree, of those that are
 /// compared.
 pub fn clean_means_no_difference<T: Drop, U: Drop, A: AttributeFiles>(attributes: &A)
-    ensures { (query : LineEnds → StatusSettings → Query T U) (s : AskedSettings) (bytes : List ℕ) → CleanLaw query (A.are_files attributes.now) s bytes }
+    ensures { (query : LineEnds → StatusSettings → Query T U) (settings : AskedSettings) (bytes : List ℕ)
+        → CleanLaw (record { query = query; are_files = A.are_files attributes.now; settings = settings }) bytes }
 {}
 
 /// Over a modelled worktree and with exit status 0 or 1, the output grew by the lines of exactly the entries that differ from
 /// the worktree, of those that are compared, unless the command is quiet.
 pub fn lines_are_of_all_differences<T: Drop, U: Drop, A: AttributeFiles>(attributes: &A)
-    ensures { (query : LineEnds → StatusSettings → Query T U) (s : AskedSettings) (bytes : List ℕ) → LinesLaw query (A.are_files attributes.now) s bytes }
+    ensures { (query : LineEnds → StatusSettings → Query T U) (settings : AskedSettings) (bytes : List ℕ)
+        → LinesLaw (record { query = query; are_files = A.are_files attributes.now; settings = settings }) bytes }
 {}

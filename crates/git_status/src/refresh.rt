@@ -79,9 +79,9 @@ where
     W::File: Send,
     S::Output: Send,
     ensures status { (result.status ≡ 0) ⊎ ((result.status ≡ 1) ⊎ (result.status ≡ 2)) }
-    ensures clean { result.status ≡ 0 → IsRefreshExit (⟦<Asked<'a, W, S, P, A> as Question>⟧.query asked.entry) (⟦<Asked<'a, W, S, P, A> as Question>⟧.are_files asked.entry) asked.entry.settings bytes.now false result (O.contents output.old) (O.contents output.new) }
-    ensures dirty { result.status ≡ 1 → IsRefreshExit (⟦<Asked<'a, W, S, P, A> as Question>⟧.query asked.entry) (⟦<Asked<'a, W, S, P, A> as Question>⟧.are_files asked.entry) asked.entry.settings bytes.now true result (O.contents output.old) (O.contents output.new) }
-    ensures failed { result.status ≡ 2 → IsRefreshFailedExit (⟦<Asked<'a, W, S, P, A> as Question>⟧.query asked.entry) (⟦<Asked<'a, W, S, P, A> as Question>⟧.are_files asked.entry) asked.entry.settings bytes.now (O.contents output.old) (O.contents output.new) }
+    ensures clean { result.status ≡ 0 → IsRefreshExit (⟦<Asked<'a, W, S, P, A> as Question>⟧.asking asked.entry) bytes.now false result (O.contents output.old) (O.contents output.new) }
+    ensures dirty { result.status ≡ 1 → IsRefreshExit (⟦<Asked<'a, W, S, P, A> as Question>⟧.asking asked.entry) bytes.now true result (O.contents output.old) (O.contents output.new) }
+    ensures failed { result.status ≡ 2 → IsRefreshFailedExit (⟦<Asked<'a, W, S, P, A> as Question>⟧.asking asked.entry) bytes.now (O.contents output.old) (O.contents output.new) }
     ensures unwritten { result.status ≡ 2 → result.bytes ≡ None }
     ensures line { result.status ≡ 2 → IsFaultLine (E.contents faults.old) (E.contents faults.new) }
     ensures quiet { result.status ≢ 2 → asked.entry.settings.stats ≡ false → asked.entry.settings.notes ≡ false → E.contents faults.new ≡ E.contents faults.old }
@@ -136,7 +136,7 @@ fn refresh_file<
 where
     W::File: Send,
     S::Output: Send,
-    ensures { IsRefresh (⟦<Asked<'a, W, S, P, A> as Question>⟧.query asked.entry) (⟦<Asked<'a, W, S, P, A> as Question>⟧.are_files asked.entry) asked.entry.settings bytes.now (O.contents output.old) result (O.contents output.new) }
+    ensures { IsRefresh (⟦<Asked<'a, W, S, P, A> as Question>⟧.asking asked.entry) bytes.now (O.contents output.old) result (O.contents output.new) }
 {
     let alloc = rt.alloc();
     let Settings {
@@ -184,7 +184,7 @@ fn find_in_index<
 where
     W::File: Send,
     S::Output: Send,
-    ensures { IsIndexFound (⟦<Asked<'a, W, S, P, A> as Question>⟧.query asked.entry) (⟦<Asked<'a, W, S, P, A> as Question>⟧.are_files asked.entry) index.now asked.entry.settings (O.contents output.old) result (O.contents output.new) }
+    ensures { IsIndexFound (⟦<Asked<'a, W, S, P, A> as Question>⟧.asking asked.entry) index.now (O.contents output.old) result (O.contents output.new) }
 {
     let alloc = rt.alloc();
     let files = asked.attributes.find(alloc, index)?;
@@ -218,7 +218,7 @@ fn find_changes<
 where
     W::File: Send,
     S::Output: Send,
-    ensures { IsFoundRun (attributes_view filter.entry.attributes.now) (⟦<Asked<'a, W, S, P, A> as Question>⟧.query asked.entry filter.entry (settings asked.entry.settings.options index.now)) index.now asked.entry.settings (O.contents output.old) result (O.contents output.new) }
+    ensures { IsFoundRun (attributes_view filter.entry.attributes.now) ((⟦<Asked<'a, W, S, P, A> as Question>⟧.asking asked.entry).query filter.entry (settings asked.entry.settings.options index.now)) index.now asked.entry.settings (O.contents output.old) result (O.contents output.new) }
 {
     let alloc = rt.alloc();
     let Settings { lines, notes, .. } = asked.settings;

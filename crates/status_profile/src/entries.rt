@@ -15,8 +15,7 @@ use crate::items::Items;
 use bstr::BStr;
 use gix_status::index::{Entry, IndexError, Moment, PathStorage, State};
 use json::{Value, Writer};
-use status_format::{FieldError, read_entry};
-use status_stored::{StoreError, store_one};
+use status_format::{FieldError, read_entry, store_entry};
 use std::alloc::{AllocError, Global};
 
 /// The entries of a profile, pushed to an index one by one.
@@ -119,25 +118,20 @@ fn put_entry(
     if at > 0 {
         text.push(b',')?;
     }
-    let entry = entry_text(alloc, entry, backing, at)?;
+    let entry = entry_text(alloc, entry, backing)?;
     text.extend_from_slice(entry.as_bytes())?;
     Ok(())
 }
 
-/// Returns the text of the entry at the position `at`.
-fn entry_text(
-    alloc: Global,
-    entry: &Entry,
-    backing: &PathStorage,
-    at: usize,
-) -> Result<String, ProfileError>
+/// Returns the text of an entry.
+fn entry_text(alloc: Global, entry: &Entry, backing: &PathStorage) -> Result<String, ProfileError>
     ensures text { IfOk result (λ text. string_bytes text ≡ compact_text (stored_entry (index_entry backing.now entry.now))) }
     ensures err { IfErr result (IsUnwritten (index_entry backing.now entry.now ∷ [])) }
 {
-    match store_one(alloc, entry, backing, at) {
+    match store_entry(alloc, entry, backing) {
         Ok(value) => Ok(value.to_string(alloc)?),
-        Err(StoreError::NotUtf8 { .. }) => Err(ProfileError::Bad(Key::Index)),
-        Err(StoreError::Memory) => Err(ProfileError::Memory),
+        Err(FieldError::Form) => Err(ProfileError::Bad(Key::Index)),
+        Err(FieldError::Memory) => Err(ProfileError::Memory),
     }
 }
 

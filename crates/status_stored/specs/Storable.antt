@@ -28,12 +28,6 @@ pub record IsNotUtf8At (es : List IndexEntry) (at : ℕ) : Type 0 where
   pub before : All (λ e. IsUtf8 e.path) (take at es)
   pub here : (d : IndexEntry) → IsUtf8 (slice_index_or es at d).path → ⊥
 
--- The value of one entry, or `NotUtf8` with its position if its path isn't UTF-8.
-abbrev pub IsOneStored : IndexEntry → ℕ → Result Value StoreError → Type 0
-IsOneStored e at (Ok value) = IsStorable e × (view value ≡ stored_entry e)
-IsOneStored e at (Err (NotUtf8 place)) = (place ≡ at) × (IsUtf8 e.path → ⊥)
-IsOneStored e at (Err Memory) = ⊤
-
 -- Why an index isn't stored.
 abbrev pub IsStoreRefusal : List IndexEntry → StoreError → Type 0
 IsStoreRefusal es (NotUtf8 at) = IsNotUtf8At es at

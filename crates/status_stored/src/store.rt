@@ -8,7 +8,7 @@ ghost use Rattle.status_index.specs.Entries.{index_entry, index_entries, new_ent
 ghost use Rattle.status_index.specs.States.{index_of, timestamp_of};
 ghost use Rattle.status_format.specs.Storable.{IsEntryStored, Fits32};
 ghost use Rattle.status_stored.specs.Steps.{AreStored};
-ghost use Rattle.status_stored.specs.Storable.{IsOneStored, IsStored};
+ghost use Rattle.status_stored.specs.Storable.{IsStored};
 ghost use Rattle.status_format.specs.StoredEntry.{stored_stamp, members_with};
 ghost use Rattle.serde_json.specs.Find.{get};
 ghost use Rattle.status_stored.specs.Loading.{IsLoaded};
@@ -83,26 +83,6 @@ fn store_at(
     ensures { HoldsAt (λ e. IsEntryStored (index_entry backing.now e) result) entries.now at }
 {
     store_entry(alloc, &entries[at], backing)
-}
-
-/// Returns the object of an entry, as in the value of its index. `backing` is the storage of its path, and `at` its
-/// position in the index. So an index can be written entry by entry.
-///
-/// # Errors
-/// Returns `NotUtf8` with `at` if the path isn't UTF-8, and `Memory` if an allocation fails.
-pub fn store_one(
-    alloc: Global,
-    entry: &Entry,
-    backing: &PathStorage,
-    at: usize,
-) -> Result<Value, StoreError>
-    ensures { IsOneStored (index_entry backing.now entry.now) at result }
-{
-    match store_entry(alloc, entry, backing) {
-        Ok(value) => Ok(value),
-        Err(FieldError::Form) => Err(StoreError::NotUtf8 { at }),
-        Err(FieldError::Memory) => Err(StoreError::Memory),
-    }
 }
 
 /// Returns the index that a value states. Keys with a default may be missing, and unknown keys are ignored.

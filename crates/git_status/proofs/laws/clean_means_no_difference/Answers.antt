@@ -2,4 +2,4 @@ use Rattle.git_status.proofs.Clean.{clean_law}
 use Rattle.git_status.proofs.laws.clean_means_no_difference.Goals as goal
 
 pub returns : goal.returns
-returns g c query s bytes = clean_law query (g.A.AttributeFiles.are_files c.args.attributes.now) s bytes
+returns g c query settings bytes = clean_law _ bytes

@@ -6,11 +6,11 @@ use Rattle.git_status.proofs.refresh.find_in_index.Goals as goal
 pub returns : goal.returns
 returns g c =
     let filter = c.filter_of-filter in let made = filter.ensures in
-    index_found _ _ c.args.index.now c.args.asked.settings (map file_view c.in_ok-files.files.items) filter.result _ c.find_changes.result _ c.in_ok-files.ensures
+    index_found _ c.args.index.now (map file_view c.in_ok-files.files.items) filter.result _ c.find_changes.result _ c.in_ok-files.ensures
     (ap attributes_view made.attributes ∙ rw c.deref.ensures.value at c.in_ok-attributes.ensures) made.auto made.entries made.kind c.find_changes.ensures
 
 pub returns-in_err-files : goal.returns-in_err-files
-returns-in_err-files g c = unfound_index _ _ c.args.index.now c.args.asked.settings _ c.from_residual.result c.from_residual.ensures.1
+returns-in_err-files g c = unfound_index _ c.args.index.now _ c.from_residual.result c.from_residual.ensures.1
 
 pub returns-in_err-attributes : goal.returns-in_err-attributes
-returns-in_err-attributes g c = unfound_index _ _ c.args.index.now c.args.asked.settings _ c.from_residual-in_err-attributes.result c.from_residual-in_err-attributes.ensures.1
+returns-in_err-attributes g c = unfound_index _ c.args.index.now _ c.from_residual-in_err-attributes.result c.from_residual-in_err-attributes.ensures.1

@@ -10,13 +10,13 @@ use Rattle.git_status.proofs.refresh.refresh_file.Goals as goal
 pub returns-in_err-file : goal.returns-in_err-file
 returns-in_err-file g c =
     let read = c.in_err-file.ensures in
-    refused_file _ _ c.args.asked.settings c.args.bytes.now _ c.from_residual.result c.in_err-file.field-0.0 read.refused read.only c.from_residual.ensures.1
+    refused_file _ c.args.bytes.now _ c.from_residual.result c.in_err-file.field-0.0 read.refused read.only c.from_residual.ensures.1
 
 pub returns-in_err-report : goal.returns-in_err-report
 returns-in_err-report g c =
     let file = c.in_ok-file.file in
     let failed = c.from_residual-in_err-report in
-    unrefreshed_file _ _ c.args.asked.settings c.args.bytes.now _ file.state file.version file.extensions.now c.in_ok-file.ensures.found c.in_ok-file.ensures.timestamp _ failed.result _
+    unrefreshed_file _ c.args.bytes.now _ file.state file.version file.extensions.now c.in_ok-file.ensures.found c.in_ok-file.ensures.timestamp _ failed.result _
     (rw c.in_err-report.was at c.find_in_index.ensures) failed.ensures.1
 
 pub returns-then-is_empty : goal.returns-then-is_empty
@@ -24,20 +24,20 @@ unfolding IsRefresh
 returns-then-is_empty g c =
     let file = c.in_ok-file.file in
     let found = c.in_ok-report.field-0 in
-    refreshed_file _ _ c.args.asked.settings c.args.bytes.now _ file.state file.version file.extensions.now c.in_ok-file.ensures.found c.in_ok-file.ensures.timestamp found None _
+    refreshed_file _ c.args.bytes.now _ file.state file.version file.extensions.now c.in_ok-file.ensures.found c.in_ok-file.ensures.timestamp found None _
     (rw c.in_ok-report.was at c.find_in_index.ensures) (nil_from_length found.changes.items (omega (arith, eqb-true found.changes.len 0 (sym c.is_empty.ensures ∙ c.if-is_empty.true), found.changes.ok.0)))
 
 pub changed_bytes-requires-clause-inside : goal.changed_bytes-requires-clause-inside
 changed_bytes-requires-clause-inside g c =
     let file = c.in_ok-file.file in
     subst (λ changes. AreInside changes (index_of file.state)) (sym c.deref.ensures.value)
-    (index_inside _ _ file.state c.args.asked.settings _ c.in_ok-report.field-0 _ (rw c.in_ok-report.was at c.find_in_index.ensures))
+    (index_inside _ file.state _ c.in_ok-report.field-0 _ (rw c.in_ok-report.was at c.find_in_index.ensures))
 
 pub returns-in_err-bytes : goal.returns-in_err-bytes
 returns-in_err-bytes g c =
     let file = c.in_ok-file.file in
     let failed = c.from_residual-in_err-bytes in
-    late_file _ _ c.args.asked.settings c.args.bytes.now _ file.state file.version file.extensions.now c.in_ok-file.ensures.found c.in_ok-file.ensures.timestamp c.in_ok-report.field-0 failed.result _
+    late_file _ c.args.bytes.now _ file.state file.version file.extensions.now c.in_ok-file.ensures.found c.in_ok-file.ensures.timestamp c.in_ok-report.field-0 failed.result _
     (rw c.in_ok-report.was at c.find_in_index.ensures) failed.ensures.1
 
 pub returns : goal.returns
@@ -46,7 +46,7 @@ returns g c =
     let file = c.in_ok-file.file in
     let found = c.in_ok-report.field-0 in
     let made = rw (c.deref.ensures.value, c.in_ok-file.ensures.kind) at c.in_ok-bytes.ensures in
-    refreshed_file _ _ c.args.asked.settings c.args.bytes.now _ file.state file.version file.extensions.now c.in_ok-file.ensures.found c.in_ok-file.ensures.timestamp found (Some c.in_ok-bytes.bytes.items) _
+    refreshed_file _ c.args.bytes.now _ file.state file.version file.extensions.now c.in_ok-file.ensures.found c.in_ok-file.ensures.timestamp found (Some c.in_ok-bytes.bytes.items) _
     (rw c.in_ok-report.was at c.find_in_index.ensures) (
       not_empty found.changes.items found.changes.len (omega (arith, found.changes.ok.0)) (sym c.is_empty.ensures ∙ c.if-is_empty.false),
       record { has_checksum = file.has_checksum; sum = c.in_ok-file.ensures.sum; written = made.bytes; file = made.file; valid = made.valid },
