@@ -1,6 +1,6 @@
 //! The compact text of a value that is read, and of one in memory, with the keys of each object ascending.
 
-ghost use Rattle.std.specs.Prelude.{◌≡◌, ◌<◌, List, ◌∷◌, IfErr, IfOk, OnOk, Some, length};
+ghost use Rattle.std.specs.Prelude.{◌≡◌, ◌<◌, IfErr, IfOk, OnOk, Some, length};
 ghost use Rattle.json.specs.Json.{Items as ItemsOf, Json, Members as MembersOf, array, items, members, object, value, no_members};
 ghost use Rattle.json.specs.Tree.{HasNumbers, MembersHaveNumbers, json_tokens};
 ghost use Rattle.json.specs.Value.{members_view, value_view, items_view};

@@ -4,8 +4,7 @@ ghost use Rattle.std.specs.Prelude.{◌≡◌, option_map};
 ghost use Rattle.bstr.specs.Owned.{bstring_bytes};
 ghost use Rattle.json.specs.Find.{as_str};
 ghost use Rattle.json.specs.Value.{items_view, value_view};
-ghost use Rattle.status_profile.specs.Events.{chmod_in, event_named, event_of, event_value, is_reopening};
-ghost use Rattle.status_profile.specs.Events.{four_of, number_in_one, one_of, path_in_one, path_and_text_in, run_in, stretch_values, stretches_in, two_of};
+ghost use Rattle.status_profile.specs.Events.{chmod_in, event_of, event_value, is_reopening, four_of, number_in_one, one_of, path_in_one, path_and_text_in, run_in, stretch_values, stretches_in, two_of};
 ghost use Rattle.status_format.specs.Reads.{Reads};
 
 use crate::form::{comparer_of, limit_of, list_of, moment_of, text_of, truth_of};

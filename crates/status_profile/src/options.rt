@@ -1,13 +1,10 @@
 //! The options of a profile.
 
 ghost use Rattle.std.specs.Prelude.{◌≡◌, None};
-ghost use Rattle.json.specs.Find.{as_bool};
 ghost use Rattle.status_compare.specs.declared.compare.Comparer.TheVariants.{Hash};
 ghost use Rattle.status_format.specs.Reads.{Reads, or_default};
 ghost use Rattle.status_profile.specs.Forms.{json_at, limit_in, object_at};
-ghost use Rattle.status_profile.specs.Options.{common_options_in, fields_in, history_options_in, if_kind, is_joined};
-ghost use Rattle.status_profile.specs.Options.{option_values, options_in, over_folder, over_place};
-ghost use Rattle.status_profile.specs.Options.{stat_options_in, status_options_in};
+ghost use Rattle.status_profile.specs.Options.{common_options_in, fields_in, history_options_in, if_kind, is_joined, option_values, options_in, over_folder, over_place, stat_options_in, status_options_in};
 ghost use Rattle.status_profile.specs.Words.{comparer_in};
 
 use crate::form::{

@@ -1,9 +1,8 @@
 //! The status of a profile without untracked files, renames and sorted lines.
 
-ghost use Rattle.std.specs.Prelude.{◌≡◌, ◌<◌, ◌^◌, [], IfOk, map, vec_items};
+ghost use Rattle.std.specs.Prelude.{◌≡◌, ◌<◌, IfOk, map, vec_items};
 ghost use Rattle.status_index.specs.States.{index_of};
-ghost use Rattle.status_call.specs.IndexChanges.{AreInside, changes_of};
-ghost use Rattle.status_call.specs.Counts.{skipped_of};
+ghost use Rattle.status_call.specs.IndexChanges.{AreInside};
 ghost use Rattle.status_call.specs.RecorderVisits.{visit_of};
 ghost use Rattle.status_cli.specs.Buffering.{IsTextAdded};
 ghost use Rattle.status_cli.specs.Printing.{IsPrinted, result_map};
