@@ -1,6 +1,7 @@
 //! The status of the checkout that has a folder.
 
-use crate::refresh::{Refresh, read_index_file};
+use crate::index_file::read_index_file;
+use crate::refresh::Refresh;
 use crate::refused::Refused;
 use crate::request::Request;
 use crate::selection::path_from_top;

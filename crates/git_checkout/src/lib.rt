@@ -2,11 +2,12 @@
 //! it.
 //!
 //! Read `request` first, the options of a call, and then `checkout`, the calls. They find the repository, read its
-//! index file and select paths (`selection`). The contract of the comparison is that of `run_dirty` in the crate
-//! git_status. `refresh` reads the index file, and writes the new one. `refused` is why a call can't begin.
+//! index file (`index_file`) and select paths (`selection`). The contract of the comparison is that of `run_dirty` in
+//! the crate git_status. `refresh` writes the new index file, and `refused` is why a call can't begin.
 #![tactic(auto)]
 
 pub mod checkout;
+mod index_file;
 mod refresh;
 mod refused;
 pub mod request;

@@ -1,54 +1,11 @@
-//! The index file of a checkout: it is read, and written again with the stats that the status found.
+//! The refresh of an index file: it gets the stats that the status found.
 
+use crate::index_file::FoundIndex;
 use crate::refused::Refused;
-use git_repository::worktree::metadata_of;
 use git_repository::{Repository, RepositoryError, replace_index};
 use git_status::Refreshed;
-use status_index::Moment;
 use std::rt::Files;
 use std::time::SystemTime;
-use std::{fs, io};
-
-/// An index file that was read.
-#[derive(Drop)]
-pub struct Written {
-    /// Its bytes.
-    pub bytes: Vec<u8>,
-    /// When it was last changed, as the status counts it.
-    pub timestamp: Moment,
-    /// When it was last changed, as the system counts it. None if that isn't known.
-    pub modified: Option<SystemTime>,
-}
-
-/// Reads a repository's index file. None if there is none, as before the first `git add`. The time is read before the bytes:
-/// if the file is replaced in between, it is too early, and then more entries count as racy, and never fewer.
-pub fn read_index_file<R: AllocGlobal + Files>(
-    rt: &R,
-    repository: &Repository,
-) -> Result<Option<Written>, Refused> {
-    let path = repository.index.as_str();
-    match fs::metadata(rt, path) {
-        Err(error) if error.kind() == io::ErrorKind::NotFound => return Ok(None),
-        Err(error) => return Err(Refused::unreadable(rt.alloc(), path, error.kind())),
-        Ok(found) => match fs::read(rt, path) {
-            Ok(bytes) => Ok(Some(Written {
-                bytes,
-                timestamp: changed_at(&found),
-                modified: found.modified().ok(),
-            })),
-            Err(error) => Err(Refused::unreadable(rt.alloc(), path, error.kind())),
-        },
-    }
-}
-
-/// Returns when a file was last changed, or 1970 if that isn't known: then every entry counts as racy.
-fn changed_at(found: &fs::Metadata) -> Moment {
-    let (secs, nsecs) = match metadata_of(found).mtime {
-        Some(time) => (time.secs, time.nsecs),
-        None => (0, 0),
-    };
-    Moment { secs, nsecs }
-}
 
 /// The name of the extension with what git knows of untracked files. Git takes a folder's part for current if the folder is
 /// older than the index.
@@ -60,7 +17,7 @@ pub struct Refresh<'a> {
     /// The repository.
     pub repository: &'a Repository,
     /// The file that was compared.
-    pub old: &'a Written,
+    pub old: &'a FoundIndex,
     /// When the refresh began: the time of a lock. That there was none counts once there is a new file.
     pub begun: Result<SystemTime, RepositoryError>,
     /// Whether git reads an attribute file in the index, which the status didn't.

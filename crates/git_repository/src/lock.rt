@@ -1,4 +1,4 @@
-//! Replacing the index file under git's lock.
+//! Git's lock of the index file: the time at which it is taken, and the file that is replaced under it.
 
 use crate::error::RepositoryError;
 use crate::files::{canonical, is_missing, read_if_there, unreadable};

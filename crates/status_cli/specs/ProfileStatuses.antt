@@ -114,14 +114,14 @@ with_placed position tree node None = Ok (record tree { nodes = paths.insert tre
 with_placed position tree node (Some e) = Err (failure_of_node e position)
 
 -- a tree with nodes that are put one after the other, the first of them at this position; or the failure for the first that can't be put
-abbrev pub planted : ℕ → Tree → List (List ℕ × Placed) → Result Tree Failure
-planted position tree [] = Ok tree
-planted position tree (node ∷ nodes) =
-    and_then (with_placed position tree node (put_fault tree node.0 node.1.metadata.kind)) (λ more. planted (position + 1) more nodes)
+abbrev pub with_nodes : ℕ → Tree → List (List ℕ × Placed) → Result Tree Failure
+with_nodes position tree [] = Ok tree
+with_nodes position tree (node ∷ nodes) =
+    and_then (with_placed position tree node (put_fault tree node.0 node.1.metadata.kind)) (λ more. with_nodes (position + 1) more nodes)
 
 -- the command fails for the first node that can't be put, or memory ran out
-abbrev pub IsUnplanted : List (List ℕ × Placed) → Failure → Type 0
-IsUnplanted nodes failure = (failure ≡ Memory) ⊎ (planted 0 empty_tree nodes ≡ Err failure)
+abbrev pub AreNodesRefused : List (List ℕ × Placed) → Failure → Type 0
+AreNodesRefused nodes failure = (failure ≡ Memory) ⊎ (with_nodes 0 empty_tree nodes ≡ Err failure)
 
 module _ (w : WorktreeResults) (asked : Asked) (prefix : List ℕ) (included : List ℕ → Bool → Bool) where
   -- over a worktree and of these paths, the lines of a plain status by a profile's options were printed
@@ -176,8 +176,8 @@ tree_walk tree index prefix included = Some (untracked_walk tree (index_of index
 abbrev pub IsPlacePrinted : Place → Asked → Option (List ℕ) → Result (List ApplyChange) Failure → Option (List ℕ) → Type 0
 IsPlacePrinted (places.Folder path) asked old result new = IsPrintedOver folder_results folder_walk asked old result new
 IsPlacePrinted (places.Nodes nodes) asked old result new =
-    (IsErrAnd result (IsUnplanted (map node_value nodes.items)) × (new ≡ old))
-    ⊎ ((tree : Tree) × (planted 0 empty_tree (map node_value nodes.items) ≡ Ok tree) × IsPrintedOver (tree_results tree) (tree_walk tree asked.index) asked old result new)
+    (IsErrAnd result (AreNodesRefused (map node_value nodes.items)) × (new ≡ old))
+    ⊎ ((tree : Tree) × (with_nodes 0 empty_tree (map node_value nodes.items) ≡ Ok tree) × IsPrintedOver (tree_results tree) (tree_walk tree asked.index) asked old result new)
 
 -- the changes that are returned with a profile's index
 abbrev pub changes_returned : IndexChanges → List ApplyChange

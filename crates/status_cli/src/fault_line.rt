@@ -9,8 +9,8 @@ ghost use Rattle.status_cli.specs.Lines.{line};
 ghost use Rattle.status_cli.specs.Printing.{IsAllWritten};
 
 use crate::failure::Failure;
-use crate::line_buffer::{print, print_parts};
 use crate::lines::push_path;
+use crate::output::{print, print_parts};
 use bstr::BStr;
 use gix_status::index::IndexError;
 use gix_status::index_as_worktree::Error;

@@ -1,7 +1,7 @@
 //! The program's commands `status`, `replay` and `refresh`, over any reader and writers.
 //!
-//! Read `status`, `replay` and `refresh` first, a command each. Then `lines`, the text of each line, and
-//! `line_buffer`, which collects lines and writes them, and reads a profile's file. `failure` is why a command fails,
+//! Read `status`, `replay` and `refresh` first, a command each. Then `lines`, the text of each line, `line_buffer`,
+//! which collects lines, and `output`, which writes them and reads a profile's file. `failure` is why a command fails,
 //! with `fault_line`, the line that says so. `whole` writes the file of a refreshed profile, and `laws` has a theorem
 //! about the definitions.
 #![tactic(auto)]
@@ -11,6 +11,7 @@ mod fault_line;
 pub mod laws;
 mod line_buffer;
 pub mod lines;
+mod output;
 mod refresh;
 mod replay;
 mod status;

@@ -1,61 +1,21 @@
-//! A file read as a profile, and lines that are written together.
+//! Lines that are written together.
 
-ghost use Rattle.std.specs.Prelude.{◌≡◌, ◌<◌, ◌^◌, [], IfOk, ◌⊎◌, IfErr, IfSome};
+ghost use Rattle.std.specs.Prelude.{◌≡◌, ◌<◌, ◌^◌, [], IfOk};
 ghost use Rattle.bstr.specs.BStr.{bstr_bytes};
 ghost use Rattle.status_call.specs.Counts.{skipped_of};
 ghost use Rattle.status_joined.specs.Entries.{reported_entry};
 ghost use Rattle.status_cli.specs.Buffering.{IsTextAdded, IsFinished};
 ghost use Rattle.status_cli.specs.Lines.{entry_line, record_line, run_line};
 ghost use Rattle.status_cli.specs.Statuses.{IsPrintEnd, closing, totals_text};
-ghost use Rattle.status_cli.specs.Printing.{IsAllWritten, spelled};
 
 use crate::failure::Failure;
 use crate::lines::{push_entry, push_record, push_run, push_totals};
+use crate::output::print;
 use bstr::BStr;
 use gix_status::index_as_worktree::{EntryStatus, Outcome};
 use gix_status::index_as_worktree_with_renames::Entry;
 use std::alloc::Global;
 use std::io;
-
-/// Writes these parts, one after the other.
-pub fn print_parts<O: io::Write>(parts: &[&str], output: &mut O) -> Result<(), Failure>
-    ensures { IsAllWritten (spelled parts.now) (O.contents output.old) result (O.contents output.new) }
-{
-    for part in parts {
-        print(part.as_bytes(), output)?;
-    }
-    Ok(())
-}
-
-/// Writes bytes. Only a write that a signal interrupts is tried again.
-pub fn print<O: io::Write>(bytes: &[u8], output: &mut O) -> Result<(), Failure>
-    ensures { IsAllWritten bytes.now (O.contents output.old) result (O.contents output.new) }
-{
-    let mut written = 0;
-    // The turns are counted, so that this is known to end.
-    'writes: for _ in 0..u64::MAX {
-        if written >= bytes.len() {
-            return Ok(());
-        }
-        match output.write(&bytes[written..]) {
-            Ok(0) => return Err(Failure::Output),
-            Ok(count) => written += count,
-            Err(error) if error.kind() == io::ErrorKind::Interrupted => {}
-            Err(_) => return Err(Failure::Output),
-        }
-    }
-    Err(Failure::Output)
-}
-
-/// Reads all bytes of a profile's file.
-pub fn read_all<I: io::Read>(alloc: Global, profile: &mut I) -> Result<Vec<u8>, Failure>
-    ensures ok { IfOk result (λ text. IfSome (I.remaining profile.old) (λ all. text.items ≡ all)) }
-    ensures err { IfErr result (λ f. (f ≡ Failure.Unreadable) ⊎ (f ≡ Failure.Memory)) }
-{
-    let mut text = Vec::new(alloc);
-    profile.read_to_end(&mut text).map_err(Failure::of_reading)?;
-    Ok(text)
-}
 
 /// The number of bytes from which the lines of a buffer are written.
 const FULL: usize = 8192;

@@ -13,7 +13,7 @@ use bstr::{BStr, ByteSlice as _};
 use gix_status::index_as_worktree::{Change, Conflict, EntryStatus, Outcome};
 use gix_status::index_as_worktree_with_renames::Entry;
 use json::Writer;
-use status_format::read::mode_word;
+use status_format::entry::mode_word;
 use std::alloc::{AllocError, Global};
 use std::io::Write as _;
 use std::{fmt, mem};

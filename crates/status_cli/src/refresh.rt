@@ -5,7 +5,7 @@ ghost use Rattle.status_cli.specs.ProfileStatuses.{IsFailed};
 ghost use Rattle.status_cli.specs.Refreshes.{IsIndexRefreshed, IsRefreshFailed, IsRefreshed};
 
 use crate::failure::Failure;
-use crate::line_buffer::read_all;
+use crate::output::read_all;
 use crate::status::{IndexChanges, WantedChanges, print_profile};
 use gix_status::index::{Moment, State};
 use gix_status::index_as_worktree::apply_changes;

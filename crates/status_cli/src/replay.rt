@@ -9,7 +9,8 @@ ghost use Rattle.status_cli.specs.Replays.{IsHistoryPrinted, IsNoStart, IsReplay
 ghost use Rattle.status_cli.specs.Replays.{counted_up, event_count, replay_lines, report_lines, run_lines, start_of};
 
 use crate::failure::Failure;
-use crate::line_buffer::{LineBuffer, read_all};
+use crate::line_buffer::LineBuffer;
+use crate::output::read_all;
 use gix_status::world::{Event, Report, World};
 use status_profile::History;
 use status_stored::{ReopenedReplay, Stop, replay_reopening};

@@ -4,9 +4,9 @@ ghost use Rattle.std.specs.Prelude.{◌≡◌, ◌⊎◌, [], Ok, IfErr, IfOk, I
 ghost use Rattle.status_base.specs.Trees.{empty_tree};
 ghost use Rattle.status_profile.specs.Nodes.{node_value};
 ghost use Rattle.status_cli.specs.Printing.{result_map};
-ghost use Rattle.status_cli.specs.ProfileStatuses.{IsPlacePrinted, IsPrintedOver, IsProfilePrinted, IsStatusOver, IsUnplanted};
+ghost use Rattle.status_cli.specs.ProfileStatuses.{IsPlacePrinted, IsPrintedOver, IsProfilePrinted, IsStatusOver, AreNodesRefused};
 ghost use Rattle.status_cli.specs.ProfileStatuses.{IsTextFailed, IsTextPrinted, IsTextSucceeded};
-ghost use Rattle.status_cli.specs.ProfileStatuses.{asked_by, changes_returned, planted, results_of, walked_by};
+ghost use Rattle.status_cli.specs.ProfileStatuses.{asked_by, changes_returned, with_nodes, results_of, walked_by};
 ghost use Rattle.status_index.specs.States.{index_of};
 ghost use Rattle.status_call.specs.IndexChanges.{AreInside};
 
@@ -15,7 +15,7 @@ mod joined;
 mod plain;
 
 use crate::failure::Failure;
-use crate::line_buffer::read_all;
+use crate::output::read_all;
 use crate::status::inputs::{ProfileStatus, Request};
 pub use crate::status::inputs::{IndexChanges, WantedChanges};
 use crate::status::joined::{NoWalk, print_joined};
@@ -145,7 +145,7 @@ fn print_nodes<R: AllocGlobal + Threads + Wait, O: io::Write>(
     ensures printed { IsPlacePrinted (Place.Nodes nodes) (asked_by request.entry) (O.contents output.old) (result_map vec_items result) (O.contents output.new) }
 {
     let alloc = rt.alloc();
-    let worktree = plant(alloc, nodes)?;
+    let worktree = put_nodes(alloc, nodes)?;
     let status = ProfileStatus {
         request,
         worktree: &worktree,
@@ -155,9 +155,9 @@ fn print_nodes<R: AllocGlobal + Threads + Wait, O: io::Write>(
 }
 
 /// Makes the worktree of these nodes.
-fn plant(alloc: Global, nodes: Vec<(BString, Node)>) -> Result<MemoryWorktree, Failure>
-    ensures ok { IfOk result (λ tree. planted 0 empty_tree (map node_value nodes.items) ≡ Ok tree) }
-    ensures err { IfErr result (λ failure. IsUnplanted (map node_value nodes.items) failure) }
+fn put_nodes(alloc: Global, nodes: Vec<(BString, Node)>) -> Result<MemoryWorktree, Failure>
+    ensures ok { IfOk result (λ tree. with_nodes 0 empty_tree (map node_value nodes.items) ≡ Ok tree) }
+    ensures err { IfErr result (λ failure. AreNodesRefused (map node_value nodes.items) failure) }
 {
     let mut worktree = MemoryWorktree::new(alloc);
     let mut at: usize = 0;

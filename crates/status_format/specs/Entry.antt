@@ -1,6 +1,6 @@
 -- The entry that was read of an object.
 use Rattle.status_index.specs.Entries.{IndexEntry, entry_of_fields}
-use Rattle.status_format.specs.declared.store.EntryFields.{EntryFields}
+use Rattle.status_format.specs.declared.entry.EntryFields.{EntryFields}
 
 -- The entry of these fields.
 abbrev pub entry_of : EntryFields → IndexEntry

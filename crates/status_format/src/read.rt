@@ -6,7 +6,7 @@ ghost use Rattle.status_format.specs.Field.{number_in, text_in};
 ghost use Rattle.status_format.specs.Reading.{flags_in, id_in, mode_in, stage_in, stamp_in, time_in};
 ghost use Rattle.status_format.specs.Reads.{Reads, needed, or_default, error_of_digits};
 ghost use Rattle.std.specs.Prelude.{◌≡◌, option_map};
-ghost use Rattle.status_format.specs.Words.{flag_named, id_named, mode_digits, mode_named};
+ghost use Rattle.status_format.specs.Words.{flag_named, id_named, mode_named};
 ghost use Rattle.status_format.specs.declared.read.FieldError.TheVariants.{Memory};
 
 use crate::value::JsonValue;
@@ -194,19 +194,6 @@ pub fn id_at<J: JsonValue>(object: &J, key: &str) -> Result<ObjectId, FieldError
     match object.member(key) {
         Some(id) => id_of(id),
         None => Err(FieldError::Form),
-    }
-}
-
-/// Returns the mode's bits, as six octal digits.
-pub fn mode_word(mode: Mode) -> &'static str
-    ensures { result.now ≡ mode_digits mode }
-{
-    match mode {
-        Mode::Dir => "040000",
-        Mode::File => "100644",
-        Mode::FileExecutable => "100755",
-        Mode::Symlink => "120000",
-        Mode::Commit => "160000",
     }
 }
 

@@ -2,7 +2,7 @@ use Rattle.std.proofs.Common.{◌≡◌, [], refl, sym}
 use Rattle.std.specs.Prelude.{vec_items}
 use Rattle.status_cli.specs.Printing.{result_map}
 use Rattle.status_cli.proofs.Commands.{done_alike, failed_alike, if_failed, joined_alike, map_failed}
-use Rattle.status_cli.proofs.Planted.{joined_over, plain_over}
+use Rattle.status_cli.proofs.NodesPut.{joined_over, plain_over}
 use Rattle.status_cli.proofs.status.print_paths.Goals as goal
 
 pub returns-in_err-print_joined-clause-printed : goal.returns-in_err-print_joined-clause-printed

@@ -4,7 +4,7 @@ use Rattle.bstr.specs.Owned.{bstring_bytes}
 use Rattle.status_cli.specs.declared.failure.Failure.TheVariants.{Memory}
 use Rattle.status_cli.specs.ProfileStatuses.{asked_by, walked_by}
 use Rattle.status_cli.proofs.Commands.{map_failed}
-use Rattle.status_cli.proofs.Planted.{at_prefix, none_long}
+use Rattle.status_cli.proofs.NodesPut.{at_prefix, none_long}
 use Rattle.status_cli.proofs.status.print_prefixed.Goals as goal
 
 pub returns-then-is_empty-clause-printed : goal.returns-then-is_empty-clause-printed

@@ -4,16 +4,14 @@ ghost use Rattle.std.specs.Prelude.{◌≡◌, ◌<◌, ◌++◌, length, map, I
 ghost use Rattle.serde_json.specs.Data.{object, string};
 ghost use Rattle.serde_json.specs.View.{view};
 ghost use Rattle.status_index.specs.Entries.{entry_at, index_entry};
-ghost use Rattle.status_format.specs.Words.{flag_words, word_in};
+ghost use Rattle.status_format.specs.Words.{flag_words, word_in, mode_digits};
 ghost use Rattle.status_format.specs.Storable.{IsEntryStored, FitsStat, FitsId};
 ghost use Rattle.status_format.specs.StoredEntry.{stored_stamp, stored_entry};
 ghost use Rattle.status_format.specs.Entry.{entry_of};
 ghost use Rattle.status_format.specs.Reading.{entry_in, stat_in};
 ghost use Rattle.status_format.specs.Reads.{Reads};
 
-use crate::read::{
-    FieldError, flags_at, id_at, mode_at, mode_word, number_at, stage_at, text_at, time_at,
-};
+use crate::read::{FieldError, flags_at, id_at, mode_at, number_at, stage_at, text_at, time_at};
 use crate::value::JsonValue;
 use bitflags::Flags as _;
 use serde_json::{Value, json};
@@ -168,5 +166,18 @@ fn id_fits(id: ObjectId)
     match id {
         ObjectId::Sha1(_digest) => {}
         ObjectId::Sha256(_digest) => {}
+    }
+}
+
+/// Returns the mode's bits, as six octal digits.
+pub fn mode_word(mode: Mode) -> &'static str
+    ensures { result.now ≡ mode_digits mode }
+{
+    match mode {
+        Mode::Dir => "040000",
+        Mode::File => "100644",
+        Mode::FileExecutable => "100755",
+        Mode::Symlink => "120000",
+        Mode::Commit => "160000",
     }
 }

@@ -1,6 +1,6 @@
 use Rattle.std.proofs.Common.{◌≤◌, length, take}
 use Rattle.std.specs.Io.KnownBytes.{Appends}
-use Rattle.status_cli.proofs.line_buffer.print.Given as goal
+use Rattle.status_cli.proofs.output.print.Given as goal
 
 -- the first bytes were written
 abbrev pub invariant-writes : goal.invariant-writes

@@ -1,8 +1,8 @@
 use Rattle.std.proofs.Common.{refl, arith, append-nil, length-drop, take, take-add}
 use Rattle.std.proofs.KnownBytes.{Appends-kept, Appends-trans}
 use Rattle.status_cli.proofs.Printed.{first_printed, rest_taken}
-use Rattle.status_cli.proofs.line_buffer.print.Goals as goal
-use Rattle.status_cli.proofs.line_buffer.print.Goals.{in-Ok, in-Err}
+use Rattle.status_cli.proofs.output.print.Goals as goal
+use Rattle.status_cli.proofs.output.print.Goals.{in-Ok, in-Err}
 
 pub returns-in-Ok-eq0 : goal.returns-in-Ok-eq0
 returns-in-Ok-eq0 g c =

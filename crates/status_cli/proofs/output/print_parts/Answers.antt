@@ -2,7 +2,7 @@ use Rattle.std.proofs.Common.{◌≡◌, ◌+◌, ◌++◌, ◌∷◌, [], ℕ, 
 use Rattle.std.proofs.lemmas.List.{take_more}
 use Rattle.std.specs.Borrow.{Bor}
 use Rattle.status_cli.proofs.Printed.{begun_next, failed_written, printed_next}
-use Rattle.status_cli.proofs.line_buffer.print_parts.Goals as goal
+use Rattle.status_cli.proofs.output.print_parts.Goals as goal
 
 abbrev none : Bor (List ℕ)
 none = record { ref_ptr = (0, 0); now = [] }

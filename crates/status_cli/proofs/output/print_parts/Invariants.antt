@@ -1,7 +1,7 @@
 use Rattle.std.proofs.Common.{take}
 use Rattle.std.specs.Io.KnownBytes.{Appends}
 use Rattle.status_cli.specs.Printing.{spelled}
-use Rattle.status_cli.proofs.line_buffer.print_parts.Given as goal
+use Rattle.status_cli.proofs.output.print_parts.Given as goal
 
 -- the parts so far were written
 abbrev pub invariant-loop-part : goal.invariant-loop-part

@@ -11,7 +11,7 @@ use Rattle.status_base.specs.Trees.{empty_tree}
 use Rattle.status_base.specs.declared.worktree.node.TreeError.{TreeError}
 use Rattle.status_base.specs.declared.worktree.node.TreeError.TheVariants.{Memory}
 use Rattle.status_cli.specs.Failures.{failure_of_node}
-use Rattle.status_cli.specs.ProfileStatuses.{Asked, IsJoinedOver, IsPlainOver, IsStatusOver, IsUnplanted, WorktreeResults, begins_with, planted}
+use Rattle.status_cli.specs.ProfileStatuses.{Asked, IsJoinedOver, IsPlainOver, IsStatusOver, AreNodesRefused, WorktreeResults, begins_with, with_nodes}
 use Rattle.status_joined.specs.Walkings.{Walking}
 use Rattle.status_profile.specs.Options.{is_joined, option_values}
 
@@ -20,18 +20,18 @@ none_long [] e = refl
 none_long (x ∷ xs) e = let never : length (x ∷ xs) ≡ 0 = eqb-true _ _ e in absurd (omega arith)
 
 -- a node is put, and then the others
-pub planted_next : (at next : ℕ) (old new : Tree) (node : List ℕ × Placed) (nodes : List (List ℕ × Placed)) → next ≡ at + 1 → put_fault old node.0 node.1.metadata.kind ≡ None → new ≡ record old { nodes = paths.insert old.nodes node.0 node.1 }
-    → planted at old (node ∷ nodes) ≡ planted next new nodes
-planted_next at next old new node nodes more free put = rw (free, more) (ap (λ t. planted (at + 1) t nodes) (sym put))
+pub with_nodes_next : (at next : ℕ) (old new : Tree) (node : List ℕ × Placed) (nodes : List (List ℕ × Placed)) → next ≡ at + 1 → put_fault old node.0 node.1.metadata.kind ≡ None → new ≡ record old { nodes = paths.insert old.nodes node.0 node.1 }
+    → with_nodes at old (node ∷ nodes) ≡ with_nodes next new nodes
+with_nodes_next at next old new node nodes more free put = rw (free, more) (ap (λ t. with_nodes (at + 1) t nodes) (sym put))
 
 -- a node can't be put
-planted_fault : (at : ℕ) (tree : Tree) (node : List ℕ × Placed) (nodes : List (List ℕ × Placed)) (e : TreeError) → put_fault tree node.0 node.1.metadata.kind ≡ Some e → planted at tree (node ∷ nodes) ≡ Err (failure_of_node e at)
-planted_fault at tree node nodes e fault = rw fault refl
+with_nodes_fault : (at : ℕ) (tree : Tree) (node : List ℕ × Placed) (nodes : List (List ℕ × Placed)) (e : TreeError) → put_fault tree node.0 node.1.metadata.kind ≡ Some e → with_nodes at tree (node ∷ nodes) ≡ Err (failure_of_node e at)
+with_nodes_fault at tree node nodes e fault = rw fault refl
 
-pub unplanted : {L : Type 0} (all : List (List ℕ × Placed)) (tree : Tree) (node : List ℕ × Placed) (nodes : List (List ℕ × Placed)) (e : TreeError) (at : ℕ) (failure : Failure) → failure ≡ failure_of_node e at → planted 0 empty_tree all ≡ planted at tree (node ∷ nodes)
-    → ((e ≡ Memory) × L) ⊎ (put_fault tree node.0 node.1.metadata.kind ≡ Some e) → IsUnplanted all failure
-unplanted all tree node nodes e at failure is left (inl memory) = inl (is ∙ ap (λ x. failure_of_node x at) memory.0)
-unplanted all tree node nodes e at failure is left (inr fault) = inr (left ∙ planted_fault at tree node nodes e fault ∙ ap Err (sym is))
+pub nodes_refused : {L : Type 0} (all : List (List ℕ × Placed)) (tree : Tree) (node : List ℕ × Placed) (nodes : List (List ℕ × Placed)) (e : TreeError) (at : ℕ) (failure : Failure) → failure ≡ failure_of_node e at → with_nodes 0 empty_tree all ≡ with_nodes at tree (node ∷ nodes)
+    → ((e ≡ Memory) × L) ⊎ (put_fault tree node.0 node.1.metadata.kind ≡ Some e) → AreNodesRefused all failure
+nodes_refused all tree node nodes e at failure is left (inl memory) = inl (is ∙ ap (λ x. failure_of_node x at) memory.0)
+nodes_refused all tree node nodes e at failure is left (inr fault) = inr (left ∙ with_nodes_fault at tree node nodes e fault ∙ ap Err (sym is))
 
 module _ (w : WorktreeResults) (walked : List ℕ → (List ℕ → Bool → Bool) → Walking) (asked : Asked) (old : Option (List ℕ)) (result : Result (List ApplyChange) Failure) (new : Option (List ℕ)) where
   abbrev at_paths : List ℕ → Type 0
