@@ -3,6 +3,7 @@
     python3 tools/run_tests.py gate.test_contracts
 """
 
+import difflib
 import tempfile
 import textwrap
 import unittest
@@ -132,8 +133,9 @@ class Contracts(unittest.TestCase):
     def test_the_file_has_those_of_the_sources(self):
         there = (contracts.TOP / "docs" / "contracts.txt").read_text(encoding="utf-8")
         found = contracts.text_of(contracts.contracts(contracts.TOP))
+        changes = "\n".join(difflib.unified_diff(there.splitlines(), found.splitlines(), "docs/contracts.txt", "sources", "", "", 0, ""))
         words = "a contract was changed: python3 tools/gate/contracts.py > docs/contracts.txt, and read the difference"
-        self.assertEqual(found.splitlines(), there.splitlines(), words)
+        self.assertTrue(found == there, f"{words}\n{changes[:4000]}")
 
     def test_exported_items_are_shown_with_their_clauses_and_definitions(self):
         self.assertEqual(text_of(CODE), textwrap.dedent(TEXT).lstrip())
