@@ -290,7 +290,7 @@ class Docs(unittest.TestCase):
         there = {path.split(os.sep)[-2] for path in glob.glob(os.path.join(TOP, "crates", "*", "specs"))}
         self.assertEqual({crate for crate, _ in parts}, there - {"status_callers"})
         for crate, part in parts:
-            for files, words in re.findall(r"^\| (`[^|]*?) \| ([^|]*) \|", part, re.M):
+            for files, words in re.findall(r"^\| (\[`[^|]*?) \| ([^|]*) \|", part, re.M):
                 with self.subTest(crate=crate, files=files):
                     names = re.findall(r"`(\w+)`", files)
                     texts = [text_of("crates", crate, "specs", name + ".antt") for name in names]
@@ -301,7 +301,7 @@ class Docs(unittest.TestCase):
         page = text_of("docs", "PROOFS.md")
         rows = 0
         for crate, part in re.findall(r"^### (\w+)\n(.*?)(?=^##|\Z)", page, re.M | re.S):
-            for files, sentence in re.findall(r"^\| (`[^|]*?) \| [^|]* \| ([^|]*?) \|", part, re.M):
+            for files, sentence in re.findall(r"^\| (\[`[^|]*?) \| [^|]* \| ([^|]*?) \|", part, re.M):
                 names = re.findall(r"`(\w+)`", files)
                 texts = [text_of("crates", crate, "specs", name + ".antt") for name in names]
                 with self.subTest(crate=crate, files=files, sentence=sentence):
