@@ -5,7 +5,7 @@
 
 import os
 
-from git_dirty.case import ALL, CRLF, LF, LineEnds
+from git_dirty.case import ALL, CRLF, LF, Dirty, LineEnds
 from support.index_bytes import SIZE, with_stat
 from support.repositories import THEN
 
@@ -146,3 +146,15 @@ class Settings(LineEnds):
         self.write(".git/mine", "a text\n")
         for text, listed in self.PARAMETERS.items():
             self.assertEqual(self.ask(GIT_CONFIG_PARAMETERS=text), listed)
+
+
+class Sizes(Dirty):
+    def test_a_file_of_another_size_is_listed_whatever_it_is_converted_to(self):
+        """As by git status. By git diff the file is unchanged."""
+        self.write(".gitattributes", "a text\n")
+        self.write("a", LF)
+        self.git("add", "a")
+        self.write("a", CRLF)
+        self.assert_as_git(" M a\n")
+        ran = self.run_in(["git", "--no-optional-locks", "diff", "--quiet", "--ignore-submodules=dirty"])
+        self.assertEqual((ran.returncode, ran.stdout), (0, b""))
