@@ -200,13 +200,20 @@ def title_of(item, found):
 
 def exported(crate, path, text):
     """Returns the lines of the exported items of a file, by their titles."""
-    items = {}
     module = path.removeprefix("src/").removesuffix(".rt").removesuffix("/mod").replace("/", "::")
-    for item in items_in(without_comments(re.sub(r"^\s*#!\[.*\]$", "", text, flags=re.M))):
+    return exported_in(f"{crate}::{module}", without_comments(re.sub(r"^\s*#!\[.*\]$", "", text, flags=re.M)))
+
+
+def exported_in(module, text):
+    """Returns the lines of the exported items of a module, and of the exported modules in its text, by their titles."""
+    items = {}
+    for item in items_in(text):
         found = HEAD.match(item.head)
         lines = lines_of(item, found) if found else []
         if lines:
-            items.setdefault(f"{crate}::{module}: {title_of(item, found)}", []).extend(lines)
+            items.setdefault(f"{module}: {title_of(item, found)}", []).extend(lines)
+        if lines and found["word"] == "mod" and item.body is not None:
+            items.update(exported_in(f"{module.removesuffix('::lib')}::{title_of(item, found)}", item.body))
     return items
 
 

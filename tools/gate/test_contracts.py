@@ -162,6 +162,11 @@ class Contracts(unittest.TestCase):
                 self.assertEqual(DEFINITIONS.count(old), 1)
                 self.assertNotEqual(text_of(CODE, DEFINITIONS.replace(old, new)), text_of(CODE))
 
+    def test_items_of_a_module_in_the_text_show(self):
+        shown = "low::inner: least\n  pub fn least() -> u32\n"
+        self.assertIn(shown, text_of(CODE + "pub mod inner {\n    pub fn least() -> u32 {\n        0\n    }\n}\n"))
+        self.assertNotIn("inner", text_of(CODE + "mod inner {\n    pub fn least() -> u32 {\n        0\n    }\n}\n"))
+
     def test_what_is_no_contract_does_not_show(self):
         self.assertEqual(text_of(CODE.replace("self.first < self.second", "true")), text_of(CODE))
         self.assertEqual(text_of(CODE.replace("/// The first.", "// {")), text_of(CODE))
