@@ -132,7 +132,7 @@ class Docs(unittest.TestCase):
         page, rows = text_of("README.md"), text_of("tools", "status_program", "rows", "replay_histories.txt")
         for name in re.search(r"the rows\s+`([^`]+)`\s+and\s+`([^`]+)`", page).groups():
             self.assertIn(f"\n== {' '.join(name.split())}\n", rows)
-        path, name = re.search(r"\[A\s+test\]\((.*?)\) does both:\s+`(\w+)`", page).groups()
+        path, name = re.search(r"\[A\s+test\]\((.*?)\)\s+does both:\s+`(\w+)`", page).groups()
         self.assertIn(f"def {name}(self)", text_of(path))
 
     def test_the_manual_page_has_each_option_of_the_help(self):
