@@ -148,7 +148,7 @@ class Settings(LineEnds):
             self.assertEqual(self.ask(GIT_CONFIG_PARAMETERS=text), listed)
 
 
-class Sizes(Dirty):
+class AnotherSize(Dirty):
     def test_a_file_of_another_size_is_listed_whatever_it_is_converted_to(self):
         """As by git status. By git diff the file is unchanged."""
         self.write(".gitattributes", "a text\n")
