@@ -3,6 +3,7 @@
     python3 tools/run_tests.py gate.test_gate
 """
 
+import ast
 import os
 import shutil
 import subprocess
@@ -95,3 +96,13 @@ class Gate(unittest.TestCase):
         text = (TOP / ".ci" / "run").read_text(encoding="utf-8")
         self.assertLess(text.count("\n"), 60)
         self.assertIn('\ncount "rt ci" rt ci\n', text)
+
+
+class Names(unittest.TestCase):
+    def test_no_test_hides_another_one_of_its_name(self):
+        for path in sorted(TOP.glob("tools/**/*.py")):
+            for node in ast.walk(ast.parse(path.read_text(encoding="utf-8"))):
+                if isinstance(node, (ast.Module, ast.ClassDef)):
+                    names = [it.name for it in node.body if isinstance(it, (ast.ClassDef, ast.FunctionDef))]
+                    with self.subTest(path=path.relative_to(TOP).as_posix(), node=getattr(node, "name", "")):
+                        self.assertEqual(sorted(names), sorted(set(names)))
