@@ -2,7 +2,7 @@
 
 ghost use Rattle.std.specs.Prelude.{◌≡◌, IfOk, map, option_map, OnOk};
 ghost use Rattle.std.specs.List.{list_all};
-ghost use Rattle.git_attributes.specs.Assignments.{State, assignment_at, assignment_of, assignments_of, is_name, is_name_byte, named, named_by};
+ghost use Rattle.git_attributes.specs.Assignments.{assignment_at, assignment_of, assignments_of, is_name, is_name_byte, named};
 ghost use Rattle.git_attributes.specs.Views.{given_of, state_of, macro_view};
 ghost use Rattle.git_attributes.specs.States.{assigned, is_known, macro_named, state_in, unfolded};
 

@@ -2,7 +2,7 @@
 
 ghost use Rattle.std.specs.Prelude.{◌≡◌, IfOk, map, option_map};
 ghost use Rattle.git_attributes.specs.Lines.{ends_in_slash, has_slash, line_at, macro_name, macro_of, pattern_of, plain_line_at, rule_of, line_with_front, without_slash};
-ghost use Rattle.git_attributes.specs.Views.{line_view, macro_view, part_of, rule_view};
+ghost use Rattle.git_attributes.specs.Views.{line_view, part_of};
 
 use crate::assignment::{Assignment, assignments_of, is_name};
 use crate::pattern::{Piece, begins_with, pieces_of};

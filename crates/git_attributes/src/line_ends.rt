@@ -1,10 +1,8 @@
-//! The filter that converts line ends as git does.
+//! The filter that converts line ends as git does, and the law that ids decide `text=auto` as git decides it.
 
-ghost use Rattle.std.specs.Prelude.{◌≡◌, ◌++◌, [], OnOk, IfOk, refl, List, ℕ};
-ghost use Rattle.bstr.specs.BStr.{bstr_bytes};
+ghost use Rattle.std.specs.Prelude.{◌≡◌, OnOk, List, ℕ};
 ghost use Rattle.status_index.specs.States.{index_of};
 ghost use Rattle.git_attributes.specs.LineEnds.{has_stored, is_kept, line_ends, stored, AutoLaw};
-ghost use Rattle.git_attributes.specs.Views.{attributes_view};
 ghost use Rattle.status_index.specs.Entries.{IndexEntry};
 
 use crate::attributes::Attributes;

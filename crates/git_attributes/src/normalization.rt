@@ -1,4 +1,5 @@
-//! Which files git takes for texts, and the bytes that it stores of a text.
+//! How git stores a file with attributes of given states: which line ends it converts, what it stores of a text, and which
+//! attributes ask for a conversion that isn't made here.
 
 ghost use Rattle.std.specs.Prelude.{◌≡◌, map, ◌++◌, OnOk};
 ghost use Rattle.git_attributes.specs.Normalization.{has_line_end, is_asked, is_unconverted, normalization_of, text_state};

@@ -1,4 +1,4 @@
-//! The text of a pattern, and its pieces.
+//! Patterns: their pieces, and whether a path matches them.
 
 ghost use Rattle.std.specs.Prelude.{◌≡◌, IfOk, option_map, map, position};
 ghost use Rattle.git_attributes.specs.Views.{part_of};

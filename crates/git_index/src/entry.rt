@@ -1,12 +1,11 @@
 //! Reads the bytes of one entry.
 
-ghost use Rattle.std.specs.Prelude.{◌≡◌, ◌≤◌, ◌<◌, ℕ, position, length, replicate, IfOk};
+ghost use Rattle.std.specs.Prelude.{◌≡◌, ◌≤◌, ◌<◌, position, length, replicate, IfOk};
 ghost use Rattle.std.specs.Str.{bytes_eq};
-ghost use Rattle.git_index.specs.RawEntry.{id_len};
 ghost use Rattle.git_index.specs.EntryViews.{raw_entry};
 ghost use Rattle.git_index.specs.Reading.{Reads, ended_at, fixed_at, flags_at, id_at, is_nul, mode_at, name_at, padded_at, raw_at, stripped_at};
 
-use crate::extensions::id_len_of;
+use crate::checksum::id_len_of;
 use crate::fault::Fault;
 use crate::number::{u16_of, u32_of, width_of};
 use bitflags::Flags as _;

@@ -1,16 +1,12 @@
-//! The end of a file: its extensions and its checksum.
+//! The extensions of a file, all of which have to be optional.
 
-ghost use Rattle.std.specs.Prelude.{◌≡◌, OnOk, IfErr, ◌↔◌, IsTrue};
-ghost use Rattle.git_index.specs.File.{AreExtensions, IsChecksum};
+ghost use Rattle.std.specs.Prelude.{OnOk, IfErr};
+ghost use Rattle.git_index.specs.File.{AreExtensions};
 ghost use Rattle.git_index.specs.Reading.{Reads, content_at, extension_at, extension_name_at};
 ghost use Rattle.git_index.specs.Refusals.{NoExtensionAt};
-ghost use Rattle.status_index.specs.BlobId.{digest_id};
-ghost use Rattle.git_index.specs.RawEntry.{id_len};
 
 use crate::fault::Fault;
 use crate::number::u32_of;
-use sha2::Digest;
-use status_index::{HashKind, ObjectId};
 
 /// Bytes that begin with no optional extension, and why not.
 #[derive(Clone, Copy)]
@@ -68,31 +64,4 @@ pub(crate) fn check_extensions(bytes: &[u8]) -> Result<(), NoExtension<'_>>
         }
     }
     Ok(())
-}
-
-/// Returns the number of bytes of an id.
-pub(crate) fn id_len_of(kind: HashKind) -> usize
-    ensures { result ≡ id_len kind }
-{
-    match kind {
-        HashKind::Sha1 => 20,
-        HashKind::Sha256 => 32,
-    }
-}
-
-/// Returns the digest of a content.
-pub(crate) fn digest(kind: HashKind, content: &[u8]) -> ObjectId
-    ensures { result ≡ digest_id kind content.now }
-{
-    match kind {
-        HashKind::Sha1 => ObjectId::Sha1(sha1::Sha1::digest(content)),
-        HashKind::Sha256 => ObjectId::Sha256(sha2::Sha256::digest(content)),
-    }
-}
-
-/// Returns whether `sum` is the checksum of this content, or zeros.
-pub(crate) fn is_checksum(kind: HashKind, content: &[u8], sum: &[u8]) -> bool
-    ensures { IsTrue result ↔ IsChecksum kind content.now sum.now }
-{
-    sum == ObjectId::null(kind).as_bytes() || sum == digest(kind, content).as_bytes()
 }

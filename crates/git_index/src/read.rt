@@ -3,15 +3,16 @@
 ghost use Rattle.std.specs.Prelude.{◌≡◌, ◌↔◌, ◌≤◌, [], List, length, IfOk, IfErr, MatchResult, false, replicate};
 ghost use Rattle.status_index.specs.Entries.{IndexEntry, IsIndex};
 ghost use Rattle.status_index.specs.States.{index_of, timestamp_of};
-ghost use Rattle.git_index.specs.RawEntry.{RawEntry as FileEntry, id_len};
+ghost use Rattle.git_index.specs.RawEntry.{id_len};
 ghost use Rattle.git_index.specs.Reading.{Reads, header_at};
 ghost use Rattle.git_index.specs.File.{IsFileOf, IsIndexFile};
 ghost use Rattle.git_index.specs.WholeFile.{IsWholeFile};
 ghost use Rattle.git_index.specs.Refusals.{IsFileRefusal, sum_of};
 ghost use Rattle.git_index.specs.Counting.{IsEntriesError, IsExtensionError, AreEntries};
 
+use crate::checksum::{id_len_of, is_checksum};
 use crate::entry::{PREFIXED, raw_of};
-use crate::extensions::{NoExtension, check_extensions, id_len_of, is_checksum};
+use crate::extensions::{NoExtension, check_extensions};
 use crate::fault::{Fault, IndexFileError};
 use crate::index_file::IndexFile;
 use crate::number::u32_of;

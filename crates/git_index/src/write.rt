@@ -4,12 +4,12 @@ ghost use Rattle.std.specs.Prelude.{◌≡◌, ◌<◌, ◌≤◌, ◌^◌, ◌-
 ghost use Rattle.status_index.specs.BlobId.{id_bytes};
 ghost use Rattle.status_index.specs.Entries.{entry_at};
 ghost use Rattle.status_index.specs.States.{entries_of, index_of};
-ghost use Rattle.git_index.specs.RawEntry.{before_name, first_word, fixed_bytes, flags_bytes, is_extended, extended_word, name_bytes, padded_bytes, raw_bytes, short_len, stripped_bytes};
+ghost use Rattle.git_index.specs.RawEntry.{first_word, fixed_bytes, flags_bytes, is_extended, extended_word, padded_bytes, raw_bytes, short_len, stripped_bytes};
 ghost use Rattle.git_index.specs.File.{AreExtensions, IsFileOf, header_bytes, is_version};
 ghost use Rattle.git_index.specs.Writing.{EntriesFit, checksum_bytes, common_len, file_bytes, raw_after};
 
+use crate::checksum::{digest, id_len_of};
 use crate::entry::PREFIXED;
-use crate::extensions::{digest, id_len_of};
 use crate::number::{put_u16, put_u32, put_width};
 use bitflags::Flags as _;
 use status_index::{Entry, HashKind, Mode, ObjectId, Stat, State};

@@ -21,7 +21,7 @@ use Rattle.status_index.specs.Entries.{IndexEntry}
 use Rattle.status_index.specs.declared.state.State.{State}
 use Rattle.git_status.specs.Runs.{Asking, CleanLaw, HasNoDifference, IsCommandEnd, IsReport, IsCommandRun, IsStatusRun, is_difference}
 use Rattle.git_status.specs.declared.asked.Settings.{Settings}
-use Rattle.git_status.specs.declared.dirty.Report.{Report}
+use Rattle.git_status.specs.declared.answer.Report.{Report}
 
 -- both are false
 neither : (a b : Bool) → (a || b) ≡ false → (a ≡ false) × (b ≡ false)

@@ -24,7 +24,7 @@ use Rattle.status_index.specs.declared.state.State.{State}
 use Rattle.git_status.specs.Refreshes.{IsFileRefreshed, IsFoundIn, IsFoundRun, IsIndexFound, IsRefresh, IsRefreshedFile, IsUnrefreshed}
 use Rattle.git_status.specs.Runs.{Asking, Converting, IsComputed, IsCommandEnd, IsCommandRun, IsStatusRun, ReadFile}
 use Rattle.git_status.specs.declared.asked.Settings.{Settings}
-use Rattle.git_status.specs.declared.dirty.Report.{Report}
+use Rattle.git_status.specs.declared.answer.Report.{Report}
 use Rattle.git_status.specs.declared.failure.Failure.{Failure}
 use Rattle.git_status.specs.declared.failure.Failure.TheVariants.{Memory}
 use Rattle.git_status.specs.declared.refresh.Found.{Found}

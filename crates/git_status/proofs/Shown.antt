@@ -21,7 +21,7 @@ use Rattle.git_status.specs.Differences.{LinesLaw, difference_lines, entry_line,
 use Rattle.git_status.specs.Lines.{status_line, visit_line, visit_lines}
 use Rattle.git_status.specs.Runs.{Asking, IsCommandEnd, IsCommandRun, IsStatusRun, printed_text}
 use Rattle.git_status.specs.declared.asked.Settings.{Settings}
-use Rattle.git_status.specs.declared.dirty.Report.{Report}
+use Rattle.git_status.specs.declared.answer.Report.{Report}
 use Rattle.git_status.specs.declared.lines.LineStyle.{LineStyle}
 
 module _ {T U : Type 0} (style : LineStyle) (index : State) where

@@ -21,7 +21,7 @@ use Rattle.status_index.specs.declared.state.State.{State}
 use Rattle.git_status.specs.Kept.{is_whole, kept_changes}
 use Rattle.git_status.specs.Runs.{Asking, Converting, IsFileRun, IsCommandRun, IsStatusRun}
 use Rattle.git_status.specs.declared.asked.Settings.{Settings}
-use Rattle.git_status.specs.declared.dirty.Report.{Report}
+use Rattle.git_status.specs.declared.answer.Report.{Report}
 use Rattle.git_status.specs.declared.failure.Failure.{Failure}
 use Rattle.git_status.specs.declared.failure.Failure.TheVariants.{Memory}
 use Rattle.git_status.specs.declared.refresh.Refreshed.{Refreshed}

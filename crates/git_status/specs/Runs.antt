@@ -28,7 +28,7 @@ use Rattle.status_index.specs.declared.state.State.{State}
 use Rattle.git_status.specs.Failures.{failure_of_index, failure_of_status}
 use Rattle.git_status.specs.Printing.{IsBegun}
 use Rattle.git_status.specs.declared.asked.Settings.{Settings}
-use Rattle.git_status.specs.declared.dirty.Report.{Report}
+use Rattle.git_status.specs.declared.answer.Report.{Report}
 use Rattle.git_status.specs.declared.failure.Failure.{Failure}
 use Rattle.git_status.specs.declared.failure.Failure.TheVariants.{Interrupted, Output, Memory}
 

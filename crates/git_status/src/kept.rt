@@ -20,8 +20,6 @@ use git_index::IndexFile;
 use status_call::index_as_worktree::{ApplyChange, Outcome, Record, apply_changes};
 use status_index::{Stat, State};
 use std::alloc::{AllocError, Global};
-use std::sync::Wait;
-use std::thread::Threads;
 
 /// The changes that a refresh makes.
 #[derive(Debug, Drop)]

@@ -1,12 +1,13 @@
 //! The command `git dirty`, over the bytes of an index file, any worktree and any writers.
 //!
-//! Read `dirty` first, which has the command, and `asked`, what it is asked. `status` computes the status. `refresh`
-//! has the command with the new bytes of the index file, and `kept` the changes in them. `lines` has git's lines and
-//! quoted paths; `output` writes them. `paths` is a pathspec of files and folders. `watcher` stops at the first
-//! difference. `notes` are on files that the status doesn't convert. `failure` says why the command fails,
-//! `fault_place` at which path, and `laws` what a user relies on.
+//! Read `dirty` first, which has the command, and `asked`, what it is asked. `status` computes the status, and `answer`
+//! prints its lines and says what was found. `refresh` has the command with the new bytes of the index file, and `kept`
+//! the changes in them. `lines` has git's lines and quoted paths; `output` writes them. `paths` is a pathspec of files
+//! and folders. `watcher` stops at the first difference. `notes` are on files that the status doesn't convert.
+//! `failure` says why the command fails, `fault_place` at which path, and `laws` what a user relies on.
 #![tactic(auto)]
 
+mod answer;
 mod asked;
 mod dirty;
 mod failure;
@@ -21,8 +22,9 @@ mod refresh;
 mod status;
 mod watcher;
 
+pub use answer::Report;
 pub use asked::{Asked, Settings};
-pub use dirty::{Report, print_file, run_dirty};
+pub use dirty::{print_file, run_dirty};
 pub use failure::Failure;
 pub use laws::{clean_means_no_difference, lines_are_of_all_differences};
 pub use output::report;

@@ -5,7 +5,7 @@ ghost use Rattle.git_attributes.specs.Views.{attributes_view};
 ghost use Rattle.status_call.specs.RecorderVisits.{visit_of};
 ghost use Rattle.git_status.specs.Kept.{is_compared, is_left_out};
 
-use crate::dirty::Report;
+use crate::answer::Report;
 use bstr::BString;
 use git_attributes::{Attributes, is_unconverted};
 use status_call::index_as_worktree::{Change, EntryStatus, Record};

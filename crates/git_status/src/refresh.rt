@@ -6,8 +6,9 @@ ghost use Rattle.git_attributes.specs.Views.{attributes_view};
 ghost use Rattle.git_status.specs.Printing.{IsFaultLine};
 ghost use Rattle.git_status.specs.Refreshes.{IsFoundRun, IsIndexFound, IsRefresh, IsRefreshExit, IsRefreshFailedExit};
 
+use crate::answer::{Report, print_answer};
 use crate::asked::{Asked, Question, Settings};
-use crate::dirty::{Report, print_answer, print_besides, report_failure};
+use crate::dirty::{print_besides, report_failure};
 use crate::failure::Failure;
 use crate::fault_place::Search;
 use crate::kept::{Kept, changed_bytes, has_all, kept_changes};

@@ -3,7 +3,7 @@ use Rattle.std.specs.Prelude.{◌≡◌, ◌<◌, ◌+◌, ◌-◌, ℕ, IsTrue,
 use Rattle.bstr.specs.BStr.{bstr_bytes}
 use Rattle.status_index.specs.declared.fault.Fault.{Fault}
 use Rattle.status_index.specs.declared.stat.Metadata.{Metadata}
-use Rattle.status_base.specs.declared.stack.Stop.{Stop}
+use Rattle.status_base.specs.declared.stack.barrier.Stop.{Stop}
 use Rattle.status_base.specs.declared.stack.error.StackError.{StackError}
 use Rattle.status_base.specs.declared.stack.error.StackError.TheVariants.{EmptyPath, NotNormal, ThroughLink, Memory}
 use Rattle.status_base.specs.declared.stack.error.StackError.TheVariants as errors

@@ -1,19 +1,19 @@
 //! The link check: whether a path leads through a symbolic link.
 
-ghost use Rattle.std.specs.Prelude.{◌≡◌, ◌≤◌, ◌<◌, ◌+◌, None, IsTrue, List, [], ◌∷◌, length, take, drop, option_map, IfOk, OnOk, IfErr, IfSome, vec_len, position};
+ghost use Rattle.std.specs.Prelude.{◌≡◌, ◌≤◌, ◌<◌, ◌+◌, None, IsTrue, [], length, take, drop, IfOk, OnOk, IfErr, vec_len};
 ghost use Rattle.bstr.specs.BStr.{bstr_bytes};
 ghost use Rattle.status_base.specs.Paths.{abnormal_component, joined};
-ghost use Rattle.status_base.specs.LinkCheck.{link_check, barrier_of};
+ghost use Rattle.status_base.specs.LinkCheck.{link_check};
 ghost use Rattle.bstr.specs.Owned.{bstring_bytes};
-ghost use Rattle.status_base.specs.CheckState.{IsClear, IsClearBelow};
-ghost use Rattle.status_index.specs.Content.{saturate};
-ghost use Rattle.status_base.specs.Barriers.{IsWay, IsStopAbove, IsBarrier, IsOfDirectory, looked_at};
+ghost use Rattle.status_base.specs.CheckState.{IsClear};
 
+mod barrier;
 mod error;
 pub mod laws;
 
 use crate::components::{abnormal_component, common_front, component_start};
-use crate::worktree::{Fault, NodeKind, Worktree};
+use crate::worktree::{Fault, Worktree};
+use barrier::first_barrier;
 use bstr::{BStr, BString};
 pub use error::StackError;
 use std::alloc::{AllocError, Global};
@@ -248,50 +248,4 @@ fn join_into(buffer: &mut Vec<u8>, root: &[u8], path: &[u8]) -> Result<usize, Al
     let start = buffer.len();
     buffer.extend_from_slice(path)?;
     Ok(start)
-}
-
-/// A directory that bars the way to a path below it: the length of the directory's path, and the error.
-#[derive(Clone, Copy)]
-struct Stop<'p> {
-    at: usize,
-    error: StackError<'p>,
-}
-
-/// Returns the leftmost proper directory prefix of a path that is a link or has a fault, among those of at least
-/// `from` bytes. Each call of `lstat` is counted in `looks`.
-fn first_barrier<'p, W: Worktree>(
-    worktree: &W,
-    path: &'p [u8],
-    from: usize,
-    looks: &mut u64,
-) -> Option<Stop<'p>>
-    ensures way { IsTrue (W.modelled worktree.now) → IsClearBelow (W.lstat_of worktree.now) path.now from → IsWay (W.lstat_of worktree.now) path.now result }
-    ensures stop { IfSome result (IsStopAbove path.now) }
-    ensures behind { IfSome result (λ stop. from ≤ stop.at) }
-    ensures looks { looks.old ≤ looks.new }
-    ensures few { looks.new ≤ looks.old + looked_at path.now from result }
-    ensures counted { saturate (looks.old + looked_at path.now from result) ≤ looks.new }
-{
-    for at in from..path.len() {
-        if path[at] == b'/' {
-            *looks = looks.saturating_add(1);
-            if let Some(error) = barrier(worktree, &path[..at]) {
-                return Some(Stop { at, error });
-            }
-        }
-    }
-    None
-}
-
-/// Returns why no path may lead through a directory: it is a link, or has a fault.
-fn barrier<'p, W: Worktree>(worktree: &W, directory: &'p [u8]) -> Option<StackError<'p>>
-    ensures barrier { IsTrue (W.modelled worktree.now) → IsBarrier directory.now (barrier_of (W.lstat_of worktree.now directory.now)) result }
-    ensures of_directory { IfSome result (IsOfDirectory directory.now) }
-{
-    let prefix = BStr::new(directory);
-    match worktree.lstat(prefix) {
-        Ok(node) if node.kind == NodeKind::Link => Some(StackError::ThroughLink { prefix }),
-        Ok(_) => None,
-        Err(fault) => Some(StackError::Fault(fault)),
-    }
 }

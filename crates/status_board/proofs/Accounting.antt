@@ -6,7 +6,7 @@ use Rattle.std.proofs.lemmas.Bool.{cases_Bool}
 use Rattle.status_board.specs.Numbers.{times, after_last}
 use Rattle.status_board.specs.Seats.{BoardId, SeatState, drawn_of, barred_of, reported_of}
 use Rattle.status_board.specs.declared.work.Finished.{Finished}
-use Rattle.status_board.specs.declared.crew.Gathered.{Gathered}
+use Rattle.status_board.specs.declared.gathered.Gathered.{Gathered}
 use Rattle.status_board.specs.declared.work.Worked.{Worked}
 use Rattle.status_board.specs.Accounts.{Accounts, AreAccounted, IsBoth, IsBrought, IsNothing, IsWorked}
 use Rattle.status_board.specs.FinishedPieces.{outs_at, shorts_of}

@@ -2,7 +2,7 @@
 use Rattle.std.specs.Prelude.{◌≡◌, ℕ, ◌+◌, Bool, true, List, [], ◌∷◌, ◌++◌, length, All, Option, None, Some, Result, Ok, Err, Vec, vec_len}
 use Rattle.status_board.specs.Numbers.{times}
 use Rattle.status_board.specs.Seats.{BoardId, SeatState, fresh, drawn_of, barred_of, reported_of}
-use Rattle.status_board.specs.declared.crew.Gathered.{Gathered}
+use Rattle.status_board.specs.declared.gathered.Gathered.{Gathered}
 use Rattle.status_board.specs.declared.work.Finished.{Finished}
 use Rattle.status_board.specs.declared.work.Worked.{Worked}
 use Rattle.status_board.specs.FinishedPieces.{outs_at, shorts_of}

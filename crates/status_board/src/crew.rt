@@ -1,26 +1,18 @@
 //! The workers of a round: one in the caller's thread, and each other one in a thread of its own.
 
-ghost use Rattle.std.specs.Prelude.{◌≡◌, ◌≢◌, ◌≤◌, ◌+◌, All, IfOk, IfErr, OnOk, vec_len, [], Err};
+ghost use Rattle.std.specs.Prelude.{◌≡◌, ◌≢◌, ◌≤◌, ◌+◌, All, IfOk, OnOk, vec_len, [], Err};
 ghost use Rattle.status_board.specs.Seats.{fresh};
-ghost use Rattle.status_board.specs.Accounts.{AreReady, IsBoth, IsBrought, IsNothing, IsWorked};
+ghost use Rattle.status_board.specs.Accounts.{AreReady, IsBrought, IsWorked};
 
 use crate::board::{Board, Seat};
+use crate::gathered::{Answer, Gathered, gather, nothing, or_refused};
 use crate::round::Refused;
-use crate::work::{Finished, Work, Worked, work_through};
+use crate::work::{Work, work_through};
 use core::thread::Stack;
 use std::alloc::{AllocError, Global};
 use std::sync::Wait;
 use std::thread;
 use std::thread::{Promise, PromisedHandle, Scope, Threads};
-
-/// The results and seats of all workers.
-#[derive(Drop)]
-pub(crate) struct Gathered<O> {
-    pub(crate) finished: Vec<Finished<O>>,
-    pub(crate) seats: Vec<Seat>,
-}
-
-type Answer<O> = Result<Worked<O>, AllocError>;
 
 // The promise of a worker's thread: its results are of this work and this board.
 #[derive(Drop)]
@@ -249,38 +241,5 @@ where
             gathered = gather(gathered, handle.join(rt));
         }
         gathered
-    }
-}
-
-fn nothing<O>(alloc: Global) -> Result<Gathered<O>, AllocError>
-    ensures { IfOk result IsNothing }
-{
-    Ok(Gathered {
-        finished: Vec::new(alloc),
-        seats: Vec::new(alloc),
-    })
-}
-
-// Adds the results of one worker.
-fn gather<O: Drop>(
-    gathered: Result<Gathered<O>, AllocError>,
-    worked: Answer<O>,
-) -> Result<Gathered<O>, AllocError>
-    ensures { IsBoth gathered worked result }
-{
-    let mut gathered = gathered?;
-    let Worked { mut finished, seat } = worked?;
-    gathered.finished.append(&mut finished)?;
-    gathered.seats.push(seat)?;
-    Ok(gathered)
-}
-
-pub(crate) fn or_refused<T>(answer: Result<T, AllocError>) -> Result<T, Refused>
-    ensures ok { IfOk answer (λ x. result ≡ Ok x) }
-    ensures err { IfErr answer (λ _. result ≡ Err Refused.Memory) }
-{
-    match answer {
-        Ok(x) => Ok(x),
-        Err(_) => Err(Refused::Memory),
     }
 }

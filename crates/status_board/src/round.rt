@@ -2,11 +2,12 @@
 
 ghost use Rattle.std.specs.Prelude.{◌≡◌, ◌≢◌, ◌≤◌, ◌^◌, All, IfOk, Err, vec_len, ◌<◌, ℕ, length, IsSome, map, Some, None, replicate, set};
 ghost use Rattle.status_board.specs.Accounts.{AreAccounted, end_of};
-ghost use Rattle.status_board.specs.FinishedPieces.{IsOutOf, outs_at, IsInOrder, IsPlaced};
+ghost use Rattle.status_board.specs.FinishedPieces.{IsOutOf, outs_at, IsInOrder};
 ghost use Rattle.status_board.specs.Round.{IsRound};
 
 use crate::board::{Board, Tally};
-use crate::crew::{Crew, Gathered, or_refused};
+use crate::crew::Crew;
+use crate::gathered::{Gathered, or_refused};
 use crate::work::{Finished, Work};
 use std::alloc::{AllocError, Global};
 use std::sync::Wait;
@@ -21,8 +22,8 @@ pub enum Refused {
     Memory,
 }
 
-/// Works through the pieces, with one worker for each state in `crew`. Returns the results of the pieces in order, up
-/// to the first that ended short or the last. This holds for every schedule.
+/// Works through the pieces, with one worker for each of the states. Returns the results of the pieces in order, up to
+/// the first that ended short or the last. This holds for every schedule.
 ///
 /// One worker works in the caller's thread, each other one in a thread of its own. `stack_size` is the size of a
 /// thread's stack in bytes, or None for the usual size. All threads that were started are joined, even if a thread
@@ -35,30 +36,28 @@ pub fn work_round<R: Threads + Wait, K: Work + Sync>(
     alloc: Global,
     stack_size: Option<usize>,
     work: &K,
-    pieces: usize,
-    crew: Vec<K::State>,
+    states: Vec<K::State>,
 ) -> Result<Vec<K::Out>, Refused>
 where
     K::State: Send + Drop,
     K::Out: Send + Drop,
-    requires count { pieces ≡ K.count work.now }
-    requires few { pieces ≤ 2 ^ 20 }
-    requires crew { (1 ≤ vec_len crew) × (vec_len crew ≤ 64) }
-    requires fits { All (K.fits work.now) crew.items }
-    ensures round { IfOk result (λ outs. IsRound (K.gives work.now) K.short pieces outs.items) }
-    ensures alone { vec_len crew ≡ 1 → result ≢ Err Refused.Thread }
+    requires few { K.count work.now ≤ 2 ^ 20 }
+    requires states { (1 ≤ vec_len states) × (vec_len states ≤ 64) }
+    requires fits { All (K.fits work.now) states.items }
+    ensures round { IfOk result (λ outs. IsRound (K.gives work.now) K.short (K.count work.now) outs.items) }
+    ensures alone { vec_len states ≡ 1 → result ≢ Err Refused.Thread }
 {
-    let (board, seats) = match Board::new(alloc, pieces, crew.len()) {
+    let (board, seats) = match Board::new(alloc, work.pieces(), states.len()) {
         Ok(made) => made,
         Err(_) => return Err(Refused::Memory),
     };
-    let shared = Crew {
+    let crew = Crew {
         alloc,
         stack_size,
         work,
         board: &board,
     };
-    match shared.work_together(rt, seats, crew) {
+    match crew.work_together(rt, seats, states) {
         Ok(gathered) => or_refused(finish::<K>(alloc, board, gathered)),
         Err(refused) => Err(refused),
     }

@@ -29,6 +29,10 @@ pub trait Work {
 
     ghost short: { Self.Out → Bool };
 
+    /// Returns the number of pieces.
+    fn pieces(&self) -> usize
+        ensures { result ≡ count self.now };
+
     /// Works through the piece of a number, and returns its result.
     fn piece(&self, state: &mut Self::State, number: usize) -> Self::Out
         requires number { number < count self.now }

@@ -17,7 +17,7 @@ use Rattle.status_call.specs.Rounds.{AreBounds, AreInRow, ArePieces, IsResult, I
 use Rattle.status_call.proofs.Stretch.{AllPairs-append}
 
 -- Bounds from a position up to another.
-pub record AreGrowing (es : List IndexEntry) (chunk from at : ℕ) (bounds : List ℕ) : Type 0 where
+pub record AreGrowing (es : List IndexEntry) (piece_len from at : ℕ) (bounds : List ℕ) : Type 0 where
   pub some_bound : 0 < length bounds
   pub first : bound bounds 0 ≡ from
   pub upto : All (λ b. b ≤ at) bounds
@@ -26,13 +26,13 @@ pub record AreGrowing (es : List IndexEntry) (chunk from at : ℕ) (bounds : Lis
   pub inside : All (λ b. b ≤ length es) bounds
   pub cuts : All (λ b. IsCut es b) bounds
   pub last : last_bound bounds ≡ at
-  pub ends : ArePieces es chunk bounds
+  pub ends : ArePieces es piece_len bounds
 
 one_of : {X : Type 0} (P : X → Type 0) (x : X) → P x → All P (x ∷ [])
 one_of P x h = All-cons P x [] h (All-nil P)
 
-pub bounds_begin : (es : List IndexEntry) (chunk from : ℕ) → from < length es → IsCut es from → AreGrowing es chunk from from (from ∷ [])
-bounds_begin es chunk from inside cut = record {
+pub bounds_begin : (es : List IndexEntry) (piece_len from : ℕ) → from < length es → IsCut es from → AreGrowing es piece_len from from (from ∷ [])
+bounds_begin es piece_len from inside cut = record {
   some_bound = omega arith;
   first = refl;
   upto = one_of (λ b. b ≤ from) from (omega arith);
@@ -44,8 +44,8 @@ bounds_begin es chunk from inside cut = record {
   ends = λ k l. absurd (omega arith);
 }
 
-pub bounds_grow : (es : List IndexEntry) (chunk from at to : ℕ) (bounds : List ℕ) → IsPieceEnd es chunk at to → to ≤ length es → IsCut es to → AreGrowing es chunk from at bounds → AreGrowing es chunk from to (bounds ++ to ∷ [])
-bounds_grow es chunk from at to bounds end inside cut h = let more = end.more in record {
+pub bounds_grow : (es : List IndexEntry) (piece_len from at to : ℕ) (bounds : List ℕ) → IsPieceEnd es piece_len at to → to ≤ length es → IsCut es to → AreGrowing es piece_len from at bounds → AreGrowing es piece_len from to (bounds ++ to ∷ [])
+bounds_grow es piece_len from at to bounds end inside cut h = let more = end.more in record {
   some_bound = omega (arith, length-append bounds (to ∷ []));
   first = get_or-append bounds (to ∷ []) 0 0 h.some_bound ∙ h.first;
   upto = All-append (λ b. b ≤ to) bounds (to ∷ []) (All-weaker (λ b. b ≤ at) (λ b. b ≤ to) (λ b l. omega (arith, l)) bounds h.upto) (one_of (λ b. b ≤ to) to (omega arith));
@@ -57,7 +57,7 @@ bounds_grow es chunk from at to bounds end inside cut h = let more = end.more in
   ends = λ k l. grown k l (cases_eq (k + 1) (length bounds));
 }
   where
-    grown : (k : ℕ) → k + 1 < length (bounds ++ to ∷ []) → (k + 1 ≡ length bounds) ⊎ (k + 1 ≡ length bounds → ⊥) → IsPieceEnd es chunk (bound (bounds ++ to ∷ []) k) (bound (bounds ++ to ∷ []) (k + 1))
+    grown : (k : ℕ) → k + 1 < length (bounds ++ to ∷ []) → (k + 1 ≡ length bounds) ⊎ (k + 1 ≡ length bounds → ⊥) → IsPieceEnd es piece_len (bound (bounds ++ to ∷ []) k) (bound (bounds ++ to ∷ []) (k + 1))
     grown k l (inl e) =
         let here : bound (bounds ++ to ∷ []) k ≡ at = get_or-append bounds (to ∷ []) 0 k (omega (arith, e)) ∙ ap (bound bounds) (omega (arith, e)) ∙ h.last in
         rw (here, get_or_push bounds to 0 (k + 1) (sym e)) end
@@ -69,8 +69,8 @@ bounds_grow es chunk from at to bounds end inside cut h = let more = end.more in
     last_one zero l d = refl
     last_one (suc j) l d = absurd (omega arith)
 
-pub bounds_are : (es : List IndexEntry) (chunk from at : ℕ) (bounds : List ℕ) → (length bounds ≡ 1 → at ≡ from → ⊥) → AreGrowing es chunk from at bounds → AreBounds es bounds
-bounds_are es chunk from at bounds more h = record {
+pub bounds_are : (es : List IndexEntry) (piece_len from at : ℕ) (bounds : List ℕ) → (length bounds ≡ 1 → at ≡ from → ⊥) → AreGrowing es piece_len from at bounds → AreBounds es bounds
+bounds_are es piece_len from at bounds more h = record {
   pieces = many (length bounds) refl;
   ascending = h.ascending;
   inside = h.inside;

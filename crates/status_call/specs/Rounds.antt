@@ -23,17 +23,17 @@ bound bounds n = slice_index_or bounds n 0
 abbrev pub last_bound : List ℕ → ℕ
 last_bound bounds = bound bounds (length bounds - 1)
 
--- The end of a piece of `chunk` entries that begins at a position. It has at least that many entries, or all that are left. It
+-- The end of a piece of `piece_len` entries that begins at a position. It has at least that many entries, or all that are left. It
 -- ends no later than the next position after those that separates no path.
-pub record IsPieceEnd (es : List IndexEntry) (chunk from end : ℕ) : Type 0 where
+pub record IsPieceEnd (es : List IndexEntry) (piece_len from end : ℕ) : Type 0 where
   pub more : from < end
-  pub full : min (from + chunk) (length es) ≤ end
-  pub tight : (k : ℕ) → from + chunk ≤ k → from < k → k < end → IsCut es k → ⊥
+  pub full : min (from + piece_len) (length es) ≤ end
+  pub tight : (k : ℕ) → from + piece_len ≤ k → from < k → k < end → IsCut es k → ⊥
 
 -- Each piece ends like that.
 abbrev pub ArePieces : List IndexEntry → ℕ → List ℕ → Type 0
-ArePieces es chunk bounds =
-    (k : ℕ) → k + 1 < length bounds → IsPieceEnd es chunk (bound bounds k) (bound bounds (k + 1))
+ArePieces es piece_len bounds =
+    (k : ℕ) → k + 1 < length bounds → IsPieceEnd es piece_len (bound bounds k) (bound bounds (k + 1))
 
 -- A piece that didn't reach its end.
 abbrev pub is_short : End → Bool

@@ -1,6 +1,6 @@
 //! A comparer as a caller writes it.
 
-ghost use Rattle.std.specs.Prelude.{◌≡◌, refl};
+ghost use Rattle.std.specs.Prelude.{refl};
 ghost use Rattle.status_callers.specs.Lengths.{length_answer, length_counts};
 
 use gix_status::index::Entry;

@@ -2,8 +2,8 @@
 //!
 //! Read `status`, `replay` and `refresh` first, a command each. Then `lines`, the text of each line, `line_buffer`,
 //! which collects lines, and `output`, which writes them and reads a profile's file. `failure` is why a command fails,
-//! with `fault_line`, the line that says so. `whole` writes the file of a refreshed profile, and `laws` has a theorem
-//! about the definitions.
+//! with `fault_line`, the line that says so, and `status_fault`, that of a status. `whole` writes the file of a refreshed
+//! profile, and `laws` has a theorem about the definitions.
 #![tactic(auto)]
 
 mod failure;
@@ -15,6 +15,7 @@ mod output;
 mod refresh;
 mod replay;
 mod status;
+mod status_fault;
 mod whole;
 
 pub use failure::Failure;

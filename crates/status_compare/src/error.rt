@@ -1,4 +1,4 @@
-//! Why a status failed.
+//! Why a status failed: the error of a status of an index, which comparisons return too.
 
 ghost use Rattle.std.specs.Prelude.{◌≡◌};
 ghost use Rattle.status_compare.specs.Errors.{error_of, find_error_of};

@@ -1,6 +1,6 @@
 //! Reads an entry of a JSON value, and stores one.
 
-ghost use Rattle.std.specs.Prelude.{◌≡◌, ◌<◌, ◌++◌, length, map, IfOk, OnOk};
+ghost use Rattle.std.specs.Prelude.{◌≡◌, ◌<◌, ◌++◌, map, IfOk, OnOk};
 ghost use Rattle.serde_json.specs.Data.{object, string};
 ghost use Rattle.serde_json.specs.View.{view};
 ghost use Rattle.status_index.specs.Entries.{entry_at, index_entry};

@@ -1,6 +1,6 @@
 //! A JSON value of either library, as a reader sees it.
 
-ghost use Rattle.std.specs.Prelude.{◌≡◌, List, Option, map, option_map};
+ghost use Rattle.std.specs.Prelude.{◌≡◌, Option, map, option_map};
 ghost use Rattle.status_format.specs.Field.{Field, Fields, number_in, text_in};
 
 /// A JSON value of some library.

@@ -1,7 +1,7 @@
 //! The state of one position of the list, while the pairs are applied.
 
 ghost use Rattle.std.specs.Prelude.{◌≡◌, Option, option_to_list};
-ghost use Rattle.status_rewrites.specs.Places.{passes, is_free, may_go, left_by, reached_by, standing_in, IsLeft};
+ghost use Rattle.status_rewrites.specs.Places.{passes, is_free, may_go, reached_by, standing_in, IsLeft};
 
 use crate::rewrites::{Item, Rewritten};
 use std::alloc::AllocError;

@@ -1,9 +1,9 @@
 //! The changes as they are read, once each, and the pairs of a sorted side with another.
 
-ghost use Rattle.std.specs.Prelude.{◌≡◌, IfOk, OnOk, map, true};
+ghost use Rattle.std.specs.Prelude.{◌≡◌, IfOk, OnOk, map};
 ghost use Rattle.std.specs.List.{enumerate_from};
 ghost use Rattle.std.specs.List.Sorted.{IsPermutation, IsSorted};
-ghost use Rattle.status_rewrites.specs.IdentityPairs.{mode_number, key_cmp, place_cmp, is_on, is_null, may_stand};
+ghost use Rattle.status_rewrites.specs.IdentityPairs.{mode_number, key_cmp, place_cmp, is_null, may_stand};
 ghost use Rattle.status_rewrites.specs.SeenItems.{changed_of, numbered};
 ghost use Rattle.status_rewrites.specs.Joins.{AreByKey, HasRows, side_of, IsJoin};
 

@@ -3,8 +3,10 @@
 ghost use Rattle.std.specs.Prelude.{None};
 
 mod folder;
+mod pending;
 
-use crate::disk::folder::{Folder, Pending, fault_at, found};
+use crate::disk::folder::{Folder, fault_at, found};
+use crate::disk::pending::Pending;
 use crate::{Action, Delegate, DirEntry, Kind, Outcome, Status, Walk, WalkError};
 use bstr::{BStr, BString};
 use status_base::worktree::{Fault, Pathspec, Worktree};

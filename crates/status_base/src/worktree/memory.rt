@@ -1,4 +1,4 @@
-//! A worktree in memory.
+//! A worktree in memory: its nodes, and the faults that are planted in it.
 
 ghost use Rattle.std.specs.Prelude.{◌≡◌, ◌⊎◌, ℕ, ◌<◌, ◌^◌, length, None, Some, IfOk, IfErr, OnOk};
 ghost use Rattle.std.specs.Global.{Vec as ByteVec};
@@ -6,20 +6,17 @@ ghost use Rattle.std.specs.Map.Iter.{ShowsInOrder, deref_pair};
 ghost use Rattle.std.specs.Option.{option_map};
 ghost use Rattle.std.specs.FinMap as paths;
 ghost use Rattle.bstr.specs.BStr.{bstr_bytes};
-ghost use Rattle.status_base.specs.MemoryTree.{is_no_directory, has_below, has_file_above, absence, bare_directory, planted_or_none, planted_at, fault_without_node};
+ghost use Rattle.status_base.specs.MemoryTree.{is_no_directory, has_below, has_file_above, planted_or_none, planted_at};
 ghost use Rattle.status_base.specs.Nodes.{placed_of, placed_entries, is_bad_path, put_fault, IsLookedBelow, IsPut};
 ghost use Rattle.status_base.specs.Points.{IsPlanted};
 ghost use Rattle.status_base.specs.declared.worktree.node.Node.{Node as NodeValue};
 ghost use Rattle.status_base.specs.Trees.{empty_tree};
 
 use crate::components::has_abnormal_component;
-use crate::worktree::Worktree;
-use crate::worktree::node::{Node, TreeError, bare_directory};
-use crate::worktree::planted::{
-    MemoryFile, PlantedFaults, Point, lstat_fault, open_fault, read_link_fault,
-};
+use crate::worktree::node::{Node, TreeError};
+use crate::worktree::planted::{PlantedFaults, Point};
 use bstr::BStr;
-use status_index::{Fault, Metadata, NodeKind};
+use status_index::{Fault, NodeKind};
 use std::alloc::{AllocError, Global};
 use std::collections::BTreeMap;
 use std::collections::btree_map::Iter;
@@ -28,7 +25,7 @@ use std::marker::Model;
 /// A worktree in memory. Directories needn't be put: a path with a node below it is a directory.
 #[derive(Drop)]
 pub struct MemoryWorktree {
-    alloc: Global,
+    pub(crate) alloc: Global,
     nodes: BTreeMap<Vec<u8>, Node>,
     planted: BTreeMap<Vec<u8>, PlantedFaults>,
 }
@@ -143,21 +140,22 @@ impl MemoryWorktree {
         self.nodes.iter()
     }
 
-    fn node_at(&self, path: &[u8]) -> Option<&Node>
+    /// Returns the node that was put at a path.
+    pub(crate) fn node_at(&self, path: &[u8]) -> Option<&Node>
         ensures { option_map (λ n. placed_of n.now) result ≡ paths.get self.now.nodes path.now }
     {
         self.nodes.get(path)
     }
 
     /// Returns the faults that are planted at a path, if any are.
-    fn planted_at(&self, path: &[u8]) -> Option<&PlantedFaults>
+    pub(crate) fn planted_at(&self, path: &[u8]) -> Option<&PlantedFaults>
         ensures { planted_or_none (option_map (λ p. p.now) result) ≡ planted_at self.now path.now }
     {
         self.planted.get(path)
     }
 
     /// Returns whether a node is below a path. The first of the paths from `path/` on decides.
-    fn has_below(&self, path: &[u8]) -> Result<bool, AllocError>
+    pub(crate) fn has_below(&self, path: &[u8]) -> Result<bool, AllocError>
         ensures { IfOk result (λ b. b ≡ has_below self.now path.now) }
     {
         let mut front = Vec::from_slice(self.alloc, path)?;
@@ -170,7 +168,7 @@ impl MemoryWorktree {
     }
 
     /// Returns whether a proper directory prefix of a path has a node that isn't a directory.
-    fn has_file_above(&self, path: &[u8]) -> bool
+    pub(crate) fn has_file_above(&self, path: &[u8]) -> bool
         ensures { result ≡ has_file_above self.now path.now }
     {
         for (end, byte) in path.iter().enumerate() {
@@ -207,30 +205,6 @@ impl MemoryWorktree {
         }
         Ok(None)
     }
-
-    /// Returns the fault of a path with no node at it or below it.
-    fn absence(&self, path: &[u8]) -> Fault
-        ensures { result ≡ absence self.now path.now }
-    {
-        if self.has_file_above(path) {
-            Fault::NotADirectory
-        } else {
-            Fault::NotFound
-        }
-    }
-
-    /// Returns the fault of opening a path, or of reading it as a link, if no node was put there.
-    fn without_node(&self, path: &[u8]) -> Result<Fault, AllocError>
-        ensures { IfOk result (λ fault. fault ≡ fault_without_node self.now path.now) }
-    {
-        if self.has_below(path)? {
-            return Ok(Fault::Other(0));
-        }
-        match lstat_fault(self.planted_at(path)) {
-            Some(fault) => Ok(fault),
-            None => Ok(self.absence(path)),
-        }
-    }
 }
 
 /// Returns whether a path is bad, so that nothing can be put there: it is empty, or a component is empty, `.` or `..`.
@@ -239,63 +213,4 @@ pub fn is_bad_path(path: BStr<'_>) -> bool
 {
     let path = path.as_bytes();
     path.is_empty() || has_abnormal_component(path)
-}
-
-impl Worktree for MemoryWorktree {
-    ghost use Rattle.std.specs.Prelude.{true};
-    ghost use Rattle.status_base.specs.MemoryTree.{lstat_in, open_in, target_in};
-
-    type File = MemoryFile;
-
-    ghost modelled = { λ _. true };
-
-    ghost lstat_of = { lstat_in };
-
-    ghost open_of = { open_in };
-
-    ghost target_of = { target_in };
-
-    fn lstat(&self, path: BStr<'_>) -> Result<Metadata, Fault> {
-        let path = path.as_bytes();
-        if let Some(fault) = lstat_fault(self.planted_at(path)) {
-            return Err(fault);
-        }
-        if let Some(node) = self.node_at(path) {
-            return Ok(node.metadata());
-        }
-        if self.has_below(path)? {
-            return Ok(bare_directory());
-        }
-        Err(self.absence(path))
-    }
-
-    fn open(&self, path: BStr<'_>) -> Result<MemoryFile, Fault> {
-        let path = path.as_bytes();
-        let planted = self.planted_at(path);
-        if let Some(fault) = open_fault(planted) {
-            return Err(fault);
-        }
-        let Some(node) = self.node_at(path) else {
-            return Err(self.without_node(path)?);
-        };
-        match node.kind {
-            NodeKind::File => Ok(MemoryFile::new(self.alloc, &node.bytes, planted)?),
-            _ => Err(Fault::Other(0)),
-        }
-    }
-
-    fn read_link(&self, path: BStr<'_>, target: &mut Vec<u8>) -> Result<(), Fault> {
-        target.clear();
-        let path = path.as_bytes();
-        if let Some(fault) = read_link_fault(self.planted_at(path)) {
-            return Err(fault);
-        }
-        let Some(node) = self.node_at(path) else {
-            return Err(self.without_node(path)?);
-        };
-        match node.kind {
-            NodeKind::Link => Ok(target.extend_from_slice(&node.bytes)?),
-            _ => Err(Fault::Other(0)),
-        }
-    }
 }

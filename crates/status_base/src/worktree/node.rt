@@ -1,6 +1,6 @@
 //! The nodes of a worktree in memory.
 
-ghost use Rattle.std.specs.Prelude.{◌≡◌, ◌<◌, [], length, None, Some};
+ghost use Rattle.std.specs.Prelude.{◌≡◌, ◌<◌, [], Some};
 ghost use Rattle.status_base.specs.MemoryTree.{bare_directory};
 ghost use Rattle.status_base.specs.Nodes.{placed_of, plain_node};
 

@@ -1,6 +1,6 @@
 //! The decider of entries over a worktree.
 
-ghost use Rattle.std.specs.Prelude.{◌≡◌, List, Option, Result, IsTrue};
+ghost use Rattle.std.specs.Prelude.{◌≡◌, Option, Result, IsTrue};
 ghost use Rattle.std.proofs.Props.{props};
 ghost use Rattle.bstr.specs.BStr.{bstr_bytes};
 ghost use Rattle.status_base.specs.CheckState.{IsClear};
@@ -21,7 +21,7 @@ use bstr::{BStr, BString};
 use status_base::fscache::Listings;
 use status_base::stack::SymlinkCheck;
 use status_base::worktree::{
-    ByteText, Find, Lister, Metadata, Pathspec, SubmoduleFault, SubmoduleStatus, ToGit, Worktree,
+    ByteText, Find, Lister, Pathspec, SubmoduleFault, SubmoduleStatus, ToGit, Worktree,
 };
 use status_compare::CompareBlobs;
 use status_index::{Entry, Flags, Stat, mode};

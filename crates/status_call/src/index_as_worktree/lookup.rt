@@ -1,6 +1,6 @@
 //! The look-up of the node at an entry's path.
 
-ghost use Rattle.std.specs.Prelude.{◌≡◌, ◌&&◌, Bool, IsTrue, Ok, Result};
+ghost use Rattle.std.specs.Prelude.{◌&&◌, Bool, IsTrue, Ok, Result};
 ghost use Rattle.bstr.specs.BStr.{bstr_bytes};
 ghost use Rattle.status_base.specs.CheckState.{IsClear};
 ghost use Rattle.status_base.specs.LinkCheck.{LinkCheck};

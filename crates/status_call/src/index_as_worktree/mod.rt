@@ -12,6 +12,7 @@ pub mod laws;
 mod lookup;
 pub mod piece;
 mod recorder;
+pub mod round;
 pub mod run_rounds;
 mod run_serially;
 pub mod status_by;

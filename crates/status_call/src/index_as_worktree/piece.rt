@@ -57,18 +57,18 @@ impl<T, U> Piece<T, U> {
     }
 }
 
-/// Returns the end of a piece of `chunk` entries that begins at `from`. It is later if it would separate entries of one
+/// Returns the end of a piece of `piece_len` entries that begins at `from`. It is later if it would separate entries of one
 /// path.
-pub fn piece_end(considered: &Considered<'_>, from: usize, chunk: usize) -> usize
+pub fn piece_end(considered: &Considered<'_>, from: usize, piece_len: usize) -> usize
     requires inside { from < length (part_entries considered.now) }
     ensures more { from < result }
     ensures within { result ≤ length (part_entries considered.now) }
-    ensures full { min (from + chunk) (length (part_entries considered.now)) ≤ result }
+    ensures full { min (from + piece_len) (length (part_entries considered.now)) ≤ result }
     ensures cut { IsCut (part_entries considered.now) result }
-    ensures tight { (k : ℕ) → from + chunk ≤ k → from < k → k < result
+    ensures tight { (k : ℕ) → from + piece_len ≤ k → from < k → k < result
         → IsCut (part_entries considered.now) k → ⊥ }
 {
-    let mut end = from + chunk.max(1).min(considered.len() - from);
+    let mut end = from + piece_len.max(1).min(considered.len() - from);
     while end < considered.len() && same_path(considered, end, end - 1) {
         end += 1;
     }

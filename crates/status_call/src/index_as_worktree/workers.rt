@@ -33,6 +33,7 @@ impl<'a> Execution<'a> {
     /// Returns how a call with these options works.
     pub fn of(alloc: Global, options: &Options, interrupt: Option<&'a AtomicBool>) -> Execution<'a>
         ensures thread_limit { result.thread_limit ≡ options.now.thread_limit }
+        ensures chunk_size { result.chunk_size ≡ options.now.chunk_size }
         ensures interrupt { result.interrupt ≡ interrupt.entry }
     {
         Execution {

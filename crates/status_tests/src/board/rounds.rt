@@ -37,6 +37,10 @@ impl Work for Numbers {
 
     ghost short = { λ out. out.short };
 
+    fn pieces(&self) -> usize {
+        self.pieces
+    }
+
     fn piece(&self, _state: &mut u64, number: usize) -> Piece {
         Piece {
             number,
@@ -69,6 +73,10 @@ impl Work for Meeting {
 
     ghost short = { λ _. false };
 
+    fn pieces(&self) -> usize {
+        2
+    }
+
     fn piece(&self, _state: &mut u64, number: usize) -> bool {
         let (mine, other) = if number == 0 {
             (&self.first, &self.second)
@@ -90,14 +98,14 @@ impl Work for Meeting {
     }
 }
 
-fn crew_of(alloc: Global, workers: usize) -> Result<Vec<u64>, AllocError>
-    ensures { IfOk result (λ crew. vec_len crew ≡ workers) }
+fn states_of(alloc: Global, workers: usize) -> Result<Vec<u64>, AllocError>
+    ensures { IfOk result (λ states. vec_len states ≡ workers) }
 {
-    let mut crew = Vec::new(alloc);
+    let mut states = Vec::new(alloc);
     for _ in 0..workers {
-        crew.push(0)?;
+        states.push(0)?;
     }
-    Ok(crew)
+    Ok(states)
 }
 
 fn outs_of<R: Threads + Wait>(
@@ -111,11 +119,11 @@ fn outs_of<R: Threads + Wait>(
     requires { (pieces ≤ 2 ^ 20) × (1 ≤ workers) × (workers ≤ 64) }
 {
     let work = Numbers { pieces, short };
-    let crew = match crew_of(alloc, workers) {
-        Ok(crew) => crew,
+    let states = match states_of(alloc, workers) {
+        Ok(states) => states,
         Err(_) => return Err(Refused::Memory),
     };
-    work_round(rt, alloc, stack_size, &work, pieces, crew)
+    work_round(rt, alloc, stack_size, &work, states)
 }
 
 // How many pieces there are, which one ends early, and how many results there are.
@@ -164,8 +172,8 @@ fn two_workers_work_at_once(rt: HostRuntime) -> Result<(), Fail> {
         first: AtomicBool::new(false),
         second: AtomicBool::new(false),
     };
-    let crew = crew_of(rt.alloc(), 2)?;
-    let met = work_round(&rt, rt.alloc(), None, &meeting, 2, crew);
+    let states = states_of(rt.alloc(), 2)?;
+    let met = work_round(&rt, rt.alloc(), None, &meeting, states);
     assert!(rt; matches!(&met, Ok(outs) if outs.as_slice() == [true, true].as_slice()));
     Ok(())
 }

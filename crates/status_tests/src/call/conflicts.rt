@@ -223,12 +223,12 @@ const PIECES: [PieceRow; 3] = [
     ),
 ];
 
-/// Returns where a piece of `chunk` entries ends that begins at `from`. None if no entry is there.
-fn end_at(index: &State, from: usize, chunk: usize) -> Option<usize> {
+/// Returns where a piece of `piece_len` entries ends that begins at `from`. None if no entry is there.
+fn end_at(index: &State, from: usize, piece_len: usize) -> Option<usize> {
     let considered = Considered::of(index, BStr::new(b""));
     let count = considered.end - considered.start;
     if from < count {
-        Some(piece_end(&considered, from, chunk))
+        Some(piece_end(&considered, from, piece_len))
     } else {
         None
     }
@@ -236,9 +236,9 @@ fn end_at(index: &State, from: usize, chunk: usize) -> Option<usize> {
 
 #[test]
 fn a_piece_is_lengthened_only_by_stages_of_its_last_path(rt: HostRuntime) -> Result<(), Fail> {
-    for (name, entries, from, chunk, end) in PIECES {
+    for (name, entries, from, piece_len, end) in PIECES {
         let index = index(rt.alloc(), entries)?;
-        assert_eq!(rt; end_at(&index, from, chunk), Some(end), "{name}");
+        assert_eq!(rt; end_at(&index, from, piece_len), Some(end), "{name}");
     }
     Ok(())
 }

@@ -1,4 +1,4 @@
-use Rattle.std.proofs.Common.{ℕ, IfOk, subst}
+use Rattle.std.proofs.Common.{ℕ, IfOk, subst, ◌∙◌}
 use Rattle.status_board.specs.Round.{IsRound}
 use Rattle.status_board.specs.declared.round.Refused.TheVariants.{Memory}
 use Rattle.status_board.proofs.Results.{if_ok_kept}
@@ -11,4 +11,4 @@ returns-in-Ok-work_together-clause-round g c =
     let short = g.K.Work.short in
     let gathered = c.in-Ok-work_together.gathered in
     let round = round_of_results gives short c.in-Ok.made.0.id.pieces gathered.finished.items c.in-Ok-work_together.ensures.brought.each c.finish.result c.finish.ensures in
-    if_ok_kept (λ outs. IsRound gives short c.args.pieces outs.items) c.finish.result c.or_refused.result Memory c.or_refused.ensures.ok c.or_refused.ensures.err (subst (λ (n : ℕ). IfOk c.finish.result (λ outs. IsRound gives short n outs.items)) c.in-Ok.ensures.0 round)
+    if_ok_kept (λ outs. IsRound gives short (g.K.Work.count c.args.work.now) outs.items) c.finish.result c.or_refused.result Memory c.or_refused.ensures.ok c.or_refused.ensures.err (subst (λ (n : ℕ). IfOk c.finish.result (λ outs. IsRound gives short n outs.items)) (c.in-Ok.ensures.0 ∙ c.pieces.ensures) round)

@@ -7,8 +7,8 @@ abbrev pub invariant-loop-end : goal.invariant-loop-end
 invariant-loop-end l = record {
   more : l.from < l.end;
   within : l.end ≤ length (part_entries l.considered);
-  full : min (l.from + l.chunk) (length (part_entries l.considered)) ≤ l.end;
-  tight : (k : ℕ) → l.from + l.chunk ≤ k → l.from < k → k < l.end → IsCut (part_entries l.considered) k → ⊥;
+  full : min (l.from + l.piece_len) (length (part_entries l.considered)) ≤ l.end;
+  tight : (k : ℕ) → l.from + l.piece_len ≤ k → l.from < k → k < l.end → IsCut (part_entries l.considered) k → ⊥;
 }
 
 abbrev pub decreases-loop-end : goal.decreases-loop-end

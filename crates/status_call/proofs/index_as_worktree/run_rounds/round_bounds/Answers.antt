@@ -9,7 +9,7 @@ loop-at-init c =
     let es = part_entries c.args.considered.now in
     let items : c.push.new.self.items ≡ c.args.from ∷ [] = c.in_ok-push.ensures.items ∙ ap (λ (l : List ℕ). l ++ c.args.from ∷ []) c.new-bounds.ensures.items in
     record {
-      growing = rw items (bounds_begin es c.args.chunk c.args.from (omega (arith, c.requires.inside)) c.requires.cut);
+      growing = rw items (bounds_begin es c.args.piece_len c.args.from (omega (arith, c.requires.inside)) c.requires.cut);
       few = omega (arith, ap length items, c.requires.most);
     }
 
@@ -21,7 +21,7 @@ loop-at-preserved c =
     let bounds = c.loop-at.bounds.items in
     let items : c.push-in-loop-at.new.self.items ≡ bounds ++ to ∷ [] = c.in_ok-push-2.ensures.items in
     record {
-      growing = rw items (bounds_grow es c.args.chunk c.args.from at to bounds (record { more = c.piece_end-at.ensures.more; full = omega (arith, c.piece_end-at.ensures.full); tight = c.piece_end-at.ensures.tight }) (omega (arith, c.piece_end-at.ensures.within)) c.piece_end-at.ensures.cut c.loop-at.invariant.growing);
+      growing = rw items (bounds_grow es c.args.piece_len c.args.from at to bounds (record { more = c.piece_end-at.ensures.more; full = omega (arith, c.piece_end-at.ensures.full); tight = c.piece_end-at.ensures.tight }) (omega (arith, c.piece_end-at.ensures.within)) c.piece_end-at.ensures.cut c.loop-at.invariant.growing);
       few = omega (arith, ap length items, length-append bounds (to ∷ []), c.if-len-most.true, c.len-in-loop-at.ensures, c.loop-at.bounds.ok.0);
     }
 
@@ -35,7 +35,7 @@ returns c =
       | else-loop-at-test w ↦ omega (arith, same, w.loop-at-test.false, c.len.ensures, c.requires.inside)
     ] in
     record {
-      bounds = bounds_are es c.args.chunk c.args.from c.loop-at.at bounds more c.loop-at.invariant.growing;
+      bounds = bounds_are es c.args.piece_len c.args.from c.loop-at.at bounds more c.loop-at.invariant.growing;
       first = c.loop-at.invariant.growing.first;
       few = omega (arith, c.loop-at.invariant.few, c.loop-at.bounds.ok.0);
       pieces = c.loop-at.invariant.growing.ends;

@@ -5,7 +5,7 @@ use Rattle.status_call.proofs.index_as_worktree.run_rounds.round_bounds.Given as
 
 abbrev pub invariant-loop-at : goal.invariant-loop-at
 invariant-loop-at l = record {
-  growing : AreGrowing (part_entries l.considered) l.chunk l.from l.at l.bounds.items;
+  growing : AreGrowing (part_entries l.considered) l.piece_len l.from l.at l.bounds.items;
   few : length l.bounds.items ≤ l.most + 1;
 }
 

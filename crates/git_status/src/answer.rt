@@ -1,0 +1,115 @@
+//! The lines of a status that was computed, and the report of what it found.
+
+ghost use Rattle.std.specs.Prelude.{◌≡◌, IfErr, IfOk, OnOk, map};
+ghost use Rattle.std.specs.Io.KnownBytes.{Appends};
+ghost use Rattle.std.specs.List.{list_any};
+ghost use Rattle.status_call.specs.RecorderVisits.{visit_of};
+ghost use Rattle.git_status.specs.Lines.{visit_lines};
+ghost use Rattle.git_status.specs.Runs.{IsCommandEnd, IsFound, IsPrintFailure, is_difference, printed_text};
+
+use crate::failure::Failure;
+use crate::lines::{LineStyle, letters, push_line};
+use crate::output::print;
+use bstr::BString;
+use status_call::index_as_worktree::{Error, Outcome, Record};
+use std::alloc::{AllocError, Global};
+use std::io;
+
+/// The result of a status.
+#[derive(Debug, Drop)]
+pub struct Report {
+    /// Whether an entry differs from the worktree.
+    pub dirty: bool,
+    /// The counts of the status.
+    pub outcome: Outcome,
+    /// The files with other contents for which a conversion is asked that isn't made here. None if they aren't noted.
+    pub unconverted: Option<Vec<BString>>,
+}
+
+/// Prints the lines of a status's records, and returns what was found.
+///
+/// # Errors
+/// The output can't be written, or memory ran out; or those of `found`, after all lines were printed.
+pub(crate) fn print_answer<T: Drop, U: Drop, O: io::Write>(
+    alloc: Global,
+    lines: Option<LineStyle>,
+    records: &[Record<'_, T, U>],
+    unconverted: Option<Vec<BString>>,
+    answer: Result<Outcome, Error>,
+    output: &mut O,
+) -> Result<Report, Failure>
+    ensures { IsCommandEnd lines (map visit_of records.now) answer (O.contents output.old) result (O.contents output.new) }
+{
+    print_lines(alloc, lines, records, output)?;
+    found(records, unconverted, answer)
+}
+
+/// Prints the lines of records, or nothing if the command is quiet.
+///
+/// # Errors
+/// The output can't be written, and a beginning of the lines is; or memory ran out, and nothing is printed.
+fn print_lines<T: Drop, U: Drop, O: io::Write>(
+    alloc: Global,
+    lines: Option<LineStyle>,
+    records: &[Record<'_, T, U>],
+    output: &mut O,
+) -> Result<(), Failure>
+    ensures ok { OnOk result (Appends (O.contents output.old) (O.contents output.new) (printed_text lines (map visit_of records.now))) }
+    ensures err { IfErr result (IsPrintFailure lines (map visit_of records.now) (O.contents output.old) (O.contents output.new)) }
+{
+    let Some(style) = lines else {
+        return Ok(());
+    };
+    let text = lines_of(alloc, style, records)?;
+    print(&text, output)
+}
+
+/// Returns what a status found.
+///
+/// # Errors
+/// The status's error, or it ended early without a difference.
+fn found<T: Drop, U: Drop>(
+    records: &[Record<'_, T, U>],
+    unconverted: Option<Vec<BString>>,
+    answer: Result<Outcome, Error>,
+) -> Result<Report, Failure>
+    ensures { IsFound (map visit_of records.now) answer result }
+{
+    let outcome = answer?;
+    let dirty = has_difference(records);
+    if outcome.interrupted && !dirty {
+        return Err(Failure::Interrupted);
+    }
+    Ok(Report {
+        dirty,
+        outcome,
+        unconverted,
+    })
+}
+
+/// Returns the lines of records.
+fn lines_of<T: Drop, U: Drop>(
+    alloc: Global,
+    style: LineStyle,
+    records: &[Record<'_, T, U>],
+) -> Result<Vec<u8>, AllocError>
+    ensures { IfOk result (λ lines. lines.items ≡ visit_lines style (map visit_of records.now)) }
+{
+    let mut lines = Vec::new(alloc);
+    for record in records {
+        push_line(&mut lines, style, record.relative_path, &record.status)?;
+    }
+    Ok(lines)
+}
+
+/// Returns whether one of these records is of an entry that differs from the worktree.
+fn has_difference<T: Drop, U: Drop>(records: &[Record<'_, T, U>]) -> bool
+    ensures { result ≡ list_any is_difference (map visit_of records.now) }
+{
+    for record in records {
+        if letters(&record.status).is_some() {
+            return true;
+        }
+    }
+    false
+}

@@ -1,8 +1,0 @@
-use Rattle.std.proofs.Common.{◌≡◌, All, vec_len}
-use Rattle.status_call.proofs.index_as_worktree.run_rounds.crew_of.Given as goal
-
-abbrev pub invariant-loop : goal.invariant-loop
-invariant-loop g l = record {
-  count : vec_len l.crew ≡ l.counter;
-  same : All (λ d. g.D.Decide.query d ≡ g.D.Decide.query l.decide) l.crew.items;
-}
