@@ -15,7 +15,7 @@ pub(crate) struct Gathered<O> {
     pub(crate) seats: Vec<Seat>,
 }
 
-/// What a worker's thread returns.
+/// The result of a worker's thread: its pieces, or that memory ran out.
 pub(crate) type Answer<O> = Result<Worked<O>, AllocError>;
 
 /// Returns the results of no workers.
@@ -42,7 +42,7 @@ pub(crate) fn gather<O: Drop>(
     Ok(gathered)
 }
 
-/// Returns the answer, with the error of a round in place of the allocator's.
+/// Returns the result, with the error of a round in place of the allocator's.
 pub(crate) fn or_refused<T>(answer: Result<T, AllocError>) -> Result<T, Refused>
     ensures ok { IfOk answer (λ x. result ≡ Ok x) }
     ensures err { IfErr answer (λ _. result ≡ Err Refused.Memory) }

@@ -1,4 +1,4 @@
-//! What bars the way to a path: the leftmost directory above it that is a symbolic link or has a fault.
+//! The barrier on the way to a path: the leftmost directory above it that is a symbolic link or has a fault.
 
 ghost use Rattle.std.specs.Prelude.{◌≤◌, ◌+◌, IsTrue, IfSome};
 ghost use Rattle.status_base.specs.Barriers.{IsWay, IsStopAbove, IsBarrier, IsOfDirectory, looked_at};
