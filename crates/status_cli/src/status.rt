@@ -106,7 +106,8 @@ where
     Ok(IndexChanges { index, changes })
 }
 
-/// Prints the status of an index against the worktree that is at a place.
+/// Prints the status of an index against the worktree that is at a place. Returns the changes that it asks for if they are
+/// wanted, as all functions below that print a status do.
 fn print_place<R: AllocGlobal + Files + Sync + Threads + Wait, O: io::Write>(
     rt: &R,
     request: Request<'_>,
