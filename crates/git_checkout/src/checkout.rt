@@ -10,7 +10,7 @@ use git_repository::{
     GitAttributeFiles, GitWorktree, IgnoredSubmodules, Repository, SubmoduleHeads, time_of_lock,
 };
 use git_status::lines::LineStyle;
-use git_status::{Asked, Paths, Refreshed, Settings, report, run_dirty, run_refresh};
+use git_status::{Asked, Paths, Refreshed, Settings, print_failure, run_dirty, run_refresh};
 use status_base::worktree::{Pathspec, SubmoduleStatus, Worktree};
 use status_call::index_as_worktree::{Capabilities, Options};
 use status_index::{Moment, stat};
@@ -64,7 +64,7 @@ where
 {
     match run_in_repository(rt, request, output, faults) {
         Ok(status) => status,
-        Err(refused) => report(rt.alloc(), refused, faults),
+        Err(refused) => print_failure(rt.alloc(), refused, faults),
     }
 }
 
@@ -193,7 +193,7 @@ fn note<E: io::Write>(faults: &mut E, words: &'static str) {
     let _ = writeln!(faults, "git dirty: note: {words}");
 }
 
-/// Returns the paths that the request selects, from the worktree's top. None if they select all.
+/// Returns the paths that the request selects, from the worktree's top. The list is empty if they select all.
 fn selected_paths(
     alloc: Global,
     repository: &Repository,

@@ -6,7 +6,7 @@ mod arguments;
 use crate::arguments::{command_line, request_of};
 use clap::Error;
 use clap::error::ErrorKind;
-use git_status::report;
+use git_status::print_failure;
 use std::process::ExitCode;
 use std::rt::{Env, Files};
 use std::sync::Wait;
@@ -30,15 +30,15 @@ where
 {
     let words = match words_of(rt) {
         Ok(words) => words,
-        Err(reason) => return report(rt.alloc(), reason, faults),
+        Err(reason) => return print_failure(rt.alloc(), reason, faults),
     };
     let Ok(command) = command_line(rt.alloc()) else {
-        return report(rt.alloc(), OUT_OF_MEMORY, faults);
+        return print_failure(rt.alloc(), OUT_OF_MEMORY, faults);
     };
     match command.try_get_matches_from(words.as_slice()) {
         Ok(matches) => match request_of(rt.alloc(), &matches) {
             Ok(request) => git_checkout::run(rt, &request, &mut io::writer(rt), faults),
-            Err(_) => report(rt.alloc(), OUT_OF_MEMORY, faults),
+            Err(_) => print_failure(rt.alloc(), OUT_OF_MEMORY, faults),
         },
         Err(error) => print_usage(rt, &error, faults),
     }
@@ -51,7 +51,7 @@ fn print_usage<R: AllocGlobal + Eprint + Print, E: io::Write>(
     faults: &mut E,
 ) -> u8 {
     if error.kind() == ErrorKind::OutOfMemory {
-        return report(rt.alloc(), OUT_OF_MEMORY, faults);
+        return print_failure(rt.alloc(), OUT_OF_MEMORY, faults);
     }
     match error.print(rt) {
         Ok(()) if error.exit_code() == 0 => 0,

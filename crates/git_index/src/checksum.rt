@@ -1,4 +1,4 @@
-//! The checksum at the end of a file, and the digests that ids and checksums are.
+//! Hashes: how long an id is, the digest of a content, and the checksum at the end of a file.
 
 ghost use Rattle.std.specs.Prelude.{◌≡◌, ◌↔◌, IsTrue};
 ghost use Rattle.git_index.specs.File.{IsChecksum};

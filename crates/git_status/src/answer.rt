@@ -29,7 +29,7 @@ pub struct Report {
 /// Prints the lines of a status's records, and returns what was found.
 ///
 /// # Errors
-/// The output can't be written, or memory ran out; or those of `found`, after all lines were printed.
+/// The output can't be written, or memory ran out; or those of `report_of`, after all lines were printed.
 pub(crate) fn print_answer<T: Drop, U: Drop, O: io::Write>(
     alloc: Global,
     lines: Option<LineStyle>,
@@ -41,7 +41,7 @@ pub(crate) fn print_answer<T: Drop, U: Drop, O: io::Write>(
     ensures { IsCommandEnd lines (map visit_of records.now) answer (O.contents output.old) result (O.contents output.new) }
 {
     print_lines(alloc, lines, records, output)?;
-    found(records, unconverted, answer)
+    report_of(records, unconverted, answer)
 }
 
 /// Prints the lines of records, or nothing if the command is quiet.
@@ -68,7 +68,7 @@ fn print_lines<T: Drop, U: Drop, O: io::Write>(
 ///
 /// # Errors
 /// The status's error, or it ended early without a difference.
-fn found<T: Drop, U: Drop>(
+fn report_of<T: Drop, U: Drop>(
     records: &[Record<'_, T, U>],
     unconverted: Option<Vec<BString>>,
     answer: Result<Outcome, Error>,

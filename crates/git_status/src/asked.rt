@@ -30,7 +30,7 @@ pub struct Settings {
     pub stats: bool,
 }
 
-/// A worktree, and what of it is compared with an index.
+/// What a command is asked: a worktree, what of it is compared with an index, and the settings.
 #[derive(Drop)]
 pub struct Asked<'a, W, S, P, A> {
     /// The settings.

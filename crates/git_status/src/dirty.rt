@@ -10,7 +10,7 @@ use crate::asked::{Asked, Question, Settings};
 use crate::failure::Failure;
 use crate::fault_place::Search;
 use crate::notes::{noted_paths, print_notes};
-use crate::output::report;
+use crate::output::print_failure;
 use crate::status::{Computed, compute, filter_of};
 use git_attributes::{AttributeFiles, LineEnds, attributes_of};
 use git_index::read_index;
@@ -74,11 +74,11 @@ where
     if let (Some(search), true) = (search, is_of_an_entry(&failure)) {
         if let Ok(file) = read_index(alloc, search.kind, bytes, search.timestamp) {
             if let Some(found) = search.first_error(rt, &file.state) {
-                return report(alloc, found, faults);
+                return print_failure(alloc, found, faults);
             }
         }
     }
-    report(alloc, failure, faults)
+    print_failure(alloc, failure, faults)
 }
 
 /// Whether a failure is the error of an entry that it doesn't name.

@@ -78,11 +78,12 @@ pub(crate) fn changed_bytes(
     file.to_bytes(alloc)
 }
 
+/// States that a number has its width. It does nothing, as `fits` and `all_fit` do.
 fn bounded(number: u32)
     ensures { number < 2 ^ 32 }
 {}
 
-/// Each number of a stat has its width.
+/// States that each number of a stat has its width.
 fn fits(stat: &Stat)
     ensures { FixedFits stat.now }
 {
@@ -97,7 +98,7 @@ fn fits(stat: &Stat)
     bounded(stat.size);
 }
 
-/// Each number of each entry's stat has its width.
+/// States that each number of each entry's stat has its width, and that the index is valid.
 fn all_fit(state: &State)
     ensures widths { AllByRecursion (λ e. FixedFits e.stat) (index_of state.now) }
     ensures valid { IsIndex (index_of state.now) }

@@ -27,6 +27,6 @@ pub use asked::{Asked, Settings};
 pub use dirty::{print_file, run_dirty};
 pub use failure::Failure;
 pub use laws::{clean_means_no_difference, lines_are_of_all_differences};
-pub use output::report;
+pub use output::print_failure;
 pub use paths::Paths;
 pub use refresh::{Refreshed, run_refresh};

@@ -1,4 +1,4 @@
-//! Writing lines.
+//! Writing bytes, and the line of a failure.
 
 ghost use Rattle.std.specs.Prelude.{◌≡◌, IfOk, List, ℕ};
 ghost use Rattle.git_status.specs.Printing.{IsFaultLine, IsPrinted, fault_line};
@@ -39,7 +39,11 @@ fn write<O: io::Write>(bytes: &[u8], output: &mut O) -> Result<(), Failure>
 }
 
 /// Writes a line that says what failed, and returns the exit status of a failure, 2.
-pub fn report<D: fmt::Display + Drop, E: io::Write>(alloc: Global, words: D, faults: &mut E) -> u8
+pub fn print_failure<D: fmt::Display + Drop, E: io::Write>(
+    alloc: Global,
+    words: D,
+    faults: &mut E,
+) -> u8
     ensures status { result ≡ 2 }
     ensures line { IsFaultLine (E.contents faults.old) (E.contents faults.new) }
 {

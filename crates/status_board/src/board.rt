@@ -43,7 +43,8 @@ impl Model for Seat {
     ghost invariant = { λ s. IsSeat s.token.me s.last s.done };
 }
 
-/// The state that the workers of a round share.
+/// The state that the workers of a round share. Its table has two words: the next number to be drawn, and the least number
+/// that was reported, or the number of pieces if none was.
 #[derive(Drop)]
 pub struct Board {
     table: Table<(), Known, Limits, Rules, Global>,

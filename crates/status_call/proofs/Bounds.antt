@@ -8,7 +8,7 @@ use Rattle.std.proofs.lemmas.List.Elements.{All-nil, All-cons, All-append, All-w
 use Rattle.std.proofs.Math.ListN.{get_or-append}
 use Rattle.status_index.specs.Entries.{IndexEntry}
 use Rattle.status_board.specs.Round.{IsRound, EndsShort}
-use Rattle.status_call.specs.declared.index_as_worktree.piece.End.TheVariants.{Whole, Cut, Faulty}
+use Rattle.status_call.specs.declared.index_as_worktree.piece.End.TheVariants.{Whole, Interrupted, Faulty}
 use Rattle.status_call.specs.declared.index_as_worktree.piece.End.{End}
 use Rattle.status_call.specs.declared.index_as_worktree.piece.Piece.{Piece}
 use Rattle.status_call.specs.Pieces.{IsCut, IsThrough}
@@ -84,7 +84,7 @@ bounds_are es piece_len from at bounds more h = record {
 
 short_whole : (e : End) → e ≡ Whole → is_short e ≡ true → ⊥
 short_whole Whole e h = cc
-short_whole Cut e h = cc
+short_whole Interrupted e h = cc
 short_whole (Faulty x) e h = cc
 
 some_same : {X : Type 0} (x y : X) → Some x ≡ Some y → x ≡ y

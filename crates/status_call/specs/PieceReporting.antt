@@ -2,7 +2,7 @@
 use Rattle.std.specs.Prelude.{◌≡◌, ◌⊎◌, ℕ, true, false, List, take, Result, Ok, Err}
 use Rattle.status_compare.specs.declared.error.Error.{Error}
 use Rattle.status_compare.specs.declared.error.Error.TheVariants.{Memory}
-use Rattle.status_call.specs.declared.index_as_worktree.piece.End.TheVariants.{Whole, Cut, Faulty}
+use Rattle.status_call.specs.declared.index_as_worktree.piece.End.TheVariants.{Whole, Interrupted, Faulty}
 use Rattle.status_call.specs.declared.index_as_worktree.piece.Piece.{Piece}
 use Rattle.status_call.specs.declared.index_as_worktree.counts.Progress.{Progress}
 use Rattle.status_call.specs.Reporting.{Reports}
@@ -12,7 +12,7 @@ use Rattle.status_call.specs.Visits.{Visit}
 abbrev pub IsCounted : {T U : Type 0} → Piece T U → Progress → Type 0
 IsCounted p o =
     ((p.end ≡ Whole) × (o ≡ record { totals = p.totals; interrupted = false }))
-    ⊎ ((p.end ≡ Cut) × (o ≡ record { totals = p.totals; interrupted = true }))
+    ⊎ ((p.end ≡ Interrupted) × (o ≡ record { totals = p.totals; interrupted = true }))
 
 -- All findings are reported of a piece that was whole or cut, and of one that ended at a fault. If memory runs out, the first n
 -- of them are.

@@ -6,7 +6,7 @@ use Rattle.status_index.specs.Stretch.{part_of}
 use Rattle.status_compare.specs.declared.error.Error.{Error}
 use Rattle.status_compare.specs.declared.error.Error.TheVariants.{Memory}
 use Rattle.status_call.specs.declared.index_as_worktree.piece.End.{End}
-use Rattle.status_call.specs.declared.index_as_worktree.piece.End.TheVariants.{Whole, Cut, Faulty}
+use Rattle.status_call.specs.declared.index_as_worktree.piece.End.TheVariants.{Whole, Interrupted, Faulty}
 use Rattle.status_call.specs.declared.index_as_worktree.piece.Piece.{Piece}
 use Rattle.status_call.specs.declared.index_as_worktree.types.Finding.{Finding}
 use Rattle.status_call.specs.declared.index_as_worktree.counts.Totals.{Totals}
@@ -23,7 +23,7 @@ IsCut es k = All (λ d. All (λ r. same_path d r ≡ false) (drop k es)) (take k
 abbrev pub IsUncut : End → Type 0
 IsUncut Whole = ⊤
 IsUncut (Faulty x) = ⊤
-IsUncut Cut = ⊥
+IsUncut Interrupted = ⊥
 
 module _ {T U : Type 0} (q : Query T U) where
   -- The records and counts of the considered entries from position `from` up to position `at`, none of which has a fault. The
@@ -53,7 +53,7 @@ module _ {T U : Type 0} (q : Query T U) where
   -- A piece ends after its last entry, before an entry, or at an entry that has a fault or runs out of memory.
   abbrev pub IsThrough : List IndexEntry → ℕ → ℕ → End → Type 0
   IsThrough es to reached Whole = reached ≡ to
-  IsThrough es to reached Cut = reached < to
+  IsThrough es to reached Interrupted = reached < to
   IsThrough es to reached (Faulty x) = (reached < to) × (IsTrue q.modelled → IsFaultAt es reached x)
 
   -- The findings and counts of the entries from `from` on, up to the position at which the piece ended.

@@ -3,7 +3,7 @@ use Rattle.std.specs.Prelude.{◌≡◌, ℕ, ◌-◌, ◌<◌, ◌≤◌, Bool,
 use Rattle.std.specs.List.{slice_index_or}
 use Rattle.status_index.specs.Entries.{IndexEntry}
 use Rattle.status_call.specs.declared.index_as_worktree.piece.End.{End}
-use Rattle.status_call.specs.declared.index_as_worktree.piece.End.TheVariants.{Whole, Cut, Faulty}
+use Rattle.status_call.specs.declared.index_as_worktree.piece.End.TheVariants.{Whole, Interrupted, Faulty}
 use Rattle.status_call.specs.declared.index_as_worktree.piece.Piece.{Piece}
 use Rattle.status_call.specs.Pieces.{IsCut, IsPiece, IsUncut}
 use Rattle.status_call.specs.Query.{Query}
@@ -38,7 +38,7 @@ ArePieces es piece_len bounds =
 -- A piece that didn't reach its end.
 abbrev pub is_short : End → Bool
 is_short Whole = false
-is_short Cut = true
+is_short Interrupted = true
 is_short (Faulty x) = true
 
 module _ {T U : Type 0} (q : Query T U) (interruptible : Bool) (start : ℕ) (es : List IndexEntry)

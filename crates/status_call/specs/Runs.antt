@@ -17,5 +17,5 @@ IsFaithfulTo c = IsFaithful c.entries.now c.backing.now
 abbrev pub IsRoundsReport : {T U R : Type 0} → Query T U → Considered → Workers R → ℕ → ℕ → List (Visit T U)
     → Result Progress Error → List (Visit T U) → Type 0
 IsRoundsReport q c w from to old result new =
-    IsReportedWork q c.start (part_entries c) from (IsFaithfulTo c) (is_some w.interrupt) w.most to
+    IsReportedWork q c.start (part_entries c) from (IsFaithfulTo c) (is_some w.interrupt) w.count to
     old result new

@@ -16,9 +16,9 @@ mod plain;
 
 use crate::failure::Failure;
 use crate::output::read_all;
-use crate::status::inputs::{ProfileStatus, Request};
+use crate::status::inputs::{NoWalk, ProfileStatus, Request};
 pub use crate::status::inputs::{IndexChanges, WantedChanges};
-use crate::status::joined::{NoWalk, print_joined};
+use crate::status::joined::print_joined;
 use crate::status::plain::print_plain;
 use bstr::BString;
 use gix_status::index_as_worktree::ApplyChange;

@@ -7,6 +7,7 @@ mod pending;
 
 use crate::disk::folder::{Folder, fault_at, found};
 use crate::disk::pending::Pending;
+use crate::untracked::{is_submodule, is_tracked};
 use crate::{Action, Delegate, DirEntry, Kind, Outcome, Status, Walk, WalkError};
 use bstr::{BStr, BString};
 use status_base::worktree::{Fault, Pathspec, Worktree};
@@ -94,10 +95,10 @@ impl<W: Worktree, R: Files + AllocGlobal + Clone + Drop> Walk<W> for DiskWalk<R>
                 });
             };
             if kind == Kind::Directory {
-                if !is_submodule(index, name_of(path.as_str())) {
+                if !is_submodule(index, BStr::new(name_of(path.as_str()).as_bytes())) {
                     self.enter(worktree, path.as_str(), &mut pending)?;
                 }
-            } else if is_untracked(index, pathspec, path.as_str()) {
+            } else if is_included(index, pathspec, path.as_str()) {
                 match delegate.emit(untracked(path, kind), None)? {
                     Action::Continue => emitted += 1,
                     Action::Cancel => {
@@ -119,9 +120,11 @@ fn name_of(directory: &str) -> &str {
     directory.strip_suffix('/').unwrap_or(directory)
 }
 
-/// Returns whether a pathspec includes a path that no entry has.
-fn is_untracked<P: Pathspec>(index: &State, pathspec: &P, path: &str) -> bool {
-    pathspec.includes(BStr::new(path.as_bytes()), false) && !is_tracked(index, path)
+/// Returns whether a pathspec includes a path that no entry has. Unlike `untracked::is_untracked` it searches for no
+/// submodule above the path: the walk enters none.
+fn is_included<P: Pathspec>(index: &State, pathspec: &P, path: &str) -> bool {
+    let path = BStr::new(path.as_bytes());
+    pathspec.includes(path, false) && !is_tracked(index, path)
 }
 
 /// Returns the entry of an untracked node.
@@ -131,15 +134,4 @@ fn untracked(path: String, kind: Kind) -> DirEntry {
         status: Status::Untracked,
         disk_kind: Some(kind),
     }
-}
-
-/// Returns whether an entry has this path.
-fn is_tracked(index: &State, path: &str) -> bool {
-    !index.entries_at(BStr::new(path.as_bytes())).is_empty()
-}
-
-/// Returns whether an entry of this path is a submodule's.
-fn is_submodule(index: &State, path: &str) -> bool {
-    let entries = index.entries_at(BStr::new(path.as_bytes()));
-    entries.iter().any(|entry| entry.mode.is_submodule())
 }

@@ -1,4 +1,4 @@
-//! Walks: the files and links of a worktree that no index entry has.
+//! Walks: the nodes of a worktree that no index entry has.
 //!
 //! Read `walk` first: the interfaces of a walk and of what gets its nodes, and the nodes. `untracked` walks a worktree
 //! in memory, and `disk` a folder of the disk. `id` computes the ids of the nodes.

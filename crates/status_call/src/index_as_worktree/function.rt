@@ -6,7 +6,7 @@ ghost use Rattle.status_call.specs.Inputs.{inputs_of, usual};
 ghost use Rattle.status_call.specs.StatusOf.{OneThreadCallSpawnsNone, IsStatus, IsWithoutThread};
 
 use crate::index_as_worktree::decider::Decider;
-use crate::index_as_worktree::inputs::{Ask, Inputs, Settings};
+use crate::index_as_worktree::inputs::{Ask, Inputs, Settings, UsualInputs};
 use crate::index_as_worktree::status_by::{status_by, status_serially};
 use crate::index_as_worktree::types::{Context, Error, Options, Outcome, VisitEntry};
 use crate::index_as_worktree::workers::Execution;
@@ -81,9 +81,6 @@ where
     status_by(rt, index, &mut decider, &execution, collector)
 }
 
-/// A worktree, a comparer and a pathspec, with the usual interfaces.
-type Usual<'w, W, C, P> = Inputs<'w, W, C, NoSubmodules, MemoryObjects, P, NoFilter, NoLister>;
-
 /// Calls `index_as_worktree` with the usual interfaces: files are stored unchanged, no submodule is checked out, no
 /// blob is found, no directory is listed, and nothing interrupts the call.
 ///
@@ -110,10 +107,10 @@ pub fn index_as_worktree_with_defaults<
 where
     W::File: Send,
     C::Output: Send,
-    ensures all { IsStatus ⟦<Usual<'w, W, C, P> as Ask>⟧.query
+    ensures all { IsStatus ⟦<UsualInputs<'w, W, C, P> as Ask>⟧.query
         (usual worktree.entry compare pathspec) options index.now V.visits collector.old result collector.new }
     ensures uninterrupted { IfOk result (λ o. o.interrupted ≡ false) }
-    ensures alone { OneThreadCallSpawnsNone ⟦<Usual<'w, W, C, P> as Ask>⟧.query
+    ensures alone { OneThreadCallSpawnsNone ⟦<UsualInputs<'w, W, C, P> as Ask>⟧.query
         (usual worktree.entry compare pathspec) options index.now result }
 {
     let context = Context {

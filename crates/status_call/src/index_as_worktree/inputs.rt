@@ -8,7 +8,10 @@ ghost use Rattle.status_call.specs.Query.{Query};
 ghost use Rattle.status_call.specs.declared.index_as_worktree.inputs.Settings.{Settings as StatusSettings};
 
 use crate::index_as_worktree::types::{Capabilities, Context, Options};
-use status_base::worktree::{Find, Lister, Pathspec, SubmoduleStatus, ToGit, Worktree};
+use status_base::worktree::{
+    Find, Lister, MemoryObjects, NoFilter, NoLister, NoSubmodules, Pathspec, SubmoduleStatus,
+    ToGit, Worktree,
+};
 use status_compare::CompareBlobs;
 use status_index::{Moment, State, stat};
 use std::alloc::AllocError;
@@ -87,6 +90,18 @@ impl<'w, W, C, S, O, P, T, L> Inputs<'w, W, C, S, O, P, T, L> {
         }
     }
 }
+
+/// A worktree, a comparer and a pathspec, with the usual interfaces.
+pub type UsualInputs<'w, W, C, P> = Inputs<
+    'w,
+    W,
+    C,
+    NoSubmodules,
+    MemoryObjects,
+    P,
+    NoFilter,
+    NoLister,
+>;
 
 /// The inputs of a status, of any types.
 pub trait Ask {

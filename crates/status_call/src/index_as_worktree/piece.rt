@@ -25,7 +25,7 @@ pub enum End {
     /// All its entries were processed.
     Whole,
     /// The interrupt flag was seen before an entry.
-    Cut,
+    Interrupted,
     /// An entry has an error, or an allocation failed.
     Faulty(Error),
 }
@@ -92,31 +92,31 @@ pub(crate) fn is_set(interrupt: Option<&AtomicBool>) -> bool
     interrupt.is_some_and(|flag| flag.load(Ordering::Relaxed))
 }
 
-/// Processes the considered entries at the positions in `range`, and checks the interrupt flag before each step.
-pub(crate) fn walk_piece<D: Decide>(
+/// Compares the considered entries at the positions in `range`, and checks the interrupt flag before each step.
+pub(crate) fn compare_piece<D: Decide>(
     alloc: Global,
     considered: &Considered<'_>,
     range: Range<usize>,
     interrupt: Option<&AtomicBool>,
-    decide: &mut D,
+    decider: &mut D,
 ) -> Piece<D::Content, D::Submodule>
     requires order { range.start ≤ range.end }
     requires inside { range.end ≤ length (part_entries considered.now) }
     requires cut { IsCut (part_entries considered.now) range.start }
     requires end { IsCut (part_entries considered.now) range.end }
-    ensures piece { IsPiece (D.query decide.old) considered.now.start
+    ensures piece { IsPiece (D.query decider.old) considered.now.start
         (part_entries considered.now) range.start range.end result }
     ensures uncut { interrupt.entry ≡ None → IsUncut result.end }
-    ensures same { D.query decide.new ≡ D.query decide.old }
+    ensures same { D.query decider.new ≡ D.query decider.old }
 {
     let mut findings = Vec::new(alloc);
     let mut totals = Totals::none();
     let mut at = range.start;
     while at < range.end {
         if is_set(interrupt) {
-            return Piece::ended(findings, totals, at, End::Cut);
+            return Piece::ended(findings, totals, at, End::Interrupted);
         }
-        let step = match next_step(considered, at, decide) {
+        let step = match next_step(considered, at, decider) {
             Ok(step) => step,
             Err(error) => return Piece::ended(findings, totals, at, End::Faulty(error)),
         };
@@ -222,7 +222,7 @@ where
                 totals,
                 interrupted: false,
             }),
-            End::Cut => Ok(Progress {
+            End::Interrupted => Ok(Progress {
                 totals,
                 interrupted: true,
             }),

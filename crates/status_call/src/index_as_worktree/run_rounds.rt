@@ -1,6 +1,6 @@
 //! The considered entries, processed round by round, and reported in order.
 
-ghost use Rattle.std.specs.Prelude.{◌^◌, ◌≤◌, length, ◌≡◌, ◌+◌, ◌-◌, ◌*◌, ◌<◌, vec_len, IfOk};
+ghost use Rattle.std.specs.Prelude.{◌≤◌, length, ◌≡◌, ◌+◌, ◌-◌, ◌*◌, ◌<◌, vec_len, IfOk};
 ghost use Rattle.status_call.specs.Rounds.{AreBounds, bound, last_bound, ArePieces};
 ghost use Rattle.status_call.specs.Considered.{part_entries};
 ghost use Rattle.status_call.specs.Runs.{IsRoundsReport};
@@ -8,8 +8,8 @@ ghost use Rattle.status_call.specs.Pieces.{IsCut};
 
 use crate::index_as_worktree::considered::Considered;
 use crate::index_as_worktree::counts::{Progress, Totals};
-use crate::index_as_worktree::piece::{feed_piece, is_set, piece_end};
-use crate::index_as_worktree::round::run_pieces;
+use crate::index_as_worktree::piece::{is_set, piece_end};
+use crate::index_as_worktree::round::run_round;
 use crate::index_as_worktree::step::Decide;
 use crate::index_as_worktree::types::{Error, VisitEntry};
 use crate::index_as_worktree::workers::Workers;
@@ -35,14 +35,14 @@ pub fn run_rounds<
     considered: &Considered<'index>,
     piece_len: usize,
     workers: &Workers<'_, R>,
-    decide: &D,
+    decider: &D,
     collector: &mut V,
 ) -> Result<Progress, Error>
 where
     D::Content: Send,
     D::Submodule: Send,
     ensures { let c = considered.entry.now in
-        IsRoundsReport (D.query decide.now) c workers.entry.now 0 (length (part_entries c))
+        IsRoundsReport (D.query decider.now) c workers.entry.now 0 (length (part_entries c))
         (V.visits collector.old) result (V.visits collector.new) }
 {
     let mut totals = Totals::none();
@@ -54,73 +54,24 @@ where
                 interrupted: true,
             });
         }
-        let most_pieces = workers.most * PIECES_OF_A_WORKER;
+        let most_pieces = workers.count * PIECES_OF_A_WORKER;
         let Ok(bounds) = round_bounds(workers.alloc, considered, at, piece_len, most_pieces) else {
             return Err(Error::Memory);
         };
         let needed = workers.for_pieces(bounds.len() - 1);
         let bounds = bounds.as_slice();
-        let round = match run_round(considered, bounds, &needed, decide, collector) {
-            Ok(round) => round,
+        let progress = match run_round(considered, bounds, &needed, decider, collector) {
+            Ok(progress) => progress,
             Err(error) => return Err(error),
         };
-        totals.add(&round.totals);
-        if round.interrupted {
+        totals.add(&progress.totals);
+        if progress.interrupted {
             return Ok(Progress {
                 totals,
                 interrupted: true,
             });
         }
         at = bounds[bounds.len() - 1];
-    }
-    Ok(Progress {
-        totals,
-        interrupted: false,
-    })
-}
-
-/// Processes the entries between the bounds, and reports the pieces' findings to the collector.
-///
-/// # Errors
-/// Those of `run_rounds`.
-fn run_round<
-    'index,
-    R: Threads + Wait,
-    D: Decide + Send + Drop,
-    V: VisitEntry<'index, ContentChange = D::Content, SubmoduleStatus = D::Submodule>,
->(
-    considered: &Considered<'index>,
-    bounds: &[usize],
-    workers: &Workers<'_, R>,
-    decide: &D,
-    collector: &mut V,
-) -> Result<Progress, Error>
-where
-    D::Content: Send,
-    D::Submodule: Send,
-    requires bounds { AreBounds (part_entries considered.now) bounds.now }
-    requires few { length bounds.now ≤ 2 ^ 20 }
-    ensures { IsRoundsReport (D.query decide.now) considered.entry.now workers.entry.now (bound bounds.now 0)
-        (last_bound bounds.now)
-        (V.visits collector.old) result (V.visits collector.new) }
-{
-    let pieces = match run_pieces(considered, bounds, workers, decide) {
-        Ok(pieces) => pieces,
-        Err(error) => return Err(error),
-    };
-    let mut totals = Totals::none();
-    for piece in pieces {
-        let fed = match feed_piece(considered, piece, collector) {
-            Ok(fed) => fed,
-            Err(error) => return Err(error),
-        };
-        totals.add(&fed.totals);
-        if fed.interrupted {
-            return Ok(Progress {
-                totals,
-                interrupted: true,
-            });
-        }
     }
     Ok(Progress {
         totals,

@@ -7,7 +7,7 @@ ghost use Rattle.status_call.specs.WorkInOrder.{IsReportedWork};
 
 use crate::index_as_worktree::considered::Considered;
 use crate::index_as_worktree::counts::{Progress, Totals};
-use crate::index_as_worktree::piece::{feed_piece, piece_end, walk_piece};
+use crate::index_as_worktree::piece::{compare_piece, feed_piece, piece_end};
 use crate::index_as_worktree::step::Decide;
 use crate::index_as_worktree::types::{Error, VisitEntry};
 use crate::index_as_worktree::workers::Execution;
@@ -24,11 +24,11 @@ pub(crate) fn run_serially<
 >(
     considered: &Considered<'index>,
     execution: &Execution<'_>,
-    decide: &mut D,
+    decider: &mut D,
     collector: &mut V,
 ) -> Result<Progress, Error>
     ensures { let c = considered.entry.now in
-        IsReportedWork (D.query decide.old) c.start (part_entries c) 0 (IsFaithfulTo c)
+        IsReportedWork (D.query decider.old) c.start (part_entries c) 0 (IsFaithfulTo c)
         (is_some execution.now.interrupt) 1 (length (part_entries c))
         (V.visits collector.old) result (V.visits collector.new) }
 {
@@ -37,12 +37,12 @@ pub(crate) fn run_serially<
     let mut at = 0;
     while at < considered.len() {
         let to = piece_end(considered, at, piece_len);
-        let piece = walk_piece(
+        let piece = compare_piece(
             execution.alloc,
             considered,
             at..to,
             execution.interrupt,
-            decide,
+            decider,
         );
         let fed = feed_piece(considered, piece, collector)?;
         totals.add(&fed.totals);

@@ -47,26 +47,26 @@ pub struct Step<T, U> {
 pub(crate) fn next_step<D: Decide>(
     considered: &Considered<'_>,
     at: usize,
-    decide: &mut D,
+    decider: &mut D,
 ) -> Result<Step<D::Content, D::Submodule>, Error>
     requires inside { at < length (part_entries considered.now) }
-    requires fresh { IsFresh (D.query decide.old) (take at (part_entries considered.now))
+    requires fresh { IsFresh (D.query decider.old) (take at (part_entries considered.now))
         (drop at (part_entries considered.now)) }
-    ensures next { IsStep (D.query decide.old) (part_entries considered.now) at result }
-    ensures same { D.query decide.new ≡ D.query decide.old }
+    ensures next { IsStep (D.query decider.old) (part_entries considered.now) at result }
+    ensures same { D.query decider.new ≡ D.query decider.old }
 {
     let entry = considered.entry(at);
     let path = considered.path(at);
     if is_flagged(entry) {
         return Ok(skipped_step(1, 0));
     }
-    if !decide.includes(entry, path) {
+    if !decider.includes(entry, path) {
         return Ok(skipped_step(0, 1));
     }
     if entry.stage_raw() != 0 {
         return Ok(conflict_step(considered, at, path));
     }
-    match decide.decide(entry, path) {
+    match decider.decide(entry, path) {
         Ok(decided) => Ok(decided_step(decided)),
         Err(error) => Err(error),
     }

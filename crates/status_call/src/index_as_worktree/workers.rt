@@ -62,26 +62,26 @@ pub struct Workers<'a, R> {
     pub rt: &'a R,
     /// Allocates what they need.
     pub alloc: Global,
-    /// The greatest number of workers.
-    pub most: usize,
+    /// How many they are.
+    pub count: usize,
     /// The stack size of each worker's thread in bytes, or `None` for the usual size.
     pub stack_size: Option<usize>,
     /// The interrupt flag that they check.
     pub interrupt: Option<&'a AtomicBool>,
-    ghost some: { 1 ≤ most },
-    ghost few: { most ≤ 64 },
+    ghost some: { 1 ≤ count },
+    ghost few: { count ≤ 64 },
 }
 
 impl<'a, R> Workers<'a, R> {
     /// Returns the workers that the thread limit allows, with the usual stacks.
     pub(crate) fn of(rt: &'a R, execution: &Execution<'a>) -> Workers<'a, R>
-        ensures most { result.most ≡ most_workers execution.now.thread_limit }
+        ensures count { result.count ≡ most_workers execution.now.thread_limit }
         ensures interrupt { result.interrupt ≡ execution.now.interrupt }
     {
         Workers {
             rt,
             alloc: execution.alloc,
-            most: most_workers(execution.thread_limit),
+            count: most_workers(execution.thread_limit),
             stack_size: None,
             interrupt: execution.interrupt,
         }
@@ -90,13 +90,13 @@ impl<'a, R> Workers<'a, R> {
     /// Returns these workers, at most as many as there are pieces.
     pub(crate) fn for_pieces(&self, pieces: usize) -> Workers<'a, R>
         requires { 1 ≤ pieces }
-        ensures most { result.most ≡ min self.entry.now.most pieces }
+        ensures count { result.count ≡ min self.entry.now.count pieces }
         ensures interrupt { result.interrupt ≡ self.entry.now.interrupt }
     {
         Workers {
             rt: self.rt,
             alloc: self.alloc,
-            most: self.most.min(pieces),
+            count: self.count.min(pieces),
             stack_size: self.stack_size,
             interrupt: self.interrupt,
         }

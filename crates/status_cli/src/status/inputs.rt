@@ -2,6 +2,8 @@
 
 use gix_status::index::{HashKind, State};
 use gix_status::index_as_worktree::ApplyChange;
+use gix_status::walk::{self, Delegate, Walk, WalkError};
+use gix_status::worktree::{Pathspec, Worktree};
 use status_profile::ProfileOptions;
 
 /// The request of a profile.
@@ -26,6 +28,33 @@ pub struct ProfileStatus<'a, W, K> {
     pub worktree: &'a W,
     /// Finds the untracked files, if the options have `untracked`.
     pub walk: K,
+}
+
+/// Finds nothing. It is passed over a folder, where `untracked` is refused.
+#[derive(Clone, Copy)]
+pub struct NoWalk;
+
+impl<W: Worktree> Walk<W> for NoWalk {
+    ghost use Rattle.std.specs.Prelude.{◌≡◌, [], None, Some, false};
+    ghost use Rattle.status_walk.specs.Walks.{IsWalk};
+
+    ghost walking = { λ _ _ _ _ _. Some (record { entries = []; fault = None }) };
+
+    fn walk<P: Pathspec, D: Delegate>(
+        &mut self,
+        _worktree: &W,
+        _index: &State,
+        _pathspec: &P,
+        delegate: &mut D,
+    ) -> Result<walk::Outcome, WalkError>
+        requires { (D.state delegate.old).cancelled ≡ false }
+        ensures { IsWalk (record { entries = []; fault = None }) (D.state delegate.old) result (D.state delegate.new) }
+    {
+        Ok(walk::Outcome {
+            emitted: 0,
+            cancelled: false,
+        })
+    }
 }
 
 /// What happens with the changes to the index that a plain status asks for.

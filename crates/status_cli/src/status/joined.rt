@@ -12,7 +12,7 @@ ghost use Rattle.status_cli.specs.Statuses.{entry_lines, joined_answered, joined
 use crate::failure::Failure;
 use crate::line_buffer::{LineBuffer, print_closing};
 use crate::status::inputs::ProfileStatus;
-use gix_status::index::{HashKind, State};
+use gix_status::index::HashKind;
 use gix_status::index_as_worktree;
 use gix_status::index_as_worktree::traits::CompareBlobs;
 use gix_status::index_as_worktree_with_renames::{
@@ -20,9 +20,9 @@ use gix_status::index_as_worktree_with_renames::{
     VisitEntry, index_as_worktree_with_renames,
 };
 use gix_status::tracker::{IdentityTracker, Rewrites};
-use gix_status::walk::{self, Delegate, Walk, WalkError};
+use gix_status::walk::Walk;
 use gix_status::worktree::{MemoryObjects, NoFilter, NoLister, NoSubmodules, Pathspec, Worktree};
-use status_call::index_as_worktree::inputs::{Ask, Inputs};
+use status_call::index_as_worktree::inputs::{Ask, UsualInputs};
 use status_profile::ProfileOptions;
 use std::alloc::Global;
 use std::io;
@@ -62,9 +62,6 @@ fn with_failure(answer: Result<Outcome, Error>) -> Result<index_as_worktree::Out
     Ok(answer?.tracked_file_modification)
 }
 
-/// A worktree, a comparer and a pathspec, and the usual interfaces.
-type Usual<'w, W, C, P> = Inputs<'w, W, C, NoSubmodules, MemoryObjects, P, NoFilter, NoLister>;
-
 /// Reports a status by a comparer to a collector, with no filter, listing, submodule or blob, and with renames by equal
 /// content. It is generic, since the checker's search fails at a concrete collector and comparer.
 fn report_joined<
@@ -86,7 +83,7 @@ fn report_joined<
 where
     W::File: Send,
     C::Output: Send + ExactClone + 'a,
-    ensures { IsJoinedReported (⟦<Usual<'a, W, C, P> as Ask>⟧.query (usual status.entry.worktree compare pathspec))
+    ensures { IsJoinedReported (⟦<UsualInputs<'a, W, C, P> as Ask>⟧.query (usual status.entry.worktree compare pathspec))
         (results_of W.Worktree status.entry.worktree.now) (asked_by status.entry.request) (walked_by K.walking status.entry (P.prefix pathspec) (P.included pathspec))
         V.fails (V.visits collector.old) result (V.visits collector.new) }
 {
@@ -159,31 +156,4 @@ fn add_entries<T: Drop, U: Drop, O: io::Write>(
         lines.add_entry(alloc, entry, output)?;
     }
     Ok(())
-}
-
-/// Finds nothing. It is passed over a folder, where `untracked` is refused.
-#[derive(Clone, Copy)]
-pub struct NoWalk;
-
-impl<W: Worktree> Walk<W> for NoWalk {
-    ghost use Rattle.std.specs.Prelude.{◌≡◌, [], None, Some, false};
-    ghost use Rattle.status_walk.specs.Walks.{IsWalk};
-
-    ghost walking = { λ _ _ _ _ _. Some (record { entries = []; fault = None }) };
-
-    fn walk<P: Pathspec, D: Delegate>(
-        &mut self,
-        _worktree: &W,
-        _index: &State,
-        _pathspec: &P,
-        delegate: &mut D,
-    ) -> Result<walk::Outcome, WalkError>
-        requires { (D.state delegate.old).cancelled ≡ false }
-        ensures { IsWalk (record { entries = []; fault = None }) (D.state delegate.old) result (D.state delegate.new) }
-    {
-        Ok(walk::Outcome {
-            emitted: 0,
-            cancelled: false,
-        })
-    }
 }

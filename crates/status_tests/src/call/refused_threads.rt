@@ -166,7 +166,7 @@ fn workers<'a, R>(
     Some(Workers {
         rt,
         alloc,
-        most: row.most,
+        count: row.most,
         stack_size: row.too_large.then_some(usize::MAX),
         interrupt,
     })

@@ -4,5 +4,5 @@ use Rattle.status_call.proofs.index_as_worktree.round.deciders_for.Given as goal
 abbrev pub invariant-loop : goal.invariant-loop
 invariant-loop g l = record {
   count : vec_len l.deciders ≡ l.counter;
-  same : All (λ d. g.D.Decide.query d ≡ g.D.Decide.query l.decide) l.deciders.items;
+  same : All (λ d. g.D.Decide.query d ≡ g.D.Decide.query l.decider) l.deciders.items;
 }

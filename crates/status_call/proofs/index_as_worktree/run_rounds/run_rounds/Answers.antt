@@ -34,12 +34,12 @@ add-requires g c =
     let first : bound c.as_slice-bounds.result.now 0 ≡ c.loop-at.at = ap (λ l. bound l 0) slice ∙ c.in-Ok.ensures.first in
     let round = work_as _ _ _ _ _ _ _ _ _ _ _ _ _ (ap is_some c.for_pieces-needed.ensures.interrupt) first c.in-Ok-run_round.ensures in
     let end : c.args.considered.now.end < 2 ^ 64 = search rules in
-    round_fits _ _ _ _ _ _ c.args.workers.now.most 0 c.loop-at.at _ 0 c.loop-at.totals _ _ _ way c.in-Ok-run_round.round round (omega (arith, part_long c.args.considered.now, end))
+    round_fits _ _ _ _ _ _ c.args.workers.now.count 0 c.loop-at.at _ 0 c.loop-at.totals _ _ _ way c.in-Ok-run_round.progress round (omega (arith, part_long c.args.considered.now, end))
 
 pub returns-in-Err : goal.returns-in-Err
 returns-in-Err g c =
     let way = c.loop-at.invariant.way in
-    let fewer : c.for_pieces-needed.result.most ≤ c.args.workers.now.most = omega (arith, c.for_pieces-needed.ensures.most) in
+    let fewer : c.for_pieces-needed.result.count ≤ c.args.workers.now.count = omega (arith, c.for_pieces-needed.ensures.count) in
     let slice : c.as_slice-bounds.result.now ≡ c.in-Ok.bounds.items = c.as_slice-bounds.ensures.value in
     let first : bound c.as_slice-bounds.result.now 0 ≡ c.loop-at.at = ap (λ l. bound l 0) slice ∙ c.in-Ok.ensures.first in
     let round = work_as _ _ _ _ _ _ _ _ _ _ _ _ _ (ap is_some c.for_pieces-needed.ensures.interrupt) first c.in-Err.ensures in
@@ -51,7 +51,7 @@ returns-then-round g c =
     let slice : c.as_slice-bounds.result.now ≡ c.in-Ok.bounds.items = c.as_slice-bounds.ensures.value in
     let first : bound c.as_slice-bounds.result.now 0 ≡ c.loop-at.at = ap (λ l. bound l 0) slice ∙ c.in-Ok.ensures.first in
     let round = work_as _ _ _ _ _ _ _ _ _ _ _ _ _ (ap is_some c.for_pieces-needed.ensures.interrupt) first c.in-Ok-run_round.ensures in
-    rw c.add.ensures (round_cut _ _ _ _ _ _ _ _ c.loop-at.at _ _ c.loop-at.totals _ _ _ way c.in-Ok-run_round.round round c.if-round.true)
+    rw c.add.ensures (round_cut _ _ _ _ _ _ _ _ c.loop-at.at _ _ c.loop-at.totals _ _ _ way c.in-Ok-run_round.progress round c.if-progress.true)
 
 pub loop-at-preserved : goal.loop-at-preserved
 loop-at-preserved g c =
@@ -60,7 +60,7 @@ loop-at-preserved g c =
     let slice : c.as_slice-bounds.result.now ≡ items = c.as_slice-bounds.ensures.value in
     let first : bound c.as_slice-bounds.result.now 0 ≡ c.loop-at.at = ap (λ l. bound l 0) slice ∙ c.in-Ok.ensures.first in
     let round = work_as _ _ _ _ _ _ _ _ _ _ _ _ _ (ap is_some c.for_pieces-needed.ensures.interrupt) first c.in-Ok-run_round.ensures in
-    let more = round_more _ _ _ _ _ _ c.args.workers.now.most 0 c.loop-at.at _ 0 c.loop-at.totals _ _ _ way c.in-Ok-run_round.round round c.if-round.false in
+    let more = round_more _ _ _ _ _ _ c.args.workers.now.count 0 c.loop-at.at _ 0 c.loop-at.totals _ _ _ way c.in-Ok-run_round.progress round c.if-progress.false in
     let last : length items - 1 < length items = omega (arith, c.in-Ok.ensures.bounds.pieces) in
     let is = c.in-Ok.ensures.bounds in
     rw c.add.ensures (record {

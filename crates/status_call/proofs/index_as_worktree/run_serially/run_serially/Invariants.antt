@@ -9,8 +9,8 @@ abbrev pub invariant-loop-at : goal.invariant-loop-at
 invariant-loop-at g l =
     let visits = g.V.VisitEntry.visits in
     record {
-      way : IsWorkSoFar (g.D.Decide.query l.initial.decide) l.considered.start (part_entries l.considered) 0 (IsFaithfulTo l.considered) l.at l.totals (visits l.initial.collector) (visits l.collector);
-      same : g.D.Decide.query l.decide ≡ g.D.Decide.query l.initial.decide;
+      way : IsWorkSoFar (g.D.Decide.query l.initial.decider) l.considered.start (part_entries l.considered) 0 (IsFaithfulTo l.considered) l.at l.totals (visits l.initial.collector) (visits l.collector);
+      same : g.D.Decide.query l.decider ≡ g.D.Decide.query l.initial.decider;
       cut : IsCut (part_entries l.considered) l.at;
       inside : l.at ≤ length (part_entries l.considered);
     }

@@ -46,4 +46,4 @@ returns-in-Err-clause-alone g c =
     let start = rw c.common_prefix.ensures at part_is.ensures.start in
     let whole = map-part (index_entry (backing_of index)) (entries_of index) considered.start considered.end ∙ part in
     let work = rw (part_is.ensures.entries, part_is.ensures.backing, c.of-workers.ensures.interrupt) at c.in-Err.ensures in
-    status_alone _ index _ _ _ _ c.in-Err.error (work_kept _ _ _ _ _ _ _ _ _ _ _ _ refl start whole work) c.args.execution.now.thread_limit c.of-workers.ensures.most
+    status_alone _ index _ _ _ _ c.in-Err.error (work_kept _ _ _ _ _ _ _ _ _ _ _ _ refl start whole work) c.args.execution.now.thread_limit c.of-workers.ensures.count

@@ -11,7 +11,7 @@ pub returns-then-is_flagged-clause-next : goal.returns-then-is_flagged-clause-ne
 returns-then-is_flagged-clause-next g c =
     let said = c.skipped_step.ensures in
     head_flagged c.args.considered.now.backing.now (part_entries c.args.considered.now) c.args.at _ _ c.entry-entry.ensures c.path-path.ensures c.requires.inside (part_is_index c.args.considered.now)
-    (g.D.Decide.query c.args.decide.now) c.requires.fresh
+    (g.D.Decide.query c.args.decider.now) c.requires.fresh
     c.is_flagged.result c.is_flagged.ensures c.if-is_flagged.true
     c.skipped_step.result (skipped_self _ _ said) (ap (λ (s : Step _ _). s.status) said) (ap (λ (s : Step _ _). s.totals.reads) said)
 
@@ -19,7 +19,7 @@ pub returns-then-not-includes-clause-next : goal.returns-then-not-includes-claus
 returns-then-not-includes-clause-next g c =
     let said = c.skipped_step-then-not-includes.ensures in
     head_excluded c.args.considered.now.backing.now (part_entries c.args.considered.now) c.args.at _ _ c.entry-entry.ensures c.path-path.ensures c.requires.inside (part_is_index c.args.considered.now)
-    (g.D.Decide.query c.args.decide.now) c.requires.fresh
+    (g.D.Decide.query c.args.decider.now) c.requires.fresh
     c.is_flagged.result c.is_flagged.ensures c.if-is_flagged.false
     c.includes.result c.includes.ensures c.if-not-includes.true
     c.skipped_step-then-not-includes.result (skipped_self _ _ said) (ap (λ (s : Step _ _). s.status) said) (ap (λ (s : Step _ _). s.totals.reads) said)
@@ -27,7 +27,7 @@ returns-then-not-includes-clause-next g c =
 pub conflict_step-requires : goal.conflict_step-requires
 conflict_step-requires g c =
     head_some c.args.considered.now.backing.now (part_entries c.args.considered.now) c.args.at _ _ c.entry-entry.ensures c.path-path.ensures c.requires.inside (part_is_index c.args.considered.now)
-    (g.D.Decide.query c.args.decide.now) c.requires.fresh
+    (g.D.Decide.query c.args.decider.now) c.requires.fresh
     c.is_flagged.result c.is_flagged.ensures c.if-is_flagged.false
     c.includes.result c.includes.ensures c.if-not-includes.false
     c.stage_raw.result c.stage_raw.ensures c.if-stage_raw-ne0.true
@@ -36,7 +36,7 @@ pub returns-then-stage_raw-ne0-clause-next : goal.returns-then-stage_raw-ne0-cla
 returns-then-stage_raw-ne0-clause-next g c =
     let said = c.conflict_step.ensures in
     head_conflict c.args.considered.now.backing.now (part_entries c.args.considered.now) c.args.at _ _ c.entry-entry.ensures c.path-path.ensures c.requires.inside (part_is_index c.args.considered.now)
-    (g.D.Decide.query c.args.decide.now) c.requires.fresh
+    (g.D.Decide.query c.args.decider.now) c.requires.fresh
     c.is_flagged.result c.is_flagged.ensures c.if-is_flagged.false
     c.includes.result c.includes.ensures c.if-not-includes.false
     c.stage_raw.result c.stage_raw.ensures c.if-stage_raw-ne0.true
@@ -46,7 +46,7 @@ pub returns-in-Ok-clause-next : goal.returns-in-Ok-clause-next
 returns-in-Ok-clause-next g c =
     let said = c.decided_step.ensures in
     head_decided c.args.considered.now.backing.now (part_entries c.args.considered.now) c.args.at _ _ c.entry-entry.ensures c.path-path.ensures c.requires.inside (part_is_index c.args.considered.now)
-    (g.D.Decide.query c.args.decide.now) c.requires.fresh
+    (g.D.Decide.query c.args.decider.now) c.requires.fresh
     c.is_flagged.result c.is_flagged.ensures c.if-is_flagged.false
     c.includes.result c.includes.ensures c.if-not-includes.false
     c.stage_raw.result c.stage_raw.ensures c.if-stage_raw-ne0.false
@@ -56,7 +56,7 @@ returns-in-Ok-clause-next g c =
 pub returns-in-Err-clause-next : goal.returns-in-Err-clause-next
 returns-in-Err-clause-next g c =
     head_fault c.args.considered.now.backing.now (part_entries c.args.considered.now) c.args.at _ _ c.entry-entry.ensures c.path-path.ensures c.requires.inside (part_is_index c.args.considered.now)
-    (g.D.Decide.query c.args.decide.now) c.requires.fresh
+    (g.D.Decide.query c.args.decider.now) c.requires.fresh
     c.is_flagged.result c.is_flagged.ensures c.if-is_flagged.false
     c.includes.result c.includes.ensures c.if-not-includes.false
     c.stage_raw.result c.stage_raw.ensures c.if-stage_raw-ne0.false

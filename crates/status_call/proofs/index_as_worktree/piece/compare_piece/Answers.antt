@@ -4,12 +4,12 @@ use Rattle.status_call.specs.Records.{record_by}
 use Rattle.status_call.proofs.Pieces.{done_none, done_next, done_more, sums_fit, not_past, fresh_cut}
 use Rattle.status_call.proofs.EntrySteps.{IsNext-kept, IsFault-kept, when_ok, when_err}
 use Rattle.status_call.proofs.ConsideredParts.{part_long}
-use Rattle.status_call.proofs.index_as_worktree.piece.walk_piece.Goals as goal
+use Rattle.status_call.proofs.index_as_worktree.piece.compare_piece.Goals as goal
 
 pub loop-at-init : goal.loop-at-init
 loop-at-init g c =
     let es = part_entries c.args.considered.now in
-    let q = g.D.Decide.query c.args.decide.now in
+    let q = g.D.Decide.query c.args.decider.now in
     let none = done_none q c.args.considered.now.start es c.args.range.start (omega (arith, c.requires.order, c.requires.inside)) in
     record {
       working = record {
@@ -40,7 +40,7 @@ returns-then-is_err-clause-piece g c =
 pub add-requires : goal.add-requires
 add-requires g c =
     let es = part_entries c.args.considered.now in
-    let q = g.D.Decide.query c.args.decide.now in
+    let q = g.D.Decide.query c.args.decider.now in
     let here = c.loop-at.invariant in
     let step = c.in-Ok.step in
     let next = IsNext-kept _ q here.same es c.loop-at.at step c.in-Ok.ensures.next in
@@ -51,7 +51,7 @@ add-requires g c =
 pub loop-at-preserved : goal.loop-at-preserved
 loop-at-preserved g c =
     let es = part_entries c.args.considered.now in
-    let q = g.D.Decide.query c.args.decide.now in
+    let q = g.D.Decide.query c.args.decider.now in
     let start = c.args.considered.now.start in
     let at = c.loop-at.at in
     let step = c.in-Ok.step in

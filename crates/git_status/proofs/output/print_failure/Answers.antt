@@ -1,8 +1,8 @@
 use Rattle.std.proofs.Common.{codes, subst, ◌∙◌}
 use Rattle.git_status.specs.Printing.{IsPrinted}
 use Rattle.git_status.proofs.Printed.{begun_of}
-use Rattle.git_status.proofs.output.report.Goals as goal
-use Rattle.git_status.proofs.output.report.Goals.{in-Ok, in-Err}
+use Rattle.git_status.proofs.output.print_failure.Goals as goal
+use Rattle.git_status.proofs.output.print_failure.Goals.{in-Ok, in-Err}
 
 pub returns-clause-line : goal.returns-clause-line
 returns-clause-line g c =

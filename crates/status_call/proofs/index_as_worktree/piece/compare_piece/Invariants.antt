@@ -1,13 +1,13 @@
 use Rattle.std.proofs.Common.{◌≡◌, ◌-◌}
 use Rattle.status_call.specs.Considered.{part_entries}
 use Rattle.status_call.proofs.Pieces.{IsWorking}
-use Rattle.status_call.proofs.index_as_worktree.piece.walk_piece.Given as goal
+use Rattle.status_call.proofs.index_as_worktree.piece.compare_piece.Given as goal
 
 -- The entries before `at` are done.
 abbrev pub invariant-loop-at : goal.invariant-loop-at
 invariant-loop-at g l = record {
-  working : IsWorking (g.D.Decide.query l.fn.decide) l.considered.start (part_entries l.considered) l.range.start l.range.end l.at l.findings.items l.totals;
-  same : g.D.Decide.query l.decide ≡ g.D.Decide.query l.fn.decide;
+  working : IsWorking (g.D.Decide.query l.fn.decider) l.considered.start (part_entries l.considered) l.range.start l.range.end l.at l.findings.items l.totals;
+  same : g.D.Decide.query l.decider ≡ g.D.Decide.query l.fn.decider;
 }
 
 abbrev pub decreases-loop-at : goal.decreases-loop-at

@@ -5,7 +5,7 @@ use Rattle.status_call.specs.Considered.{part_entries}
 use Rattle.status_call.specs.Runs.{IsFaithfulTo}
 use Rattle.status_call.proofs.ConsideredParts.{part_inside, part_long}
 use Rattle.status_call.proofs.WorkInOrder.{no_work, way_none, row_next, piece_placed, piece_fits, stop_piece, stop_cut, way_more}
-use Rattle.status_call.proofs.index_as_worktree.run_rounds.run_round.Goals as goal
+use Rattle.status_call.proofs.index_as_worktree.round.run_round.Goals as goal
 
 pub returns-in-Err : goal.returns-in-Err
 returns-in-Err g c =
@@ -31,7 +31,7 @@ add-requires g c =
     let p = c.in-Some.piece in
     let row = row_next _ _ _ _ _ here.at _ (into_iter_items c.next.new.self) p c.in-Some.ensures.steps.0 here.rows in
     let end : c.args.considered.now.end < 2 ^ 64 = search rules in
-    piece_fits _ _ _ _ _ _ c.args.workers.now.most 0 here.at c.loop-piece.totals _ _ here.way p row.0 c.in-Ok-feed_piece.fed (omega (arith, part_long c.args.considered.now, end)) c.in-Ok-feed_piece.ensures.0
+    piece_fits _ _ _ _ _ _ c.args.workers.now.count 0 here.at c.loop-piece.totals _ _ here.way p row.0 c.in-Ok-feed_piece.fed (omega (arith, part_long c.args.considered.now, end)) c.in-Ok-feed_piece.ensures.0
 
 pub returns-in-Err-feed_piece : goal.returns-in-Err-feed_piece
 returns-in-Err-feed_piece g c =
@@ -52,5 +52,5 @@ loop-piece-preserved g c =
     let here = c.loop-piece.invariant in
     let p = c.in-Some.piece in
     let row = row_next _ _ _ _ _ here.at _ (into_iter_items c.next.new.self) p c.in-Some.ensures.steps.0 here.rows in
-    let more = way_more _ _ _ _ _ _ c.args.workers.now.most 0 here.at c.loop-piece.totals _ _ here.way p row.0 _ c.in-Ok-feed_piece.fed c.add.new.self c.in-Ok-feed_piece.ensures c.add.ensures c.if-fed.false in
+    let more = way_more _ _ _ _ _ _ c.args.workers.now.count 0 here.at c.loop-piece.totals _ _ here.way p row.0 _ c.in-Ok-feed_piece.fed c.add.new.self c.in-Ok-feed_piece.ensures c.add.ensures c.if-fed.false in
     record { at = p.reached; way = more.1; rows = row.1 more.0 }
