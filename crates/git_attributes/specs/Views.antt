@@ -27,26 +27,26 @@ part_of NamePiece = Name
 part_of FoldersPiece = Folders
 part_of EverythingPiece = Everything
 
--- A state of the code.
+-- A value of the code as the state of an attribute.
 abbrev pub state_of : Value → State
 state_of SetValue = states.Set
 state_of UnsetValue = Unset
 state_of UnspecifiedValue = Unspecified
 state_of (TextValue text) = Text text.now
 
--- An assignment of the code.
+-- An assignment of the code as a name and its state.
 abbrev pub given_of : Assignment → Given
 given_of a = (a.name.now, state_of a.value)
 
--- A rule of the code.
+-- A rule of the code as a rule of the definitions.
 abbrev pub rule_view : RuleType → Rule
 rule_view r = record { folder = r.folder.now; by_name = r.by_name; parts = map part_of r.pieces.items; given = map given_of r.given.items }
 
--- A macro of the code.
+-- A macro of the code as a macro of the definitions.
 abbrev pub macro_view : MacroType → Macro
 macro_view m = record { name = m.name.items; given = map given_of m.given.items }
 
--- A line of the code.
+-- A line of the code as a line of the definitions.
 abbrev pub line_view : LineType → Line
 line_view (RuleOf r) = RuleLine (rule_view r)
 line_view (MacroOf m) = MacroLine (macro_view m)
@@ -55,10 +55,10 @@ line_view (MacroOf m) = MacroLine (macro_view m)
 abbrev pub attributes_view : AttributesType → Said
 attributes_view a = (map rule_view a.rules.items, map macro_view a.macros.items)
 
--- A file of the code.
+-- An attribute file of the code as its folder, its bytes, and whether its macros count.
 abbrev pub source_view : SourceType → File
 source_view s = record { folder = s.folder.now; has_macros = s.has_macros; bytes = s.bytes.now }
 
--- A file of the code that was read.
+-- The same of a file that was read.
 abbrev pub file_view : AttributeFile → File
 file_view f = record { folder = f.folder.items; has_macros = f.has_macros; bytes = f.bytes.items }

@@ -30,7 +30,7 @@ pub struct Settings {
     pub stats: bool,
 }
 
-/// What a command is asked: a worktree, what of it is compared with an index, and the settings.
+/// The request of a command: a worktree, which parts of it are compared with an index, and the settings.
 #[derive(Drop)]
 pub struct Asked<'a, W, S, P, A> {
     /// The settings.

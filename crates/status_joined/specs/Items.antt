@@ -26,8 +26,7 @@ abbrev pub is_removal : {T U : Type 0} → EntryStatus T U → Bool
 is_removal (statuses.Change changes.Removed) = true
 is_removal _ = false
 
--- Only a record of a removed path may be renamed, and only a node be a destination. So this is whether an item may be a rename's
--- source.
+-- The source of a rename is a record of a removed path, and its destination a node. So this is whether an item may be a source.
 abbrev pub is_removed : {T U : Type 0} → Item T U → Bool
 is_removed (tracked v) = is_removal v.status
 is_removed (walked w id) = false

@@ -61,8 +61,9 @@ row side track_empty key xs = filter (λ x. are_alike x.1 key) (filter (λ x. ma
 abbrev pub rename : NumberedChange × NumberedChange → Pair
 rename m = record { source = m.0.0; destination = m.1.0; copy = false }
 
--- By type and id, the i-th deletion by path, then position, pairs with the i-th addition, unless its id is null, or the empty
--- blob's without `track_empty`. So each has a pair as long as both sides have one.
+-- Of the deletions with one type and one id, in the order of their paths and then of their positions, the i-th is paired with
+-- the i-th addition of that type and id. Items with a null id are in no pair, and without `track_empty` neither are those with
+-- the id of the empty blob. So each has a pair as long as both sides have one.
 pub record AreIdentityPairs (track_empty : Bool) (xs : List Changed) (pairs : List Pair) : Type 0 where
   -- The changes by path, and at equal paths by position.
   pub ordered : List NumberedChange
