@@ -284,6 +284,18 @@ class Docs(unittest.TestCase):
                     files = texts_of(path) if os.path.isfile(os.path.join(TOP, path)) else texts_of(*within)
                     self.assertRegex("\n".join(files.values()), rf"\b{word}\b")
 
+    def test_the_pages_have_the_numbers_of_tests(self):
+        functions = sum(len(re.findall(r"^ +def test_", text, re.M)) for text in texts_of("tools/*/*.py").values())
+        tests = sum(text.count("#[test]") for text in texts_of("crates/*/src/**/*.rt").values())
+        rows = sum(len(re.findall("^== ", text, re.M)) for text in texts_of("tools/status_program/rows/*.txt").values())
+        numbers = {
+            "README.md": f"{tests} tests in Rattle, {rows} rows .* {functions} test functions in Python",
+            "docs/EVIDENCE.md": f"{tests} tests in Rattle, .* {rows} rows of text, .* {functions} test functions in Python",
+        }
+        for page, words in numbers.items():
+            with self.subTest(page=page):
+                self.assertRegex(" ".join(text_of(*page.split("/")).split()), words)
+
     def test_the_definitions_are_in_the_files_that_are_named(self):
         page = text_of("docs", "PROOFS.md")
         parts = re.findall(r"^### (\w+)\n(.*?)(?=^##|\Z)", page, re.M | re.S)
