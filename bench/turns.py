@@ -44,11 +44,18 @@ def arguments_of(script, program, runs):
     """Returns a parser of what these scripts are passed: a program, repositories and a number of runs."""
     lines = argparse.RawDescriptionHelpFormatter
     parser = argparse.ArgumentParser(description=script, formatter_class=lines)
-    parser.add_argument("program", type=os.path.abspath, help=f"the built {program}")
+    parser.add_argument("program", type=built, help=f"the built {program}")
     folders = "a repository that bench/folder.py made; its files get other times"
     parser.add_argument("folders", nargs="+", type=os.path.abspath, metavar="folder", help=folders)
     parser.add_argument("--runs", type=positive, default=runs, help=f"how many runs of each command ({runs})")
     return parser
+
+
+def built(path):
+    """Returns the absolute path of a program."""
+    if not os.access(path, os.X_OK):
+        raise argparse.ArgumentTypeError(f"no program at {path}: build it first, with rt run")
+    return os.path.abspath(path)
 
 
 def positive(text):
