@@ -45,8 +45,8 @@ returns-in-Err g c =
     let round = work_as _ _ _ _ _ _ _ _ _ _ _ _ _ (ap is_some c.for_pieces-needed.ensures.interrupt) first c.in-Err.ensures in
     round_stop _ _ _ _ _ _ _ _ c.loop-at.at _ _ c.loop-at.totals _ _ _ way c.in-Err.error fewer round
 
-pub returns-then-round : goal.returns-then-round
-returns-then-round g c =
+pub returns-then-progress : goal.returns-then-round
+returns-then-progress g c =
     let way = c.loop-at.invariant.way in
     let slice : c.as_slice-bounds.result.now ≡ c.in-Ok.bounds.items = c.as_slice-bounds.ensures.value in
     let first : bound c.as_slice-bounds.result.now 0 ≡ c.loop-at.at = ap (λ l. bound l 0) slice ∙ c.in-Ok.ensures.first in
