@@ -1,5 +1,5 @@
 #!/usr/bin/env python3
-"""Makes a git repository of COUNT files, 100 a folder, three components deep, all of them added to its index.
+"""Makes a git repository of COUNT files, 100 a folder, three components deep, all of them committed.
 
     python3 bench/folder.py FOLDER COUNT
 
@@ -11,6 +11,10 @@ import os
 import subprocess
 import sys
 import time
+
+
+# Git asks for the author of a commit.
+AUTHOR = ["-c", "user.name=bench", "-c", "user.email=bench@localhost"]
 
 
 def path_of(number):
@@ -25,7 +29,8 @@ def make(top, count):
         with open(path, "w", encoding="ascii") as file:
             file.write(f"line of file {number}\n" * (1 + number % 40))
         os.utime(path, (1700000000, 1700000000))
-    for words in (["init", "-q"], ["add", "."], ["update-index", "--refresh"]):
+    commit = [*AUTHOR, "commit", "-q", "-m", "All files"]
+    for words in (["init", "-q"], ["add", "."], commit, ["update-index", "--refresh"]):
         subprocess.run(["git", "-C", top, *words], check=True)
 
 

@@ -218,6 +218,18 @@ class Differences(Dirty):
         self.assertEqual((ran.returncode, ran.stdout), (1, b" M a\n"))
         self.assertRegex(ran.stderr, rb"\Agit dirty: [^\n]*include[^\n]*\n\Z")
 
+    def test_newer_extensions(self):
+        """`extensions.relativeWorktrees` and `refStorage=files`, which git 2.39 doesn't know"""
+        self.write("a", "bars")
+        for name, value in (("relativeWorktrees", "true"), ("refStorage", "files")):
+            with self.subTest(name):
+                extension = f"[extensions]\n\t{name} = {value}\n"
+                self.write(".git/config", f"[core]\n\trepositoryFormatVersion = 0\n{extension}")
+                self.assert_refuses(" M a\n", name.lower())
+                self.write(".git/config", f"[core]\n\trepositoryFormatVersion = 1\n{extension}")
+                self.assertRegex(self.run_in(STATUS_OF_HEADS).stderr, b"unknown repository extension")
+                self.assert_ends(self.ran(), b" M a\n")
+
     def test_another_owner(self):
         """a repository of another user"""
         self.write("a", "bars")
@@ -368,6 +380,16 @@ class Conversions(LineEnds):
                 self.assert_ends(self.ran(), exact)
                 alike += [pattern] * (self.git_lines() == exact)
         self.assertEqual(alike, ["\\z", "É"])
+
+    def test_a_tab_in_a_value(self):
+        """a tab within a value of the configuration, outside of quotes"""
+        self.write(".git/x y", "a text\n")
+        self.write(".git/x\ty", "b text\n")
+        self.put_config("attributesFile = .git/x\ty\n")
+        self.assertEqual(self.git_lines(), b" M b\n M d/a\n M d/e/a\n")
+        self.assert_ends(self.ran(), b" M a\n M d/a\n M d/e/a\n")
+        self.put_config('attributesFile = ".git/x\ty"\n')
+        self.assertEqual(self.ask(), "a d/a d/e/a")
 
     def test_a_file_of_another_user(self):
         """`core.attributesFile` in the home folder of another user, `~USER/`"""

@@ -8,7 +8,7 @@ import re
 import subprocess
 
 from git_dirty.case import Dirty
-from support.programs import GIT_DIRTY
+from support.programs import GIT_DIRTY, TOP
 from support.repositories import THEN
 
 
@@ -134,9 +134,15 @@ class Options(Dirty):
     def test_help_has_an_example(self):
         ran = self.ran("--help", folder="/")
         self.assertEqual((ran.returncode, ran.stderr), (0, b""))
-        for word in ("git dirty", "-C", "-z", "-q", "--refresh", "--threads", "--stats"):
+        for word in ("git dirty", "-C", "-z", "-q", "--refresh", "--threads", "--stats", "--version", "git LFS"):
             self.assertIn(word, ran.stdout.decode())
         self.assertEqual(self.ran("-h", folder="/").stdout, ran.stdout)
+
+    def test_the_version_is_the_day_of_the_changelog(self):
+        day = re.search(r"^## ([-\d]+)", (TOP / "CHANGELOG.md").read_text(encoding="utf-8"), re.M)[1]
+        for word in ("-V", "--version"):
+            ran = self.ran(word, folder="/")
+            self.assertEqual((ran.returncode, ran.stdout, ran.stderr), (0, f"git-dirty {day}, unreleased\n".encode(), b""))
 
     def test_other_arguments_are_refused(self):
         rows = [["--unknown"], ["-y"], ["-z=1"], ["-C"], ["--threads"], ["--threads", "x"], ["--threads", "-1"]]

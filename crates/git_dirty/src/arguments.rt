@@ -4,6 +4,9 @@ use clap::{Arg, ArgAction, ArgMatches, Command, value_parser};
 use git_checkout::Request;
 use std::alloc::{AllocError, Global};
 
+/// The day of the newest section of `CHANGELOG.md`: there are no releases to name.
+const VERSION: &str = "2026-11-29, unreleased";
+
 /// What `--help` shows after the options.
 const EXAMPLES: &str = "\
 Examples:
@@ -12,7 +15,10 @@ Examples:
 
 Exit status: 0 if nothing differs, 1 if something does, 2 after a failure.
 A line has the letters of git status --porcelain. The index isn't compared with
-a commit, so the first letter is a space, except for a conflict.";
+a commit, so the first letter is a space, except for a conflict, and a change
+that is staged doesn't count. PATHS that no entry has select nothing.
+Files with filters (git LFS), ident or an encoding aren't compared as git does:
+don't rely on this command there.";
 
 /// Returns the request of the arguments that were matched.
 ///
@@ -61,6 +67,7 @@ pub fn command_line<'a>(alloc: Global) -> Result<Command<'a>, AllocError> {
         .action(ArgAction::Append);
     Command::new(alloc, "git-dirty")
         .bin_name("git dirty")?
+        .version(VERSION)
         .about("Lists the tracked files of a git worktree that differ from the index")
         .after_help(EXAMPLES)
         .arg(folder)?
