@@ -45,7 +45,7 @@ returns-in-Err g c =
     let round = work_as _ _ _ _ _ _ _ _ _ _ _ _ _ (ap is_some c.for_pieces-needed.ensures.interrupt) first c.in-Err.ensures in
     round_stop _ _ _ _ _ _ _ _ c.loop-at.at _ _ c.loop-at.totals _ _ _ way c.in-Err.error fewer round
 
-pub returns-then-progress : goal.returns-then-round
+pub returns-then-progress : goal.returns-then-progress
 returns-then-progress g c =
     let way = c.loop-at.invariant.way in
     let slice : c.as_slice-bounds.result.now ≡ c.in-Ok.bounds.items = c.as_slice-bounds.ensures.value in
