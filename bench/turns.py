@@ -19,10 +19,10 @@ class Run:
     memory: float
 
 
-def run(command, statuses):
-    """Runs a command, which has to end with one of these exit statuses."""
+def run(command, statuses, environment=None):
+    """Runs a command, which has to end with one of these exit statuses. Without an environment git may write nothing."""
     begun = time.perf_counter()
-    child = subprocess.Popen(command, stdout=subprocess.DEVNULL, env=ENVIRONMENT)
+    child = subprocess.Popen(command, stdout=subprocess.DEVNULL, env=environment or ENVIRONMENT)
     _, status, used = os.wait4(child.pid, 0)
     clock = time.perf_counter() - begun
     child.returncode = os.waitstatus_to_exitcode(status)
