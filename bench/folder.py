@@ -44,9 +44,9 @@ def clean(top):
     subprocess.run(["git", "-C", top, "update-index", "-q", "--refresh"], check=True)
 
 
-def touch(top):
-    """Changes the time of modification of each file of the index, so that each has to be read."""
-    earlier = time.time() - 3600
+def touch(top, hours=1):
+    """Sets the time of modification of each file of the index to so many hours ago, so that each has to be read."""
+    earlier = time.time() - 3600 * hours
     for path in tracked(top).split(b"\0")[:-1]:
         os.utime(os.path.join(os.fsencode(top), path), (earlier, earlier))
 

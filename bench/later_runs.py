@@ -29,9 +29,9 @@ def main():
     arguments = arguments_of(__doc__, "git_dirty", 5).parse_args()
     print("| folder | command | first run | later runs |\n|---|---|---|---|")
     for top in arguments.folders:
-        for name, command in commands_of(arguments.program, top).items():
+        for hours, (name, command) in enumerate(commands_of(arguments.program, top).items(), 1):
             clean(top)
-            touch(top)
+            touch(top, hours)
             clocks = [run(command, (0,), environment=os.environ).clock for _ in range(arguments.runs + 1)]
             later = f"{min(clocks[1:]):.1f} to {max(clocks[1:]):.1f}"
             print(f"| {os.path.basename(top)} | `{name}` | {clocks[0]:.1f} | {later} |", flush=True)
