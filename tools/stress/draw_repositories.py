@@ -61,6 +61,8 @@ class Drawing:
         self.version = self.random.choice([2, 2, 4])
         # The kind of each path: file, run (executable), link, or module.
         self.paths = {}
+        # The files whose entries are those of a conflict.
+        self.replaced = []
         # What was done, for who reads of a difference.
         self.notes = []
 
@@ -147,7 +149,8 @@ class Drawing:
 
     def free_path(self, name):
         """Returns a path of this name in a drawn folder, which is no file."""
-        folders = [folder for folder in FOLDERS if not any(folder.startswith(path + "/") for path in self.paths)]
+        files = [*self.paths, *self.replaced]
+        folders = [folder for folder in FOLDERS if not any(folder.startswith(path + "/") for path in files)]
         return self.random.choice(folders) + name
 
     def stage_more(self):
@@ -168,6 +171,7 @@ class Drawing:
         if self.chance(0.2) and self.paths:
             path = self.random.choice(sorted(self.paths))
             del self.paths[path]
+            self.replaced.append(path)
             replaced = [("0", text, 0, path)]
         elif self.chance(0.5):
             write(self.path(path), self.random.choice(CONTENTS))
