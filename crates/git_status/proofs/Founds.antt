@@ -1,6 +1,7 @@
 -- How a status and its changes make a refresh.
-use Rattle.std.proofs.Common.{◌≡◌, ◌≢◌, ◌<◌, ◌^◌, ◌==◌, ℕ, false, List, [], ◌∷◌, length, Option, Result, Ok, Err, IfOk, inl, inr, refl, sym, subst}
+use Rattle.std.proofs.Common.{◌≡◌, ◌≢◌, ◌<◌, ◌^◌, ◌==◌, ℕ, Bool, true, false, List, [], ◌∷◌, length, Option, Result, Ok, Err, IfOk, inl, inr, refl, sym, subst}
 use Rattle.std.specs.Result.{IsErrAnd}
+use Rattle.std.proofs.lemmas.Bool.{false≢true}
 use Rattle.git_attributes.specs.Files.{File, Said, attributes_of}
 use Rattle.git_attributes.specs.declared.line_ends.LineEnds.{LineEnds}
 use Rattle.git_attributes.specs.Views.{attributes_view}
@@ -10,7 +11,6 @@ use Rattle.git_index.specs.declared.fault.IndexFileError.{IndexFileError}
 use Rattle.git_index.specs.declared.fault.IndexFileError.TheVariants as index_errors
 use Rattle.status_call.specs.Inputs.{settings}
 use Rattle.status_call.specs.IndexChanges.{AreInside}
-use Rattle.status_call.specs.declared.index_as_worktree.inputs.Settings.{Settings as StatusSettings}
 use Rattle.status_index.specs.Entries.{IndexEntry, IsIndex}
 use Rattle.status_index.specs.States.{index_of, timestamp_of}
 use Rattle.git_status.specs.Failures.{failure_of_index}
@@ -21,13 +21,14 @@ use Rattle.status_call.specs.Visits.{Visit}
 use Rattle.status_call.specs.declared.index_as_worktree.types.Outcome.{Outcome}
 use Rattle.status_compare.specs.declared.error.Error.{Error}
 use Rattle.status_index.specs.declared.state.State.{State}
-use Rattle.git_status.specs.Refreshes.{IsFileRefreshed, IsFoundIn, IsFoundRun, IsIndexFound, IsRefresh, IsRefreshedFile, IsUnrefreshed}
+use Rattle.git_status.specs.Founds.{IsFoundIn, IsFoundRun, IsIndexFound}
+use Rattle.git_status.specs.Refreshes.{IsFileRefreshed, IsRefresh, IsRefreshedFile, IsUnrefreshed}
 use Rattle.git_status.specs.Runs.{Asking, Converting, IsComputed, IsCommandEnd, IsCommandRun, IsStatusRun, ReadFile}
 use Rattle.git_status.specs.declared.asked.Settings.{Settings}
 use Rattle.git_status.specs.declared.answer.Report.{Report}
 use Rattle.git_status.specs.declared.failure.Failure.{Failure}
 use Rattle.git_status.specs.declared.failure.Failure.TheVariants.{Memory}
-use Rattle.git_status.specs.declared.refresh.Found.{Found}
+use Rattle.git_status.specs.declared.found.Found.{Found}
 use Rattle.git_status.proofs.LeftOut.{kept_inside}
 use Rattle.git_status.proofs.Runs.{early_run, file_run, refused_run, status_run}
 
@@ -37,10 +38,10 @@ not_empty [] n len none nil = absurd (let known : (0 == 0) ≡ false = subst (λ
 not_empty (x ∷ xs) n len none nil = absurd (cc)
 
 module _ {T U : Type 0} where
-  -- the changes were found
-  pub found_run : (said : Said) (query : Query T U) (index : State) (s : Settings) (visits : List (Visit T U)) (answer : Result Outcome Error) (old : Option (List ℕ)) (found : Found) (new : Option (List ℕ))
-      → IsComputed query index s answer visits → IsCommandEnd s.lines visits answer old (Ok found.report) new → IsFoundIn said visits found → IsFoundRun said query index s old (Ok found) new
-  found_run said query index s visits answer old found new computed ended kept = (record { visits = visits; answer = answer; computed = computed; ended = ended }, kept)
+  -- the changes were found, if they are wanted
+  pub found_run : (wanted : Bool) (said : Said) (query : Query T U) (index : State) (s : Settings) (visits : List (Visit T U)) (answer : Result Outcome Error) (old : Option (List ℕ)) (found : Found) (new : Option (List ℕ))
+      → IsComputed query index s answer visits → IsCommandEnd s.lines visits answer old (Ok found.report) new → (wanted ≡ true → IsFoundIn said visits found) → IsFoundRun wanted said query index s old (Ok found) new
+  found_run wanted said query index s visits answer old found new computed ended kept = (record { visits = visits; answer = answer; computed = computed; ended = ended }, kept)
 
   -- the counts of skipped entries have a sum that fits
   pub skipped_fits : (query : Query T U) (index : State) (s : Settings) (visits : List (Visit T U)) (answer : Result Outcome Error) (old : Option (List ℕ)) (r : Report) (new : Option (List ℕ))
@@ -49,94 +50,110 @@ module _ {T U : Type 0} where
   skipped_fits query index s visits answer old r new computed (inr failed) = absurd failed
 
   -- the status has no report
-  pub unfound_run : (said : Said) (query : Query T U) (index : State) (s : Settings) (visits : List (Visit T U)) (answer : Result Outcome Error) (old : Option (List ℕ)) (f : Failure) (result : Result Found Failure) (new : Option (List ℕ))
-      → IsComputed query index s answer visits → IsCommandEnd s.lines visits answer old (Err f) new → IsErrAnd result (λ e. e ≡ f) → IsFoundRun said query index s old result new
-  unfound_run said query index s visits answer old f (Ok found) new computed ended failed = absurd failed
-  unfound_run said query index s visits answer old f (Err e) new computed ended failed =
+  pub unfound_run : (wanted : Bool) (said : Said) (query : Query T U) (index : State) (s : Settings) (visits : List (Visit T U)) (answer : Result Outcome Error) (old : Option (List ℕ)) (f : Failure) (result : Result Found Failure) (new : Option (List ℕ))
+      → IsComputed query index s answer visits → IsCommandEnd s.lines visits answer old (Err f) new → IsErrAnd result (λ e. e ≡ f) → IsFoundRun wanted said query index s old result new
+  unfound_run wanted said query index s visits answer old f (Ok found) new computed ended failed = absurd failed
+  unfound_run wanted said query index s visits answer old f (Err e) new computed ended failed =
       inl (subst (λ e. IsStatusRun query index s old (Err e) new) (sym failed) (status_run query index s visits answer old (Err f) new computed ended))
 
-  -- memory ran out after it
-  pub late_run : (said : Said) (query : Query T U) (index : State) (s : Settings) (visits : List (Visit T U)) (answer : Result Outcome Error) (old : Option (List ℕ)) (r : Report) (result : Result Found Failure) (new : Option (List ℕ))
-      → IsComputed query index s answer visits → IsCommandEnd s.lines visits answer old (Ok r) new → IsErrAnd result (λ e. e ≡ Memory) → IsFoundRun said query index s old result new
-  late_run said query index s visits answer old r (Ok found) new computed ended failed = absurd failed
-  late_run said query index s visits answer old r (Err e) new computed ended failed = inr (r, status_run query index s visits answer old (Ok r) new computed ended, failed)
+  -- memory ran out after it, for the changes
+  pub late_run : (wanted : Bool) (said : Said) (query : Query T U) (index : State) (s : Settings) (visits : List (Visit T U)) (answer : Result Outcome Error) (old : Option (List ℕ)) (r : Report) (result : Result Found Failure) (new : Option (List ℕ))
+      → IsComputed query index s answer visits → IsCommandEnd s.lines visits answer old (Ok r) new → IsErrAnd result (λ e. e ≡ Memory) → wanted ≡ true → IsFoundRun wanted said query index s old result new
+  late_run wanted said query index s visits answer old r (Ok found) new computed ended failed is = absurd failed
+  late_run wanted said query index s visits answer old r (Err e) new computed ended failed is = inr (r, status_run query index s visits answer old (Ok r) new computed ended, failed, is)
 
   -- the changes that were found are of entries of the index
-  pub found_inside : (said : Said) (query : Query T U) (index : State) (s : Settings) (old : Option (List ℕ)) (found : Found) (new : Option (List ℕ)) → IsFoundRun said query index s old (Ok found) new → AreInside found.changes.items (index_of index)
+  pub found_inside : (said : Said) (query : Query T U) (index : State) (s : Settings) (old : Option (List ℕ)) (found : Found) (new : Option (List ℕ)) → IsFoundRun true said query index s old (Ok found) new → AreInside found.changes.items (index_of index)
   found_inside said query index s old found new run =
-      subst (λ changes. AreInside changes (index_of index)) (sym run.1.0) (kept_inside said query index run.0.answer run.0.visits run.0.computed.met)
+      subst (λ changes. AreInside changes (index_of index)) (sym (run.1 refl).0) (kept_inside said query index run.0.answer run.0.visits run.0.computed.met)
 
   -- an index whose line ends are converted, and the changes that its status asks for
-  pub index_found : (a : Asking T U) (index : State) (files : List File) (filter : LineEnds) (old : Option (List ℕ)) (result : Result Found Failure) (new : Option (List ℕ))
+  pub index_found : (wanted : Bool) (a : Asking T U) (index : State) (files : List File) (filter : LineEnds) (old : Option (List ℕ)) (result : Result Found Failure) (new : Option (List ℕ))
       → a.are_files index files → attributes_view filter.attributes.now ≡ attributes_of files → filter.auto ≡ a.settings.auto_line_ends → filter.index.now ≡ index → filter.kind ≡ a.settings.kind
-      → IsFoundRun (attributes_view filter.attributes.now) (a.query filter (settings a.settings.options index)) index a.settings old result new → IsIndexFound a index old result new
+      → IsFoundRun wanted (attributes_view filter.attributes.now) (a.query filter (settings a.settings.options filter.index.now)) filter.index.now a.settings old result new → IsIndexFound wanted a index old result new
   unfolding IsIndexFound
-  index_found a index files filter old result new found attributes auto entries kind run =
+  index_found wanted a index files filter old result new found attributes auto entries kind run =
       inl (
         record { files = files; found = found; filter = filter; attributes = attributes; auto = auto; entries = entries; kind = kind },
-        subst (λ said. IsFoundRun said (a.query filter (settings a.settings.options index)) index a.settings old result new) attributes run,
+        subst (λ said. IsFoundRun wanted said (a.query filter (settings a.settings.options index)) index a.settings old result new) attributes
+            (subst (λ at. IsFoundRun wanted (attributes_view filter.attributes.now) (a.query filter (settings a.settings.options at)) at a.settings old result new) entries run),
       )
 
   -- memory ran out before the status of an index
-  pub unfound_index : (a : Asking T U) (index : State) (known : Option (List ℕ)) (result : Result Found Failure)
-      → IsErrAnd result (λ f. f ≡ Memory) → IsIndexFound a index known result known
+  pub unfound_index : (wanted : Bool) (a : Asking T U) (index : State) (known : Option (List ℕ)) (result : Result Found Failure)
+      → IsErrAnd result (λ f. f ≡ Memory) → IsIndexFound wanted a index known result known
   unfolding IsIndexFound
-  unfound_index a index known result failed = inr (failed, refl)
+  unfound_index wanted a index known result failed = inr (failed, refl)
 
-  -- the changes that were found
-  abbrev FoundIn : Asking T U → State → Option (List ℕ) → Found → Option (List ℕ) → Type 0
-  FoundIn a index old found new = (c : Converting a index) × IsFoundRun (attributes_of c.files) (a.query c.filter (settings a.settings.options index)) index a.settings old (Ok found) new
+  -- what was found
+  abbrev FoundIn : Bool → Asking T U → State → Option (List ℕ) → Found → Option (List ℕ) → Type 0
+  FoundIn wanted a index old found new = (c : Converting a index) × IsFoundRun wanted (attributes_of c.files) (a.query c.filter (settings a.settings.options index)) index a.settings old (Ok found) new
 
-  found_in : (a : Asking T U) (index : State) (old : Option (List ℕ)) (found : Found) (new : Option (List ℕ))
-      → IsIndexFound a index old (Ok found) new → FoundIn a index old found new
+  found_in : (wanted : Bool) (a : Asking T U) (index : State) (old : Option (List ℕ)) (found : Found) (new : Option (List ℕ))
+      → IsIndexFound wanted a index old (Ok found) new → FoundIn wanted a index old found new
   unfolding IsIndexFound
-  found_in a index old found new (inl run) = run
-  found_in a index old found new (inr early) = absurd early.0
+  found_in wanted a index old found new (inl run) = run
+  found_in wanted a index old found new (inr early) = absurd early.0
 
   -- they are of entries of the index
   pub index_inside : (a : Asking T U) (index : State) (old : Option (List ℕ)) (found : Found) (new : Option (List ℕ))
-      → IsIndexFound a index old (Ok found) new → AreInside found.changes.items (index_of index)
+      → IsIndexFound true a index old (Ok found) new → AreInside found.changes.items (index_of index)
   index_inside a index old found new run =
-      let c = found_in a index old found new run in found_inside (attributes_of c.0.files) (a.query c.0.filter (settings a.settings.options index)) index a.settings old found new c.1
+      let c = found_in true a index old found new run in found_inside (attributes_of c.0.files) (a.query c.0.filter (settings a.settings.options index)) index a.settings old found new c.1
 
   module _ (a : Asking T U) (bytes : List ℕ) (old : Option (List ℕ)) (index : State) (version : ℕ) (extensions : List ℕ)
       (file : IsFileOf a.settings.kind bytes version (index_of index) extensions) (time : timestamp_of index ≡ a.settings.timestamp) where
     abbrev read_by : Converting a index → ReadFile a bytes
     read_by c = record { index = index; version = version; extensions = extensions; file = file; time = time; converting = c }
 
+    -- a file that was read, and its status, for which no changes are wanted
+    pub reported_file : (found : Found) (new : Option (List ℕ)) → IsIndexFound false a index old (Ok found) new → IsCommandRun a bytes old (Ok found.report) new
+    reported_file found new run =
+        let c = found_in false a index old found new run in file_run a bytes old (Ok found.report) new (read_by c.0) c.1.0
+
+    unreported : (f : Failure) (new : Option (List ℕ)) → IsIndexFound false a index old (Err f) new → IsCommandRun a bytes old (Err f) new
+    unfolding IsIndexFound
+    unreported f new (inl (c, inl run)) = file_run a bytes old (Err f) new (read_by c) run
+    unreported f new (inl (c, inr late)) = absurd (false≢true late.3)
+    unreported f new (inr early) = subst (λ after. IsCommandRun a bytes old (Err f) after) (sym early.1) (early_run a bytes old (Err f) early.0)
+
+    pub unreported_file : (f : Failure) (result : Result Report Failure) (new : Option (List ℕ)) → IsIndexFound false a index old (Err f) new → IsErrAnd result (λ e. e ≡ f) → IsCommandRun a bytes old result new
+    unreported_file f (Ok r) new run failed = absurd failed
+    unreported_file f (Err e) new run failed = subst (λ e. IsCommandRun a bytes old (Err e) new) (sym failed) (unreported f new run)
+
     -- a file that was read, and its new bytes
-    pub refreshed_file : (found : Found) (refreshed new : Option (List ℕ)) → IsIndexFound a index old (Ok found) new
+    pub refreshed_file : (found : Found) (refreshed new : Option (List ℕ)) → IsIndexFound true a index old (Ok found) new
         → IsRefreshedFile a.settings.kind bytes version extensions (index_of index) found.changes.items refreshed → IsFileRefreshed a bytes old found.report found.is_whole extensions refreshed new
     refreshed_file found refreshed new run fits =
-        let c = found_in a index old found new run in
+        let c = found_in true a index old found new run in
         record {
           run = (read_by c.0, c.1.0);
           kept = refl;
-          whole = c.1.1.1;
-          file = subst (λ changes. IsRefreshedFile a.settings.kind bytes version extensions (index_of index) changes refreshed) c.1.1.0 fits;
+          whole = (c.1.1 refl).1;
+          file = subst (λ changes. IsRefreshedFile a.settings.kind bytes version extensions (index_of index) changes refreshed) (c.1.1 refl).0 fits;
         }
 
     -- a file that was read, and whose status fails, or memory ran out after it
-    unrefreshed : (f : Failure) (new : Option (List ℕ)) (c : Converting a index) → IsFoundRun (attributes_of c.files) (a.query c.filter (settings a.settings.options index)) index a.settings old (Err f) new → IsUnrefreshed a bytes old f new
+    unrefreshed : (f : Failure) (new : Option (List ℕ)) (c : Converting a index) → IsFoundRun true (attributes_of c.files) (a.query c.filter (settings a.settings.options index)) index a.settings old (Err f) new → IsUnrefreshed a bytes old f new
     unrefreshed f new c (inl run) = inl (file_run a bytes old (Err f) new (read_by c) run)
     unrefreshed f new c (inr late) = inr (late.0, file_run a bytes old (Ok late.0) new (read_by c) late.1, late.2)
 
-    failed_by : (f : Failure) (new : Option (List ℕ)) → IsIndexFound a index old (Err f) new → IsUnrefreshed a bytes old f new
+    failed_by : (f : Failure) (new : Option (List ℕ)) → IsIndexFound true a index old (Err f) new → IsUnrefreshed a bytes old f new
     unfolding IsIndexFound
     failed_by f new (inl run) = unrefreshed f new run.0 run.1
     failed_by f new (inr early) = inl (subst (λ after. IsCommandRun a bytes old (Err f) after) (sym early.1) (early_run a bytes old (Err f) early.0))
 
-    pub unrefreshed_file : (f : Failure) (result : Result RefreshedFile Failure) (new : Option (List ℕ)) → IsIndexFound a index old (Err f) new → IsErrAnd result (λ e. e ≡ f) → IsRefresh a bytes old result new
+    pub unrefreshed_file : (f : Failure) (result : Result RefreshedFile Failure) (new : Option (List ℕ)) → IsIndexFound true a index old (Err f) new → IsErrAnd result (λ e. e ≡ f) → IsRefresh a bytes old result new
     unfolding IsRefresh
     unrefreshed_file f (Ok r) new run failed = absurd failed
     unrefreshed_file f (Err e) new run failed = subst (λ e. IsUnrefreshed a bytes old e new) (sym failed) (failed_by f new run)
 
     -- memory ran out after the changes were found
-    pub late_file : (found : Found) (result : Result RefreshedFile Failure) (new : Option (List ℕ)) → IsIndexFound a index old (Ok found) new → IsErrAnd result (λ e. e ≡ Memory) → IsRefresh a bytes old result new
+    pub late_file : (found : Found) (result : Result RefreshedFile Failure) (new : Option (List ℕ)) → IsIndexFound true a index old (Ok found) new → IsErrAnd result (λ e. e ≡ Memory) → IsRefresh a bytes old result new
     unfolding IsRefresh
     late_file found (Ok r) new run failed = absurd failed
     late_file found (Err e) new run failed =
-        let c = found_in a index old found new run in inr (found.report, file_run a bytes old (Ok found.report) new (read_by c.0) c.1.0, failed)
+        let c = found_in true a index old found new run in inr (found.report, file_run a bytes old (Ok found.report) new (read_by c.0) c.1.0, failed)
 
   -- a file that was refused
   pub refused_file : (a : Asking T U) (bytes : List ℕ) (known : Option (List ℕ)) (result : Result RefreshedFile Failure) (error : IndexFileError)

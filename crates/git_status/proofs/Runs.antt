@@ -1,11 +1,8 @@
 -- How the parts of a run make the whole.
-use Rattle.std.proofs.Common.{◌≡◌, ℕ, true, false, List, [], Option, None, Some, Result, Ok, Err, IfOk, inl, inr, refl, subst, sym}
+use Rattle.std.proofs.Common.{◌≡◌, ℕ, true, false, List, [], Option, None, Some, Result, Ok, Err, IfOk, inl, inr, refl, subst}
 use Rattle.std.specs.Prelude.{is_some}
 use Rattle.std.specs.Result.{IsErrAnd}
-use Rattle.git_attributes.specs.Files.{File, attributes_of}
-use Rattle.git_attributes.specs.Views.{attributes_view}
-use Rattle.git_attributes.specs.declared.line_ends.LineEnds.{LineEnds}
-use Rattle.git_index.specs.File.{IsFileOf, IsIndexFile}
+use Rattle.git_index.specs.File.{IsIndexFile}
 use Rattle.git_index.specs.Refusals.{IsFileRefusal}
 use Rattle.git_index.specs.declared.fault.IndexFileError.{IndexFileError}
 use Rattle.git_index.specs.declared.fault.IndexFileError.TheVariants as index
@@ -14,14 +11,12 @@ use Rattle.status_call.specs.Query.{Query}
 use Rattle.status_call.specs.StatusOf.{OneThreadSpawnsNone}
 use Rattle.status_call.specs.StatusTheorem.{IsStatusReport}
 use Rattle.status_call.specs.Visits.{Visit}
-use Rattle.status_call.specs.declared.index_as_worktree.inputs.Settings.{Settings as StatusSettings}
 use Rattle.status_call.specs.declared.index_as_worktree.types.Outcome.{Outcome}
 use Rattle.status_compare.specs.declared.error.Error.{Error}
 use Rattle.status_index.specs.Entries.{IndexEntry, IsIndex}
-use Rattle.status_index.specs.States.{index_of, timestamp_of}
 use Rattle.status_index.specs.declared.state.State.{State}
 use Rattle.git_status.specs.Failures.{failure_of_index}
-use Rattle.git_status.specs.Runs.{Asking, IsComputed, IsCommandEnd, IsIndexRun, IsCommandRun, IsStatusRun, ReadFile}
+use Rattle.git_status.specs.Runs.{Asking, IsComputed, IsCommandEnd, IsCommandRun, IsStatusRun, ReadFile}
 use Rattle.git_status.specs.declared.asked.Settings.{Settings}
 use Rattle.git_status.specs.declared.answer.Report.{Report}
 use Rattle.git_status.specs.declared.failure.Failure.{Failure}
@@ -43,20 +38,6 @@ module _ {T U : Type 0} where
       → IsComputed query index s answer visits → IsCommandEnd s.lines visits answer old result new → IsStatusRun query index s old result new
   status_run query index s visits answer old result new computed ended = record { visits = visits; answer = answer; computed = computed; ended = ended }
 
-  -- an index whose line ends are converted, and its status
-  pub index_run : (a : Asking T U) (index : State) (files : List File) (filter : LineEnds) (old : Option (List ℕ)) (result : Result Report Failure) (new : Option (List ℕ))
-      → a.are_files index files → attributes_view filter.attributes.now ≡ attributes_of files → filter.auto ≡ a.settings.auto_line_ends → filter.index.now ≡ index → filter.kind ≡ a.settings.kind
-      → IsStatusRun (a.query filter (settings a.settings.options index)) index a.settings old result new → IsIndexRun a index old result new
-  unfolding IsIndexRun
-  index_run a index files filter old result new found attributes auto entries kind run =
-      inl (record { files = files; found = found; filter = filter; attributes = attributes; auto = auto; entries = entries; kind = kind }, run)
-
-  -- memory ran out before the status of an index
-  pub unread_run : (a : Asking T U) (index : State) (known : Option (List ℕ)) (result : Result Report Failure)
-      → IsErrAnd result (λ f. f ≡ Memory) → IsIndexRun a index known result known
-  unfolding IsIndexRun
-  unread_run a index known result failed = inr (failed, refl)
-
   -- a file that was read, and the status of its index
   pub file_run : (a : Asking T U) (bytes : List ℕ) (old : Option (List ℕ)) (result : Result Report Failure) (new : Option (List ℕ)) (read : ReadFile a bytes)
       → IsStatusRun (a.query read.converting.filter (settings a.settings.options read.index)) read.index a.settings old result new → IsCommandRun a bytes old result new
@@ -76,16 +57,6 @@ module _ {T U : Type 0} where
   pub early_run : (a : Asking T U) (bytes : List ℕ) (known : Option (List ℕ)) (result : Result Report Failure)
       → IsErrAnd result (λ f. f ≡ Memory) → IsCommandRun a bytes known result known
   early_run a bytes known result failed = refused_run a bytes known result index.Memory (record { applies = tt; passes = tt }) (λ es file valid. refl) failed
-
-  -- the status of an index that was read
-  pub read_run : (a : Asking T U) (bytes : List ℕ) (old : Option (List ℕ)) (result : Result Report Failure) (new : Option (List ℕ)) (index : State) (version : ℕ) (extensions : List ℕ)
-      → IsFileOf a.settings.kind bytes version (index_of index) extensions → timestamp_of index ≡ a.settings.timestamp
-      → IsIndexRun a index old result new → IsCommandRun a bytes old result new
-  unfolding IsIndexRun
-  read_run a bytes old result new index version extensions file time (inl run) =
-      file_run a bytes old result new (record { index = index; version = version; extensions = extensions; file = file; time = time; converting = run.0 }) run.1
-  read_run a bytes old result new index version extensions file time (inr early) =
-      subst (λ after. IsCommandRun a bytes old result after) (sym early.1) (early_run a bytes old result early.0)
 
 -- nothing isn't something
 pub none_not_some : {A : Type 0} (x : Option A) → x ≡ None → is_some x ≡ true → ⊥

@@ -1,5 +1,6 @@
 pub mod Differences
 pub mod Failures
+pub mod Founds
 pub mod Inputs
 pub mod Kept
 pub mod Lines

@@ -1,32 +1,23 @@
 -- The index file after a refresh: the same, except for the changes that the refresh makes.
 use Rattle.std.specs.Prelude.{◌≡◌, ◌≢◌, ◌⊎◌, ◌↔◌, ℕ, Bool, false, List, [], replicate, Option, Some, None, Result, Ok, Err}
 use Rattle.std.specs.Option.{option_map}
-use Rattle.std.specs.Result.{IsErrAnd}
-use Rattle.git_attributes.specs.Files.{File, Said, attributes_of}
-use Rattle.git_attributes.specs.declared.line_ends.LineEnds.{LineEnds}
+use Rattle.git_attributes.specs.Files.{attributes_of}
 use Rattle.git_index.specs.File.{IsFileOf}
 use Rattle.git_index.specs.RawEntry.{id_len}
 use Rattle.git_index.specs.Refusals.{sum_of}
 use Rattle.git_index.specs.Writing.{file_bytes}
-use Rattle.status_call.specs.Inputs.{settings}
 use Rattle.status_call.specs.IndexChanges.{applied}
-use Rattle.status_call.specs.Query.{Query}
-use Rattle.status_call.specs.Visits.{Visit}
 use Rattle.status_call.specs.declared.index_as_worktree.apply.ApplyChange.{ApplyChange}
-use Rattle.status_call.specs.declared.index_as_worktree.inputs.Settings.{Settings as StatusSettings}
 use Rattle.status_index.specs.Entries.{IndexEntry, IsIndex}
 use Rattle.status_index.specs.States.{index_of}
 use Rattle.status_index.specs.declared.id.HashKind.{HashKind}
-use Rattle.status_index.specs.declared.state.State.{State}
 use Rattle.git_status.specs.Kept.{is_whole, kept_changes}
-use Rattle.git_status.specs.Runs.{Asking, Converting, IsFileRun, IsCommandRun, IsStatusRun}
-use Rattle.git_status.specs.declared.asked.Settings.{Settings}
+use Rattle.git_status.specs.Runs.{Asking, IsFileRun, IsCommandRun}
 use Rattle.git_status.specs.declared.answer.Report.{Report}
 use Rattle.git_status.specs.declared.failure.Failure.{Failure}
 use Rattle.git_status.specs.declared.failure.Failure.TheVariants.{Memory}
 use Rattle.git_status.specs.declared.refresh.Refreshed.{Refreshed}
 use Rattle.git_status.specs.declared.refresh.RefreshedFile.{RefreshedFile}
-use Rattle.git_status.specs.declared.refresh.Found.{Found}
 
 -- A file of these entries, written with a checksum unless the old bytes end in zeros in place of one; its index is valid.
 pub record IsIndexRewritten (kind : HashKind) (old : List ℕ) (version : ℕ) (extensions : List ℕ) (es : List IndexEntry) (bytes : List ℕ) : Type 0 where
@@ -42,20 +33,6 @@ IsRefreshedFile kind old version extensions es changes None = changes ≡ []
 IsRefreshedFile kind old version extensions es changes (Some bytes) = (changes ≢ []) × IsIndexRewritten kind old version extensions (applied changes es) bytes
 
 module _ {T U : Type 0} where
-  -- The changes that a refresh makes by these records, and whether it is whole.
-  abbrev pub IsFoundIn : Said → List (Visit T U) → Found → Type 0
-  IsFoundIn said visits found = (found.changes.items ≡ kept_changes said visits) × (found.is_whole ≡ is_whole said visits found.report.outcome)
-
-  -- A status of this index was printed, with the changes that a refresh makes; or it failed; or memory ran out after it was printed.
-  abbrev pub IsFoundRun : Said → Query T U → State → Settings → Option (List ℕ) → Result Found Failure → Option (List ℕ) → Type 0
-  IsFoundRun said query index s old (Ok found) new = (run : IsStatusRun query index s old (Ok found.report) new) × IsFoundIn said run.visits found
-  IsFoundRun said query index s old (Err f) new = IsStatusRun query index s old (Err f) new ⊎ ((r : Report) × IsStatusRun query index s old (Ok r) new × (f ≡ Memory))
-
-  -- The same, with line ends converted; or memory ran out before it.
-  unfoldable pub IsIndexFound : Asking T U → State → Option (List ℕ) → Result Found Failure → Option (List ℕ) → Type 0
-  IsIndexFound a index old result new =
-      ((c : Converting a index) × IsFoundRun (attributes_of c.files) (a.query c.filter (settings a.settings.options index)) index a.settings old result new) ⊎ (IsErrAnd result (λ f. f ≡ Memory) × (new ≡ old))
-
   -- The status of an index file was printed, these are the file's extensions and its new bytes, and this states whether the refresh is whole.
   pub record IsFileRefreshed (a : Asking T U) (bytes : List ℕ) (old : Option (List ℕ)) (r : Report) (all : Bool) (extensions : List ℕ) (refreshed new : Option (List ℕ)) : Type 0 where
     pub run : IsFileRun a bytes old (Ok r) new

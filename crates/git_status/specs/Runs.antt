@@ -114,11 +114,6 @@ module _ {T U : Type 0} where
     pub computed : IsComputed query index s answer visits
     pub ended : IsCommandEnd s.lines visits answer old result new
 
-  -- A status of this index was printed, with line ends converted; or memory ran out before it.
-  unfoldable pub IsIndexRun : Asking T U → State → Option (List ℕ) → Result Report Failure → Option (List ℕ) → Type 0
-  IsIndexRun a index old result new =
-      ((c : Converting a index) × IsStatusRun (a.query c.filter (settings a.settings.options index)) index a.settings old result new) ⊎ (IsErrAnd result (λ f. f ≡ Memory) × (new ≡ old))
-
   -- The status of an index that was read was printed.
   abbrev pub IsFileRun : Asking T U → List ℕ → Option (List ℕ) → Result Report Failure → Option (List ℕ) → Type 0
   IsFileRun a bytes old result new =

@@ -1,22 +1,20 @@
 //! The command, over any worktree, index bytes and writers.
 
 ghost use Rattle.std.specs.Prelude.{◌≡◌, ◌≢◌, ◌⊎◌, true, false};
-ghost use Rattle.status_call.specs.Inputs.{settings};
 ghost use Rattle.git_status.specs.Printing.{IsFaultLine};
-ghost use Rattle.git_status.specs.Runs.{IsExit, IsFailedExit, IsIndexRun, IsCommandRun, IsStatusRun};
+ghost use Rattle.git_status.specs.Runs.{IsExit, IsFailedExit, IsCommandRun};
 
-use crate::answer::{Report, print_answer};
+use crate::answer::Report;
 use crate::asked::{Asked, Question, Settings};
 use crate::failure::Failure;
 use crate::fault_place::Search;
-use crate::notes::{noted_paths, print_notes};
+use crate::found::{Found, print_index};
+use crate::notes::print_notes;
 use crate::output::print_failure;
-use crate::status::{Computed, compute, filter_of};
-use git_attributes::{AttributeFiles, LineEnds, attributes_of};
+use git_attributes::AttributeFiles;
 use git_index::read_index;
 use status_base::worktree::{Pathspec, SubmoduleStatus, Worktree};
 use status_call::index_as_worktree::{Error, Outcome};
-use status_index::State;
 use std::io::{self, Write as _};
 use std::sync::Wait;
 use std::thread::Threads;
@@ -122,7 +120,7 @@ fn print_stats<E: io::Write>(outcome: &Outcome, faults: &mut E) {
 /// Prints the status of an index file.
 ///
 /// # Errors
-/// The bytes aren't an index file, memory runs out, or the failures of `print_status`.
+/// The bytes aren't an index file, memory runs out, or the failures of `print_index`.
 pub fn print_file<
     'a,
     R: AllocGlobal + Threads + Wait,
@@ -143,66 +141,6 @@ where
         ..
     } = asked.settings;
     let file = read_index(rt.alloc(), kind, bytes, timestamp)?;
-    print_index(rt, &file.state, asked, output)
-}
-
-/// Prints the status of an index, with line ends converted by the attribute files.
-///
-/// # Errors
-/// Memory runs out, or the failures of `print_status`.
-fn print_index<
-    'a,
-    R: AllocGlobal + Threads + Wait,
-    W: Worktree + Sync,
-    S: SubmoduleStatus + Send,
-    P: Pathspec + Send,
-    A: AttributeFiles,
-    O: io::Write,
->(rt: &R, index: &State, asked: Asked<'a, W, S, P, A>, output: &mut O) -> Result<Report, Failure>
-where
-    W::File: Send,
-    S::Output: Send,
-    ensures { IsIndexRun (⟦<Asked<'a, W, S, P, A> as Question>⟧.asking asked.entry) index.now (O.contents output.old) result (O.contents output.new) }
-{
-    let alloc = rt.alloc();
-    let files = asked.attributes.find(alloc, index)?;
-    let attributes = attributes_of(alloc, &files)?;
-    let filter = filter_of(&attributes, index, &asked.settings);
-    print_status(rt, index, filter, asked, output)
-}
-
-/// Prints the status of an index.
-///
-/// # Errors
-/// The status's error, after the lines before it were printed; or the output can't be written, or memory ran out.
-fn print_status<
-    'a,
-    'b,
-    'files,
-    'index,
-    R: AllocGlobal + Threads + Wait,
-    W: Worktree + Sync,
-    S: SubmoduleStatus + Send,
-    P: Pathspec + Send,
-    A: AttributeFiles,
-    O: io::Write,
->(
-    rt: &R,
-    index: &'index State,
-    filter: LineEnds<'b, 'files, 'index>,
-    asked: Asked<'a, W, S, P, A>,
-    output: &mut O,
-) -> Result<Report, Failure>
-where
-    W::File: Send,
-    S::Output: Send,
-    ensures { IsStatusRun ((⟦<Asked<'a, W, S, P, A> as Question>⟧.asking asked.entry).query filter.entry (settings asked.entry.settings.options index.now)) index.now asked.entry.settings (O.contents output.old) result (O.contents output.new) }
-{
-    let alloc = rt.alloc();
-    let Settings { lines, notes, .. } = asked.settings;
-    let attributes = filter.attributes;
-    let Computed { recorder, answer } = compute(rt, index, filter, asked);
-    let records = recorder.records.as_slice();
-    let unconverted = noted_paths(alloc, notes, attributes, records);
-    print_answer(alloc, lines, records, unconverted, answer, output)
+    let Found { report, .. } = print_index(rt, &file.state, asked, false, output)?;
+    Ok(report)
 }

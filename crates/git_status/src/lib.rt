@@ -1,10 +1,11 @@
 //! The command `git dirty`, over the bytes of an index file, any worktree and any writers.
 //!
-//! Read `dirty` first, which has the command, and `asked`, what it is asked. `status` computes the status, and `answer`
-//! prints its lines and says what was found. `refresh` has the command with the new bytes of the index file, and `kept`
-//! the changes in them. `lines` has git's lines and quoted paths; `output` writes them. `paths` is a pathspec of files
-//! and folders. `watcher` stops at the first difference. `notes` are on files that the status doesn't convert.
-//! `failure` says why the command fails, `fault_place` at which path, and `laws` what a user relies on.
+//! Read `dirty` first, which has the command, and `asked`, what it is asked. `status` computes the status of an index,
+//! `found` prints it and returns what was found, and `answer` has its lines and its report. `refresh` has the command
+//! with the new bytes of the index file, and `kept` the changes in them. `lines` has git's lines and quoted paths;
+//! `output` writes them. `paths` is a pathspec of files and folders. `watcher` stops at the first difference. `notes`
+//! are on files that the status doesn't convert. `failure` says why the command fails, `fault_place` at which path, and
+//! `laws` what a user relies on.
 #![tactic(auto)]
 
 mod answer;
@@ -12,6 +13,7 @@ mod asked;
 mod dirty;
 mod failure;
 mod fault_place;
+mod found;
 mod kept;
 mod laws;
 pub mod lines;

@@ -1,24 +1,19 @@
 //! The command with the index file that it leaves: the stats of unchanged entries are renewed.
 
 ghost use Rattle.std.specs.Prelude.{◌≡◌, ◌≢◌, ◌⊎◌, ◌<◌, true, false, None};
-ghost use Rattle.status_call.specs.Inputs.{settings};
-ghost use Rattle.git_attributes.specs.Views.{attributes_view};
 ghost use Rattle.git_status.specs.Printing.{IsFaultLine};
-ghost use Rattle.git_status.specs.Refreshes.{IsFoundRun, IsIndexFound, IsRefresh, IsRefreshExit, IsRefreshFailedExit};
+ghost use Rattle.git_status.specs.Refreshes.{IsRefresh, IsRefreshExit, IsRefreshFailedExit};
 
-use crate::answer::{Report, print_answer};
+use crate::answer::Report;
 use crate::asked::{Asked, Question, Settings};
 use crate::dirty::{print_besides, report_failure};
 use crate::failure::Failure;
 use crate::fault_place::Search;
-use crate::kept::{Kept, changed_bytes, has_all, kept_changes};
-use crate::notes::noted_paths;
-use crate::status::{Computed, compute, filter_of};
-use git_attributes::{AttributeFiles, LineEnds, attributes_of};
+use crate::found::{Found, print_index};
+use crate::kept::changed_bytes;
+use git_attributes::AttributeFiles;
 use git_index::read_index;
 use status_base::worktree::{Pathspec, SubmoduleStatus, Worktree};
-use status_call::index_as_worktree::ApplyChange;
-use status_index::State;
 use std::io;
 use std::sync::Wait;
 use std::thread::Threads;
@@ -44,14 +39,6 @@ pub struct RefreshedFile<'b> {
     pub bytes: Option<Vec<u8>>,
     pub is_whole: bool,
     pub extensions: &'b [u8],
-}
-
-/// The result of a status, and the changes that a refresh makes.
-#[derive(Debug, Drop)]
-pub struct Found {
-    pub report: Report,
-    pub changes: Vec<ApplyChange>,
-    pub is_whole: bool,
 }
 
 /// Does what `run_dirty` does, and returns the new bytes of the index file: of each unchanged entry with an old stat the
@@ -150,7 +137,7 @@ where
         report,
         changes,
         is_whole,
-    } = find_in_index(rt, &file.state, asked, output)?;
+    } = print_index(rt, &file.state, asked, true, output)?;
     let extensions = file.extensions;
     if changes.is_empty() {
         return Ok(RefreshedFile {
@@ -166,73 +153,5 @@ where
         bytes: Some(bytes),
         is_whole,
         extensions,
-    })
-}
-
-/// Prints the status of an index, with line ends converted by the attribute files, and returns the changes that a refresh makes.
-///
-/// # Errors
-/// Memory runs out, or the failures of `find_changes`.
-fn find_in_index<
-    'a,
-    R: AllocGlobal + Threads + Wait,
-    W: Worktree + Sync,
-    S: SubmoduleStatus + Send,
-    P: Pathspec + Send,
-    A: AttributeFiles,
-    O: io::Write,
->(rt: &R, index: &State, asked: Asked<'a, W, S, P, A>, output: &mut O) -> Result<Found, Failure>
-where
-    W::File: Send,
-    S::Output: Send,
-    ensures { IsIndexFound (⟦<Asked<'a, W, S, P, A> as Question>⟧.asking asked.entry) index.now (O.contents output.old) result (O.contents output.new) }
-{
-    let alloc = rt.alloc();
-    let files = asked.attributes.find(alloc, index)?;
-    let attributes = attributes_of(alloc, &files)?;
-    let filter = filter_of(&attributes, index, &asked.settings);
-    find_changes(rt, index, filter, asked, output)
-}
-
-/// Prints the status of an index, and returns the changes that a refresh makes.
-///
-/// # Errors
-/// Those of `print_status`, or out of memory after all lines were printed.
-fn find_changes<
-    'a,
-    'b,
-    'files,
-    'index,
-    R: AllocGlobal + Threads + Wait,
-    W: Worktree + Sync,
-    S: SubmoduleStatus + Send,
-    P: Pathspec + Send,
-    A: AttributeFiles,
-    O: io::Write,
->(
-    rt: &R,
-    index: &'index State,
-    filter: LineEnds<'b, 'files, 'index>,
-    asked: Asked<'a, W, S, P, A>,
-    output: &mut O,
-) -> Result<Found, Failure>
-where
-    W::File: Send,
-    S::Output: Send,
-    ensures { IsFoundRun (attributes_view filter.entry.attributes.now) ((⟦<Asked<'a, W, S, P, A> as Question>⟧.asking asked.entry).query filter.entry (settings asked.entry.settings.options index.now)) index.now asked.entry.settings (O.contents output.old) result (O.contents output.new) }
-{
-    let alloc = rt.alloc();
-    let Settings { lines, notes, .. } = asked.settings;
-    let attributes = filter.attributes;
-    let Computed { recorder, answer } = compute(rt, index, filter, asked);
-    let records = recorder.records.as_slice();
-    let unconverted = noted_paths(alloc, notes, attributes, records);
-    let report = print_answer(alloc, lines, records, unconverted, answer, output)?;
-    let Kept { changes, are_all } = kept_changes(alloc, attributes, records)?;
-    let is_whole = has_all(are_all, &report.outcome);
-    Ok(Found {
-        report,
-        changes,
-        is_whole,
     })
 }

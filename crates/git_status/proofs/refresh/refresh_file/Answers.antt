@@ -17,7 +17,7 @@ returns-in_err-report g c =
     let file = c.in_ok-file.file in
     let failed = c.from_residual-in_err-report in
     unrefreshed_file _ c.args.bytes.now _ file.state file.version file.extensions.now c.in_ok-file.ensures.found c.in_ok-file.ensures.timestamp _ failed.result _
-    (rw c.in_err-report.was at c.find_in_index.ensures) failed.ensures.1
+    (rw c.in_err-report.was at c.print_index.ensures) failed.ensures.1
 
 pub returns-then-is_empty : goal.returns-then-is_empty
 unfolding IsRefresh
@@ -25,20 +25,20 @@ returns-then-is_empty g c =
     let file = c.in_ok-file.file in
     let found = c.in_ok-report.field-0 in
     refreshed_file _ c.args.bytes.now _ file.state file.version file.extensions.now c.in_ok-file.ensures.found c.in_ok-file.ensures.timestamp found None _
-    (rw c.in_ok-report.was at c.find_in_index.ensures) (nil_from_length found.changes.items (omega (arith, eqb-true found.changes.len 0 (sym c.is_empty.ensures ∙ c.if-is_empty.true), found.changes.ok.0)))
+    (rw c.in_ok-report.was at c.print_index.ensures) (nil_from_length found.changes.items (omega (arith, eqb-true found.changes.len 0 (sym c.is_empty.ensures ∙ c.if-is_empty.true), found.changes.ok.0)))
 
 pub changed_bytes-requires-clause-inside : goal.changed_bytes-requires-clause-inside
 changed_bytes-requires-clause-inside g c =
     let file = c.in_ok-file.file in
     subst (λ changes. AreInside changes (index_of file.state)) (sym c.deref.ensures.value)
-    (index_inside _ file.state _ c.in_ok-report.field-0 _ (rw c.in_ok-report.was at c.find_in_index.ensures))
+    (index_inside _ file.state _ c.in_ok-report.field-0 _ (rw c.in_ok-report.was at c.print_index.ensures))
 
 pub returns-in_err-bytes : goal.returns-in_err-bytes
 returns-in_err-bytes g c =
     let file = c.in_ok-file.file in
     let failed = c.from_residual-in_err-bytes in
     late_file _ c.args.bytes.now _ file.state file.version file.extensions.now c.in_ok-file.ensures.found c.in_ok-file.ensures.timestamp c.in_ok-report.field-0 failed.result _
-    (rw c.in_ok-report.was at c.find_in_index.ensures) failed.ensures.1
+    (rw c.in_ok-report.was at c.print_index.ensures) failed.ensures.1
 
 pub returns : goal.returns
 unfolding IsRefresh
@@ -47,7 +47,7 @@ returns g c =
     let found = c.in_ok-report.field-0 in
     let made = rw (c.deref.ensures.value, c.in_ok-file.ensures.kind) at c.in_ok-bytes.ensures in
     refreshed_file _ c.args.bytes.now _ file.state file.version file.extensions.now c.in_ok-file.ensures.found c.in_ok-file.ensures.timestamp found (Some c.in_ok-bytes.bytes.items) _
-    (rw c.in_ok-report.was at c.find_in_index.ensures) (
+    (rw c.in_ok-report.was at c.print_index.ensures) (
       not_empty found.changes.items found.changes.len (omega (arith, found.changes.ok.0)) (sym c.is_empty.ensures ∙ c.if-is_empty.false),
       record { has_checksum = file.has_checksum; sum = c.in_ok-file.ensures.sum; written = made.bytes; file = made.file; valid = made.valid },
     )

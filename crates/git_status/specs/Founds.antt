@@ -1,0 +1,31 @@
+-- The status of an index, with the changes that a refresh makes if they are wanted.
+use Rattle.std.specs.Prelude.{◌≡◌, ◌⊎◌, ℕ, Bool, true, List, Option, Result, Ok, Err}
+use Rattle.std.specs.Result.{IsErrAnd}
+use Rattle.git_attributes.specs.Files.{Said, attributes_of}
+use Rattle.status_call.specs.Inputs.{settings}
+use Rattle.status_call.specs.Query.{Query}
+use Rattle.status_call.specs.Visits.{Visit}
+use Rattle.status_index.specs.declared.state.State.{State}
+use Rattle.git_status.specs.Kept.{is_whole, kept_changes}
+use Rattle.git_status.specs.Runs.{Asking, Converting, IsStatusRun}
+use Rattle.git_status.specs.declared.asked.Settings.{Settings}
+use Rattle.git_status.specs.declared.answer.Report.{Report}
+use Rattle.git_status.specs.declared.failure.Failure.{Failure}
+use Rattle.git_status.specs.declared.failure.Failure.TheVariants.{Memory}
+use Rattle.git_status.specs.declared.found.Found.{Found}
+
+module _ {T U : Type 0} where
+  -- The changes that a refresh makes by these records, and whether it is whole.
+  abbrev pub IsFoundIn : Said → List (Visit T U) → Found → Type 0
+  IsFoundIn said visits found = (found.changes.items ≡ kept_changes said visits) × (found.is_whole ≡ is_whole said visits found.report.outcome)
+
+  -- A status of this index was printed, with the changes that a refresh makes if they are wanted; or it failed; or memory ran out for the
+  -- changes after it was printed.
+  abbrev pub IsFoundRun : Bool → Said → Query T U → State → Settings → Option (List ℕ) → Result Found Failure → Option (List ℕ) → Type 0
+  IsFoundRun wanted said query index s old (Ok found) new = (run : IsStatusRun query index s old (Ok found.report) new) × (wanted ≡ true → IsFoundIn said run.visits found)
+  IsFoundRun wanted said query index s old (Err f) new = IsStatusRun query index s old (Err f) new ⊎ ((r : Report) × IsStatusRun query index s old (Ok r) new × (f ≡ Memory) × (wanted ≡ true))
+
+  -- The same, with line ends converted; or memory ran out before it.
+  unfoldable pub IsIndexFound : Bool → Asking T U → State → Option (List ℕ) → Result Found Failure → Option (List ℕ) → Type 0
+  IsIndexFound wanted a index old result new =
+      ((c : Converting a index) × IsFoundRun wanted (attributes_of c.files) (a.query c.filter (settings a.settings.options index)) index a.settings old result new) ⊎ (IsErrAnd result (λ f. f ≡ Memory) × (new ≡ old))
