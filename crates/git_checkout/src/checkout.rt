@@ -3,8 +3,7 @@
 use crate::index_file::read_index_file;
 use crate::refresh::Refresh;
 use crate::refused::Refused;
-use crate::request::Request;
-use crate::selection::path_from_top;
+use crate::request::{Request, selected_paths};
 use git_attributes::AttributeFiles;
 use git_repository::{
     GitAttributeFiles, GitWorktree, IgnoredSubmodules, Repository, SubmoduleHeads, time_of_lock,
@@ -191,28 +190,6 @@ fn note_unread<E: io::Write>(repository: &Repository, ignored: &IgnoredSubmodule
 /// Writes a note. If it can't be written, there is nowhere left to report that.
 fn note<E: io::Write>(faults: &mut E, words: &'static str) {
     let _ = writeln!(faults, "git dirty: note: {words}");
-}
-
-/// Returns the paths that the request selects, from the worktree's top. The list is empty if they select all.
-fn selected_paths(
-    alloc: Global,
-    repository: &Repository,
-    words: &[&str],
-) -> Result<Vec<String>, Refused> {
-    let mut paths = Vec::new(alloc);
-    for word in words {
-        let path = path_from_top(
-            alloc,
-            repository.top.as_str(),
-            repository.prefix.as_str(),
-            word,
-        )?;
-        if path.is_empty() {
-            return Ok(Vec::new(alloc));
-        }
-        paths.push(path)?;
-    }
-    Ok(paths)
 }
 
 /// Returns how a repository's entries are compared and printed.

@@ -1,9 +1,9 @@
 //! The status of a checkout on disk: all of the command `git dirty` but its command line, for programs that ask for
 //! it.
 //!
-//! Read `request` first, the options of a call, and then `checkout`, the calls. They find the repository, read its
-//! index file (`index_file`) and select paths (`selection`). The contract of the comparison is that of `run_dirty` in
-//! the crate git_status. `refresh` writes the new index file, and `refused` is why a call can't begin.
+//! Read `request` first, the options of a call and the paths that it selects, and then `checkout`, the calls. They find
+//! the repository and read its index file (`index_file`). The contract of the comparison is that of `run_dirty` in the
+//! crate git_status. `refresh` writes the new index file, and `refused` is why a call can't begin.
 #![tactic(auto)]
 
 pub mod checkout;
@@ -11,7 +11,6 @@ mod index_file;
 mod refresh;
 mod refused;
 pub mod request;
-mod selection;
 #[cfg(test)]
 mod tests;
 
