@@ -386,7 +386,7 @@ class Conversions(LineEnds):
         self.write(".git/x y", "a text\n")
         self.write(".git/x\ty", "b text\n")
         self.put_config("attributesFile = .git/x\ty\n")
-        self.assertEqual(self.git_lines(), b" M b\n M d/a\n M d/e/a\n")
+        self.assertEqual(self.git_lines(), b" M b\n")
         self.assert_ends(self.ran(), b" M a\n M d/a\n M d/e/a\n")
         self.put_config('attributesFile = ".git/x\ty"\n')
         self.assertEqual(self.ask(), "a d/a d/e/a")
