@@ -3,17 +3,8 @@
 //! Each module has items of the crates below.
 #![tactic(auto)]
 
-pub use status_base::{board, fscache, stack};
+pub use status_base::{board, fscache, index, stack};
 pub use status_world::world;
-
-/// The index: its entries, their stats, modes, flags and ids.
-pub mod index {
-    pub use status_index::{
-        Entry, EntryKind, Flags, HashKind, IndexError, Mode, Moment, NewEntry, ObjectId,
-        PathStorage, Probe, Stat, State, Time, compute_hash, compute_stream_hash, mode, orders,
-        search, stat,
-    };
-}
 
 /// The status of an index against a worktree.
 pub mod index_as_worktree {

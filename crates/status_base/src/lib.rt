@@ -2,8 +2,8 @@
 //! link.
 //!
 //! Read `worktree` first: a module for each interface, and the worktrees and blobs in memory and on the disk. Then
-//! `stack`, the link check, and `fscache`, which caches listings of directories. `board` re-exports a module of the crate
-//! below, under the name that callers use.
+//! `stack`, the link check, and `fscache`, which caches listings of directories. `board` and `index` re-export what the
+//! crates below have, under the names that callers use.
 #![tactic(auto)]
 
 mod components;
@@ -12,3 +12,12 @@ pub mod stack;
 pub mod worktree;
 
 pub use status_board::board;
+
+/// The index: its entries, their stats, modes, flags and ids.
+pub mod index {
+    pub use status_index::{
+        Entry, EntryKind, Flags, HashKind, IndexError, Mode, Moment, NewEntry, ObjectId,
+        PathStorage, Probe, Stat, State, Time, compute_hash, compute_stream_hash, mode, orders,
+        search, stat,
+    };
+}

@@ -13,7 +13,7 @@ use Rattle.status_call.specs.declared.index_as_worktree.counts.Progress.{Progres
 use Rattle.status_call.specs.declared.index_as_worktree.counts.Totals.{Totals}
 use Rattle.status_call.specs.Counts.{IsWithin, no_totals, plus_counts, plus_totals}
 use Rattle.status_call.specs.Reporting.{Reports, IsPlacedIn}
-use Rattle.status_call.specs.Pieces.{IsDone, IsFaultAt, IsPiece, IsThrough, IsUncut}
+use Rattle.status_call.specs.Pieces.{IsDone, IsFaultAt, IsPiece, IsThrough, IsUninterrupted}
 use Rattle.status_call.specs.PieceReporting.{IsCounted, IsPieceFed}
 use Rattle.status_call.specs.Query.{Query}
 use Rattle.status_call.specs.Rounds.{AreInRow, IsInRow, IsResult}
@@ -104,7 +104,7 @@ module _ {T U : Type 0} (q : Query T U) (start : ℕ) (es : List IndexEntry) (fr
         place = p.reached;
         done = done_sum o c true h.1 sums;
         reached = λ still. absurd (cc);
-        uninterrupted = λ still. absurd (subst (λ (e : End). IsUncut e) h.0 (row.result.uncut still));
+        uninterrupted = λ still. absurd (subst (λ (e : End). IsUninterrupted e) h.0 (row.result.uninterrupted still));
       };
     }
 
@@ -219,20 +219,20 @@ work_as q start es faithful interruptible other workers from place to old new re
     (subst (λ b. IsReportedWork q start es place faithful b workers to old result new) flag work)
 
 -- A piece that was walked, by an equal query, is a result.
-pub result_of : {T U X : Type 0} (q r : Query T U) (interrupt : Option X) (start : ℕ) (es : List IndexEntry) (at to : ℕ) (p : Piece T U) → r ≡ q → IsPiece r start es at to p → (interrupt ≡ None → IsUncut p.end)
+pub result_of : {T U X : Type 0} (q r : Query T U) (interrupt : Option X) (start : ℕ) (es : List IndexEntry) (at to : ℕ) (p : Piece T U) → r ≡ q → IsPiece r start es at to p → (interrupt ≡ None → IsUninterrupted p.end)
     → IsResult q (is_some interrupt) start es at to p
-result_of q r interrupt start es at to p same piece uncut = record {
+result_of q r interrupt start es at to p same piece uninterrupted = record {
   piece = subst (λ x. IsPiece x start es at to p) same piece;
-  uncut = λ h. uncut (none_of interrupt h);
+  uninterrupted = λ h. uninterrupted (none_of interrupt h);
 }
 
 -- The same in a row.
-pub row_of : {T U X : Type 0} (q r : Query T U) (interrupt : Option X) (start : ℕ) (es : List IndexEntry) (at to : ℕ) (p : Piece T U) → r ≡ q → to ≤ length es → IsPiece r start es at to p → (interrupt ≡ None → IsUncut p.end)
+pub row_of : {T U X : Type 0} (q r : Query T U) (interrupt : Option X) (start : ℕ) (es : List IndexEntry) (at to : ℕ) (p : Piece T U) → r ≡ q → to ≤ length es → IsPiece r start es at to p → (interrupt ≡ None → IsUninterrupted p.end)
     → IsInRow q (is_some interrupt) start es at p
-row_of q r interrupt start es at to p same inside piece uncut = record {
+row_of q r interrupt start es at to p same inside piece uninterrupted = record {
   to = to;
   inside = inside;
-  result = result_of q r interrupt start es at to p same piece uncut;
+  result = result_of q r interrupt start es at to p same piece uninterrupted;
 }
 
 -- A whole piece reached its end.

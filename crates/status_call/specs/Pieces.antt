@@ -20,10 +20,10 @@ abbrev pub IsCut : List IndexEntry → ℕ → Type 0
 IsCut es k = All (λ d. All (λ r. same_path d r ≡ false) (drop k es)) (take k es)
 
 -- The interrupt flag wasn't seen.
-abbrev pub IsUncut : End → Type 0
-IsUncut Whole = ⊤
-IsUncut (Faulty x) = ⊤
-IsUncut Interrupted = ⊥
+abbrev pub IsUninterrupted : End → Type 0
+IsUninterrupted Whole = ⊤
+IsUninterrupted (Faulty x) = ⊤
+IsUninterrupted Interrupted = ⊥
 
 module _ {T U : Type 0} (q : Query T U) where
   -- The records and counts of the considered entries from position `from` up to position `at`, none of which has a fault. The

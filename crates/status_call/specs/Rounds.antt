@@ -5,7 +5,7 @@ use Rattle.status_index.specs.Entries.{IndexEntry}
 use Rattle.status_call.specs.declared.index_as_worktree.piece.End.{End}
 use Rattle.status_call.specs.declared.index_as_worktree.piece.End.TheVariants.{Whole, Interrupted, Faulty}
 use Rattle.status_call.specs.declared.index_as_worktree.piece.Piece.{Piece}
-use Rattle.status_call.specs.Pieces.{IsCut, IsPiece, IsUncut}
+use Rattle.status_call.specs.Pieces.{IsCut, IsPiece, IsUninterrupted}
 use Rattle.status_call.specs.Query.{Query}
 
 -- The start of the first piece, and the end of each. No path has entries in two pieces.
@@ -46,7 +46,7 @@ module _ {T U : Type 0} (q : Query T U) (interruptible : Bool) (start : ℕ) (es
     -- The possible results of the piece from position `at` to position `to`.
     pub record IsResult (at to : ℕ) (p : Piece T U) : Type 0 where
       pub piece : IsPiece q start es at to p
-      pub uncut : interruptible ≡ false → IsUncut p.end
+      pub uninterrupted : interruptible ≡ false → IsUninterrupted p.end
 
     -- A piece from position `at` on.
     pub record IsInRow (at : ℕ) (p : Piece T U) : Type 0 where

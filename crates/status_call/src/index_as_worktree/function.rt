@@ -29,7 +29,8 @@ use std::thread::Threads;
 /// The work is shared by workers, at most as many as the options' thread limit allows. One of them runs in the caller's
 /// thread, each other one in a thread that has ended when the call returns. If the context's interrupt flag is seen
 /// set, the call ends early, and the outcome reports that. It then counts the first of the considered entries, whose
-/// records were reported.
+/// records were reported. Workers check the flag before each entry. The collector is called after each round of at most
+/// eight pieces a worker, so a flag that it sets ends the call after that round, with one worker too.
 ///
 /// # Errors
 /// The fault of the first entry that has one, after the records before it were reported. A refused thread or out of
@@ -137,6 +138,9 @@ where
 /// Does what `index_as_worktree` does in the caller's thread alone: it starts no thread and waits for none, and it returns
 /// if each function of the interfaces passed returns. The options' thread limit isn't used. If the interfaces are modelled
 /// and the call isn't interrupted, the records and counts are the same.
+///
+/// There are no rounds: the collector is called after each piece of `Options::chunk_size` entries, so an interrupt flag
+/// that it sets ends the call after that piece.
 ///
 /// # Errors
 /// The fault of the first entry that has one, after the records before it were reported. Out of memory, after a

@@ -5,7 +5,7 @@ ghost use Rattle.std.specs.Prelude.{◌≡◌, ◌++◌, ◌+◌, ◌<◌, ◌�
 ghost use Rattle.std.specs.List.{slice_index_or};
 ghost use Rattle.status_index.specs.Entries.{IndexEntry};
 ghost use Rattle.status_call.specs.Considered.{part_entries, same_path};
-ghost use Rattle.status_call.specs.Pieces.{IsCut, IsPiece, IsUncut};
+ghost use Rattle.status_call.specs.Pieces.{IsCut, IsPiece, IsUninterrupted};
 ghost use Rattle.status_call.specs.Records.{record_by};
 ghost use Rattle.status_call.specs.Reporting.{IsFed, IsFedOne, IsPlacedIn};
 ghost use Rattle.status_call.specs.PieceReporting.{IsPieceFed};
@@ -106,7 +106,7 @@ pub(crate) fn compare_piece<D: Decide>(
     requires end { IsCut (part_entries considered.now) range.end }
     ensures piece { IsPiece (D.query decider.old) considered.now.start
         (part_entries considered.now) range.start range.end result }
-    ensures uncut { interrupt.entry ≡ None → IsUncut result.end }
+    ensures uninterrupted { interrupt.entry ≡ None → IsUninterrupted result.end }
     ensures same { D.query decider.new ≡ D.query decider.old }
 {
     let mut findings = Vec::new(alloc);

@@ -50,9 +50,6 @@ where
     ensures uninterrupted { execution.now.interrupt ≡ None → IfOk result (λ o. o.interrupted ≡ false) }
     ensures alone { OneThreadSpawnsNone (D.query decider.old) execution.now.thread_limit result }
 {
-    if execution.thread_limit == Some(1) {
-        return status_serially(index, decider, execution, collector);
-    }
     let considered = Considered::of(index, decider.common_prefix());
     let piece_len = execution.piece_len();
     let workers = Workers::of(rt, execution);

@@ -23,7 +23,7 @@ pub returns-in_err-fed : goal.returns-in_err-fed
 returns-in_err-fed g c =
     let whole = c.args.considered.now in
     let p = c.compare_piece-piece in
-    let row = row_of _ _ c.args.execution.now.interrupt _ _ _ _ p.result c.loop-at.invariant.same c.piece_end-to.ensures.within p.ensures.piece p.ensures.uncut in
+    let row = row_of _ _ c.args.execution.now.interrupt _ _ _ _ p.result c.loop-at.invariant.same c.piece_end-to.ensures.within p.ensures.piece p.ensures.uninterrupted in
     let failed = err_from_is_err_and c.from_residual.result c.from_residual.ensures.1 in
     rw (failed.1, failed.2) (stop_piece _ _ (part_entries whole) _ _ _ _ _ c.loop-at.at c.loop-at.totals _ _ c.loop-at.invariant.way p.result row _ c.in_err-fed.field-0.0 c.in_err-fed.ensures)
 
@@ -31,7 +31,7 @@ pub add-requires : goal.add-requires
 add-requires g c =
     let whole = c.args.considered.now in
     let p = c.compare_piece-piece in
-    let row = row_of _ _ c.args.execution.now.interrupt _ _ _ _ p.result c.loop-at.invariant.same c.piece_end-to.ensures.within p.ensures.piece p.ensures.uncut in
+    let row = row_of _ _ c.args.execution.now.interrupt _ _ _ _ p.result c.loop-at.invariant.same c.piece_end-to.ensures.within p.ensures.piece p.ensures.uninterrupted in
     let end : whole.end < 2 ^ 64 = search rules in
     piece_fits _ _ (part_entries whole) _ _ _ 1 0 c.loop-at.at c.loop-at.totals _ _ c.loop-at.invariant.way p.result row c.in_ok-fed.fed (omega (arith, part_long whole, end)) c.in_ok-fed.ensures.0
 
@@ -39,14 +39,14 @@ pub returns-then-fed : goal.returns-then-fed
 returns-then-fed g c =
     let whole = c.args.considered.now in
     let p = c.compare_piece-piece in
-    let row = row_of _ _ c.args.execution.now.interrupt _ _ _ _ p.result c.loop-at.invariant.same c.piece_end-to.ensures.within p.ensures.piece p.ensures.uncut in
+    let row = row_of _ _ c.args.execution.now.interrupt _ _ _ _ p.result c.loop-at.invariant.same c.piece_end-to.ensures.within p.ensures.piece p.ensures.uninterrupted in
     stop_cut _ _ (part_entries whole) _ _ _ _ _ c.loop-at.at c.loop-at.totals _ _ c.loop-at.invariant.way p.result row _ c.in_ok-fed.fed c.add.new.self c.in_ok-fed.ensures c.add.ensures c.if-fed.true
 
 pub loop-at-preserved : goal.loop-at-preserved
 loop-at-preserved g c =
     let whole = c.args.considered.now in
     let p = c.compare_piece-piece in
-    let row = row_of _ _ c.args.execution.now.interrupt _ _ _ _ p.result c.loop-at.invariant.same c.piece_end-to.ensures.within p.ensures.piece p.ensures.uncut in
+    let row = row_of _ _ c.args.execution.now.interrupt _ _ _ _ p.result c.loop-at.invariant.same c.piece_end-to.ensures.within p.ensures.piece p.ensures.uninterrupted in
     let more = way_more _ _ (part_entries whole) _ _ _ 1 0 c.loop-at.at c.loop-at.totals _ _ c.loop-at.invariant.way p.result row _ c.in_ok-fed.fed c.add.new.self c.in_ok-fed.ensures c.add.ensures c.if-fed.false in
     let reached = whole_reaches _ _ _ _ _ p.result p.ensures.piece more.0 in
     record {
