@@ -1,18 +1,24 @@
 //! The status of the checkout that has a folder.
 
-use crate::index_file::read_index_file;
+ghost use Rattle.git_status.specs.Reads.{IsRead};
+
+use crate::index_file::{FoundIndex, read_index_file};
 use crate::refresh::Refresh;
-use crate::refused::Refused;
-use crate::request::{Request, selected_paths};
+use crate::refused::{Illformed, Refused};
+use crate::request::{Request, Selected, selected_by};
+use crate::selection::{Exceptions, check_each, tops_of};
 use git_attributes::AttributeFiles;
 use git_repository::{
-    GitAttributeFiles, GitWorktree, IgnoredSubmodules, Repository, SubmoduleHeads, time_of_lock,
+    GitAttributeFiles, GitWorktree, IgnoredSubmodules, IntendedWorktree, Repository,
+    SubmoduleHeads, time_of_lock,
 };
 use git_status::lines::LineStyle;
-use git_status::{Asked, Paths, Refreshed, Settings, print_failure, run_dirty, run_refresh};
+use git_status::{
+    Asked, Paths, ReadIndex, Refreshed, Settings, print_failure, run_dirty, run_refresh,
+};
 use status_base::worktree::{Pathspec, SubmoduleStatus, Worktree};
 use status_call::index_as_worktree::{Capabilities, Options};
-use status_index::{Moment, stat};
+use status_index::{Moment, State, stat};
 use std::alloc::{AllocError, Global};
 use std::env;
 use std::io::{self, Write as _};
@@ -24,6 +30,9 @@ use std::thread::Threads;
 /// The number of entries of a piece of work if the first difference ends the call. Each thread has at most 8 pieces before
 /// the call sees that it may end: some 2,000 entries with the usual 4 threads.
 const SMALL_CHUNK: usize = 64;
+
+/// The exit status of a failure.
+const FAILED: u8 = 2;
 
 /// Returns whether a tracked file of the checkout that has this folder differs from the index, as `git dirty -q` does. None
 /// after a failure, whose line is written to `faults`. Nothing is written to the disk, and the working folder stays.
@@ -70,7 +79,7 @@ where
 /// Does the same in the repository of the request's folder.
 ///
 /// # Errors
-/// There is no repository, its index can't be read or refreshed, or a path isn't in its worktree.
+/// There is no repository, its index can't be read or refreshed, or a path isn't in its worktree or selects nothing.
 fn run_in_repository<
     R: AllocGlobal + Env + Files + Sync + Threads + Wait,
     O: io::Write,
@@ -80,49 +89,103 @@ where
     R::File: Send,
     R::Dir: Send,
 {
-    let alloc = rt.alloc();
     let repository = Repository::discover(rt, request.folder)?;
-    let selected = selected_paths(alloc, &repository, &request.paths)?;
-    let mut tops = Vec::new(alloc);
-    for path in &selected {
-        tops.push(path.as_bytes())?;
-    }
+    let selected = selected_by(rt, &repository, &request.paths)?;
     let Some(file) = read_index_file(rt, &repository)? else {
+        let nothing = State::new(rt.alloc(), Moment { secs: 0, nsecs: 0 });
+        let worktree = GitWorktree::new(rt, repository.top.as_str())?;
+        check_each(rt.alloc(), &nothing, &worktree, &selected)?;
         return Ok(0);
     };
-    let unread = AtomicBool::new(false);
+    run_over_index(rt, request, &repository, &selected, &file, output, faults)
+}
+
+/// Does the same over the repository's index file.
+///
+/// # Errors
+/// The file has no index, or a path selects nothing; or those of a refresh.
+fn run_over_index<R: AllocGlobal + Env + Files + Sync + Threads + Wait, O: io::Write, E: io::Write>(
+    rt: &R,
+    request: &Request<'_>,
+    repository: &Repository,
+    selected: &[Selected<'_>],
+    file: &FoundIndex,
+    output: &mut O,
+    faults: &mut E,
+) -> Result<u8, Refused>
+where
+    R::File: Send,
+    R::Dir: Send,
+{
+    let alloc = rt.alloc();
     let top = repository.top.as_str();
+    let settings = settings_of(repository, request, file.timestamp);
+    let read = ReadIndex::of(alloc, &file.bytes, &settings)?;
+    let index = &read.file.state;
     let worktree = worktree_at(rt, top, request.enter)?;
-    let ignored = IgnoredSubmodules::read(rt, top, &repository.config)?;
+    check_each(alloc, index, &worktree, selected)?;
+    let ignored = IgnoredSubmodules::read(rt, top, &repository.config, index)?;
     if !request.quiet {
-        note_unread(&repository, &ignored, faults);
+        note_unread(repository, &ignored, faults);
     }
-    let attributes = GitAttributeFiles::new(rt, &worktree, &repository, &unread)?;
+    let tops = tops_of(alloc, selected)?;
+    let Exceptions {
+        left_out,
+        intended,
+        illformed,
+    } = Exceptions::of(alloc, index, &worktree, &tops, &ignored)?;
+    let unread = AtomicBool::new(false);
+    let attributes = GitAttributeFiles::new(rt, &worktree, repository, &unread)?;
+    let worktree = IntendedWorktree {
+        rt,
+        top,
+        worktree: &worktree,
+        intended: &intended,
+    };
     let asked = Asked {
-        settings: settings_of(&repository, request, file.timestamp),
+        settings,
         worktree: &worktree,
         submodules: SubmoduleHeads::new(rt, top, &ignored),
         paths: Paths {
-            tops: tops.as_slice(),
+            tops: &tops,
+            left_out: &left_out,
         },
         attributes,
     };
-    let begun = if request.refresh {
-        Some(time_of_lock(rt, repository.index.as_str()))
-    } else {
-        None
+    let begun = request
+        .refresh
+        .then(|| time_of_lock(rt, repository.index.as_str()));
+    let compared = compare(rt, request, read, asked, output, faults);
+    let status = match begun {
+        None => compared.status,
+        Some(begun) => {
+            let refresh = Refresh {
+                repository,
+                old: file,
+                begun,
+                unread: unread.load(Ordering::Relaxed),
+            };
+            refresh.end(rt, compared)?
+        }
     };
-    let compared = compare(rt, request, &file.bytes, asked, output, faults);
-    let Some(begun) = begun else {
-        return Ok(compared.status);
-    };
-    let refresh = Refresh {
-        repository: &repository,
-        old: &file,
-        begun,
-        unread: unread.load(Ordering::Relaxed),
-    };
-    refresh.end(rt, compared)
+    Ok(print_illformed(alloc, status, &illformed, faults))
+}
+
+/// Writes a failure for each path that can't be compared since it isn't UTF-8, unless the status failed already. Returns the
+/// exit status.
+fn print_illformed<E: io::Write>(
+    alloc: Global,
+    status: u8,
+    paths: &[Vec<u8>],
+    faults: &mut E,
+) -> u8 {
+    let mut ended = status;
+    if status != FAILED {
+        for path in paths {
+            ended = print_failure(alloc, Illformed { path }, faults);
+        }
+    }
+    ended
 }
 
 /// Returns the worktree that begins at `top`. As git does, the process enters it if it may: from there the system has the
@@ -140,6 +203,7 @@ fn worktree_at<'r, R: AllocGlobal + Env + Files>(
 
 /// Prints the status of an index file. There are new bytes only if the file is to be refreshed.
 fn compare<
+    'a,
     'b,
     R: AllocGlobal + Threads + Wait,
     W: Worktree + Sync,
@@ -151,26 +215,27 @@ fn compare<
 >(
     rt: &R,
     request: &Request<'_>,
-    bytes: &'b [u8],
-    asked: Asked<'_, W, S, P, A>,
+    read: ReadIndex<'b>,
+    asked: Asked<'a, W, S, P, A>,
     output: &mut O,
     faults: &mut E,
 ) -> Refreshed<'b>
 where
     W::File: Send,
     S::Output: Send,
+    requires { IsRead asked.entry.settings read.entry }
 {
     if !request.refresh {
         Refreshed {
-            status: run_dirty(rt, bytes, asked, output, faults),
+            status: run_dirty(rt, &read, asked, output, faults),
             bytes: None,
             is_whole: false,
             extensions: &[],
         }
     } else if request.quiet {
-        run_refresh(rt, bytes, asked, &mut io::sink(), faults)
+        run_refresh(rt, read, asked, &mut io::sink(), faults)
     } else {
-        run_refresh(rt, bytes, asked, output, faults)
+        run_refresh(rt, read, asked, output, faults)
     }
 }
 

@@ -1,12 +1,14 @@
 //! The index file before the call.
 
 use crate::refused::Refused;
-use git_repository::Repository;
+use git_repository::regular::INDEX_LIMIT;
 use git_repository::worktree::metadata_of;
+use git_repository::{RegularFile, Repository, Unread, read_regular};
 use status_index::Moment;
+use std::fs::Metadata;
+use std::io;
 use std::rt::Files;
 use std::time::SystemTime;
-use std::{fs, io};
 
 /// An index file that was read.
 #[derive(Drop)]
@@ -20,28 +22,25 @@ pub struct FoundIndex {
 }
 
 /// Reads a repository's index file. None if there is none, as before the first `git add`. The time is read before the bytes:
-/// if the file is replaced in between, it is too early, and then more entries count as racy, and never fewer.
+/// if the file is written in between, it is too early, and then more entries count as racy, and never fewer.
 pub fn read_index_file<R: AllocGlobal + Files>(
     rt: &R,
     repository: &Repository,
 ) -> Result<Option<FoundIndex>, Refused> {
     let path = repository.index.as_str();
-    match fs::metadata(rt, path) {
-        Err(error) if error.kind() == io::ErrorKind::NotFound => return Ok(None),
-        Err(error) => return Err(Refused::unreadable(rt.alloc(), path, error.kind())),
-        Ok(found) => match fs::read(rt, path) {
-            Ok(bytes) => Ok(Some(FoundIndex {
-                bytes,
-                timestamp: changed_at(&found),
-                modified: found.modified().ok(),
-            })),
-            Err(error) => Err(Refused::unreadable(rt.alloc(), path, error.kind())),
-        },
+    match read_regular(rt, path, INDEX_LIMIT) {
+        Ok(RegularFile { bytes, metadata }) => Ok(Some(FoundIndex {
+            bytes,
+            timestamp: changed_at(&metadata),
+            modified: metadata.modified().ok(),
+        })),
+        Err(Unread::System(io::ErrorKind::NotFound)) => Ok(None),
+        Err(why) => Err(Refused::unreadable(rt.alloc(), path, why)),
     }
 }
 
 /// Returns when a file was last changed, or 1970 if that isn't known: then every entry counts as racy.
-fn changed_at(found: &fs::Metadata) -> Moment {
+fn changed_at(found: &Metadata) -> Moment {
     let (secs, nsecs) = match metadata_of(found).mtime {
         Some(time) => (time.secs, time.nsecs),
         None => (0, 0),

@@ -2,7 +2,7 @@
 //! it.
 //!
 //! Read `request` first, the options of a call and the paths that it selects, and then `checkout`, the calls. They find
-//! the repository and read its index file (`index_file`). The contract of the comparison is that of `run_dirty` in the
+//! the repository, read its index file (`index_file`) and choose its entries (`selection`). The contract of the comparison is that of `run_dirty` in the
 //! crate git_status. `refresh` writes the new index file, and `refused` is why a call can't begin.
 #![tactic(auto)]
 
@@ -11,6 +11,7 @@ mod index_file;
 mod refresh;
 mod refused;
 pub mod request;
+mod selection;
 #[cfg(test)]
 mod tests;
 

@@ -1,6 +1,8 @@
 //! Why a checkout isn't compared, or its index isn't refreshed.
 
-use git_repository::RepositoryError;
+use git_repository::{RepositoryError, Unread};
+use git_status::Failure;
+use git_status::lines::Quoted;
 use std::alloc::{AllocError, AllocFailed, Global};
 use std::{fmt, io};
 
@@ -13,11 +15,23 @@ pub enum Refused {
     Unreadable {
         /// Its path.
         path: String,
-        /// The system's error.
-        error: io::ErrorKind,
+        /// Why it isn't read.
+        why: Unread,
     },
+    /// The index file has no index.
+    Index(Failure),
     /// A path isn't in the worktree.
     Outside {
+        /// The path that was passed.
+        path: String,
+    },
+    /// A path is a pattern.
+    Pattern {
+        /// The path that was passed.
+        path: String,
+    },
+    /// Nothing is at a path, and no tracked file was.
+    Unmatched {
         /// The path that was passed.
         path: String,
     },
@@ -43,13 +57,29 @@ impl Refused {
         }
     }
 
+    /// Returns the refusal of a path that is a pattern.
+    pub fn pattern(alloc: Global, path: &str) -> Refused {
+        match String::from_str(alloc, path) {
+            Ok(path) => Refused::Pattern { path },
+            Err(_) => Refused::Memory,
+        }
+    }
+
+    /// Returns the refusal of a path at which nothing is.
+    pub fn unmatched(alloc: Global, path: &str) -> Refused {
+        match String::from_str(alloc, path) {
+            Ok(path) => Refused::Unmatched { path },
+            Err(_) => Refused::Memory,
+        }
+    }
+
     /// Returns the refusal of an index file that can't be read.
-    pub fn unreadable(alloc: Global, path: &str, error: io::ErrorKind) -> Refused {
-        if error == io::ErrorKind::OutOfMemory {
+    pub fn unreadable(alloc: Global, path: &str, why: Unread) -> Refused {
+        if why == Unread::System(io::ErrorKind::OutOfMemory) {
             return Refused::Memory;
         }
         match String::from_str(alloc, path) {
-            Ok(path) => Refused::Unreadable { path, error },
+            Ok(path) => Refused::Unreadable { path, why },
             Err(_) => Refused::Memory,
         }
     }
@@ -59,11 +89,14 @@ impl fmt::Display for Refused {
     fn fmt<W: fmt::Write>(&self, f: &mut fmt::Formatter<W>) -> fmt::Result {
         match self {
             Refused::Repository(error) => write!(f, "{error}"),
-            Refused::Unreadable { path, error } => write!(
+            Refused::Unreadable { path, why } => write!(f, "can't read the index {path}: {why}"),
+            Refused::Index(failure) => write!(f, "{failure}"),
+            Refused::Outside { path } => write!(f, "'{path}' is outside of the worktree"),
+            Refused::Pattern { path } => write!(
                 f,
-                "can't read the index {path}: {error}"
+                "patterns aren't supported: '{path}' (git --literal-pathspecs takes it for a path)"
             ),
-            Refused::Outside { path } => write!(f, "{path:?} is outside of the worktree"),
+            Refused::Unmatched { path } => write!(f, "no tracked file matches '{path}'"),
             Refused::EmptyPath => f.write_str("an empty path: use . for the working folder"),
             Refused::Unrefreshed { reason } => write!(
                 f,
@@ -90,5 +123,28 @@ impl<T: Drop> From<AllocFailed<T>> for Refused {
 impl From<RepositoryError> for Refused {
     fn from(error: RepositoryError) -> Refused {
         Refused::Repository(error)
+    }
+}
+
+impl From<Failure> for Refused {
+    fn from(failure: Failure) -> Refused {
+        match failure {
+            Failure::Memory => Refused::Memory,
+            failure => Refused::Index(failure),
+        }
+    }
+}
+
+/// A path that isn't UTF-8, so that the file there can't be compared.
+#[derive(Drop)]
+pub struct Illformed<'a> {
+    /// The path.
+    pub path: &'a [u8],
+}
+
+impl fmt::Display for Illformed<'_> {
+    fn fmt<W: fmt::Write>(&self, f: &mut fmt::Formatter<W>) -> fmt::Result {
+        let path = Quoted { path: self.path };
+        write!(f, "can't read {path}: the path isn't UTF-8")
     }
 }

@@ -1,8 +1,9 @@
 //! The request of a call: its options, and the paths that it selects.
 
 use crate::refused::Refused;
-use git_repository::Repository;
+use git_repository::{Repository, is_set};
 use std::alloc::Global;
+use std::rt::Env;
 
 /// The options of a call, as those of the command line of `git dirty`.
 #[derive(Drop)]
@@ -42,26 +43,54 @@ impl<'a> Request<'a> {
     }
 }
 
-/// Returns the paths that the request selects, from the worktree's top. The list is empty if they select all.
-pub(crate) fn selected_paths(
-    alloc: Global,
+/// A file or folder that a request selects.
+#[derive(Drop)]
+pub(crate) struct Selected<'a> {
+    /// The word that was passed.
+    pub(crate) word: &'a str,
+    /// The path from the worktree's top, without a slash at its end. It is empty for the top itself.
+    pub(crate) path: String,
+    /// Whether only a folder is selected, since the word ends with a slash, or with `.` or `..`.
+    pub(crate) is_folder: bool,
+}
+
+/// Returns what the words of a request select.
+///
+/// # Errors
+/// A word is empty or a pattern, or its path isn't in the worktree; `GIT_LITERAL_PATHSPECS` is no boolean; or out of memory.
+pub(crate) fn selected_by<'a, R: AllocGlobal + Env>(
+    rt: &R,
     repository: &Repository,
-    words: &[&str],
-) -> Result<Vec<String>, Refused> {
-    let mut paths = Vec::new(alloc);
+    words: &[&'a str],
+) -> Result<Vec<Selected<'a>>, Refused> {
+    let alloc = rt.alloc();
+    let is_literal = is_set(rt, "GIT_LITERAL_PATHSPECS")?;
+    let mut selected = Vec::new(alloc);
     for word in words {
-        let path = path_from_top(
-            alloc,
-            repository.top.as_str(),
-            repository.prefix.as_str(),
-            word,
-        )?;
-        if path.is_empty() {
-            return Ok(Vec::new(alloc));
+        if !is_literal && is_pattern(word) {
+            return Err(Refused::pattern(alloc, word));
         }
-        paths.push(path)?;
+        selected.push(Selected {
+            word,
+            path: path_from_top(
+                alloc,
+                repository.top.as_str(),
+                repository.prefix.as_str(),
+                word,
+            )?,
+            is_folder: matches!(word.rsplit('/').next(), Some("" | "." | "..")),
+        })?;
     }
-    Ok(paths)
+    Ok(selected)
+}
+
+/// Returns whether git takes a word for a pattern of paths: it has one of the characters `*`, `?`, `[` and `\`, or begins with
+/// a colon.
+fn is_pattern(word: &str) -> bool {
+    word.starts_with(':')
+        || word
+            .bytes()
+            .any(|byte| matches!(byte, b'*' | b'?' | b'[' | b'\\'))
 }
 
 /// Returns the path, from the worktree's top, of the file or folder that a word names from the folder `prefix`, which is empty

@@ -4,18 +4,17 @@ use crate::config::Config;
 use crate::error::RepositoryError;
 use crate::files::{configuration_folder, joined, path_of, variable};
 use crate::location::Repository;
+use crate::regular::{ATTRIBUTES_LIMIT, Unread, read_regular};
 use crate::sources::is_set;
-use bstr::{BStr, ByteSlice as _};
+use bstr::{BStr, BString, ByteSlice as _};
 use git_attributes::{AttributeFile, AttributeFiles};
+use status_base::stack::{StackError, SymlinkCheck};
 use status_base::worktree::{Fault, NodeKind, Worktree};
 use status_index::{State, read_all};
 use std::alloc::{AllocError, Global};
+use std::io;
 use std::rt::{Env, Files};
 use std::sync::atomic::{AtomicBool, Ordering};
-use std::{fs, io};
-
-/// As git does, a file of so many bytes or more is left out.
-const FILE_LIMIT: usize = 100 << 20;
 
 /// The name of attribute files within a worktree.
 const NAME: &str = ".gitattributes";
@@ -23,8 +22,9 @@ const NAME: &str = ".gitattributes";
 /// Finds the attribute files of a repository: of the system, the user, each folder of the worktree that has an entry, and
 /// the repository's own `info/attributes`.
 ///
-/// As in git, a file that can't be read counts as none, and so does a link in the worktree. Unlike git, a file that is only
-/// in the index isn't read: then `unread` becomes true, if its folder is in the worktree.
+/// As in git, a file that can't be read counts as none, and so does a link in the worktree. A folder of the worktree is
+/// searched only behind directories that aren't links, and only if its path is normal, so no file outside is opened. Unlike
+/// git, a file that is only in the index isn't read: then `unread` becomes true, if its folder is in the worktree.
 #[derive(Drop)]
 pub struct GitAttributeFiles<'a, R, W> {
     worktree: &'a W,
@@ -151,17 +151,16 @@ fn shared_folders(one: &[u8], other: &[u8]) -> usize {
 impl<R: Files + AllocGlobal, W: Worktree> GitAttributeFiles<'_, R, W> {
     /// Adds a file outside of the worktree, or the repository's own, if it can be read.
     fn add_outer(&self, files: &mut Vec<AttributeFile>, path: &str) -> Result<(), AllocError> {
-        match fs::read(self.rt, path) {
-            Ok(bytes) if bytes.len() >= FILE_LIMIT => Ok(()),
-            Ok(bytes) => {
+        match read_regular(self.rt, path, ATTRIBUTES_LIMIT - 1) {
+            Ok(found) => {
                 files.push(AttributeFile {
                     folder: Vec::new(self.rt.alloc()),
                     has_macros: true,
-                    bytes,
+                    bytes: found.bytes,
                 })?;
                 Ok(())
             }
-            Err(error) if error.kind() == io::ErrorKind::OutOfMemory => Err(AllocError),
+            Err(Unread::System(io::ErrorKind::OutOfMemory)) => Err(AllocError),
             Err(_) => Ok(()),
         }
     }
@@ -170,7 +169,7 @@ impl<R: Files + AllocGlobal, W: Worktree> GitAttributeFiles<'_, R, W> {
     /// lead to a device, and neither are files that are too large.
     fn read_inner(&self, path: BStr<'_>) -> Result<Option<Vec<u8>>, AllocError> {
         match self.worktree.lstat(path) {
-            Ok(node) if node.kind == NodeKind::File && node.len < FILE_LIMIT as u64 => {}
+            Ok(node) if node.kind == NodeKind::File && node.len < ATTRIBUTES_LIMIT as u64 => {}
             Err(Fault::Memory) => return Err(AllocError),
             _ => return Ok(None),
         }
@@ -187,23 +186,24 @@ impl<R: Files + AllocGlobal, W: Worktree> GitAttributeFiles<'_, R, W> {
     }
 
     /// Adds the file of a folder of the worktree, if there is one that can be read.
-    fn add_inner(
-        &self,
-        files: &mut Vec<AttributeFile>,
-        folder: &[u8],
-        index: &State,
-    ) -> Result<(), AllocError> {
+    fn add_inner(&self, search: &mut Inner<'_>, folder: &[u8]) -> Result<(), AllocError> {
         let mut path = Vec::from_slice(self.rt.alloc(), folder)?;
         path.extend_from_slice(NAME.as_bytes())?;
         let path = BStr::new(path.as_slice());
-        match self.read_inner(path)? {
-            Some(bytes) => files.push(AttributeFile {
+        let bytes = match search.check.verified_path(self.worktree, path) {
+            Ok(_) => self.read_inner(path)?,
+            Err(StackError::Memory | StackError::Fault(Fault::Memory)) => return Err(AllocError),
+            Err(StackError::Fault(_)) => None,
+            Err(_) => return Ok(()),
+        };
+        match bytes {
+            Some(bytes) => search.files.push(AttributeFile {
                 folder: Vec::from_slice(self.rt.alloc(), folder)?,
                 has_macros: folder.is_empty(),
                 bytes,
             })?,
             None => {
-                if !index.entries_at(path).is_empty() && self.may_have(folder)? {
+                if !search.index.entries_at(path).is_empty() && self.may_have(folder)? {
                     self.unread.store(true, Ordering::Relaxed);
                 }
             }
@@ -227,18 +227,25 @@ impl<R: Files + AllocGlobal, W: Worktree> GitAttributeFiles<'_, R, W> {
     /// Adds the files of the folders on the way to a path. Those up to `from` were added before.
     fn add_folders(
         &self,
-        files: &mut Vec<AttributeFile>,
+        search: &mut Inner<'_>,
         path: &[u8],
         from: usize,
-        index: &State,
     ) -> Result<(), AllocError> {
         for (at, byte) in path.iter().enumerate() {
             if *byte == b'/' && at >= from {
-                self.add_inner(files, &path[..at + 1], index)?;
+                self.add_inner(search, &path[..at + 1])?;
             }
         }
         Ok(())
     }
+}
+
+/// A search of the worktree for the attribute files of an index.
+#[derive(Drop)]
+struct Inner<'i> {
+    index: &'i State,
+    check: SymlinkCheck,
+    files: Vec<AttributeFile>,
 }
 
 impl<R: Files + AllocGlobal, W: Worktree> AttributeFiles for GitAttributeFiles<'_, R, W> {
@@ -251,15 +258,21 @@ impl<R: Files + AllocGlobal, W: Worktree> AttributeFiles for GitAttributeFiles<'
         for path in &self.outer {
             self.add_outer(&mut files, path.as_str())?;
         }
-        self.add_inner(&mut files, b"", index)?;
+        let mut search = Inner {
+            index,
+            check: SymlinkCheck::new(alloc, BString::new(Vec::new(alloc))),
+            files,
+        };
+        self.add_inner(&mut search, b"")?;
         let mut folder: &[u8] = b"";
         for entry in index.entries() {
             let path = entry.path_in(index.path_backing()).as_bytes();
             if !is_directly_in(path, folder) {
-                self.add_folders(&mut files, path, shared_folders(folder, path), index)?;
+                self.add_folders(&mut search, path, shared_folders(folder, path))?;
                 folder = folder_of(path);
             }
         }
+        let Inner { mut files, .. } = search;
         self.add_outer(&mut files, self.own.as_str())?;
         Ok(files)
     }

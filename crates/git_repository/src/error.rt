@@ -1,6 +1,6 @@
 //! Why a repository isn't read, or its index isn't written.
 
-use status_index::Fault;
+use crate::regular::Unread;
 use std::alloc::{AllocError, AllocFailed};
 use std::io;
 use thiserror::Error;
@@ -24,12 +24,12 @@ pub enum RepositoryError {
         path: String,
     },
     /// The working folder isn't there, or isn't a folder.
-    #[error("cannot change to '{path}': {fault}")]
+    #[error("cannot change to '{path}': {why}")]
     NotAFolder {
         /// The path.
         path: String,
         /// Why it is none.
-        fault: Fault,
+        why: Unread,
     },
     /// The repository is bare, or the folder is in the repository's own folder.
     #[error("this operation must be run in a work tree")]
@@ -91,12 +91,18 @@ pub enum RepositoryError {
         name: String,
     },
     /// A file or a folder can't be read.
-    #[error("unable to access '{path}': {fault}")]
+    #[error("unable to access '{path}': {why}")]
     Unreadable {
         /// Its path.
         path: String,
-        /// Why it can't be read.
-        fault: Fault,
+        /// Why it isn't read.
+        why: Unread,
+    },
+    /// The last line of a file of packed references has no end, so the file was cut off.
+    #[error("unterminated line in {path}")]
+    CutOff {
+        /// The file's path.
+        path: String,
     },
     /// A lock is there that another process made.
     #[error("Unable to create '{path}': File exists. If no git process is running, remove it")]

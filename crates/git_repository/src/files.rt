@@ -1,8 +1,8 @@
 //! Small files, paths and environment variables, and a buffer for the paths of calls.
 
 use crate::error::RepositoryError;
+use crate::regular::{Unread, read_regular};
 use bstr::BStr;
-use status_base::worktree::disk::fault_of;
 use status_index::Fault;
 use std::alloc::{AllocError, Global};
 use std::env::VarError;
@@ -30,34 +30,32 @@ pub fn joined(alloc: Global, folder: &str, path: &str) -> Result<String, AllocEr
 pub fn canonical<R: Files + AllocGlobal>(rt: &R, path: &str) -> Result<String, RepositoryError> {
     match fs::canonicalize(rt, path) {
         Ok(found) => Ok(found.into_string()),
-        Err(error) => Err(unreadable(rt.alloc(), path, error.kind())),
+        Err(error) => Err(unreadable(rt.alloc(), path, Unread::System(error.kind()))),
     }
 }
 
-/// Returns the error of a path that the system doesn't read.
-pub fn unreadable(alloc: Global, path: &str, kind: io::ErrorKind) -> RepositoryError {
+/// Returns the error of a path that isn't read.
+pub fn unreadable(alloc: Global, path: &str, why: Unread) -> RepositoryError {
     match String::from_str(alloc, path) {
-        Ok(_) if kind == io::ErrorKind::OutOfMemory => RepositoryError::Memory,
-        Ok(path) => RepositoryError::Unreadable {
-            path,
-            fault: fault_of(kind),
-        },
+        Ok(_) if why == Unread::System(io::ErrorKind::OutOfMemory) => RepositoryError::Memory,
+        Ok(path) => RepositoryError::Unreadable { path, why },
         Err(_) => RepositoryError::Memory,
     }
 }
 
-/// Returns a file's bytes. None if there is no file.
+/// Returns the bytes of a regular file that has at most `limit`. None if nothing is at the path.
 ///
 /// # Errors
-/// The file can't be read, or out of memory.
+/// Something else is there, the file can't be read, or out of memory.
 pub fn read_if_there<R: Files + AllocGlobal>(
     rt: &R,
     path: &str,
+    limit: usize,
 ) -> Result<Option<Vec<u8>>, RepositoryError> {
-    match fs::read(rt, path) {
-        Ok(bytes) => Ok(Some(bytes)),
-        Err(error) if is_missing(error.kind()) => Ok(None),
-        Err(error) => Err(unreadable(rt.alloc(), path, error.kind())),
+    match read_regular(rt, path, limit) {
+        Ok(found) => Ok(Some(found.bytes)),
+        Err(Unread::System(kind)) if is_missing(kind) => Ok(None),
+        Err(why) => Err(unreadable(rt.alloc(), path, why)),
     }
 }
 

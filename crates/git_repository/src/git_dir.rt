@@ -3,6 +3,7 @@
 use crate::error::RepositoryError;
 use crate::files::{canonical, is_folder, is_missing, joined, path_of, read_if_there, unreadable};
 use crate::heads::has_head;
+use crate::regular::{SMALL_LIMIT, Unread};
 use std::fs;
 use std::rt::Files;
 
@@ -29,7 +30,7 @@ pub fn git_dir_in<R: Files + AllocGlobal>(
         }
         Ok(found) if found.is_file() => Ok(Some(named_git_dir(rt, path)?)),
         Err(error) if !is_missing(error.kind()) => {
-            Err(unreadable(rt.alloc(), path.as_str(), error.kind()))
+            Err(unreadable(rt.alloc(), path.as_str(), Unread::System(error.kind())))
         }
         _ => Ok(None),
     }
@@ -47,7 +48,7 @@ pub fn named_git_dir<R: Files + AllocGlobal>(
     let git_dir = if is_folder(rt, path.as_str())? {
         path
     } else {
-        let Some(bytes) = read_if_there(rt, path.as_str())? else {
+        let Some(bytes) = read_if_there(rt, path.as_str(), SMALL_LIMIT)? else {
             return Err(RepositoryError::NotARepository { path });
         };
         let Some(named) = bytes.as_slice().strip_prefix(GIT_FILE_START) else {
@@ -88,7 +89,11 @@ pub fn common_dir_of<R: Files + AllocGlobal>(
     git_dir: &str,
 ) -> Result<String, RepositoryError> {
     let alloc = rt.alloc();
-    match read_if_there(rt, joined(alloc, git_dir, "commondir")?.as_str())? {
+    match read_if_there(
+        rt,
+        joined(alloc, git_dir, "commondir")?.as_str(),
+        SMALL_LIMIT,
+    )? {
         Some(bytes) => {
             let path = path_of(alloc, &bytes)?;
             Ok(joined(alloc, git_dir, path.as_str())?)

@@ -2,6 +2,7 @@
 
 use crate::error::RepositoryError;
 use crate::files::{is_missing, joined, read_if_there, unreadable};
+use crate::regular::{PACKED_LIMIT, SMALL_LIMIT, Unread, read_regular};
 use crate::state::is_blank;
 use status_index::ObjectId;
 use std::alloc::Global;
@@ -37,18 +38,33 @@ pub fn has_head<R: Files + AllocGlobal>(rt: &R, folder: &str) -> Result<bool, Re
     let path = joined(rt.alloc(), folder, "HEAD")?;
     match is_accepted(rt, path.as_str()) {
         Ok(is_accepted) => Ok(is_accepted),
-        Err(error) if is_missing(error.kind()) => Ok(false),
-        Err(error) => Err(unreadable(rt.alloc(), path.as_str(), error.kind())),
+        Err(Unread::System(kind)) if is_missing(kind) => Ok(false),
+        Err(why) => Err(unreadable(rt.alloc(), path.as_str(), why)),
     }
 }
 
 // Returns whether git accepts the link or file at a path as `HEAD`.
-fn is_accepted<R: Files + AllocGlobal>(rt: &R, path: &str) -> io::Result<bool> {
-    if fs::symlink_metadata(rt, path)?.is_symlink() {
-        let target = fs::read_link(rt, path)?;
-        return Ok(target.as_path().as_str().as_bytes().starts_with(REFERENCES));
+fn is_accepted<R: Files + AllocGlobal>(rt: &R, path: &str) -> Result<bool, Unread> {
+    match link_at(rt, path)? {
+        Some(target) => Ok(target.as_bytes().starts_with(REFERENCES)),
+        None => Ok(is_head(&read_regular(rt, path, SMALL_LIMIT)?.bytes)),
     }
-    Ok(is_head(&fs::read(rt, path)?))
+}
+
+// Returns the target of the symbolic link at a path. None if something else is there.
+fn link_at<R: Files + AllocGlobal>(rt: &R, path: &str) -> Result<Option<String>, Unread> {
+    match target_at(rt, path) {
+        Ok(target) => Ok(target),
+        Err(error) => Err(Unread::System(error.kind())),
+    }
+}
+
+// Does the same, with the system's error.
+fn target_at<R: Files + AllocGlobal>(rt: &R, path: &str) -> io::Result<Option<String>> {
+    if !fs::symlink_metadata(rt, path)?.is_symlink() {
+        return Ok(None);
+    }
+    Ok(Some(fs::read_link(rt, path)?.into_string()))
 }
 
 /// Returns whether git accepts a file `HEAD` with these bytes. It begins with `ref:`, blanks or line ends if any, and
@@ -108,14 +124,41 @@ fn target_of<R: Files + AllocGlobal>(
     let alloc = rt.alloc();
     for folder in [git_dir, common_dir] {
         let path = joined(alloc, folder, name)?;
-        if let Some(bytes) = read_if_there(rt, path.as_str())? {
-            return target_in(alloc, &bytes);
+        if let Some(target) = loose_target(rt, path.as_str())? {
+            return Ok(target);
         }
     }
     let path = joined(alloc, common_dir, "packed-refs")?;
-    match read_if_there(rt, path.as_str())? {
+    match read_if_there(rt, path.as_str(), PACKED_LIMIT)? {
+        Some(bytes) if matches!(bytes.last(), Some(byte) if *byte != b'\n') => {
+            Err(RepositoryError::CutOff { path })
+        }
         Some(bytes) => Ok(packed(&bytes, name.as_bytes()).map(Target::Commit)),
         None => Ok(None),
+    }
+}
+
+// Returns what a reference's own file leads to, if it is there. As in git, a symbolic link whose target begins with `refs/`
+// names another reference, and a folder is no file.
+fn loose_target<R: Files + AllocGlobal>(
+    rt: &R,
+    path: &str,
+) -> Result<Option<Option<Target>>, RepositoryError> {
+    let alloc = rt.alloc();
+    match link_at(rt, path) {
+        Ok(Some(target)) if target.as_bytes().starts_with(REFERENCES) => {
+            return Ok(Some(Some(Target::Name(target))));
+        }
+        Err(Unread::System(kind)) if is_missing(kind) => return Ok(None),
+        Err(why) => return Err(unreadable(alloc, path, why)),
+        Ok(_) => {}
+    }
+    match read_regular(rt, path, SMALL_LIMIT) {
+        Ok(found) => Ok(Some(target_in(alloc, &found.bytes)?)),
+        Err(Unread::System(kind)) if is_missing(kind) || kind == io::ErrorKind::IsADirectory => {
+            Ok(None)
+        }
+        Err(why) => Err(unreadable(alloc, path, why)),
     }
 }
 

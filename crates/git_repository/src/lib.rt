@@ -3,8 +3,8 @@
 //! Read `location` first, which finds the repository of a folder by `git_dir`. `settings` are those that a status depends
 //! on, with `format`, from what `sources` names and `parameters` reads. `config` has git's configuration, which `reader`
 //! reads by `state`, and `values` reads a variable's value. `worktree` is a worktree with all that git records of a file,
-//! and `attribute_files` finds its attribute files. `submodules` compares the heads of submodules, which `heads` finds.
-//! `files` reads small files, and has the paths of calls. `lock` replaces the index file, and `error` has the errors.
+//! `intended` one in which nested repositories count, and `attribute_files` finds its attribute files. `submodules` compares the heads of submodules, which `heads` finds.
+//! `regular` opens files, `files` reads small ones and has the paths of calls. `lock` replaces the index file, and `error` has the errors.
 #![tactic(auto)]
 
 pub mod attribute_files;
@@ -14,10 +14,12 @@ mod files;
 mod format;
 mod git_dir;
 mod heads;
+pub mod intended;
 pub mod location;
 mod lock;
 mod parameters;
 pub mod reader;
+pub mod regular;
 pub mod settings;
 mod sources;
 mod state;
@@ -28,9 +30,12 @@ pub mod worktree;
 pub use attribute_files::GitAttributeFiles;
 pub use config::{Config, ConfigError, Variable};
 pub use error::RepositoryError;
+pub use intended::IntendedWorktree;
 pub use location::Repository;
 pub use lock::{replace_index, time_of_lock};
 pub use reader::read_config;
-pub use settings::{Settings, read_settings};
+pub use regular::{RegularFile, Unread, read_regular};
+pub use settings::{OwnSettings, Settings, read_own, read_settings};
+pub use sources::is_set;
 pub use submodules::{IgnoredSubmodules, SubmoduleHead, SubmoduleHeads};
 pub use worktree::{GitFile, GitWorktree};

@@ -4,9 +4,10 @@ use crate::config::Config;
 use crate::error::RepositoryError;
 use crate::files::{canonical, is_folder, joined, variable};
 use crate::git_dir::{common_dir_of, git_dir_in, is_git_dir, named_git_dir, parent_of};
-use crate::settings::{Settings, read_settings};
-use status_base::worktree::Fault;
+use crate::regular::Unread;
+use crate::settings::{OwnSettings, Settings, read_own, read_settings};
 use std::alloc::{AllocError, Global};
+use std::io;
 use std::rt::{Env, Files};
 
 /// A repository with a worktree. All paths are absolute.
@@ -20,7 +21,7 @@ pub struct Repository {
     pub top: String,
     /// The working folder relative to `top`, and a slash. Empty if that is `top` or outside of it.
     pub prefix: String,
-    /// The index file.
+    /// The index file. The empty path names none.
     pub index: String,
     /// The settings.
     pub settings: Settings,
@@ -52,10 +53,12 @@ impl Repository {
         let folder = working_folder(rt, folder)?;
         let Place { git_dir, top } = find(rt, folder.as_str())?;
         let common_dir = common_dir_of(rt, git_dir.as_str())?;
-        let (settings, config) = read_settings(rt, git_dir.as_str(), common_dir.as_str())?;
-        let top = top_of(rt, folder.as_str(), git_dir.as_str(), &settings, top)?;
+        let own = read_own(rt, git_dir.as_str(), common_dir.as_str())?;
+        let top = top_of(rt, folder.as_str(), git_dir.as_str(), &own, top)?;
+        let (settings, config) = read_settings(rt, top.as_str(), own)?;
         let prefix = prefix_of(alloc, top.as_str(), folder.as_str())?;
         let index = match variable(rt, "GIT_INDEX_FILE")? {
+            Some(path) if path.is_empty() => path,
             Some(path) => joined(alloc, top.as_str(), path.as_str())?,
             None => joined(alloc, git_dir.as_str(), "index")?,
         };
@@ -75,21 +78,25 @@ impl Repository {
 fn working_folder<R: Files + AllocGlobal>(rt: &R, path: &str) -> Result<String, RepositoryError> {
     let folder = match canonical(rt, path) {
         Ok(folder) => folder,
-        Err(RepositoryError::Unreadable { fault, .. }) => {
-            return Err(not_a_folder(rt.alloc(), path, fault));
+        Err(RepositoryError::Unreadable { why, .. }) => {
+            return Err(not_a_folder(rt.alloc(), path, why));
         }
         Err(error) => return Err(error),
     };
     if is_folder(rt, folder.as_str())? {
         return Ok(folder);
     }
-    Err(not_a_folder(rt.alloc(), path, Fault::NotADirectory))
+    Err(not_a_folder(
+        rt.alloc(),
+        path,
+        Unread::System(io::ErrorKind::NotADirectory),
+    ))
 }
 
 // Returns the error of a path that is no working folder.
-fn not_a_folder(alloc: Global, path: &str, fault: Fault) -> RepositoryError {
+fn not_a_folder(alloc: Global, path: &str, why: Unread) -> RepositoryError {
     match String::from_str(alloc, path) {
-        Ok(path) => RepositoryError::NotAFolder { path, fault },
+        Ok(path) => RepositoryError::NotAFolder { path, why },
         Err(_) => RepositoryError::Memory,
     }
 }
@@ -158,7 +165,7 @@ fn top_of<R: Files + Env + AllocGlobal>(
     rt: &R,
     folder: &str,
     git_dir: &str,
-    settings: &Settings,
+    own: &OwnSettings,
     found: Option<String>,
 ) -> Result<String, RepositoryError> {
     let alloc = rt.alloc();
@@ -167,21 +174,26 @@ fn top_of<R: Files + Env + AllocGlobal>(
             let name = String::from_str(alloc, "GIT_WORK_TREE")?;
             return Err(RepositoryError::BadEnvironment { name });
         }
-        let path = joined(alloc, folder, path.as_str())?;
-        return canonical(rt, path.as_str());
+        return named_top(rt, joined(alloc, folder, path.as_str())?.as_str());
     }
-    if settings.bare == Some(true) {
+    if own.bare == Some(true) {
         return Err(RepositoryError::NoWorktree);
     }
-    match &settings.worktree {
-        Some(path) => {
-            let path = joined(alloc, git_dir, path.as_str())?;
-            canonical(rt, path.as_str())
-        }
+    match &own.worktree {
+        Some(path) => named_top(rt, joined(alloc, git_dir, path.as_str())?.as_str()),
         None => match found {
             Some(top) => Ok(top),
             None => Err(RepositoryError::NoWorktree),
         },
+    }
+}
+
+// Returns the folder of a worktree that the environment or the settings name. As in git, there is none without a folder.
+fn named_top<R: Files + AllocGlobal>(rt: &R, path: &str) -> Result<String, RepositoryError> {
+    match canonical(rt, path) {
+        Ok(top) if is_folder(rt, top.as_str())? => Ok(top),
+        Ok(_) | Err(RepositoryError::Unreadable { .. }) => Err(RepositoryError::NoWorktree),
+        Err(error) => Err(error),
     }
 }
 

@@ -1,7 +1,8 @@
 //! Git's lock of the index file: the time at which it is taken, and the file that is replaced under it.
 
 use crate::error::RepositoryError;
-use crate::files::{canonical, is_missing, read_if_there, unreadable};
+use crate::files::{canonical, is_missing, unreadable};
+use crate::regular::{INDEX_LIMIT, Unread, read_regular};
 use std::alloc::Global;
 use std::fs::{self, FileTimes, Metadata, OpenFile, OpenOptions, Permissions};
 use std::io::{self, Write};
@@ -91,7 +92,7 @@ fn target_of<R: Files + AllocGlobal>(rt: &R, index: &str) -> Result<String, Repo
         Ok(found) if found.is_symlink() => canonical(rt, index),
         Ok(_) => Ok(String::from_str(rt.alloc(), index)?),
         Err(error) if is_missing(error.kind()) => Err(RepositoryError::IndexChanged),
-        Err(error) => Err(unreadable(rt.alloc(), index, error.kind())),
+        Err(error) => Err(unreadable(rt.alloc(), index, Unread::System(error.kind()))),
     }
 }
 
@@ -121,13 +122,12 @@ fn metadata_of_unchanged<R: Files + AllocGlobal>(
     path: &str,
     old: &[u8],
 ) -> Result<Metadata, RepositoryError> {
-    match read_if_there(rt, path)? {
-        Some(found) if found.as_slice() == old => {}
-        _ => return Err(RepositoryError::IndexChanged),
-    }
-    match fs::metadata(rt, path) {
-        Ok(found) => Ok(found),
-        Err(error) => Err(unreadable(rt.alloc(), path, error.kind())),
+    match read_regular(rt, path, INDEX_LIMIT) {
+        Ok(found) if found.bytes.as_slice() == old => Ok(found.metadata),
+        Err(why @ Unread::System(kind)) if !is_missing(kind) => {
+            Err(unreadable(rt.alloc(), path, why))
+        }
+        _ => Err(RepositoryError::IndexChanged),
     }
 }
 

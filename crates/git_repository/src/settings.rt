@@ -25,10 +25,6 @@ pub struct Settings {
     pub check_stat_minimal: bool,
     /// Whether bytes above 127 of a path are quoted (`core.quotePath`).
     pub quote_path: bool,
-    /// Whether the repository has no worktree (`core.bare`). None if that isn't set.
-    pub bare: Option<bool>,
-    /// The worktree's folder (`core.worktree`), absolute or relative to the repository's. None if that isn't set.
-    pub worktree: Option<String>,
     /// Whether git decides by a file's bytes whether to convert its line ends, if its attributes don't (`core.autocrlf`).
     pub auto_line_ends: bool,
     /// Whether git compares paths without regard to case (`core.ignoreCase`). Here they are compared exactly.
@@ -40,45 +36,75 @@ pub struct Settings {
     pub has_include: bool,
 }
 
-/// Reads the configuration of a repository, with that of the system, the user and the environment. `git_dir` is its
-/// folder and `common_dir` that of the repository whose linked worktree it is, or the same.
+/// What a repository's own files of configuration state.
+#[derive(Debug, Drop)]
+pub struct OwnSettings {
+    /// Their variables.
+    pub config: Config,
+    /// The digest that makes ids (`extensions.objectFormat`).
+    pub kind: HashKind,
+    /// Whether the repository has no worktree (`core.bare`). None if that isn't set.
+    pub bare: Option<bool>,
+    /// The worktree's folder (`core.worktree`), absolute or relative to the repository's. None if that isn't set.
+    pub worktree: Option<String>,
+}
+
+/// Reads a repository's own configuration. `git_dir` is its folder and `common_dir` that of the repository whose linked
+/// worktree it is, or the same.
 ///
 /// # Errors
 /// A file or a value can't be read, the format isn't known, or out of memory.
-pub fn read_settings<R: Files + Env + AllocGlobal>(
+pub fn read_own<R: Files + AllocGlobal>(
     rt: &R,
     git_dir: &str,
     common_dir: &str,
-) -> Result<(Settings, Config), RepositoryError> {
+) -> Result<OwnSettings, RepositoryError> {
     let alloc = rt.alloc();
-    let mut own = read_file(rt, joined(alloc, common_dir, "config")?.as_str())?;
-    let format = read_format(alloc, &own)?;
+    let mut config = read_file(rt, joined(alloc, common_dir, "config")?.as_str())?;
+    let format = read_format(alloc, &config)?;
     let is_linked = git_dir != common_dir && !format.has_worktree_config;
     if format.has_worktree_config {
-        own.append(read_file(rt, joined(alloc, git_dir, "config.worktree")?.as_str())?)?;
+        config.append(read_file(rt, joined(alloc, git_dir, "config.worktree")?.as_str())?)?;
     }
     let place = if is_linked {
         (None, None)
     } else {
-        read_place(alloc, &own)?
+        read_place(alloc, &config)?
     };
     let (bare, worktree) = if format.is_stated {
         place
     } else {
         (None, None)
     };
-    let mut config = read_outer(rt)?;
-    config.append(own)?;
+    Ok(OwnSettings {
+        config,
+        kind: format.kind,
+        bare,
+        worktree,
+    })
+}
+
+/// Adds the configuration of the system, the user and the environment to a repository's own, and returns the settings. `top`
+/// is the worktree's folder, in which relative paths of the environment start.
+///
+/// # Errors
+/// A file or a value can't be read, or out of memory.
+pub fn read_settings<R: Files + Env + AllocGlobal>(
+    rt: &R,
+    top: &str,
+    own: OwnSettings,
+) -> Result<(Settings, Config), RepositoryError> {
+    let alloc = rt.alloc();
+    let mut config = read_outer(rt, top)?;
+    config.append(own.config)?;
     append_environment(rt, &mut config)?;
     let settings = Settings {
-        kind: format.kind,
+        kind: own.kind,
         file_mode: switch(alloc, &config, "core.filemode")?.unwrap_or(true),
         symlinks: switch(alloc, &config, "core.symlinks")?.unwrap_or(true),
         trust_ctime: switch(alloc, &config, "core.trustctime")?.unwrap_or(true),
         check_stat_minimal: is_minimal(&config),
         quote_path: switch(alloc, &config, "core.quotepath")?.unwrap_or(true),
-        bare,
-        worktree,
         auto_line_ends: switch_or_word(alloc, &config, "core.autocrlf", Some(b"input"))?.unwrap_or(
             false,
         ),

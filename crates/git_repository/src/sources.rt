@@ -5,8 +5,10 @@ use crate::error::RepositoryError;
 use crate::files::{configuration_folder, joined, read_if_there, variable};
 use crate::parameters::append_parameters;
 use crate::reader::read_config;
+use crate::regular::{SMALL_LIMIT, Unread};
 use crate::values::{bool_of, number_of};
-use status_index::Fault;
+use std::alloc::{AllocError, Global};
+use std::io;
 use std::rt::{Env, Files};
 
 // The most variables that the environment may state.
@@ -17,7 +19,7 @@ const ENVIRONMENT_LIMIT: i32 = 1 << 16;
 /// # Errors
 /// The file or a line of it can't be read, or out of memory.
 pub fn read_file<R: Files + AllocGlobal>(rt: &R, path: &str) -> Result<Config, RepositoryError> {
-    let Some(bytes) = read_if_there(rt, path)? else {
+    let Some(bytes) = read_if_there(rt, path, SMALL_LIMIT)? else {
         return Ok(Config::new(rt.alloc()));
     };
     match read_config(rt.alloc(), &bytes) {
@@ -30,23 +32,40 @@ pub fn read_file<R: Files + AllocGlobal>(rt: &R, path: &str) -> Result<Config, R
     }
 }
 
-/// Reads the configuration of the system and of the user.
+/// Reads the configuration of the system and of the user. As in git, a relative path of the environment starts at the
+/// worktree's top.
 ///
 /// # Errors
 /// A file or a value can't be read, or out of memory.
-pub fn read_outer<R: Files + Env + AllocGlobal>(rt: &R) -> Result<Config, RepositoryError> {
-    let mut config = Config::new(rt.alloc());
+pub fn read_outer<R: Files + Env + AllocGlobal>(
+    rt: &R,
+    top: &str,
+) -> Result<Config, RepositoryError> {
+    let alloc = rt.alloc();
+    let mut config = Config::new(alloc);
     if !is_set(rt, "GIT_CONFIG_NOSYSTEM")? {
-        match variable(rt, "GIT_CONFIG_SYSTEM")? {
-            Some(path) => config.append(read_file(rt, path.as_str())?)?,
-            None => config.append(read_file(rt, "/etc/gitconfig")?)?,
-        }
+        let path = match variable(rt, "GIT_CONFIG_SYSTEM")? {
+            Some(path) => from_top(alloc, top, path)?,
+            None => String::from_str(alloc, "/etc/gitconfig")?,
+        };
+        config.append(read_file(rt, path.as_str())?)?;
     }
     match variable(rt, "GIT_CONFIG_GLOBAL")? {
-        Some(path) => config.append(read_user_file(rt, path.as_str())?)?,
-        None => append_user(rt, &mut config)?,
+        Some(path) => {
+            let path = from_top(alloc, top, path)?;
+            config.append(read_user_file(rt, path.as_str())?)?;
+        }
+        None => append_user(rt, top, &mut config)?,
     }
     Ok(config)
+}
+
+// Returns the path of a file that the environment names. The empty path stays, and names none.
+fn from_top(alloc: Global, top: &str, path: String) -> Result<String, AllocError> {
+    if path.is_empty() {
+        return Ok(path);
+    }
+    joined(alloc, top, path.as_str())
 }
 
 // Reads a configuration file of the user. As in git, one that may not be read has no variables.
@@ -54,7 +73,7 @@ fn read_user_file<R: Files + AllocGlobal>(rt: &R, path: &str) -> Result<Config, 
     match read_file(rt, path) {
         Err(
             RepositoryError::Unreadable {
-                fault: Fault::PermissionDenied,
+                why: Unread::System(io::ErrorKind::PermissionDenied),
                 ..
             },
         ) => Ok(Config::new(rt.alloc())),
@@ -79,15 +98,18 @@ pub fn is_set<R: Env + AllocGlobal>(rt: &R, name: &'static str) -> Result<bool, 
 // Appends the configuration of the user.
 fn append_user<R: Files + Env + AllocGlobal>(
     rt: &R,
+    top: &str,
     config: &mut Config,
 ) -> Result<(), RepositoryError> {
     let alloc = rt.alloc();
     let home = variable(rt, "HOME")?;
     if let Some(folder) = configuration_folder(rt, &home)? {
+        let folder = joined(alloc, top, folder.as_str())?;
         let path = joined(alloc, folder.as_str(), "git/config")?;
         config.append(read_user_file(rt, path.as_str())?)?;
     }
     if let Some(home) = home {
+        let home = joined(alloc, top, home.as_str())?;
         let path = joined(alloc, home.as_str(), ".gitconfig")?;
         config.append(read_user_file(rt, path.as_str())?)?;
     }

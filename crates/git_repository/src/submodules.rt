@@ -4,37 +4,42 @@ ghost use Rattle.std.specs.Prelude.{◌≡◌, None, Ok, false, refl};
 
 use crate::config::{Config, Variable};
 use crate::error::RepositoryError;
-use crate::files::joined;
+use crate::files::{joined, unreadable};
+use crate::format::read_format;
 use crate::git_dir::{common_dir_of, git_dir_in};
 use crate::heads::head_of;
+use crate::regular::Unread;
 use crate::sources::read_file;
 use bstr::BStr;
 use status_base::worktree::{ByteText, SubmoduleFault, SubmoduleStatus};
-use status_index::{Entry, ObjectId};
+use status_index::{Entry, ObjectId, State};
 use std::alloc::{AllocError, Global};
+use std::collections::BTreeMap;
+use std::fs;
 use std::rt::Files;
 
-/// The submodules whose changes don't count: `submodule.NAME.ignore` is `all`, in the configuration or, if it isn't set
-/// there, in the worktree's `.gitmodules`. If it is set in neither, `diff.ignoreSubmodules` is `all`.
-#[derive(Debug, Drop)]
+// The name of the file that names submodules.
+const MODULES: &str = ".gitmodules";
+
+// The section of the variables on a submodule.
+const SECTION: &[u8] = b"submodule";
+
+/// The submodules that don't count: `submodule.NAME.ignore` is `all`, in the configuration or, if it isn't set there, in the
+/// worktree's `.gitmodules`. If it is set in neither, `diff.ignoreSubmodules` is `all`.
+#[derive(Drop)]
 pub struct IgnoredSubmodules {
-    // The submodules that `.gitmodules` names. Of several with one path the last counts.
-    named: Vec<NamedSubmodule>,
-    // Whether the other submodules don't count.
+    // Whether each of the submodules that `.gitmodules` names by its path is ignored.
+    named: BTreeMap<Vec<u8>, bool>,
+    // Whether the other submodules are ignored.
     are_others_ignored: bool,
-    /// Whether `.gitmodules` or a line of it can't be read, as in a conflict of that file. Then none of its lines counts.
+    /// Whether `.gitmodules` isn't read although it is there: it isn't a regular file, it is a link, or a line of it can't be
+    /// read. Then none of its lines counts.
     pub is_unread: bool,
 }
 
-// A submodule that `.gitmodules` names.
-#[derive(Debug, Drop)]
-struct NamedSubmodule {
-    path: ByteText,
-    is_ignored: bool,
-}
-
 impl IgnoredSubmodules {
-    /// Reads which submodules of a worktree don't count.
+    /// Reads which submodules of a worktree don't count. As in git, `.gitmodules` isn't read if the index has no submodule, or
+    /// if the file itself is in conflict.
     ///
     /// # Errors
     /// Out of memory.
@@ -42,9 +47,25 @@ impl IgnoredSubmodules {
         rt: &R,
         top: &str,
         config: &Config,
+        index: &State,
     ) -> Result<IgnoredSubmodules, RepositoryError> {
         let alloc = rt.alloc();
-        match read_file(rt, joined(alloc, top, ".gitmodules")?.as_str()) {
+        if !index
+            .entries()
+            .iter()
+            .any(|entry| entry.mode.is_submodule())
+        {
+            return Ok(IgnoredSubmodules {
+                named: BTreeMap::new(alloc),
+                are_others_ignored: false,
+                is_unread: false,
+            });
+        }
+        let in_index = index.entries_at(BStr::new(MODULES.as_bytes()));
+        if in_index.iter().any(|entry| entry.stage_raw() != 0) {
+            return Ok(IgnoredSubmodules::of(alloc, config, &Config::new(alloc))?);
+        }
+        match read_modules(rt, joined(alloc, top, MODULES)?.as_str()) {
             Ok(modules) => Ok(IgnoredSubmodules::of(alloc, config, &modules)?),
             Err(RepositoryError::BadConfig { .. } | RepositoryError::Unreadable { .. }) => Ok(
                 IgnoredSubmodules {
@@ -66,15 +87,16 @@ impl IgnoredSubmodules {
             Some(found) => is_all(found),
             None => false,
         };
-        let mut named = Vec::new(alloc);
+        let own = own_settings(alloc, config, modules)?;
+        let mut named = BTreeMap::new(alloc);
         for variable in modules.variables() {
-            if let Some(name) = variable.subsection_of(b"submodule")
-                && variable.is_named(b"submodule", Some(name), b"path")
+            if let Some(name) = variable.subsection_of(SECTION)
+                && variable.is_named(SECTION, Some(name), b"path")
             {
-                named.push(NamedSubmodule {
-                    path: ByteText::from_slice(alloc, variable.value().unwrap_or(b""))?,
-                    is_ignored: own_setting(config, modules, name).unwrap_or(are_others_ignored),
-                })?;
+                let path = Vec::from_slice(alloc, variable.value().unwrap_or(b""))?;
+                let is_ignored = own.get(name).copied().unwrap_or(are_others_ignored);
+                // Of several with one path the last counts.
+                put(&mut named, path, is_ignored)?;
             }
         }
         Ok(IgnoredSubmodules {
@@ -86,28 +108,58 @@ impl IgnoredSubmodules {
 
     /// Returns whether the submodule at a path doesn't count.
     pub fn contains(&self, path: BStr<'_>) -> bool {
-        let mut is_ignored = self.are_others_ignored;
-        for submodule in self.named.iter() {
-            if submodule.path.as_bytes() == path.as_bytes() {
-                is_ignored = submodule.is_ignored;
-            }
+        match self.named.get(path.as_bytes()) {
+            Some(is_ignored) => *is_ignored,
+            None => self.are_others_ignored,
         }
-        is_ignored
     }
 }
 
-// Returns whether the submodule of a name doesn't count. None if neither the configuration nor `.gitmodules` states that.
-fn own_setting(config: &Config, modules: &Config, name: &[u8]) -> Option<bool> {
-    if let Some(found) = config.get(b"submodule", Some(name), b"ignore") {
-        return Some(is_all(found));
+// Reads `.gitmodules`. One that isn't there has no variables.
+fn read_modules<R: Files + AllocGlobal>(rt: &R, path: &str) -> Result<Config, RepositoryError> {
+    match fs::symlink_metadata(rt, path) {
+        Ok(found) if found.is_symlink() => Err(unreadable(rt.alloc(), path, Unread::NotRegular)),
+        _ => read_file(rt, path),
     }
-    let mut is_ignored = None;
+}
+
+// Returns whether the submodule of a name is ignored, for each for which the configuration or `.gitmodules` states that.
+fn own_settings(
+    alloc: Global,
+    config: &Config,
+    modules: &Config,
+) -> Result<BTreeMap<Vec<u8>, bool>, AllocError> {
+    let mut own = BTreeMap::new(alloc);
     for variable in modules.variables() {
-        if variable.is_named(b"submodule", Some(name), b"ignore") && is_known(variable) {
-            is_ignored = Some(is_all(variable));
+        if let Some(name) = ignoring(variable)
+            && is_known(variable)
+        {
+            put(&mut own, Vec::from_slice(alloc, name)?, is_all(variable))?;
         }
     }
-    is_ignored
+    // The configuration is the stronger one.
+    for variable in config.variables() {
+        if let Some(name) = ignoring(variable) {
+            put(&mut own, Vec::from_slice(alloc, name)?, is_all(variable))?;
+        }
+    }
+    Ok(own)
+}
+
+// Returns the name of the submodule whose `ignore` a variable is. None if it is another variable.
+fn ignoring(variable: &Variable) -> Option<&[u8]> {
+    let name = variable.subsection_of(SECTION)?;
+    variable
+        .is_named(SECTION, Some(name), b"ignore")
+        .then_some(name)
+}
+
+// Puts a value into a map, in place of an earlier one of its key.
+fn put(map: &mut BTreeMap<Vec<u8>, bool>, key: Vec<u8>, value: bool) -> Result<(), AllocError> {
+    match map.insert(key, value) {
+        Ok(_) => Ok(()),
+        Err(_) => Err(AllocError),
+    }
 }
 
 fn is_all(variable: &Variable) -> bool {
@@ -131,7 +183,8 @@ pub struct SubmoduleHead {
 
 /// Submodules in their folders of a worktree. One is changed if its `HEAD` leads to another commit than its entry has. If
 /// it leads to none, as in a folder without a repository, or to one with an id of another length, the submodule is
-/// unchanged. If the system refuses to read what leads there, there is no status. They aren't modelled.
+/// unchanged. There is no status if the system refuses to read what leads there, or if the format of the submodule's
+/// repository isn't known. They aren't modelled.
 #[derive(Drop)]
 pub struct SubmoduleHeads<'a, R> {
     rt: &'a R,
@@ -203,8 +256,11 @@ fn fault_of(alloc: Global, error: &RepositoryError) -> SubmoduleFault {
     }
 }
 
-// Returns the commit that the `HEAD` of the repository in a folder leads to. None if there is none.
-fn head_below<R: Files + AllocGlobal>(
+/// Returns the commit that the `HEAD` of the repository in a folder of the worktree leads to. None if there is none.
+///
+/// # Errors
+/// The repository's format isn't known, a file can't be read, or out of memory.
+pub fn head_below<R: Files + AllocGlobal>(
     rt: &R,
     top: &str,
     path: BStr<'_>,
@@ -217,5 +273,10 @@ fn head_below<R: Files + AllocGlobal>(
         return Ok(None);
     };
     let common_dir = common_dir_of(rt, git_dir.as_str())?;
+    let config = read_file(
+        rt,
+        joined(rt.alloc(), common_dir.as_str(), "config")?.as_str(),
+    )?;
+    read_format(rt.alloc(), &config)?;
     head_of(rt, git_dir.as_str(), common_dir.as_str())
 }

@@ -5,15 +5,10 @@ use Rattle.std.proofs.lemmas.Bool.{false≢true}
 use Rattle.git_attributes.specs.Files.{File, Said, attributes_of}
 use Rattle.git_attributes.specs.declared.line_ends.LineEnds.{LineEnds}
 use Rattle.git_attributes.specs.Views.{attributes_view}
-use Rattle.git_index.specs.File.{IsFileOf, IsIndexFile}
-use Rattle.git_index.specs.Refusals.{IsFileRefusal}
-use Rattle.git_index.specs.declared.fault.IndexFileError.{IndexFileError}
-use Rattle.git_index.specs.declared.fault.IndexFileError.TheVariants as index_errors
+use Rattle.git_index.specs.File.{IsFileOf}
 use Rattle.status_call.specs.Inputs.{settings}
 use Rattle.status_call.specs.IndexChanges.{AreInside}
-use Rattle.status_index.specs.Entries.{IndexEntry, IsIndex}
 use Rattle.status_index.specs.States.{index_of, timestamp_of}
-use Rattle.git_status.specs.Failures.{failure_of_index}
 use Rattle.git_status.specs.declared.refresh.RefreshedFile.{RefreshedFile}
 use Rattle.status_call.specs.Counts.{skipped_of}
 use Rattle.status_call.specs.Query.{Query}
@@ -30,7 +25,7 @@ use Rattle.git_status.specs.declared.failure.Failure.{Failure}
 use Rattle.git_status.specs.declared.failure.Failure.TheVariants.{Memory}
 use Rattle.git_status.specs.declared.found.Found.{Found}
 use Rattle.git_status.proofs.LeftOut.{kept_inside}
-use Rattle.git_status.proofs.Runs.{early_run, file_run, refused_run, status_run}
+use Rattle.git_status.proofs.Runs.{early_run, file_run, status_run}
 
 -- a list that has a length other than 0
 pub not_empty : {A : Type 0} (xs : List A) (n : ℕ) → n ≡ length xs → (n == 0) ≡ false → xs ≢ []
@@ -154,11 +149,3 @@ module _ {T U : Type 0} where
     late_file found (Ok r) new run failed = absurd failed
     late_file found (Err e) new run failed =
         let c = found_in true a index old found new run in inr (found.report, file_run a bytes old (Ok found.report) new (read_by c.0) c.1.0, failed)
-
-  -- a file that was refused
-  pub refused_file : (a : Asking T U) (bytes : List ℕ) (known : Option (List ℕ)) (result : Result RefreshedFile Failure) (error : IndexFileError)
-      → IsFileRefusal a.settings.kind bytes error → ((es : List IndexEntry) → IsIndexFile a.settings.kind bytes es → IsIndex es → error ≡ index_errors.Memory)
-      → IsErrAnd result (λ f. f ≡ failure_of_index error) → IsRefresh a bytes known result known
-  unfolding IsRefresh
-  refused_file a bytes known (Ok r) error refusal valid failed = absurd failed
-  refused_file a bytes known (Err f) error refusal valid failed = inl (refused_run a bytes known (Err f) error refusal valid failed)

@@ -2,10 +2,6 @@
 use Rattle.std.proofs.Common.{◌≡◌, ℕ, true, false, List, [], Option, None, Some, Result, Ok, Err, IfOk, inl, inr, refl, subst}
 use Rattle.std.specs.Prelude.{is_some}
 use Rattle.std.specs.Result.{IsErrAnd}
-use Rattle.git_index.specs.File.{IsIndexFile}
-use Rattle.git_index.specs.Refusals.{IsFileRefusal}
-use Rattle.git_index.specs.declared.fault.IndexFileError.{IndexFileError}
-use Rattle.git_index.specs.declared.fault.IndexFileError.TheVariants as index
 use Rattle.status_call.specs.Inputs.{settings}
 use Rattle.status_call.specs.Query.{Query}
 use Rattle.status_call.specs.StatusOf.{OneThreadSpawnsNone}
@@ -13,9 +9,7 @@ use Rattle.status_call.specs.StatusTheorem.{IsStatusReport}
 use Rattle.status_call.specs.Visits.{Visit}
 use Rattle.status_call.specs.declared.index_as_worktree.types.Outcome.{Outcome}
 use Rattle.status_compare.specs.declared.error.Error.{Error}
-use Rattle.status_index.specs.Entries.{IndexEntry, IsIndex}
 use Rattle.status_index.specs.declared.state.State.{State}
-use Rattle.git_status.specs.Failures.{failure_of_index}
 use Rattle.git_status.specs.Runs.{Asking, IsComputed, IsCommandEnd, IsCommandRun, IsStatusRun, ReadFile}
 use Rattle.git_status.specs.declared.asked.Settings.{Settings}
 use Rattle.git_status.specs.declared.answer.Report.{Report}
@@ -45,18 +39,12 @@ module _ {T U : Type 0} where
   file_run a bytes old (Ok r) new read run = (read, run)
   file_run a bytes old (Err f) new read run = inl (read, run)
 
-  -- a file that was refused
-  pub refused_run : (a : Asking T U) (bytes : List ℕ) (known : Option (List ℕ)) (result : Result Report Failure) (error : IndexFileError)
-      → IsFileRefusal a.settings.kind bytes error → ((es : List IndexEntry) → IsIndexFile a.settings.kind bytes es → IsIndex es → error ≡ index.Memory)
-      → IsErrAnd result (λ f. f ≡ failure_of_index error) → IsCommandRun a bytes known result known
-  unfolding IsCommandRun
-  refused_run a bytes known (Ok r) error refusal valid failed = absurd failed
-  refused_run a bytes known (Err f) error refusal valid failed = inr (record { error = error; refusal = refusal; valid = valid; failure = failed; unchanged = refl })
-
   -- memory ran out before the status
   pub early_run : (a : Asking T U) (bytes : List ℕ) (known : Option (List ℕ)) (result : Result Report Failure)
       → IsErrAnd result (λ f. f ≡ Memory) → IsCommandRun a bytes known result known
-  early_run a bytes known result failed = refused_run a bytes known result index.Memory (record { applies = tt; passes = tt }) (λ es file valid. refl) failed
+  unfolding IsCommandRun
+  early_run a bytes known (Ok r) failed = absurd failed
+  early_run a bytes known (Err f) failed = inr (failed, refl)
 
 -- nothing isn't something
 pub none_not_some : {A : Type 0} (x : Option A) → x ≡ None → is_some x ≡ true → ⊥

@@ -7,5 +7,6 @@ pub mod Lines
 pub mod Paths
 pub mod Printing
 pub mod Quoting
+pub mod Reads
 pub mod Refreshes
 pub mod Runs

@@ -30,6 +30,10 @@ quoted_byte quote_all byte = if is_odd quote_all byte then 92 ∷ escape byte el
 abbrev pub is_quoted : Bool → List ℕ → Bool
 is_quoted quote_all path = list_any (λ byte. byte == 32 || is_odd quote_all byte) path
 
+-- A path in double quotes.
+abbrev pub quoted_text : Bool → List ℕ → List ℕ
+quoted_text quote_all path = 34 ∷ (flat_map (quoted_byte quote_all) path ++ 34 ∷ [])
+
 -- A path as git prints it.
 abbrev pub path_text : Bool → List ℕ → List ℕ
-path_text quote_all path = if is_quoted quote_all path then 34 ∷ (flat_map (quoted_byte quote_all) path ++ 34 ∷ []) else path
+path_text quote_all path = if is_quoted quote_all path then quoted_text quote_all path else path

@@ -6,10 +6,7 @@ use Rattle.std.specs.Io.KnownBytes.{Appends}
 use Rattle.git_attributes.specs.Files.{File, attributes_of}
 use Rattle.git_attributes.specs.Views.{attributes_view}
 use Rattle.git_attributes.specs.declared.line_ends.LineEnds.{LineEnds}
-use Rattle.git_index.specs.File.{IsFileOf, IsIndexFile}
-use Rattle.git_index.specs.Refusals.{IsFileRefusal}
-use Rattle.git_index.specs.declared.fault.IndexFileError.{IndexFileError}
-use Rattle.git_index.specs.declared.fault.IndexFileError.TheVariants as index
+use Rattle.git_index.specs.File.{IsFileOf}
 use Rattle.git_status.specs.Lines.{differs, visit_lines}
 use Rattle.git_status.specs.declared.lines.LineStyle.{LineStyle}
 use Rattle.status_call.specs.Inputs.{settings}
@@ -22,23 +19,14 @@ use Rattle.status_call.specs.declared.index_as_worktree.inputs.Settings.{Setting
 use Rattle.status_call.specs.declared.index_as_worktree.types.EntryStatus.{EntryStatus}
 use Rattle.status_call.specs.declared.index_as_worktree.types.Outcome.{Outcome}
 use Rattle.status_compare.specs.declared.error.Error.{Error}
-use Rattle.status_index.specs.Entries.{IndexEntry, IsIndex}
 use Rattle.status_index.specs.States.{index_of, timestamp_of}
 use Rattle.status_index.specs.declared.state.State.{State}
-use Rattle.git_status.specs.Failures.{failure_of_index, failure_of_status}
-use Rattle.git_status.specs.Printing.{IsBegun}
+use Rattle.git_status.specs.Failures.{failure_of_status}
+use Rattle.git_status.specs.Printing.{IsBegun, IsUnwritten}
 use Rattle.git_status.specs.declared.asked.Settings.{Settings}
 use Rattle.git_status.specs.declared.answer.Report.{Report}
 use Rattle.git_status.specs.declared.failure.Failure.{Failure}
-use Rattle.git_status.specs.declared.failure.Failure.TheVariants.{Interrupted, Output, Memory}
-
--- The bytes are refused as an index file, and nothing was printed; bytes of a valid index are refused only if memory ran out.
-pub record IsRefusedFile (s : Settings) (bytes : List ℕ) (old : Option (List ℕ)) (f : Failure) (new : Option (List ℕ)) : Type 0 where
-  pub error : IndexFileError
-  pub refusal : IsFileRefusal s.kind bytes error
-  pub valid : (es : List IndexEntry) → IsIndexFile s.kind bytes es → IsIndex es → error ≡ index.Memory
-  pub failure : f ≡ failure_of_index error
-  pub unchanged : new ≡ old
+use Rattle.git_status.specs.declared.failure.Failure.TheVariants.{Interrupted, Memory}
 
 -- How a worktree is compared with an index after line ends are converted, which attribute files may be found, and the settings.
 pub record Asking (T U : Type 0) : Type 1 where
@@ -64,6 +52,10 @@ pub record ReadFile {T U : Type 0} (a : Asking T U) (bytes : List ℕ) : Type 0 
   pub file : IsFileOf a.settings.kind bytes version (index_of index) extensions
   pub time : timestamp_of index ≡ a.settings.timestamp
   pub converting : Converting a index
+
+-- Memory ran out, and nothing was printed.
+abbrev pub IsOutOfMemory : Option (List ℕ) → Failure → Option (List ℕ) → Type 0
+IsOutOfMemory old f new = (f ≡ Memory) × (new ≡ old)
 
 module _ {T U : Type 0} where
   -- A record of an entry that differs from the worktree.
@@ -93,7 +85,7 @@ module _ {T U : Type 0} where
   -- The command isn't quiet, and memory ran out before anything was printed, or the output can't be written after a beginning of the lines.
   pub record IsPrintFailure (lines : Option LineStyle) (visits : List (Visit T U)) (old new : Option (List ℕ)) (f : Failure) : Type 0 where
     pub loud : is_some lines ≡ true
-    pub reason : ((f ≡ Memory) × (new ≡ old)) ⊎ ((f ≡ Output) × IsBegun (printed_text lines visits) old new)
+    pub reason : IsOutOfMemory old f new ⊎ (IsUnwritten f × IsBegun (printed_text lines visits) old new)
 
   -- All lines were printed, and this was found; or they can't be printed.
   abbrev pub IsCommandEnd : Option LineStyle → List (Visit T U) → Result Outcome Error → Option (List ℕ) → Result Report Failure → Option (List ℕ) → Type 0
@@ -119,10 +111,10 @@ module _ {T U : Type 0} where
   IsFileRun a bytes old result new =
       (read : ReadFile a bytes) × IsStatusRun (a.query read.converting.filter (settings a.settings.options read.index)) read.index a.settings old result new
 
-  -- The result of the command over the bytes of an index file and a worktree.
+  -- The result of the command over the bytes of an index file that was read, and a worktree.
   unfoldable pub IsCommandRun : Asking T U → List ℕ → Option (List ℕ) → Result Report Failure → Option (List ℕ) → Type 0
   IsCommandRun a bytes old (Ok r) new = IsFileRun a bytes old (Ok r) new
-  IsCommandRun a bytes old (Err f) new = IsFileRun a bytes old (Err f) new ⊎ IsRefusedFile a.settings bytes old f new
+  IsCommandRun a bytes old (Err f) new = IsFileRun a bytes old (Err f) new ⊎ IsOutOfMemory old f new
 
   -- With exit status 0 the command found no difference, and with 1 it found one.
   abbrev pub IsExit : Asking T U → List ℕ → Bool → Option (List ℕ) → Option (List ℕ) → Type 0

@@ -2,6 +2,7 @@
 
 ghost use Rattle.std.specs.Prelude.{◌≡◌};
 
+use crate::lines::Quoted;
 use bstr::BStr;
 use git_index::IndexFileError;
 use status_call::index_as_worktree::Error;
@@ -19,6 +20,8 @@ pub enum Failure {
     Interrupted,
     /// The output can't be written.
     Output,
+    /// The reader of the output has ended.
+    Closed,
     /// Memory ran out.
     Memory,
 }
@@ -45,12 +48,15 @@ impl fmt::Display for Failure {
             Failure::Index(error) => write!(f, "the index can't be read: {error}"),
             Failure::Status(Error::Io(fault)) => write!(f, "the worktree can't be read: {fault}"),
             Failure::Status(Error::SubmoduleStatus { rela_path, text }) => {
-                let path = BStr::new(rela_path.as_bytes());
-                write!(f, "can't read the submodule {path:?}: {text}")
+                let path = Quoted {
+                    path: rela_path.as_bytes(),
+                };
+                write!(f, "can't read the submodule {path}: {text}")
             }
             Failure::Status(error) => write!(f, "{error}"),
             Failure::Interrupted => f.write_str("interrupted"),
             Failure::Output => f.write_str("the output can't be written"),
+            Failure::Closed => f.write_str("the reader of the output has ended"),
             Failure::Memory => f.write_str("out of memory"),
         }
     }

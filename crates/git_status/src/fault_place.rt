@@ -1,14 +1,15 @@
 //! The path at which a status fails.
 
 use crate::asked::Asked;
-use crate::paths::Paths;
+use crate::lines::Quoted;
+use crate::paths::{Paths, Top};
 use bstr::BStr;
 use status_base::worktree::{MemoryObjects, NoFilter, NoLister, NoSubmodules, Pathspec, Worktree};
 use status_call::index_as_worktree::traits::FastEq;
 use status_call::index_as_worktree::{
     Capabilities, Context, Error, Options, Recorder, index_as_worktree,
 };
-use status_index::{HashKind, Moment, State, stat};
+use status_index::{State, stat};
 use std::alloc::AllocError;
 use std::fmt;
 use std::sync::Wait;
@@ -25,10 +26,12 @@ pub struct PlacedError<'a> {
 
 impl fmt::Display for PlacedError<'_> {
     fn fmt<W: fmt::Write>(&self, f: &mut fmt::Formatter<W>) -> fmt::Result {
-        let path = self.path;
+        let path = Quoted {
+            path: self.path.as_bytes(),
+        };
         match &self.error {
-            Error::Io(fault) => write!(f, "can't read {path:?}: {fault}"),
-            error => write!(f, "{path:?}: {error}"),
+            Error::Io(fault) => write!(f, "can't read {path}: {fault}"),
+            error => write!(f, "{path}: {error}"),
         }
     }
 }
@@ -36,10 +39,6 @@ impl fmt::Display for PlacedError<'_> {
 /// The question of a status, kept to find out at which path it failed.
 #[derive(Drop)]
 pub struct Search<'a, W, P> {
-    /// The kind of the index file's ids.
-    pub kind: HashKind,
-    /// When the index file was last changed.
-    pub timestamp: Moment,
     fs: Capabilities,
     stat: stat::Options,
     worktree: &'a W,
@@ -57,8 +56,6 @@ where
     pub fn of<S, A>(asked: &Asked<'a, W, S, P, A>) -> Result<Search<'a, W, P>, AllocError> {
         let settings = &asked.settings;
         Ok(Search {
-            kind: settings.kind,
-            timestamp: settings.timestamp,
             fs: settings.options.fs,
             stat: settings.options.stat,
             worktree: asked.worktree,
@@ -75,7 +72,7 @@ where
     ) -> Option<PlacedError<'i>> {
         for entry in index.entries() {
             let path = entry.path_in(index.path_backing());
-            if self.paths.includes(path, false) {
+            if self.paths.includes(path, entry.mode.is_submodule()) {
                 if let Some(error) = self.error_at(rt, index, path) {
                     return Some(PlacedError { path, error });
                 }
@@ -92,10 +89,16 @@ where
         path: BStr<'_>,
     ) -> Option<Error> {
         let alloc = rt.alloc();
-        let top = path.as_bytes();
+        let top = Top {
+            path: path.as_bytes(),
+            is_folder: false,
+        };
         // A conversion of line ends fails only if reading does, so none is made here.
         let context = Context {
-            pathspec: Paths { tops: &[top] },
+            pathspec: Paths {
+                tops: &[top],
+                left_out: &State::new(alloc, index.timestamp()),
+            },
             filter: NoFilter,
             lister: NoLister,
             should_interrupt: None,

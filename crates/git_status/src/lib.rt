@@ -1,11 +1,11 @@
 //! The command `git dirty`, over the bytes of an index file, any worktree and any writers.
 //!
-//! Read `dirty` first, which has the command, and `asked`, what it is asked. `status` computes the status of an index,
+//! Read `dirty` first, which has the command, `read`, the index file that it is passed, and `asked`, what it is asked. `status` computes the status of an index,
 //! `found` prints it and returns what was found, and `answer` has its lines and its report. `refresh` has the command
 //! with the new bytes of the index file, and `kept` the changes in them. `lines` has git's lines and quoted paths;
-//! `output` writes them. `paths` is a pathspec of files and folders. `watcher` stops at the first difference. `notes`
-//! are on files that the status doesn't convert. `failure` says why the command fails, `fault_place` at which path, and
-//! `laws` what a user relies on.
+//! `output` writes them. `paths` is a pathspec of files and folders. `watcher` stops at the first difference. `said` has
+//! what is written besides, with `notes` on files that the status doesn't convert. `failure` says why the command fails,
+//! `fault_place` at which path, and `laws` what a user relies on.
 #![tactic(auto)]
 
 mod answer;
@@ -20,7 +20,9 @@ pub mod lines;
 mod notes;
 mod output;
 mod paths;
+mod read;
 mod refresh;
+mod said;
 mod status;
 mod watcher;
 
@@ -30,5 +32,6 @@ pub use dirty::{print_file, run_dirty};
 pub use failure::Failure;
 pub use laws::{clean_means_no_difference, lines_are_of_all_differences};
 pub use output::print_failure;
-pub use paths::Paths;
+pub use paths::{Paths, Top};
+pub use read::ReadIndex;
 pub use refresh::{Refreshed, run_refresh};

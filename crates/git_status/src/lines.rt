@@ -1,15 +1,16 @@
 //! The lines of `git status --porcelain`, with paths in quotes as git prints them. The first column is a space, except
 //! for a conflict, since the index isn't compared with a commit.
 
-ghost use Rattle.std.specs.Prelude.{◌≡◌, ◌++◌, OnOk};
+ghost use Rattle.std.specs.Prelude.{◌≡◌, ◌++◌, ◌∷◌, [], OnOk, IfSome, IfNone};
 ghost use Rattle.std.specs.Option.{option_map};
 ghost use Rattle.bstr.specs.BStr.{bstr_bytes};
 ghost use Rattle.git_status.specs.Lines.{change_letters, conflict_letters, letters, path_ending, status_line};
-ghost use Rattle.git_status.specs.Quoting.{escape, is_odd, is_quoted, octal, path_text, quoted_byte};
+ghost use Rattle.git_status.specs.Quoting.{escape, is_odd, is_quoted, octal, path_text, quoted_byte, quoted_text};
 
 use bstr::BStr;
 use status_call::index_as_worktree::{Change, Conflict, EntryStatus};
 use std::alloc::AllocError;
+use std::fmt;
 
 /// How lines are printed.
 #[derive(Clone, Copy, Debug, PartialEq, Eq)]
@@ -118,23 +119,35 @@ fn octal(byte: u8) -> [u8; 3]
     [b'0' + byte / 64, b'0' + byte / 8 % 8, b'0' + byte % 8]
 }
 
+/// Returns the one byte that follows the backslash of an escaped byte, or `None` if three octal digits do.
+fn letter_of(byte: u8) -> Option<u8>
+    ensures some { IfSome result (λ letter. escape byte ≡ letter ∷ []) }
+    ensures none { IfNone result (escape byte ≡ octal byte) }
+{
+    match byte {
+        7 => Some(b'a'),
+        8 => Some(b'b'),
+        b'\t' => Some(b't'),
+        b'\n' => Some(b'n'),
+        11 => Some(b'v'),
+        12 => Some(b'f'),
+        b'\r' => Some(b'r'),
+        b'"' | b'\\' => Some(byte),
+        _ => None,
+    }
+}
+
 /// Appends what follows the backslash of an escaped byte.
 fn push_escape(line: &mut Vec<u8>, byte: u8) -> Result<(), AllocError>
     ensures { OnOk result (line.new.items ≡ line.old.items ++ escape byte) }
 {
-    let letter = match byte {
-        7 => b'a',
-        8 => b'b',
-        b'\t' => b't',
-        b'\n' => b'n',
-        11 => b'v',
-        12 => b'f',
-        b'\r' => b'r',
-        b'"' | b'\\' => byte,
-        _ => return line.extend_from_slice(&octal(byte)),
-    };
-    line.push(letter)?;
-    Ok(())
+    match letter_of(byte) {
+        Some(letter) => {
+            line.push(letter)?;
+            Ok(())
+        }
+        None => line.extend_from_slice(&octal(byte)),
+    }
 }
 
 /// Appends a byte of a path that is in quotes.
@@ -157,10 +170,55 @@ pub fn push_path(line: &mut Vec<u8>, path: &[u8], quote_all: bool) -> Result<(),
     if !is_quoted(path, quote_all) {
         return line.extend_from_slice(path);
     }
+    push_quoted(line, path, quote_all)
+}
+
+/// Appends a path in double quotes, with the escapes of C.
+pub(crate) fn push_quoted(
+    line: &mut Vec<u8>,
+    path: &[u8],
+    quote_all: bool,
+) -> Result<(), AllocError>
+    ensures { OnOk result (line.new.items ≡ line.old.items ++ quoted_text quote_all path.now) }
+{
     line.push(b'"')?;
     for byte in path {
         push_byte(line, *byte, quote_all)?;
     }
     line.push(b'"')?;
     Ok(())
+}
+
+/// A path as it is shown in a text: in double quotes, with git's escapes, also of bytes outside of ASCII.
+#[derive(Clone, Copy)]
+pub struct Quoted<'a> {
+    /// The path.
+    pub path: &'a [u8],
+}
+
+impl fmt::Display for Quoted<'_> {
+    fn fmt<W: fmt::Write>(&self, f: &mut fmt::Formatter<W>) -> fmt::Result {
+        f.write_char('"')?;
+        for byte in self.path {
+            write_byte(f, *byte)?;
+        }
+        f.write_char('"')
+    }
+}
+
+/// Writes a byte of a path that is in quotes.
+fn write_byte<W: fmt::Write>(f: &mut fmt::Formatter<W>, byte: u8) -> fmt::Result {
+    if !is_odd(byte, true) {
+        return f.write_char(char::from(byte));
+    }
+    f.write_char('\\')?;
+    match letter_of(byte) {
+        Some(letter) => f.write_char(char::from(letter)),
+        None => {
+            let [first, second, third] = octal(byte);
+            f.write_char(char::from(first))?;
+            f.write_char(char::from(second))?;
+            f.write_char(char::from(third))
+        }
+    }
 }

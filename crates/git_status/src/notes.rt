@@ -6,6 +6,8 @@ ghost use Rattle.status_call.specs.RecorderVisits.{visit_of};
 ghost use Rattle.git_status.specs.Kept.{is_compared, is_left_out};
 
 use crate::answer::Report;
+use crate::lines::push_quoted;
+use crate::output::print;
 use bstr::BString;
 use git_attributes::{Attributes, is_unconverted};
 use status_call::index_as_worktree::{Change, EntryStatus, Record};
@@ -86,14 +88,26 @@ fn is_modified_file<T, U>(found: &Record<'_, T, U>) -> bool {
 }
 
 /// Writes a note for each file that git converts, and the status doesn't.
-pub(crate) fn print_notes<E: io::Write>(report: &Report, faults: &mut E) {
+pub(crate) fn print_notes<E: io::Write>(
+    alloc: Global,
+    report: &Report,
+    quote_all: bool,
+    faults: &mut E,
+) {
     if let Some(paths) = &report.unconverted {
         for path in paths {
             // If the line can't be written, there is nowhere left to report that.
-            let _ = writeln!(
-                faults,
-                "git dirty: note: {path:?} has a filter, an ident or an encoding, which isn't applied"
-            );
+            if let Ok(line) = note_of(alloc, path.as_bytes(), quote_all) {
+                let _ = print(&line, faults);
+            }
         }
     }
+}
+
+/// Returns the line of a note on a file.
+fn note_of(alloc: Global, path: &[u8], quote_all: bool) -> Result<Vec<u8>, AllocError> {
+    let mut line = Vec::from_slice(alloc, b"git dirty: note: ")?;
+    push_quoted(&mut line, path, quote_all)?;
+    line.extend_from_slice(b" has a filter, an ident or an encoding, which isn't applied\n")?;
+    Ok(line)
 }

@@ -1,7 +1,7 @@
 //! Writing bytes, and the line of a failure.
 
 ghost use Rattle.std.specs.Prelude.{◌≡◌, IfOk, List, ℕ};
-ghost use Rattle.git_status.specs.Printing.{IsFaultLine, IsPrinted, fault_line};
+ghost use Rattle.git_status.specs.Printing.{IsFaultLine, IsPrinted, IsUnwritten, fault_line};
 
 use crate::failure::Failure;
 use std::alloc::{AllocError, Global};
@@ -10,12 +10,16 @@ use std::{fmt, io};
 /// Writes bytes and flushes the output. Only a write that a signal interrupts is tried again.
 ///
 /// # Errors
-/// `Failure::Output` if they can't be written. Then a beginning of them is.
+/// `Failure::Output` if they can't be written, or `Failure::Closed` if their reader has ended. Then a beginning of them is
+/// written.
 pub fn print<O: io::Write>(bytes: &[u8], output: &mut O) -> Result<(), Failure>
     ensures { IsPrinted bytes.now (O.contents output.old) result (O.contents output.new) }
 {
     write(bytes, output)?;
-    output.flush().map_err(|_| Failure::Output)
+    match output.flush() {
+        Ok(()) => Ok(()),
+        Err(error) => Err(unwritten(error.kind())),
+    }
 }
 
 /// Writes bytes, without a flush.
@@ -32,10 +36,20 @@ fn write<O: io::Write>(bytes: &[u8], output: &mut O) -> Result<(), Failure>
             Ok(0) => return Err(Failure::Output),
             Ok(count) => written += count,
             Err(error) if error.kind() == io::ErrorKind::Interrupted => {}
-            Err(_) => return Err(Failure::Output),
+            Err(error) => return Err(unwritten(error.kind())),
         }
     }
     Err(Failure::Output)
+}
+
+/// Returns the failure of an output that isn't written, for this kind of error.
+fn unwritten(kind: io::ErrorKind) -> Failure
+    ensures { IsUnwritten result }
+{
+    match kind {
+        io::ErrorKind::BrokenPipe => Failure::Closed,
+        _ => Failure::Output,
+    }
 }
 
 /// Writes a line that says what failed, and returns the exit status of a failure, 2.

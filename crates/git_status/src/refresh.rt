@@ -2,17 +2,19 @@
 
 ghost use Rattle.std.specs.Prelude.{◌≡◌, ◌≢◌, ◌⊎◌, ◌<◌, true, false, None};
 ghost use Rattle.git_status.specs.Printing.{IsFaultLine};
+ghost use Rattle.git_status.specs.Reads.{IsRead};
 ghost use Rattle.git_status.specs.Refreshes.{IsRefresh, IsRefreshExit, IsRefreshFailedExit};
 
 use crate::answer::Report;
-use crate::asked::{Asked, Question, Settings};
-use crate::dirty::{print_besides, report_failure};
+use crate::asked::{Asked, Question};
+use crate::dirty::report_failure;
 use crate::failure::Failure;
 use crate::fault_place::Search;
 use crate::found::{Found, print_index};
 use crate::kept::changed_bytes;
+use crate::read::ReadIndex;
+use crate::said::{Said, print_said};
 use git_attributes::AttributeFiles;
-use git_index::read_index;
 use status_base::worktree::{Pathspec, SubmoduleStatus, Worktree};
 use std::io;
 use std::sync::Wait;
@@ -58,7 +60,7 @@ pub fn run_refresh<
     E: io::Write,
 >(
     rt: &R,
-    bytes: &'b [u8],
+    mut read: ReadIndex<'b>,
     asked: Asked<'a, W, S, P, A>,
     output: &mut O,
     faults: &mut E,
@@ -66,17 +68,18 @@ pub fn run_refresh<
 where
     W::File: Send,
     S::Output: Send,
+    requires { IsRead asked.entry.settings read.entry }
     ensures status { (result.status ≡ 0) ⊎ ((result.status ≡ 1) ⊎ (result.status ≡ 2)) }
-    ensures clean { result.status ≡ 0 → IsRefreshExit (⟦<Asked<'a, W, S, P, A> as Question>⟧.asking asked.entry) bytes.now false result (O.contents output.old) (O.contents output.new) }
-    ensures dirty { result.status ≡ 1 → IsRefreshExit (⟦<Asked<'a, W, S, P, A> as Question>⟧.asking asked.entry) bytes.now true result (O.contents output.old) (O.contents output.new) }
-    ensures failed { result.status ≡ 2 → IsRefreshFailedExit (⟦<Asked<'a, W, S, P, A> as Question>⟧.asking asked.entry) bytes.now (O.contents output.old) (O.contents output.new) }
+    ensures clean { result.status ≡ 0 → IsRefreshExit (⟦<Asked<'a, W, S, P, A> as Question>⟧.asking asked.entry) read.entry.bytes.now false result (O.contents output.old) (O.contents output.new) }
+    ensures dirty { result.status ≡ 1 → IsRefreshExit (⟦<Asked<'a, W, S, P, A> as Question>⟧.asking asked.entry) read.entry.bytes.now true result (O.contents output.old) (O.contents output.new) }
+    ensures failed { result.status ≡ 2 → IsRefreshFailedExit (⟦<Asked<'a, W, S, P, A> as Question>⟧.asking asked.entry) read.entry.bytes.now (O.contents output.old) (O.contents output.new) }
     ensures unwritten { result.status ≡ 2 → result.bytes ≡ None }
     ensures line { result.status ≡ 2 → IsFaultLine (E.contents faults.old) (E.contents faults.new) }
     ensures quiet { result.status ≢ 2 → asked.entry.settings.stats ≡ false → asked.entry.settings.notes ≡ false → E.contents faults.new ≡ E.contents faults.old }
 {
-    let Settings { notes, stats, .. } = asked.settings;
+    let said = Said::of(&asked.settings);
     let search = Search::of(&asked).ok();
-    match refresh_file(rt, bytes, asked, output) {
+    match refresh_file(rt, &mut read, asked, output) {
         Ok(
             RefreshedFile {
                 report,
@@ -85,7 +88,7 @@ where
                 extensions,
             },
         ) => {
-            print_besides(notes, stats, &report, faults);
+            print_said(rt.alloc(), said, &report, faults);
             Refreshed {
                 status: u8::from(report.dirty),
                 bytes,
@@ -94,7 +97,7 @@ where
             }
         }
         Err(failure) => Refreshed {
-            status: report_failure(rt, bytes, search, failure, faults),
+            status: report_failure(rt, &read.file.state, search, failure, faults),
             bytes: None,
             is_whole: false,
             extensions: &[],
@@ -102,7 +105,7 @@ where
     }
 }
 
-/// Prints the status of an index file, and returns the new bytes of the file.
+/// Prints the status of an index file that was read, stores its changes in the file, and returns its new bytes.
 ///
 /// # Errors
 /// Those of `print_file`, or out of memory after all lines were printed.
@@ -117,28 +120,23 @@ fn refresh_file<
     O: io::Write,
 >(
     rt: &R,
-    bytes: &'b [u8],
+    read: &mut ReadIndex<'b>,
     asked: Asked<'a, W, S, P, A>,
     output: &mut O,
 ) -> Result<RefreshedFile<'b>, Failure>
 where
     W::File: Send,
     S::Output: Send,
-    ensures { IsRefresh (⟦<Asked<'a, W, S, P, A> as Question>⟧.asking asked.entry) bytes.now (O.contents output.old) result (O.contents output.new) }
+    requires { IsRead asked.entry.settings read.old }
+    ensures { IsRefresh (⟦<Asked<'a, W, S, P, A> as Question>⟧.asking asked.entry) read.old.bytes.now (O.contents output.old) result (O.contents output.new) }
 {
     let alloc = rt.alloc();
-    let Settings {
-        kind,
-        timestamp,
-        ..
-    } = asked.settings;
-    let mut file = read_index(alloc, kind, bytes, timestamp)?;
     let Found {
         report,
         changes,
         is_whole,
-    } = print_index(rt, &file.state, asked, true, output)?;
-    let extensions = file.extensions;
+    } = print_index(rt, &read.file.state, asked, true, output)?;
+    let extensions = read.file.extensions;
     if changes.is_empty() {
         return Ok(RefreshedFile {
             report,
@@ -147,7 +145,7 @@ where
             extensions,
         });
     }
-    let bytes = changed_bytes(alloc, &mut file, &changes)?;
+    let bytes = changed_bytes(alloc, &mut read.file, &changes)?;
     Ok(RefreshedFile {
         report,
         bytes: Some(bytes),

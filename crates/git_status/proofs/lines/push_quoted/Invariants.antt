@@ -1,7 +1,7 @@
 use Rattle.std.proofs.Common.{◌≡◌, ◌++◌, ◌∷◌, take}
 use Rattle.std.specs.List.{flat_map}
 use Rattle.git_status.specs.Quoting.{quoted_byte}
-use Rattle.git_status.proofs.lines.push_path.Given as goal
+use Rattle.git_status.proofs.lines.push_quoted.Given as goal
 
 -- a quote and the bytes so far were appended
 abbrev pub invariant-loop-byte : goal.invariant-loop-byte

@@ -1,0 +1,163 @@
+//! The entries of an index that a request compares.
+
+use crate::refused::Refused;
+use crate::request::Selected;
+use bitflags::Flags as _;
+use bstr::BStr;
+use git_repository::IgnoredSubmodules;
+use git_status::{Paths, Top};
+use status_base::worktree::{NodeKind, Pathspec, Worktree};
+use status_index::{Entry, Flags, State};
+use std::alloc::{AllocError, Global};
+
+/// The flags of entries that aren't compared.
+const SKIPPED: [Flags; 4] = [
+    Flags::UPTODATE,
+    Flags::SKIP_WORKTREE,
+    Flags::ASSUME_VALID,
+    Flags::FSMONITOR_VALID,
+];
+
+/// The selected entries of an index that aren't compared as others are. Each is in a list of its own.
+#[derive(Drop)]
+pub(crate) struct Exceptions {
+    /// Those that aren't compared: ignored submodules that aren't folders, and those of `illformed`.
+    pub(crate) left_out: State,
+    /// Those of `git add -N`.
+    pub(crate) intended: State,
+    /// The paths that aren't UTF-8. The kit's paths are text, so the system can't be asked for such a file.
+    pub(crate) illformed: Vec<Vec<u8>>,
+}
+
+/// Returns the paths by which entries are selected. There is none if the worktree's top is selected.
+///
+/// # Errors
+/// Out of memory.
+pub(crate) fn tops_of<'a>(
+    alloc: Global,
+    selected: &'a [Selected<'_>],
+) -> Result<Vec<Top<'a>>, AllocError> {
+    let mut tops = Vec::new(alloc);
+    if selected.iter().any(|one| one.path.is_empty()) {
+        return Ok(tops);
+    }
+    for one in selected {
+        tops.push(Top {
+            path: one.path.as_bytes(),
+            is_folder: one.is_folder,
+        })?;
+    }
+    Ok(tops)
+}
+
+/// Checks that something is at each selected path, or was when it was staged: an entry is at it or below it, or a node is in
+/// the worktree.
+///
+/// # Errors
+/// Nothing is at one, or out of memory.
+pub(crate) fn check_each<W: Worktree>(
+    alloc: Global,
+    index: &State,
+    worktree: &W,
+    selected: &[Selected<'_>],
+) -> Result<(), Refused> {
+    for one in selected {
+        let path = BStr::new(one.path.as_bytes());
+        if !one.path.is_empty()
+            && !has_entry(alloc, index, path)?
+            && worktree.lstat(path).is_err()
+        {
+            return Err(Refused::unmatched(alloc, one.word));
+        }
+    }
+    Ok(())
+}
+
+/// Returns whether an entry is at a path or below it.
+fn has_entry(alloc: Global, index: &State, path: BStr<'_>) -> Result<bool, AllocError> {
+    if !index.entries_at(path).is_empty() {
+        return Ok(true);
+    }
+    let mut below = Vec::from_slice(alloc, path.as_bytes())?;
+    below.push(b'/')?;
+    Ok(
+        index
+            .prefixed_entries_range(BStr::new(below.as_slice()))
+            .is_some(),
+    )
+}
+
+impl Exceptions {
+    /// Returns the exceptions among the entries of an index that these paths select.
+    ///
+    /// # Errors
+    /// Out of memory.
+    pub(crate) fn of<W: Worktree>(
+        alloc: Global,
+        index: &State,
+        worktree: &W,
+        tops: &[Top<'_>],
+        ignored: &IgnoredSubmodules,
+    ) -> Result<Exceptions, AllocError> {
+        let nothing = State::new(alloc, index.timestamp());
+        let paths = Paths {
+            tops,
+            left_out: &nothing,
+        };
+        let mut found = Exceptions {
+            left_out: State::new(alloc, index.timestamp()),
+            intended: State::new(alloc, index.timestamp()),
+            illformed: Vec::new(alloc),
+        };
+        for entry in index.entries() {
+            let path = entry.path_in(index.path_backing());
+            if is_compared(entry) && paths.includes(path, entry.mode.is_submodule()) {
+                found.add(alloc, entry, path, worktree, ignored)?;
+            }
+        }
+        Ok(found)
+    }
+
+    /// Adds an entry with its path, if it is an exception.
+    fn add<W: Worktree>(
+        &mut self,
+        alloc: Global,
+        entry: &Entry,
+        path: BStr<'_>,
+        worktree: &W,
+        ignored: &IgnoredSubmodules,
+    ) -> Result<(), AllocError> {
+        if str::from_utf8(path.as_bytes()).is_err() {
+            self.illformed
+                .push(Vec::from_slice(alloc, path.as_bytes())?)?;
+            put(&mut self.left_out, entry, path)
+        } else if entry.mode.is_submodule()
+            && ignored.contains(path)
+            && !is_folder(worktree, path)
+        {
+            put(&mut self.left_out, entry, path)
+        } else if entry.flags.contains(Flags::INTENT_TO_ADD) {
+            put(&mut self.intended, entry, path)
+        } else {
+            Ok(())
+        }
+    }
+}
+
+/// Returns whether an entry is compared with the worktree: it isn't skipped, and isn't in conflict.
+fn is_compared(entry: &Entry) -> bool {
+    entry.stage_raw() == 0 && !SKIPPED.iter().any(|flag| entry.flags.contains(*flag))
+}
+
+/// Returns whether a folder is at a path.
+fn is_folder<W: Worktree>(worktree: &W, path: BStr<'_>) -> bool {
+    matches!(worktree.lstat(path), Ok(node) if node.kind == NodeKind::Directory)
+}
+
+/// Adds an entry with its path to a list.
+fn put(list: &mut State, entry: &Entry, path: BStr<'_>) -> Result<(), AllocError> {
+    match list.push_entry(entry.stat, entry.id, entry.flags, entry.mode, path) {
+        Ok(()) => Ok(()),
+        Err(_) => Err(AllocError),
+    }
+}
