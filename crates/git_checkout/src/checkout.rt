@@ -223,7 +223,7 @@ fn compare<
 where
     W::File: Send,
     S::Output: Send,
-    requires { IsRead asked.entry.settings read.entry }
+    requires { IsRead asked.settings read }
 {
     if !request.refresh {
         Refreshed {

@@ -16,7 +16,8 @@ Examples:
 Exit status: 0 if nothing differs, 1 if something does, 2 after a failure.
 A line has the letters of git status --porcelain. The index isn't compared with
 a commit, so the first letter is a space, except for a conflict, and a change
-that is staged doesn't count. PATHS that no entry has select nothing.
+that is staged doesn't count. A path that selects nothing is a failure, and so
+is one with wildcards.
 Files with filters (git LFS), ident or an encoding aren't compared as git does:
 don't rely on this command there.";
 
@@ -94,7 +95,18 @@ pub fn command_line<'a>(alloc: Global) -> Result<Command<'a>, AllocError> {
             "Print on standard error how much was compared",
         )
         .long("stats"))?
+        .disable_help_flag(true)
+        .arg(help(alloc, "help").short('h'))?
+        .arg(help(alloc, "long-help").long("help").hide(true))?
         .arg(paths)
+}
+
+/// Returns a flag that prints the help. With `git dirty --help` git itself searches for a manual page, so that `-h` is the one
+/// which errors name.
+fn help<'a>(alloc: Global, id: &'static str) -> Arg<'a> {
+    Arg::new(alloc, id)
+        .help("Print help")
+        .action(ArgAction::Help)
 }
 
 fn flag<'a>(alloc: Global, id: &'static str, help: &'static str) -> Arg<'a> {

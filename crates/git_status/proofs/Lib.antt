@@ -4,4 +4,5 @@ pub mod Founds
 pub mod LeftOut
 pub mod Printed
 pub mod Runs
+pub mod Selected
 pub mod Shown

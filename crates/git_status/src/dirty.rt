@@ -40,7 +40,7 @@ pub fn run_dirty<
 where
     W::File: Send,
     S::Output: Send,
-    requires { IsRead asked.entry.settings read.now }
+    requires { IsRead asked.settings read.now }
     ensures status { (result ≡ 0) ⊎ ((result ≡ 1) ⊎ (result ≡ 2)) }
     ensures clean { result ≡ 0 → IsExit (⟦<Asked<'a, W, S, P, A> as Question>⟧.asking asked.entry) read.now.bytes.now false (O.contents output.old) (O.contents output.new) }
     ensures dirty { result ≡ 1 → IsExit (⟦<Asked<'a, W, S, P, A> as Question>⟧.asking asked.entry) read.now.bytes.now true (O.contents output.old) (O.contents output.new) }
@@ -113,7 +113,7 @@ pub fn print_file<
 where
     W::File: Send,
     S::Output: Send,
-    requires { IsRead asked.entry.settings read.now }
+    requires { IsRead asked.settings read.now }
     ensures { IsCommandRun (⟦<Asked<'a, W, S, P, A> as Question>⟧.asking asked.entry) read.now.bytes.now (O.contents output.old) result (O.contents output.new) }
 {
     let Found { report, .. } = print_index(rt, &read.file.state, asked, false, output)?;

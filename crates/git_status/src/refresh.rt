@@ -68,7 +68,7 @@ pub fn run_refresh<
 where
     W::File: Send,
     S::Output: Send,
-    requires { IsRead asked.entry.settings read.entry }
+    requires { IsRead asked.settings read }
     ensures status { (result.status ≡ 0) ⊎ ((result.status ≡ 1) ⊎ (result.status ≡ 2)) }
     ensures clean { result.status ≡ 0 → IsRefreshExit (⟦<Asked<'a, W, S, P, A> as Question>⟧.asking asked.entry) read.entry.bytes.now false result (O.contents output.old) (O.contents output.new) }
     ensures dirty { result.status ≡ 1 → IsRefreshExit (⟦<Asked<'a, W, S, P, A> as Question>⟧.asking asked.entry) read.entry.bytes.now true result (O.contents output.old) (O.contents output.new) }
@@ -127,7 +127,7 @@ fn refresh_file<
 where
     W::File: Send,
     S::Output: Send,
-    requires { IsRead asked.entry.settings read.old }
+    requires { IsRead asked.settings read.now }
     ensures { IsRefresh (⟦<Asked<'a, W, S, P, A> as Question>⟧.asking asked.entry) read.old.bytes.now (O.contents output.old) result (O.contents output.new) }
 {
     let alloc = rt.alloc();

@@ -1,4 +1,4 @@
-use Rattle.std.proofs.Common.{refl, arith, append-nil, length-drop, take, take-add}
+use Rattle.std.proofs.Common.{inl, refl, arith, append-nil, length-drop, take, take-add}
 use Rattle.std.proofs.KnownBytes.{Appends-kept, Appends-trans}
 use Rattle.git_status.proofs.Printed.{first_begun, rest_taken}
 use Rattle.git_status.proofs.output.write.Goals as goal
@@ -8,11 +8,11 @@ pub returns-in-Ok-eq0 : goal.returns-in-Ok-eq0
 returns-in-Ok-eq0 g c =
     let inv = c.writes.invariant in
     let none = rw (c.in-Ok-eq0.is, c.in-Ok-eq0.field-0-test) at c.write.ensures.bytes in
-    (first_begun c.writes.written c.args.bytes.now _ _ (rw (append-nil (take c.writes.written c.args.bytes.now)) at (Appends-trans _ _ _ _ _ inv.1 none)), refl)
+    (first_begun c.writes.written c.args.bytes.now _ _ (rw (append-nil (take c.writes.written c.args.bytes.now)) at (Appends-trans _ _ _ _ _ inv.1 none)), inl refl)
 
 pub returns-in-Err-2 : goal.returns-in-Err-2
 returns-in-Err-2 g c =
-    (first_begun c.writes.written c.args.bytes.now _ _ (Appends-kept _ _ _ _ c.writes.invariant.1 c.in-Err-2.ensures.bytes), refl)
+    (first_begun c.writes.written c.args.bytes.now _ _ (Appends-kept _ _ _ _ c.writes.invariant.1 c.in-Err-2.ensures.bytes), c.unwritten.ensures)
 
 pub writes-preserved : goal.writes-preserved
 writes-preserved g c =
@@ -28,4 +28,4 @@ writes-preserved g c =
     ]
 
 pub returns : goal.returns
-returns g c = (first_begun c.writes.written c.args.bytes.now _ _ c.writes.invariant.1, refl)
+returns g c = (first_begun c.writes.written c.args.bytes.now _ _ c.writes.invariant.1, inl refl)
