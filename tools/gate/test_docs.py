@@ -211,7 +211,7 @@ class Docs(unittest.TestCase):
             for trait, body in re.findall(r"^pub trait (\w+)[^\n]*\{\n(.*?)^\}", text, re.M | re.S):
                 members = re.findall(r"^    ghost (\w+): \{ (.*?) \}(?: = \{.*?\})?;$", body, re.M)
                 traits.setdefault(trait, []).append((path, set(members)))
-        rows = re.findall(r"^\| `([\w:]+)::(\w+)` \| `([^`]*)` \|", text_of("docs", "GUIDE.md"), re.M)
+        rows = re.findall(r"^\| `([\w:]+)::(\w+)` \| `([^`]*)` \|", text_of("docs", "GHOST_MEMBERS.md"), re.M)
         shown = {}
         for trait, member, kind in rows:
             shown.setdefault(trait, set()).add((member, kind))
