@@ -82,7 +82,10 @@ pub fn read_regular<R: Files + AllocGlobal>(
 // Reads a file to its end.
 fn read_to<F: io::Read + Drop>(alloc: Global, file: F, limit: usize) -> Result<Vec<u8>, Unread> {
     let mut bytes = Vec::new(alloc);
-    found(file.take(limit as u64 + 1).read_to_end(&mut bytes))?;
+    found(
+        file.take((limit as u64).saturating_add(1))
+            .read_to_end(&mut bytes),
+    )?;
     if bytes.len() > limit {
         return Err(Unread::TooLarge);
     }
