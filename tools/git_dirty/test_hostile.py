@@ -214,8 +214,9 @@ class Sweep(Watched):
         os.rename(self.path("t/.git"), self.path(".git/modules/t"))
         self.write("t/.git", "gitdir: ../.git/modules/t\n")
         # By each of these files a line is another one, or isn't printed.
-        for name, text in ((".gitattributes", "/x text\n"), ("e/.gitattributes", "x text\n"), (".git/info/attributes", "y text\n")):
-            self.write(name, text)
+        self.write(".gitattributes", "/x text\n")
+        self.write("e/.gitattributes", "x text\n")
+        self.write(".git/info/attributes", "y text\n")
         self.write(".gitmodules", '[submodule "s"]\n\tpath = s\n\tignore = none\n')
         self.put_config("[extensions]\n\tworktreeConfig = true\n")
         self.write(".git/config.worktree", "[core]\n\tfileMode = false\n")
