@@ -55,13 +55,8 @@ class Differences(Dirty):
         rows = [("*", " M a\n M d/b\n"), ("[a]", " M a\n"), (":(top)a", " M a\n"), (":/a", " M a\n"), (":!a", " M d/b\n")]
         for path, gits in rows:
             with self.subTest(path):
-                self.assert_differs(gits, "", "--", path)
-                self.assert_as_git("", "--", path, GIT_LITERAL_PATHSPECS="1")
-
-    def test_a_slash(self):
-        """a slash at the end of one of PATHS"""
-        self.write("a", "bars")
-        self.assert_differs("", " M a\n", "--", "a/")
+                self.assertEqual(self.git_lines("--", path).decode(), gits)
+                self.assert_fails(self.ran("--", path), f"patterns.*{re.escape(path)}")
 
     def test_a_repository(self):
         """a repository with a commit in place of a file"""
@@ -105,18 +100,11 @@ class Differences(Dirty):
         self.assertIn(b"bad config line 5", self.run_in(["git", "status", "--porcelain"]).stderr)
         self.assert_noted(" M m\n", "[.]gitmodules can't be read")
         self.assert_quiet(self.ran("-q"), 1)
-        # In a conflict git doesn't read it either.
+        # In a conflict neither reads it.
         blob = self.git("hash-object", "-w", ".gitmodules").decode().strip()
         self.put_entries(*(("100644", blob, stage, ".gitmodules") for stage in (1, 2, 3)))
         self.assertEqual(self.plain_lines(), "UU .gitmodules\n M m\n")
-        self.assert_noted("UU .gitmodules\n M m\n", "[.]gitmodules can't be read")
-        # Git doesn't read it if there is no submodule.
-        self.git("rm", "-qf", "--cached", "m", ".gitmodules")
-        self.write("a", "bars")
-        os.remove(self.path(".gitmodules"))
-        os.mkdir(self.path(".gitmodules"))
-        self.assertEqual(self.plain_lines(), " M a\n")
-        self.assert_noted(" M a\n", "[.]gitmodules can't be read")
+        self.assert_as_git("UU .gitmodules\n M m\n")
 
     def test_an_index_of_1970(self):
         """an index file whose time is second 0 of 1970"""
@@ -146,13 +134,13 @@ class Differences(Dirty):
     def test_a_path_that_is_no_utf_8(self):
         """a path that isn't UTF-8, also of a submodule's reference"""
         self.put_entries(("100644", self.blob(), 0, "x\udcffy"))
-        self.assert_refuses(' D "x\\377y"\n', "UTF-?8")
+        self.assert_refuses(' D "x\\377y"\n', r'"x\\377y".*UTF-8')
         self.git("rm", "-q", "--cached", b"x\xffy")
         self.make_module("m")
         self.git("add", "m")
         self.git("-C", "m", "checkout", "-q", "-b", b"caf\xe9")
         self.commit(folder="m")
-        self.assert_refuses(" M m\n", '^git dirty: can\'t read the submodule "m": .*UTF-8')
+        self.assert_refuses(" M m\n", '^git dirty: can\'t read the submodule "m": .*caf.*UTF-8')
 
     def test_a_target_that_is_no_utf_8(self):
         """a link whose target isn't UTF-8, if it has to be read"""
@@ -314,6 +302,24 @@ class Conversions(LineEnds):
         self.put_files({name: (b"$Id$\n", b"$Id: x $\n") for name in ("a", "d/a")})
         self.write(".gitattributes", "* text\na ident\nd/a ident\n")
         self.assert_noted("a", "d/a")
+        # The paths are quoted as in lines.
+        names = {"a'b": "a'b", "é": "\\303\\251", 'c"d': 'c\\"d', "e\tf\x01": "e\\tf\\001", "g\\h": "g\\\\h"}
+        self.put_files({name: (b"$Id$\n", b"$Id: x $\n") for name in names})
+        self.write(".gitattributes", "* text ident\n")
+        found = re.findall('note: (".*") has ', self.ran("--", *names, GIT_LITERAL_PATHSPECS="1").stderr.decode())
+        self.assertEqual(sorted(found), sorted(f'"{name}"' for name in names.values()))
+        # The counts of --stats come last.
+        *notes, last = self.ran("--stats").stderr.decode().splitlines(True)
+        self.assertRegex("".join(notes), rf"\A({NOTE.format('.*')})+\Z")
+        self.assertRegex(last, r"\Agit dirty: \d+ entries, ")
+
+    def test_a_changed_link_has_no_note(self):
+        os.symlink("x", self.path("l"))
+        self.git("add", "l")
+        os.remove(self.path("l"))
+        os.symlink("$Id: x $", self.path("l"))
+        self.write(".gitattributes", "l filter=f ident working-tree-encoding=ISO-8859-1\n* text\n")
+        self.assert_as_git(" M l\n")
 
     def test_other_conversions_of_the_blob(self):
         """a file with its blob's bytes, if git converts these to others by `filter`, `ident` or `working-tree-encoding`"""

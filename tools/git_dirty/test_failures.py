@@ -82,6 +82,15 @@ class Failures(Dirty):
         self.write("a", "bars")
         self.assert_fails(self.ran(), '^git dirty: can\'t read "d/b": permission denied$', b" M a\n")
 
+    def test_paths_are_quoted_as_in_lines(self):
+        names = {"a'b": "a'b", "é": "\\303\\251", 'c"d': 'c\\"d'}
+        for name, quoted in names.items():
+            with self.subTest(name):
+                self.add(name)
+                os.chmod(self.path(name), 0)
+                self.set_time(5, name)
+                self.assert_fails(self.ran(name), re.escape(f'can\'t read "{quoted}": permission denied'))
+
     def test_the_first_selected_fault_is_named(self):
         self.add("a", "e", "f")
         # The stat of `a` stays the index's, but for what doesn't count: so it isn't opened.

@@ -176,6 +176,64 @@ class Files(Dirty):
         self.assertEqual(self.ran("-z").stdout.count(b"\0"), len(names))
 
 
+class Bytes(Dirty):
+    """One path isn't UTF-8. The program can't ask the system for it, so that entry fails, and no other."""
+
+    NAME = "c\udcffd"
+    FAULT = rb'\Agit dirty: [^\n]*"c\\377d"[^\n]*\n\Z'
+
+    def setUp(self):
+        super().setUp()
+        self.add("b", "é")
+        self.put_entries(("100644", self.blob(), 0, self.NAME))
+        self.write("b", "bars")
+        os.remove(self.path("é"))
+
+    def assert_fault(self, *words):
+        """Asserts that git's lines are printed, without that of the path, and then the failure."""
+        end = b"\0" if "-z" in words else b"\n"
+        lines = self.git_lines(*words).split(end)[:-1]
+        others = b"".join(line + end for line in lines if b"\\377" not in line and b"\xff" not in line)
+        self.assertNotEqual(lines, others.split(end)[:-1])
+        ran = self.ran(*words)
+        self.assertEqual((ran.returncode, ran.stdout), (2, others))
+        self.assertRegex(ran.stderr, self.FAULT)
+
+    def test_the_other_lines_are_printed(self):
+        self.assert_fault()
+        self.write(self.NAME, "bars")
+        for words in ([], ["-z"], ["."]):
+            self.assert_fault(*words)
+        self.git("config", "core.quotePath", "false")
+        self.assert_fault("-z")
+        for words in (["--threads", "1"], ["--threads", "4"], ["--refresh"]):
+            ran = self.ran(*words)
+            self.assertEqual((ran.returncode, ran.stdout), (2, " M b\n D é\n".encode()))
+
+    def test_it_is_a_failure_also_if_nothing_else_differs(self):
+        self.write("b", "foo")
+        self.write("é", "foo")
+        for words in ([], ["-q"], ["-z"]):
+            ran = self.ran(*words)
+            self.assertEqual((ran.returncode, ran.stdout), (2, b""))
+            self.assertRegex(ran.stderr, self.FAULT)
+
+    def test_a_path_that_is_not_compared_is_no_failure(self):
+        self.assert_as_git(None, "a", "b", "é")
+        for flag in ("assume-unchanged", "skip-worktree"):
+            self.git("update-index", f"--{flag}", os.fsencode(self.NAME))
+            self.assert_as_git()
+            self.assert_quiet(self.ran("-q"), 1)
+            self.git("update-index", f"--no-{flag}", os.fsencode(self.NAME))
+        self.assert_fault()
+
+    def test_a_conflict_is_printed(self):
+        self.put_entries((0, self.blob(), 0, self.NAME))
+        self.put_entries(*(("100644", self.blob(), stage, self.NAME) for stage in (1, 3)))
+        self.assert_as_git(' M b\nDU "c\\377d"\n D "\\303\\251"\n')
+        self.assert_as_git(None, "-z")
+
+
 class Submodules(Dirty):
     def setUp(self):
         super().setUp()

@@ -5,6 +5,7 @@
 
 import os
 import re
+import shutil
 import subprocess
 
 from git_dirty.case import Dirty
@@ -22,12 +23,19 @@ class Paths(Dirty):
         ("", ["d/e", "a"], " M a\n M d/e/c\n"),
         ("", ["a", "a", "./a", "d/../a"], " M a\n"),
         ("", ["."], None),
-        ("", ["a/x"], ""),
-        ("", ["nothing"], ""),
+        ("", ["u"], ""),
+        ("", ["e"], ""),
+        ("", ["e/u", "a"], " M a\n"),
         ("", ["d/b", "d"], " M d/b\n M d/e/c\n"),
         ("", ["d-"], " M d-\n"),
         ("", ["*"], " M *\n"),
-        ("", [":(top)a"], ""),
+        ("", [":(top)u"], ""),
+        ("", ["a/"], ""),
+        ("", ["./a/", "d/b/"], ""),
+        ("", ["a/."], ""),
+        ("", ["d/b/", "a"], " M a\n"),
+        ("", ["d/."], " M d/b\n M d/e/c\n"),
+        ("", ["a/.."], None),
         ("", ["d//e///c"], " M d/e/c\n"),
         ("", ["-q"], " M -q\n"),
         ("d", ["b"], " M d/b\n"),
@@ -39,14 +47,21 @@ class Paths(Dirty):
         ("d", ["{top}/a"], " M a\n"),
         ("d", ["{top}/d/e"], " M d/e/c\n"),
         ("d", ["{top}"], None),
+        ("d", ["{top}/a/"], ""),
+        ("d", ["{top}/d/e/"], " M d/e/c\n"),
     ]
+    # Words that select nothing, and that are no patterns.
+    NOTHING = [("", "HEAD"), ("", "typo"), ("", "no/such"), ("", "a/x"), ("", "d/b/x"), ("d", "a"), ("d", "../typo"), ("", "A")]
+    NOTHING += [("", "{top}/typo"), ("", "it's"), ("", "-x"), ("", "d/typo/")]
+    # Git takes these for patterns, unless GIT_LITERAL_PATHSPECS is true.
+    PATTERNS = ["*", "a?", "[ab]", "a\\b", ":(top)a", ":!a", ":/a", ":^a", ":", "d/*", "*.md", ":(literal)a", "d/[b]"]
     REFUSED = [("", [".."]), ("", ["../x"]), ("d", ["../../x"]), ("", ["/"]), ("", [""]), ("", ["{top}x"])]
 
     def setUp(self):
         super().setUp()
         names = ["a", "d/b", "d/e/c", "d-", "*", "-q"]
         self.add(*names)
-        for name in names:
+        for name in [*names, "u", "e/u", ":(top)u"]:
             self.write(name, "bars")
 
     def words(self, paths):
@@ -55,9 +70,70 @@ class Paths(Dirty):
     def test_paths_are_taken_as_by_git(self):
         for folder, paths, lines in self.ROWS:
             with self.subTest(folder=folder, paths=paths):
-                self.assert_as_git(lines, *self.words(paths), folder=self.path(folder), GIT_LITERAL_PATHSPECS="1")
-                ran = self.ran("-C", self.path(folder), *self.words(paths), folder="/")
-                self.assert_ends(ran, self.ran(*self.words(paths), folder=self.path(folder)).stdout)
+                place, literal = self.path(folder), {"GIT_LITERAL_PATHSPECS": "1"}
+                self.assert_as_git(lines, *self.words(paths), folder=place, **literal)
+                ran = self.ran("-C", place, *self.words(paths), folder="/", **literal)
+                self.assert_ends(ran, self.ran(*self.words(paths), folder=place, **literal).stdout)
+
+    def test_a_path_that_selects_nothing_is_a_failure(self):
+        """Git prints nothing then."""
+        for folder, path in self.NOTHING:
+            with self.subTest(folder=folder, path=path):
+                path = path.format(top=self.top)
+                place, words = self.path(folder), f"^git dirty: no tracked file matches '{re.escape(path)}'\n\\Z"
+                self.assertEqual(self.git_lines("--", path, folder=place), b"")
+                for options in ([], ["-q"], ["-z"], ["--refresh"], ["--stats"]):
+                    self.assert_fails(self.ran(*options, "--", path, folder=place), words)
+                # Of several paths that one is named.
+                self.assert_fails(self.ran("--", os.path.relpath(self.path("a"), place), path, folder=place), words)
+        self.assert_fails(self.ran("HEAD", "-q"), "^git dirty: no tracked file matches 'HEAD'$")
+        self.assert_fails(self.ran("a", "typo", "d"), "^git dirty: no tracked file matches 'typo'$")
+
+    def test_a_path_of_what_is_gone_selects_it(self):
+        for name in ("a", "d/e/c"):
+            os.remove(self.path(name))
+        os.rmdir(self.path("d/e"))
+        for words, lines in ((["a"], " D a\n"), (["d/e"], " D d/e/c\n"), (["d/e/"], " D d/e/c\n"), (["a", "u"], " D a\n")):
+            self.assert_as_git(lines, *words)
+        os.symlink("nowhere", self.path("l"))
+        self.assert_as_git("", "l")
+        # A folder is at the entry's path. From within, the entry isn't selected.
+        os.mkdir(self.path("a"))
+        for word, lines in ((".", ""), ("./", ""), ("../a", " D a\n"), (self.path("a"), " D a\n"), ("..", None)):
+            self.assert_as_git(lines, "--", word, folder=self.path("a"))
+        self.assert_as_git("", "--", "a/")
+
+    def test_a_slash_selects_a_submodule(self):
+        self.make_module("s")
+        self.git("add", "s")
+        self.commit(folder="s")
+        self.assert_as_git(" M s\n", "s/")
+        shutil.rmtree(self.path("s"))
+        self.assert_as_git(" D s\n", "s/")
+        self.write("s", "foo")
+        self.assert_as_git(" T s\n", "s/")
+
+    def test_patterns_are_refused(self):
+        for word in self.PATTERNS:
+            with self.subTest(word):
+                for words in (["--", word], ["-q", "--", "a", word]):
+                    self.assert_fails(self.ran(*words), f"patterns.*{re.escape(word)}")
+        for value in ("0", "false", ""):
+            self.assert_fails(self.ran("--", "*", GIT_LITERAL_PATHSPECS=value), "patterns")
+
+    def test_patterns_are_taken_literally_if_git_takes_them_so(self):
+        for value in ("1", "true", "yes"):
+            self.assert_as_git(" M *\n", "--", "*", GIT_LITERAL_PATHSPECS=value)
+        for word in self.PATTERNS[1:]:
+            with self.subTest(word):
+                self.assertEqual(self.git_lines("--", word, GIT_LITERAL_PATHSPECS="1"), b"")
+                self.assert_fails(self.ran("--", word, GIT_LITERAL_PATHSPECS="1"), f"no tracked file matches '{re.escape(word)}'")
+        for word in ("a?", ":!a"):
+            self.write(word, "foo")
+            self.git("--literal-pathspecs", "add", "--", word)
+            self.write(word, "bars")
+            self.assert_as_git(f" M {word}\n", "--", word, GIT_LITERAL_PATHSPECS="1")
+        self.assert_both_fail("GIT_LITERAL_PATHSPECS", "--", "*", GIT_LITERAL_PATHSPECS="x")
 
     def test_paths_outside_of_the_worktree_are_refused(self):
         for folder, paths in self.REFUSED:
@@ -111,7 +187,7 @@ class Options(Dirty):
             self.assertEqual(self.ran("--threads", str(threads), "-q").returncode, 1)
 
     def test_stats_are_a_line_of_numbers(self):
-        for words in ([], ["-z"], ["-q"], ["--threads", "4"], ["a"], ["nothing"]):
+        for words in ([], ["-z"], ["-q"], ["--threads", "4"], ["a"]):
             with self.subTest(words):
                 plain, ran = self.ran(*words), self.ran("--stats", *words)
                 self.assertEqual((ran.returncode, ran.stdout), (plain.returncode, plain.stdout))
@@ -159,14 +235,30 @@ class Options(Dirty):
         self.assert_fails(self.ran("-C", "a"), r"\ba\b")
 
     def test_an_output_that_cannot_be_written_is_a_failure(self):
-        reader, closed = os.pipe()
-        os.close(reader)
-        self.addCleanup(os.close, closed)
         with open("/dev/full", "wb") as full:
             for words in ([], ["-z"], ["--threads", "4"]):
                 self.assertEqual(self.ran_into(full, *words), (2, b"git dirty: the output can't be written\n"))
-                self.assertEqual(self.ran_into(closed, *words)[0], 2)
             self.assertEqual(self.ran_into(full, "-q"), (1, b""))
+
+    def test_an_output_whose_reader_has_ended_is_a_silent_failure(self):
+        reader, closed = os.pipe()
+        os.close(reader)
+        self.addCleanup(os.close, closed)
+        for words in ([], ["-z"], ["--threads", "4"], ["--stats"], ["--refresh"]):
+            self.assertEqual(self.ran_into(closed, *words), (2, b""))
+        self.assertEqual(self.ran_into(closed, "-q"), (1, b""))
+        ran = self.run_in(["bash", "-c", f'"{GIT_DIRTY}" | true; exit "${{PIPESTATUS[0]}}"'])
+        self.assertEqual((ran.stdout, ran.stderr), (b"", b""))
+        self.assertIn(ran.returncode, (1, 2))
+
+    def test_an_output_that_is_closed_is_a_failure(self):
+        """No file that the program opens becomes its output."""
+        before = self.kept_files()
+        for words in ([], ["-z"], ["--stats"], ["--refresh"]):
+            with self.subTest(words):
+                ran = self.run_in(["sh", "-c", 'exec "$@" >&-', "sh", GIT_DIRTY, *words])
+                self.assertEqual((ran.returncode, ran.stderr), (2, b"git dirty: the output can't be written\n"))
+                self.assertEqual(self.kept_files(), before)
 
     def ran_into(self, output, *words):
         """Returns the exit status and the error output of a run with this output."""
@@ -179,8 +271,11 @@ class Options(Dirty):
             self.ran(*words)
         self.assertEqual(self.kept(), before)
 
+    def kept_files(self):
+        return {place: stat for place, stat in self.kept().items() if os.path.isfile(place)}
+
     def kept(self):
-        """Returns the stats of all files."""
+        """Returns the stats of all files and folders."""
         found = {}
         for folder, folders, files in os.walk(self.top):
             for name in folders + files:

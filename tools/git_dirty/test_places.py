@@ -152,6 +152,32 @@ class Places(Dirty):
         self.assert_as_git("", GIT_INDEX_FILE="../index")
         self.assert_as_git("", GIT_INDEX_FILE="../index", folder=self.path("d"))
         self.assert_as_git("", GIT_INDEX_FILE=self.path("nothing"))
+        # The empty name is that of an empty index.
+        self.assert_as_git("", GIT_INDEX_FILE="")
+        self.assert_as_git("", GIT_INDEX_FILE="", folder=self.path("d"))
+        self.assert_quiet(self.ran("-q", GIT_INDEX_FILE=""), 0)
+
+    def test_a_worktree_that_is_no_folder(self):
+        for name in ("a", "nothing", "a/b"):
+            for settings in ({}, {"GIT_DIR": self.path(".git")}):
+                with self.subTest(name=name, settings=settings):
+                    self.assert_both_fail(".", GIT_WORK_TREE=self.path(name), **settings)
+        self.git("config", "core.worktree", self.path("a"))
+        self.assert_both_fail(".")
+
+    def test_relative_names_of_configuration_files_start_at_the_top(self):
+        os.chmod(self.path("a"), 0o755)
+        self.put_config("")
+        self.write("mine", "[core]\n\tfileMode = false\n")
+        self.write("d/mine", "[core]\n\tfileMode = x\n")
+        for folder in (self.top, self.path("d")):
+            for name in ("GIT_CONFIG_GLOBAL", "GIT_CONFIG_SYSTEM"):
+                with self.subTest(folder=folder, name=name):
+                    settings = {"GIT_CONFIG_NOSYSTEM": "0", name: "mine"}
+                    self.assert_as_git("", folder=folder, **settings)
+                    self.assert_as_git("", folder=folder, GIT_DIR=self.path(".git"), GIT_WORK_TREE=self.top, **settings)
+                    self.assert_ends(self.ran("-C", folder, folder="/", **settings), b"")
+                    self.assert_both_fail("filemode", folder=folder, **{**settings, name: "d/mine"})
 
     def test_core_worktree(self):
         os.makedirs(os.path.join(self.room, "tree/d"))
@@ -190,8 +216,9 @@ class Places(Dirty):
 
     def test_ceilings(self):
         self.write("a", "bars")
-        self.assert_both_fail("repository", folder=self.path("d"), GIT_CEILING_DIRECTORIES=self.top)
-        for value in (self.path("d"), self.room, "/nothing", ":" + self.room):
+        for value in (self.top, self.top + "/", self.top + "//", f"/nothing:{self.top}/"):
+            self.assert_both_fail("repository", folder=self.path("d"), GIT_CEILING_DIRECTORIES=value)
+        for value in (self.path("d"), self.path("d/"), self.room, self.room + "/", "/nothing", ":" + self.room):
             self.assert_as_git(" M a\n", folder=self.path("d"), GIT_CEILING_DIRECTORIES=value)
 
     def test_a_link_to_the_worktree(self):

@@ -1,0 +1,174 @@
+"""Repositories that may be hostile: paths that lead out of the worktree, and other nodes in place of `.gitmodules`. git_dirty
+ends soon, takes little memory, and opens no file elsewhere:
+
+    python3 tools/run_tests.py git_dirty.test_hostile
+"""
+
+import contextlib
+import os
+import re
+import shutil
+import subprocess
+import tempfile
+import time
+from dataclasses import replace
+from pathlib import Path
+
+from git_dirty.case import Dirty
+from stress.compare_dirty import NOTHING
+from support.programs import GIT_DIRTY, Ended
+from support.repositories import SETTINGS, STATUS, as_dirty, read, write
+
+# What a run may take, and the size of a file that is too large to be read whole.
+SECONDS, MEMORY, LARGE = 5, 200 << 20, 2 << 30
+UNREAD = rb"\Agit dirty: note: [.]gitmodules can't be read[^\n]*\n\Z"
+
+
+def peak_of(process):
+    """Returns the most memory that a running process had so far."""
+    found = re.search(r"^VmHWM:\s*(\d+)", Path(f"/proc/{process}/status").read_text(encoding="utf-8"), re.M)
+    return int(found[1]) << 10 if found else 0
+
+
+def put_large(place):
+    write(place, "")
+    os.truncate(place, LARGE)
+
+
+class Watched(Dirty):
+    """Runs the program with a library that notes which files it opens, and with limits."""
+
+    SOURCE = Path(__file__).with_name("log_opens.c")
+    # The kinds of nodes that replace a file.
+    KINDS = ["a named pipe", "a link to /dev/zero", "a link out", "a folder", "2 GiB", "unreadable", "gone"]
+
+    def watched(self, *words, **settings):
+        """Returns how a run ended, and the files that it opened, by their paths without links."""
+        log = self.put_user_file("log", b"")
+        settings = {**os.environ, **SETTINGS, **settings, "LD_PRELOAD": self.library, "OPENS_LOG": log}
+        if "XDG_CONFIG_HOME" in settings:
+            del settings["GIT_CONFIG_GLOBAL"]
+        with tempfile.TemporaryFile() as out, tempfile.TemporaryFile() as fault:
+            child = subprocess.Popen([GIT_DIRTY, *words], cwd=self.top, env=settings, stdout=out, stderr=fault)
+            end, is_killed = time.monotonic() + SECONDS, False
+            while (found := os.wait4(child.pid, os.WNOHANG))[0] == 0:
+                if not is_killed and (time.monotonic() > end or peak_of(child.pid) > MEMORY):
+                    child.kill()
+                    is_killed = True
+                time.sleep(0.002)
+            child.returncode = os.waitstatus_to_exitcode(found[1])
+            for file in (out, fault):
+                file.seek(0)
+            ended = Ended(child.returncode, out.read(), fault.read())
+        self.assertFalse(is_killed, f"it hangs, or takes too much memory: {ended.text()}")
+        lines = os.fsdecode(read(log)).splitlines()
+        return ended, {os.path.realpath(os.path.join(self.top, line)) for line in lines}
+
+    def assert_opens_inside(self, opened, *others):
+        """Asserts that of the test's folder only these files and what is in the worktree were opened."""
+        outside = {place for place in opened if place.startswith((self.room + "/", "/dev/zero"))}
+        outside = {place for place in outside if not place.startswith(self.path("")) and place not in others}
+        self.assertEqual(outside, set())
+
+    @contextlib.contextmanager
+    def replaced(self, place, kind):
+        """Puts a node of this kind in place of what is at a path, for a while."""
+        if kind == "unreadable":
+            mode = os.stat(place).st_mode
+            os.chmod(place, 0)
+            try:
+                yield
+            finally:
+                os.chmod(place, mode)
+            return
+        content, kept = read(place) if os.path.isfile(place) else b"", os.path.join(self.room, "kept")
+        if os.path.lexists(place):
+            os.rename(place, kept)
+        out = self.put_user_file("out/file", content)
+        make = {"a named pipe": os.mkfifo, "a folder": os.mkdir, "2 GiB": put_large}
+        make |= {"a link to /dev/zero": lambda place: os.symlink("/dev/zero", place)}
+        make |= {"a link out": lambda place: os.symlink(out, place)}
+        make.get(kind, lambda place: None)(place)
+        try:
+            yield
+        finally:
+            if kind == "a folder":
+                os.rmdir(place)
+            elif kind != "gone":
+                os.remove(place)
+            if os.path.lexists(kept):
+                os.rename(kept, place)
+
+
+class Outside(Watched):
+    """Entries whose paths lead out of the worktree."""
+
+    def setUp(self):
+        super().setUp()
+        for name in ("f", "d/b", ".gitattributes", "d/.gitattributes"):
+            self.put_user_file(f"outside/{name}", "* text\n")
+
+    def assert_ends_inside(self, lines):
+        for words in ([], ["-q"], ["--refresh"], ["--threads", "4"]):
+            ended, opened = self.watched(*words)
+            self.assertEqual((ended.status, ended.out, ended.fault), (1, b"" if "-q" in words else lines, b""))
+            self.assert_opens_inside(opened)
+
+    def test_folders_that_are_links_are_not_searched(self):
+        os.symlink("../outside", self.path("link"))
+        self.put_entries(*(("100644", self.blob(), 0, name) for name in ("link/f", "link/d/b")))
+        self.assert_ends_inside(self.git_lines())
+        shutil.rmtree(self.path("d"))
+        os.symlink("../outside/d", self.path("d"))
+        self.assertEqual(self.git_lines(), b" D d/b\n D link/d/b\n D link/f\n")
+        self.assert_ends_inside(b" D d/b\n D link/d/b\n D link/f\n")
+
+    def test_paths_that_leave_the_worktree_are_refused(self):
+        """Git's commands don't write such an index."""
+        parts = self.index_parts()
+        for path in ("../outside/f", f"{self.room}/outside/f", "d/../../outside/f", "d/../../outside/d/b", "./../outside/f"):
+            with self.subTest(path):
+                name = os.fsencode(path)
+                entries = [*parts.entries, replace(parts.entries[0], path=name, flags=len(name))]
+                self.put_index(parts.with_entries(sorted(entries, key=lambda entry: entry.path)).content())
+                for words in ([], ["-q"], ["--refresh"]):
+                    ended, opened = self.watched(*words)
+                    self.assertEqual((ended.status, ended.fault.count(b"\n")), (2, 1), ended.text())
+                    self.assert_opens_inside(opened)
+
+
+class Modules(Watched):
+    """Other nodes in place of `.gitmodules`, by which the submodule `m`, which differs, would be ignored."""
+
+    def setUp(self):
+        super().setUp()
+        self.write(".gitmodules", '[submodule "m"]\n\tpath = m\n\tignore = all\n')
+        self.write("a", "bars")
+
+    def test_it_is_not_read_if_it_is_no_plain_file(self):
+        """Git follows a link there, fails for zeros, and waits for a pipe's writer."""
+        self.make_module("m")
+        self.git("add", "m")
+        self.commit(folder="m")
+        self.assertEqual((as_dirty(self.run_in(STATUS).stdout), self.ran().stdout), (b" M a\n", b" M a\n"))
+        for kind in self.KINDS:
+            with self.subTest(kind), self.replaced(self.path(".gitmodules"), kind):
+                if kind in ("a folder", "unreadable", "gone"):
+                    self.assertEqual(as_dirty(self.run_in(STATUS).stdout), b" M a\n M m\n")
+                self.assert_noted(b" M a\n M m\n", UNREAD if kind != "gone" else NOTHING)
+
+    def test_it_is_not_opened_if_there_is_no_submodule(self):
+        for kind in self.KINDS:
+            with self.subTest(kind), self.replaced(self.path(".gitmodules"), kind):
+                self.assertEqual(as_dirty(self.run_in(STATUS).stdout), b" M a\n")
+                opened = self.assert_noted(b" M a\n", NOTHING)
+                self.assertEqual([place for place in opened if "modules" in place], [])
+
+    def assert_noted(self, lines, notes):
+        """Asserts that the program prints these lines and notes, and nothing with -q. Returns the files that it opens."""
+        (ended, opened), (quiet, others) = self.watched(), self.watched("-q")
+        self.assertEqual((ended.status, ended.out), (1, lines), ended.text())
+        self.assertRegex(ended.fault, notes)
+        self.assertEqual((quiet.status, quiet.out, quiet.fault), (1, b"", b""))
+        self.assert_opens_inside(opened | others)
+        return opened | others
