@@ -25,5 +25,6 @@ mod second_of_three;
 mod side_effects;
 mod statuses;
 mod submodules;
+mod without_rounds;
 mod without_threads;
 mod workers;
