@@ -17,6 +17,7 @@ mod inputs;
 mod interrupt_flags;
 mod listings;
 mod orders;
+mod planted;
 mod refreshes;
 mod refused_threads;
 mod reports;
