@@ -1,8 +1,10 @@
-//! Tests of an index in memory, of ids, modes and streams, and of the texts of errors.
+//! Tests of an index in memory, of ids, stats, modes, streams and searches, and of the texts of errors.
 //!
 //! Begin at `git_values`.
 
 mod git_values;
 mod index_words;
 mod reading;
+mod searches;
 mod states;
+mod stats_and_modes;
