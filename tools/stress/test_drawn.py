@@ -96,7 +96,7 @@ class Drawn(unittest.TestCase):
         return counts
 
     def test_drawn_histories_miss_no_change(self):
-        counts = self.run_seeds(draw_histories.run, 80, draw_histories.PART)
+        counts = self.run_seeds(draw_histories.run, 16, draw_histories.PART)
         # Updates that a stat needs also occur often enough to show something.
         self.assertGreaterEqual(min(counts["zeroed"], counts["updates"]), 200, counts)
         self.assertEqual(counts["histories of few changes"], 0)
