@@ -90,7 +90,7 @@ struct Planted {
     fault: Fault,
 }
 
-/// What a planted fault does to the status of an entry.
+/// The effect of a planted fault on the status of an entry.
 #[derive(Clone, Copy)]
 enum Effect {
     /// The call isn't made for this entry.
