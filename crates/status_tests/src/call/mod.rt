@@ -18,6 +18,7 @@ mod interrupt_flags;
 mod listings;
 mod orders;
 mod planted;
+mod prefixes;
 mod refreshes;
 mod refused_threads;
 mod reports;
