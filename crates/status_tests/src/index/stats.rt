@@ -73,6 +73,20 @@ fn three_entries(alloc: Global) -> Result<State, IndexError> {
     Ok(state)
 }
 
+// Replaces the stat of the entry at an index position, if there is one.
+fn replace_stat(state: &mut State, at: usize, stat: Stat) {
+    if at < state.entries().len() {
+        state.set_stat(at, stat);
+    }
+}
+
+// Sets the size in the stat of such an entry to 0.
+fn set_size_to_zero(state: &mut State, at: usize) {
+    if at < state.entries().len() {
+        state.smudge(at);
+    }
+}
+
 // Returns whether the entry at an index position has this stat.
 fn has_stat(state: &State, at: usize, wanted: &Stat) -> bool {
     match state.entries().get(at) {
@@ -84,10 +98,8 @@ fn has_stat(state: &State, at: usize, wanted: &Stat) -> bool {
 #[test]
 fn one_stat_is_replaced_and_one_size_is_set_to_zero(rt: HostRuntime) -> Result<(), IndexError> {
     let mut state = three_entries(rt.alloc())?;
-    if state.entries().len() > 2 {
-        state.set_stat(1, stat(LATER));
-        state.smudge(2);
-    }
+    replace_stat(&mut state, 1, stat(LATER));
+    set_size_to_zero(&mut state, 2);
     assert!(rt; has_stat(&state, 0, &stat(STAGED)));
     assert!(rt; has_stat(&state, 1, &stat(LATER)));
     let smudged = Stat {
