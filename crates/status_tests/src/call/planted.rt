@@ -22,9 +22,6 @@ const WAYS: [(usize, usize); 4] = [(1, 1), (1, 3), (2, 1), (2, 3)];
 /// The folder above the second entry.
 const FOLDER: &str = "d";
 
-/// The paths at which faults are planted.
-const PATHS: [&str; 4] = ["a", FOLDER, "d/l", "z"];
-
 /// The calls at which faults are planted. A read may fail after up to two bytes more than the files have.
 const POINTS: [Point; 9] = [
     Point::Lstat,
@@ -244,7 +241,7 @@ fn is_right_at<R: AllocGlobal + Threads + Wait>(
 fn each_fault_at_each_call_ends_the_status_or_removes_an_entry(
     rt: HostRuntime,
 ) -> Result<(), Fail> {
-    for path in PATHS {
+    for path in ["a", FOLDER, "d/l", "z"] {
         for point in POINTS {
             assert!(rt; is_right_at(&rt, path, point)?, "{point:?} of {path}");
         }
