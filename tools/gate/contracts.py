@@ -4,8 +4,8 @@
     python3 tools/gate/contracts.py > docs/contracts.txt
 
 First come the exported items, sorted by crate, file and name: functions and methods with their signature and clauses, traits,
-implementations with their ghost members, types with their derives and their public fields or variants, and the names that
-are exported again. Then come the definitions of specs/ that these clauses use, directly or through other definitions. White
+implementations with their ghost members, types with their derives and their public fields or variants, the items that macros
+write, and the names that are exported again. Then come the definitions of specs/ that these clauses use, directly or through other definitions. White
 space is folded, and comments, bodies, other attributes and `use` lines are left out. So whoever changes a contract changes
 docs/contracts.txt in the same commit: test_contracts.py compares the two.
 """
@@ -29,6 +29,11 @@ HEAD = re.compile(
     r"(?P<word>fn|struct|enum|trait|impl|type|mod|use|const|static)\b"
 )
 NAME = re.compile(r"[^\W\d][\w'-]*")
+# A macro call among items.
+MACRO = re.compile(r"\s*(\w+)!")
+# The traits that bitflag_items! of the kit's crate bitflags implements.
+FLAG_TRAITS = [f"std::fmt::{name}" for name in ("Binary", "Octal", "LowerHex", "UpperHex")] + ["IntoIterator", "std::ops::Not"]
+FLAG_TRAITS += [f"std::ops::{name}{ending}" for name in ("BitOr", "BitAnd", "BitXor", "Sub") for ending in ("", "Assign")]
 # How a definition's first line begins. A line of a body may begin with `record {`.
 DEFINITION = re.compile(
     r"\s*(?:(?:abbrev|unfoldable)\s+(?:pub\s+)?|(?:pub\s+)?(?:record|data)\s+(?=[^\s{].*\s:\s)|infix[lr]?\s+\d+\s+)(\S+)"
@@ -189,6 +194,21 @@ def lines_of(item, found):
     return [head]
 
 
+def written_by(macro, body):
+    """Yields the titles and the lines of the items that a macro call writes. Of an implemented trait only the name is shown,
+    as of a derived one."""
+    if macro != "bitflag_items":
+        raise ValueError(f"it isn't known which items {macro}! writes")
+    for item in items_in(body):
+        name = re.fullmatch(r"impl (\w+): \w+", fold(item.head))[1]
+        flags = [re.fullmatch(r"const (\w+) = (.+)", fold(flag.head)) for flag in items_in(item.body)]
+        constants = [f"pub const {flag[1]}: {name} = {name}({flag[2]})" for flag in flags]
+        constants.append(f"pub const FLAGS: &'static [bitflags::Flag<{name}>]")
+        yield f"impl {name}", [f"impl {name}", *indented(constants)]
+        for trait in FLAG_TRAITS:
+            yield f"impl {trait} for {name}", [f"impl {trait} for {name}"]
+
+
 def title_of(item, found):
     """Returns the name by which an item is sorted."""
     if found["word"] == "impl":
@@ -208,6 +228,10 @@ def exported_in(module, text):
     """Returns the lines of the exported items of a module, and of the exported modules in its text, by their titles."""
     items = {}
     for item in items_in(text):
+        if macro := MACRO.match(item.head):
+            for title, lines in written_by(macro[1], item.body):
+                items.setdefault(f"{module}: {title}", []).extend(lines)
+            continue
         found = HEAD.match(item.head)
         lines = lines_of(item, found) if found else []
         if lines:

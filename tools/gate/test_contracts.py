@@ -167,6 +167,18 @@ class Contracts(unittest.TestCase):
         self.assertIn(shown, text_of(CODE + "pub mod inner {\n    pub fn least() -> u32 {\n        0\n    }\n}\n"))
         self.assertNotIn("inner", text_of(CODE + "mod inner {\n    pub fn least() -> u32 {\n        0\n    }\n}\n"))
 
+    FLAGS = "bitflag_items! {\n    impl Bits: u8 {\n        /// The first { bit.\n        const A = 0x1;\n        const B = 0x2;\n    }\n}\n"
+
+    def test_items_that_a_macro_writes_show(self):
+        shown = text_of(CODE + self.FLAGS)
+        lines = ["low::lib: impl Bits", "  impl Bits", "    pub const A: Bits = Bits(0x1)", "    pub const B: Bits = Bits(0x2)"]
+        self.assertIn("\n".join([*lines, "    pub const FLAGS: &'static [bitflags::Flag<Bits>]\n"]), shown)
+        self.assertIn("\n  impl std::ops::BitOr for Bits\n", shown)
+        for old, new in (("0x2", "0x4"), ("const B", "const C"), ("        const A = 0x1;\n", "")):
+            self.assertNotEqual(text_of(CODE + self.FLAGS.replace(old, new)), shown)
+        with self.assertRaises(ValueError):
+            text_of(CODE + "other_items! {\n    impl Bits: u8 {}\n}\n")
+
     def test_what_is_no_contract_does_not_show(self):
         self.assertEqual(text_of(CODE.replace("self.first < self.second", "true")), text_of(CODE))
         self.assertEqual(text_of(CODE.replace("/// The first.", "// {")), text_of(CODE))

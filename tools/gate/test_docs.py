@@ -185,11 +185,12 @@ class Docs(unittest.TestCase):
                 if is_crate:
                     self.assertIn(name, re.findall(r"\w+", text_of("crates", module, "src", "lib.rt")))
                     continue
-                # A module of gix_status is in its root, or one of the modules that its root or such a module re-exports.
+                # A module of gix_status is in its root, or in that of a crate which its root re-exports, or a file of such a
+                # crate.
                 top, _, inner = module.partition("::")
                 root = text_of("crates", "gix_status", "src", "lib.rt")
-                within = re.compile(rf"^pub mod {top} \{{\n(.*?)^\}}$", re.M | re.S)
-                own = within.search(root)
+                roots = "\n".join([root, *texts_of("crates/status_*/src/lib.rt").values()])
+                own = re.search(rf"^pub mod {top} \{{\n(.*?)^\}}$", roots, re.M | re.S)
                 if own:
                     names = own[1]
                 else:

@@ -1,14 +1,15 @@
 #!/usr/bin/env python3
 """Runs drawn histories through the program, and compares the reports of their runs with a plain comparison of bytes.
 
-    python3 tools/stress/draw_histories.py --seeds 1000 [--first 0] [--keep FOLDER]
+    python3 tools/stress/draw_histories.py --seeds 200 [--first 0] [--keep FOLDER]
 
-Seed N draws the profile of a replay: options (of four of them all sixteen settings in turn), 2,000 events, and for half of
-the seeds a last event that can't happen. `Plain` keeps the files and the staged contents in two dicts. It has no clock,
-no stat and no timestamp, and storing the index and opening it again changes nothing there. Each run has to print exactly
-the changes between the dicts. It may also print the updates that a stat needs: `s` after the `c` of a change of content,
-and `update` if nothing changed. If the last event can't happen, standard error has to have `refused N: WORDS`, and
-otherwise nothing. The printed records are counted: histories that have few show nothing.
+Seed N draws the profile of a replay: options (of four of them all sixteen settings in turn), 10,000 events over 20 paths, and
+for half of the seeds a last event that can't happen. Contents have 0 to 3 bytes, and most ticks are 0. `Plain` keeps the
+files and the staged contents in two dicts. It has no clock, no stat and no timestamp, and storing the index and opening it
+again changes nothing there. Each run has to print exactly the changes between the dicts. It may also print the updates that a
+stat needs: `s` after the `c` of a change of content, and `update` if nothing changed. If the last event can't happen, standard
+error has to have `refused N: WORDS`, and otherwise nothing. The printed records are counted: histories that have few show
+nothing.
 
 The environment's STATUS_PROGRAM names the built program; without it that of this checkout is run. If a history differs,
 its seed is printed, and the exit status is 1. It is 2 if the seeds can't be run. With --keep its profile stays there.
@@ -28,12 +29,12 @@ from support.programs import STATUS_PROGRAM, Runner
 from support.small_profiles import is_below, text_of
 
 # How many events a history has, and how many histories a process takes at once.
-EVENTS, PART = 2000, 10
+EVENTS, PART = 10_000, 4
 # Some paths are above others, or have another order by bytes than by components.
-PATHS = ["a", "a-", "a/b", "a/b/c", "a/bc", "a0", "b", "c", "c/a", "c/b", "d/a", "d/b/a", "d/b/b", "e", "f", "g"]
-PATHS += ["g/a/b/c", "h i", "j\"\\", "k\n\x01", "é", "\uffff", "\U00010000"]
+PATHS = ["a", "a-", "a/b", "a/b/c", "a/bc", "a0", "b", "c", "c/a", "d/a", "d/b/a", "d/b/b", "e", "g", "g/a/b/c", "h i"]
+PATHS += ["j\"\\\n\x01", "é", "\uffff", "\U00010000"]
 BAD_PATHS = ["", ".", "..", "/a", "a/", "a//b", "a/./b", "a/../b"]
-CONTENTS = ["", "a", "b", "aa", "ab", "ba", "foo", "bar", "baz", "é", "longer"]
+CONTENTS = ["", "a", "b", "aa", "ab", "ba", "foo", "bar", "baz", "é", "\uffff"]
 NANOS = [0, 0, 0, 1, 1, 100, 400_000_000, 999_999_999]
 SECOND, LAST = 10**9, 2**32 - 1
 SETTINGS = ["trust_ctime", "check_stat", "use_nsec", "executable_bit"]
@@ -106,7 +107,8 @@ class Drawn:
             while self.plain.refusal(event):
                 event = self.event()
             self.happen(event)
-        if seed % 32 < 16:
+        # Each setting has it in one of two sixteens of seeds.
+        if (seed // 16 + seed) % 2 == 0:
             event, words = self.refused()
             self.fault = f"refused {len(self.profile['events'])}: {words}\n"
             self.profile["events"].append(event)
@@ -230,10 +232,10 @@ def run(seeds, keep=None, program=STATUS_PROGRAM, events=EVENTS):
                 found.append(f"seed {seed}: {wrong}")
             else:
                 counts.update(counted(ended.out.decode()))
-                counts["histories of few changes"] += counted(ended.out.decode())["changes"] < 100
+                counts["histories of few changes"] += counted(ended.out.decode())["changes"] < 500
                 os.remove(place)
     return found, counts
 
 
 if __name__ == "__main__":
-    main(run, 1000, PART, STATUS_PROGRAM)
+    main(run, 200, PART, STATUS_PROGRAM)

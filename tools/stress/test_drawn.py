@@ -96,7 +96,7 @@ class Drawn(unittest.TestCase):
         return counts
 
     def test_drawn_histories_miss_no_change(self):
-        counts = self.run_seeds(draw_histories.run, 80, draw_histories.PART)
+        counts = self.run_seeds(draw_histories.run, 16, draw_histories.PART)
         # Updates that a stat needs also occur often enough to show something.
         self.assertGreaterEqual(min(counts["zeroed"], counts["updates"]), 200, counts)
         self.assertEqual(counts["histories of few changes"], 0)
@@ -108,6 +108,11 @@ class Drawn(unittest.TestCase):
         wanted = {"tick", "nanos", "write", "link", "chmod", "remove", "stage", "run", "reopen"}
         self.assertEqual({event[0] for event in events}, wanted)
         self.assertEqual({event[1] for event in events if event[0] == "run"}, {"hash", "fast"})
+        paths = {event[1] for event in events if event[0] == "write"} - set(draw_histories.BAD_PATHS)
+        self.assertEqual((len(paths), paths), (20, set(draw_histories.PATHS)))
+        self.assertEqual({len(event[2].encode()) for event in events if event[0] == "write"}, {0, 1, 2, 3})
+        ticks = [event[1] for event in events if event[0] == "tick"]
+        self.assertGreater(ticks.count(0), len(ticks) // 2)
         wanted = {"", "clock end", "bad path", "in the way", "not a file", "bad moment", "stamp later"}
         self.assertEqual({it.fault.split(": ")[-1].strip() for it in drawn}, wanted)
 

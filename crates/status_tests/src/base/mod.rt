@@ -1,4 +1,4 @@
-//! Tests of worktrees on disk, listings of directories, the check for symbolic links, and the texts of errors.
+//! Tests of worktrees on disk and in memory, listings of directories, the check for symbolic links, and the texts of errors.
 //!
 //! Begin at `disk`. `looks` has what its tests use.
 
@@ -8,3 +8,4 @@ mod disk_reads;
 mod fscache;
 mod links;
 mod looks;
+mod memory;

@@ -6,7 +6,7 @@ use gix_status::worktree::Fault;
 use std::test::Fail;
 
 /// How far a status gets with a flag.
-static FLAGS: [Row; 10] = [
+static FLAGS: [Row; 11] = [
     Row {
         name: "a flag that is set from the start ends it at once",
         entries: 2,
@@ -47,20 +47,33 @@ static FLAGS: [Row; 10] = [
         calls: ("0002", 0, 0),
     },
     Row {
-        name: "with one worker, a flag that the collector sets ends it after the piece",
+        name: "a flag that the collector sets ends it after the round, which has eight pieces of one worker",
         entries: 10,
         paths: Paths::Changed,
         closed: &[],
-        chunk_size: 3,
+        chunk_size: 1,
         thread_limit: Some(1),
         set_by: SetBy::Collector,
         on_lstat: OnLstat::Nothing,
-        records: 3,
+        records: 8,
         end: End::Interrupted,
-        calls: ("0003", 0, 0),
+        calls: ("0008", 0, 0),
     },
     Row {
-        name: "with two, after the round, which has eight pieces of each",
+        name: "eight pieces of two entries",
+        entries: 20,
+        paths: Paths::Gone,
+        closed: &[],
+        chunk_size: 2,
+        thread_limit: Some(1),
+        set_by: SetBy::Collector,
+        on_lstat: OnLstat::Nothing,
+        records: 16,
+        end: End::Interrupted,
+        calls: ("0016", 0, 0),
+    },
+    Row {
+        name: "with two workers, eight pieces of each",
         entries: 40,
         paths: Paths::Gone,
         closed: &[],
@@ -74,16 +87,16 @@ static FLAGS: [Row; 10] = [
     },
     Row {
         name: "a chunk size of 0 is one of 500",
-        entries: 501,
+        entries: 4001,
         paths: Paths::Gone,
         closed: &[],
         chunk_size: 0,
         thread_limit: Some(1),
         set_by: SetBy::Collector,
         on_lstat: OnLstat::Nothing,
-        records: 500,
+        records: 4000,
         end: End::Interrupted,
-        calls: ("0500", 0, 0),
+        calls: ("4000", 0, 0),
     },
     Row {
         name: "without a limit there are four workers",

@@ -1,4 +1,5 @@
-//! Three changed files. Something else is at the second path, or a call on it fails.
+//! Three changed files. Something else is at the second path, or a call on it fails and isn't made again. `planted` has each
+//! fault at each call.
 
 use crate::call::inputs::{NodeRow, foo_entry, index, later_file, worktree};
 use crate::call::reports::{Says, are_records, is_failed_by, is_taken, read, status_by_pieces};
@@ -68,34 +69,13 @@ enum End {
 /// a failure.
 type Row = (&'static str, Second, Option<(Point, Fault)>, End, usize);
 
-const ROWS: [Row; 16] = [
+const ROWS: [Row; 9] = [
     (
         "nothing fails",
         Second::Changed,
         None,
         End::Reports(Some(Says::Changed(Content::Bar)), 3, 9),
         1,
-    ),
-    (
-        "nothing is there",
-        Second::Changed,
-        Some((Point::Lstat, Fault::NotFound)),
-        End::Reports(Some(Says::Removed), 2, 6),
-        0,
-    ),
-    (
-        "something above is no directory",
-        Second::Changed,
-        Some((Point::Lstat, Fault::NotADirectory)),
-        End::Reports(Some(Says::Removed), 2, 6),
-        0,
-    ),
-    (
-        "lstat is refused",
-        Second::Changed,
-        Some((Point::Lstat, Fault::PermissionDenied)),
-        End::Fails(Fault::PermissionDenied),
-        0,
     ),
     // No call is repeated, even if opening or reading is interrupted.
     (
@@ -113,31 +93,10 @@ const ROWS: [Row; 16] = [
         1,
     ),
     (
-        "its path is no text",
-        Second::Changed,
-        Some((Point::Open, Fault::IllformedUtf8)),
-        End::Fails(Fault::IllformedUtf8),
-        1,
-    ),
-    (
-        "no memory for opening it",
-        Second::Changed,
-        Some((Point::Open, Fault::Memory)),
-        End::Fails(Fault::Memory),
-        1,
-    ),
-    (
         "a read is interrupted",
         Second::Changed,
         Some((Point::Read(2), Fault::Interrupted)),
         End::Fails(Fault::Interrupted),
-        1,
-    ),
-    (
-        "the known length is met before a fault of reading",
-        Second::Changed,
-        Some((Point::Read(3), Fault::Other(5))),
-        End::Reports(Some(Says::Changed(Content::Bar)), 3, 9),
         1,
     ),
     (
@@ -153,13 +112,6 @@ const ROWS: [Row; 16] = [
         None,
         End::Reports(Some(Says::Changed(Content::Ba)), 3, 8),
         1,
-    ),
-    (
-        "a link's target can't be read",
-        Second::Link,
-        Some((Point::ReadLink, Fault::Other(9))),
-        End::Fails(Fault::Other(9)),
-        0,
     ),
     (
         "a link's target is read once, and the link isn't opened",

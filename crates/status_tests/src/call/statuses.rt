@@ -8,10 +8,13 @@ use gix_status::index::{Entry, ObjectId, State};
 use gix_status::index_as_worktree::traits::HashEq;
 use gix_status::index_as_worktree::{
     Context, EntryStatus, Options, Recorder, VisitEntry, index_as_worktree,
+    index_as_worktree_without_threads,
 };
-use gix_status::worktree::{AllPaths, Lister, MemoryObjects, NoFilter, NoSubmodules, Worktree};
+use gix_status::worktree::{
+    AllPaths, Lister, MemoryObjects, NoFilter, NoLister, NoSubmodules, Worktree,
+};
 use status_callers::statuses::{StatusReport, report_to, request_with};
-use std::alloc::AllocError;
+use std::alloc::{AllocError, Global};
 use std::sync::Wait;
 use std::sync::atomic::{AtomicBool, Ordering};
 use std::thread::Threads;
@@ -84,6 +87,41 @@ where
         HashEq,
         request_with(alloc, options),
         Some(interrupt),
+    );
+    StatusReport {
+        records: collector.inner.records,
+        answer,
+    }
+}
+
+/// Calls the same without threads. The collector sets the flag at each record.
+pub fn status_without_threads_until_record<'index, W: Worktree>(
+    alloc: Global,
+    index: &'index State,
+    worktree: &W,
+    options: Options,
+    interrupt: &AtomicBool,
+) -> StatusReport<'index, ObjectId, ()> {
+    let mut collector = FlagSetter {
+        inner: Recorder::new(alloc),
+        flag: Some(interrupt),
+    };
+    let context = Context {
+        pathspec: AllPaths,
+        filter: NoFilter,
+        lister: NoLister,
+        should_interrupt: Some(interrupt),
+    };
+    let answer = index_as_worktree_without_threads(
+        alloc,
+        index,
+        worktree,
+        &mut collector,
+        HashEq,
+        NoSubmodules,
+        MemoryObjects::new(alloc),
+        context,
+        options,
     );
     StatusReport {
         records: collector.inner.records,

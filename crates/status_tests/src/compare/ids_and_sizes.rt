@@ -206,3 +206,36 @@ fn streams_of_files_end_by_their_fault(rt: HostRuntime) {
     assert_eq!(rt; all.as_slice(), b"foo".as_slice());
     assert_eq!(rt; (file.size(), Stream::bytes(&file)), (Some(4), 3));
 }
+
+// A fault, and the kind of error that std's readers report for it.
+static KINDS: [(Fault, ErrorKind); 9] = [
+    (Fault::NotFound, ErrorKind::NotFound),
+    (Fault::NotADirectory, ErrorKind::NotADirectory),
+    (Fault::PermissionDenied, ErrorKind::PermissionDenied),
+    (Fault::Interrupted, ErrorKind::Interrupted),
+    (Fault::IllformedUtf8, ErrorKind::InvalidData),
+    (Fault::UnexpectedEnd, ErrorKind::UnexpectedEof),
+    (Fault::NotNormal, ErrorKind::InvalidData),
+    (Fault::Memory, ErrorKind::OutOfMemory),
+    (Fault::Other(5), ErrorKind::Other),
+];
+
+// Returns the kind of error of one read. None if it succeeds.
+fn kind_of_read<S: Read>(stream: &mut S) -> Option<ErrorKind> {
+    match stream.read(&mut [0; 4]) {
+        Ok(_) => None,
+        Err(error) => Some(error.kind()),
+    }
+}
+
+#[test]
+fn faults_of_streams_have_kinds(rt: HostRuntime) {
+    for (fault, kind) in &KINDS {
+        let piece = Piece {
+            bytes: b"",
+            fault: Some(*fault),
+        };
+        let mut file = Stream::new(ToGitOutcome::Unchanged(piece), None);
+        assert_eq!(rt; kind_of_read(&mut file), Some(*kind), "{fault}");
+    }
+}

@@ -19,6 +19,10 @@ pub enum RowEntry {
     Mode(Mode),
     /// A plain file of three bytes and this id.
     Id(ObjectId),
+    /// A file of the content `foo` whose path alone was added.
+    IntentToAdd,
+    /// This stage of a conflict, of the content `foo`.
+    Stage(u32),
 }
 
 /// The node at a path of a worktree.
@@ -42,6 +46,12 @@ fn new_entry(alloc: Global, path: &str, entry: RowEntry) -> Result<NewEntry, All
         RowEntry::Empty => (EMPTY, 0, Mode::File),
         RowEntry::Mode(mode) => (FOO, 3, mode),
         RowEntry::Id(id) => (id, 3, Mode::File),
+        RowEntry::IntentToAdd | RowEntry::Stage(_) => (FOO, 3, Mode::File),
+    };
+    let flags = match entry {
+        RowEntry::IntentToAdd => Flags::INTENT_TO_ADD,
+        RowEntry::Stage(stage) => Flags::from_stage(stage),
+        _ => Flags::from_stage(0),
     };
     Ok(NewEntry {
         path: BString::from_slice(alloc, path)?,
@@ -50,7 +60,7 @@ fn new_entry(alloc: Global, path: &str, entry: RowEntry) -> Result<NewEntry, All
             ..stat(STAGED)
         },
         id,
-        flags: Flags::from_stage(0),
+        flags,
         mode,
     })
 }

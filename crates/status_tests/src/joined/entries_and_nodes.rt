@@ -62,7 +62,7 @@ const COLLAPSED: Found<'static> = Found {
 /// A listing of the root with the file `a`, as it was staged with the content `foo`.
 const LISTED: &[Directory<'static>] = &[("", Some(&[("a", LISTED_FILE)]))];
 
-static ROWS: [Row; 10] = [
+static ROWS: [Row; 11] = [
     // A node that can't be tracked is passed by the walk, and not reported.
     Row {
         name: "what is untracked comes beside what was removed",
@@ -113,6 +113,17 @@ static ROWS: [Row; 10] = [
         lines: "0 update \"a\"\n- ignored \"b\"\n",
         details: &[(0, Detail::NoSummary), (1, Detail::NoSummary)],
         ending: Ending::Whole(Some(1), None),
+        ..PLAIN
+    },
+    Row {
+        name: "a link in place of a file, a file to be added and a conflict have words of their own",
+        entries: &[
+            ("a", RowEntry::Foo),
+            ("b", RowEntry::IntentToAdd),
+            ("c", RowEntry::Stage(2)),
+        ],
+        nodes: &[("a", RowNode::Link("foo")), ("b", RowNode::File("foo"))],
+        lines: "0 type \"a\"\n1 intent \"b\"\n2 conflict \"c\"\n",
         ..PLAIN
     },
     Row {

@@ -14,6 +14,7 @@ mod entries_and_nodes;
 mod exits;
 mod filtered_ids;
 mod folder_renames;
+mod identity_pairs;
 mod ids;
 mod interfaces;
 mod interrupts;
