@@ -21,7 +21,7 @@ const SKIPPED: [Flags; 4] = [
 /// The selected entries of an index that aren't compared as others are. Each is in a list of its own.
 #[derive(Drop)]
 pub(crate) struct Exceptions {
-    /// Those that aren't compared: ignored submodules that aren't folders, and those of `illformed`.
+    /// Those that aren't compared: ignored submodules that aren't folders or are to be added, and those of `illformed`.
     pub(crate) left_out: State,
     /// Those of `git add -N`.
     pub(crate) intended: State,
@@ -130,13 +130,15 @@ impl Exceptions {
         if str::from_utf8(path.as_bytes()).is_err() {
             self.illformed
                 .push(Vec::from_slice(alloc, path.as_bytes())?)?;
-            put(&mut self.left_out, entry, path)
-        } else if entry.mode.is_submodule()
+            return put(&mut self.left_out, entry, path);
+        }
+        let is_intended = entry.flags.contains(Flags::INTENT_TO_ADD);
+        if entry.mode.is_submodule()
             && ignored.contains(path)
-            && !is_folder(worktree, path)
+            && (is_intended || !is_folder(worktree, path))
         {
             put(&mut self.left_out, entry, path)
-        } else if entry.flags.contains(Flags::INTENT_TO_ADD) {
+        } else if is_intended {
             put(&mut self.intended, entry, path)
         } else {
             Ok(())

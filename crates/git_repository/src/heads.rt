@@ -91,6 +91,17 @@ fn after_blanks(text: &[u8]) -> &[u8] {
     }
 }
 
+// Returns a text without the blanks and line ends at its end.
+fn before_blanks(text: &[u8]) -> &[u8] {
+    match text
+        .iter()
+        .rposition(|byte| !is_blank(*byte) && *byte != b'\n')
+    {
+        Some(last) => text.get(..=last).unwrap_or(text),
+        None => b"",
+    }
+}
+
 /// Returns the commit that `HEAD` leads to, through loose and packed references. None if it leads to none.
 ///
 /// # Errors
@@ -139,24 +150,25 @@ fn target_of<R: Files + AllocGlobal>(
 }
 
 // Returns what a reference's own file leads to, if it is there. As in git, a symbolic link whose target begins with `refs/`
-// names another reference, and a folder is no file.
+// names another reference, a folder is no file, and a link that leads to none leads to nothing.
 fn loose_target<R: Files + AllocGlobal>(
     rt: &R,
     path: &str,
 ) -> Result<Option<Option<Target>>, RepositoryError> {
     let alloc = rt.alloc();
-    match link_at(rt, path) {
+    let nothing = match link_at(rt, path) {
         Ok(Some(target)) if target.as_bytes().starts_with(REFERENCES) => {
             return Ok(Some(Some(Target::Name(target))));
         }
+        Ok(Some(_)) => Some(None),
+        Ok(None) => None,
         Err(Unread::System(kind)) if is_missing(kind) => return Ok(None),
         Err(why) => return Err(unreadable(alloc, path, why)),
-        Ok(_) => {}
-    }
+    };
     match read_regular(rt, path, SMALL_LIMIT) {
         Ok(found) => Ok(Some(target_in(alloc, &found.bytes)?)),
         Err(Unread::System(kind)) if is_missing(kind) || kind == io::ErrorKind::IsADirectory => {
-            Ok(None)
+            Ok(nothing)
         }
         Err(why) => Err(unreadable(alloc, path, why)),
     }
@@ -164,9 +176,9 @@ fn loose_target<R: Files + AllocGlobal>(
 
 // Reads a reference's file: the id of a commit, or `ref:` and a name.
 fn target_in(alloc: Global, bytes: &[u8]) -> Result<Option<Target>, RepositoryError> {
-    let text = bytes.trim_ascii_end();
+    let text = before_blanks(bytes);
     match text.strip_prefix(b"ref:") {
-        Some(name) => match str::from_utf8(name.trim_ascii()) {
+        Some(name) => match str::from_utf8(after_blanks(name)) {
             Ok(name) => Ok(Some(Target::Name(String::from_str(alloc, name)?))),
             Err(_) => Err(RepositoryError::IllformedPath {
                 path: String::from_utf8_lossy(alloc, name)?,
