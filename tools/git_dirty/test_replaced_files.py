@@ -1,5 +1,5 @@
-"""Each file that git_dirty may open is replaced by a named pipe, a device, a link, a folder or a large file, can't be read, or is
-gone. The program ends soon, takes little memory, opens no file elsewhere, and prints git's lines or fails with words:
+"""Each file that git_dirty may open is replaced by a named pipe, a device, a link, a folder or a large file, can't be read,
+or is gone. The program ends soon, takes little memory, opens no file elsewhere, and prints git's lines or fails with words:
 
     python3 tools/run_tests.py git_dirty.test_replaced_files
 """
@@ -89,8 +89,8 @@ class ReplacedFiles(Watched):
                     self.assert_is(gits if gits is not None or not self.PASSED.search(name) else gone, name, kind)
 
     def assert_is(self, gits, name, kind):
-        """Asserts that the program prints git's lines. If git fails or doesn't end, the program has to fail. It may also fail for a
-        tracked file or submodule that it can't read."""
+        """Asserts that the program prints git's lines. If git fails or doesn't end, the program has to fail. It may also fail
+        for a tracked file or submodule that it can't read."""
         ended, opened = self.watched(**self.settings)
         quiet, others = self.watched("-q", **self.settings)
         *notes, last = [b"", *ended.fault.splitlines(True)]
