@@ -4,8 +4,8 @@ use crate::error::RepositoryError;
 use crate::files::{canonical, is_folder, is_missing, joined, path_of, read_if_there, unreadable};
 use crate::heads::has_head;
 use crate::regular::{SMALL_LIMIT, Unread};
-use std::fs;
 use std::rt::Files;
+use std::{fs, io};
 
 // The beginning of a file `.git`, before the path of a repository.
 const GIT_FILE_START: &[u8] = b"gitdir: ";
@@ -54,7 +54,9 @@ pub fn named_git_dir<R: Files + AllocGlobal>(
         let Some(named) = bytes.as_slice().strip_prefix(GIT_FILE_START) else {
             return Err(RepositoryError::BadGitFile { path });
         };
-        let folder = parent_of(path.as_str()).unwrap_or("/");
+        // The path starts in the folder that has the file, also if a link led to it.
+        let place = canonical(rt, path.as_str())?;
+        let folder = parent_of(place.as_str()).unwrap_or("/");
         joined(alloc, folder, path_of(alloc, named)?.as_str())?
     };
     if is_git_dir(rt, git_dir.as_str())? {
@@ -89,11 +91,12 @@ pub fn common_dir_of<R: Files + AllocGlobal>(
     git_dir: &str,
 ) -> Result<String, RepositoryError> {
     let alloc = rt.alloc();
-    match read_if_there(
-        rt,
-        joined(alloc, git_dir, "commondir")?.as_str(),
-        SMALL_LIMIT,
-    )? {
+    let place = joined(alloc, git_dir, "commondir")?;
+    match read_if_there(rt, place.as_str(), SMALL_LIMIT)? {
+        Some(bytes) if bytes.is_empty() => {
+            let why = Unread::System(io::ErrorKind::UnexpectedEof);
+            Err(unreadable(alloc, place.as_str(), why))
+        }
         Some(bytes) => {
             let path = path_of(alloc, &bytes)?;
             Ok(joined(alloc, git_dir, path.as_str())?)
