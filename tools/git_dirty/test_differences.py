@@ -6,6 +6,7 @@
 import os
 import re
 import shutil
+import subprocess
 import unittest
 from dataclasses import replace
 
@@ -14,7 +15,7 @@ from git_dirty.test_attributes import FILE
 from stress.compare_dirty import NOTES
 from support.index_bytes import checksum_of
 from support.programs import GIT_DIRTY, TOP
-from support.repositories import STATUS, STATUS_OF_HEADS, THEN, as_dirty, put_socket
+from support.repositories import SETTINGS, STATUS, STATUS_OF_HEADS, THEN, as_dirty, put_socket
 
 
 class Differences(Dirty):
@@ -132,15 +133,70 @@ class Differences(Dirty):
         self.assert_as_git(" M a\n")
 
     def test_a_path_that_is_no_utf_8(self):
-        """a path that isn't UTF-8, also of a submodule's reference"""
+        """a path that isn't UTF-8"""
         self.put_entries(("100644", self.blob(), 0, "x\udcffy"))
         self.assert_refuses(' D "x\\377y"\n', r'"x\\377y".*UTF-8')
-        self.git("rm", "-q", "--cached", b"x\xffy")
+
+    def test_a_reference_that_is_no_utf_8(self):
+        """a submodule's reference that isn't UTF-8"""
         self.make_module("m")
         self.git("add", "m")
         self.git("-C", "m", "checkout", "-q", "-b", b"caf\xe9")
         self.commit(folder="m")
         self.assert_refuses(" M m\n", '^git dirty: can\'t read the submodule "m": .*caf.*UTF-8')
+
+    def test_a_format_of_a_submodule(self):
+        """a submodule whose repository has a format that isn't known"""
+        self.make_module("m")
+        self.git("add", "m")
+        self.commit(folder="m")
+        self.git("-C", "m", "config", "core.repositoryFormatVersion", "5")
+        ran = self.run_in(STATUS_OF_HEADS)
+        self.assertEqual((ran.returncode, as_dirty(ran.stdout)), (0, b""))
+        self.assertIn(b"Expected git repo version <= 1, found 5", ran.stderr)
+        self.assert_fails(self.ran(), '^git dirty: can\'t read the submodule "m": Expected git repo version <= 1, found 5$')
+
+    def test_a_link_in_place_of_modules(self):
+        """a link in place of `.gitmodules`"""
+        self.make_module("m")
+        self.git("add", "m")
+        self.commit(folder="m")
+        self.put_user_file("modules", '[submodule "x"]\n\tpath = m\n\tignore = all\n')
+        os.symlink("../modules", self.path(".gitmodules"))
+        self.assertEqual(self.plain_lines(), "")
+        self.assert_noted(" M m\n", "[.]gitmodules")
+
+    def test_a_path_that_selects_nothing(self):
+        """a path of PATHS that selects nothing"""
+        self.assertEqual(self.git_lines("--", "nothing"), b"")
+        self.assert_fails(self.ran("nothing"), "no tracked file matches 'nothing'")
+        self.write("nothing", "")
+        self.assert_as_git("", "--", "nothing")
+
+    def test_a_pipe_in_the_repository(self):
+        """a named pipe or device in place of a file of the repository"""
+        os.makedirs(self.path(".git/info"), exist_ok=True)
+        os.symlink("/dev/null", self.path(".git/info/attributes"))
+        self.assert_as_git("")
+        os.remove(self.path(".git/info/attributes"))
+        os.mkfifo(self.path(".git/info/attributes"))
+        with self.assertRaises(subprocess.TimeoutExpired):
+            self.write("a", "bar")
+            subprocess.run([*STATUS_OF_HEADS], cwd=self.top, env={**os.environ, **SETTINGS}, capture_output=True, timeout=1)
+        self.assert_ends(self.ran(), b" M a\n")
+        os.remove(self.path(".git/config"))
+        os.mkfifo(self.path(".git/config"))
+        self.assert_fails(self.ran(), "[.]git/config': not a regular file")
+
+    def test_files_above_their_bounds(self):
+        """an index of more than 1 GiB, and other files above their bounds"""
+        self.put_config("#" * (16 << 20))
+        self.assertEqual(self.git_lines(), b"")
+        self.assert_fails(self.ran(), "[.]git/config': too large")
+        self.put_config("")
+        with open(self.path(".git/index"), "r+b") as file:
+            file.truncate((1 << 30) + 1)
+        self.assert_fails(self.ran(), "can't read the index .*: too large")
 
     def test_a_target_that_is_no_utf_8(self):
         """a link whose target isn't UTF-8, if it has to be read"""
