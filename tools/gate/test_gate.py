@@ -34,7 +34,7 @@ class Gate(unittest.TestCase):
             for folder in (top / ".ci", top / "tools", commands):
                 folder.mkdir(parents=True)
             shutil.copy(TOP / ".ci" / "run", top / ".ci" / "run")
-            for name in ("bash", "cat", "cc", "chmod", "dirname", "git", "mkdir", "mktemp", "rm", "tail", "tee"):
+            for name in ("bash", "cat", "cc", "chmod", "dirname", "git", "man", "mkdir", "mktemp", "rm", "tail", "tee"):
                 if name not in without:
                     os.symlink(shutil.which(name), commands / name)
             for name, words in (("rt", rt), ("python3", tests)):

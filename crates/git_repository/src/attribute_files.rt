@@ -22,9 +22,9 @@ const NAME: &str = ".gitattributes";
 /// Finds the attribute files of a repository: of the system, the user, each folder of the worktree that has an entry, and
 /// the repository's own `info/attributes`.
 ///
-/// As in git, a file that can't be read counts as none, and so does a link in the worktree. A folder of the worktree is
-/// searched only behind directories that aren't links, and only if its path is normal, so no file outside is opened. Unlike
-/// git, a file that is only in the index isn't read: then `unread` becomes true, if its folder is in the worktree.
+/// As in git, a file that can't be read counts as none, and so does a link in the worktree. A folder of the worktree isn't
+/// searched if its path isn't normal or leads through a link, so no file outside is opened. Unlike git, a file that is only
+/// in the index isn't read: then `unread` becomes true, if its folder is in the worktree.
 #[derive(Drop)]
 pub struct GitAttributeFiles<'a, R, W> {
     worktree: &'a W,

@@ -1,4 +1,4 @@
-//! A worktree in which a nested repository counts as a node of its own where an entry is to be added.
+//! A worktree in which a nested repository counts as a node of its own at the path of an entry that is to be added.
 
 use crate::submodules::head_below;
 use bstr::BStr;

@@ -36,7 +36,7 @@ pub struct Settings {
     pub has_include: bool,
 }
 
-/// What a repository's own files of configuration state.
+/// The settings of a repository's own files of configuration.
 #[derive(Debug, Drop)]
 pub struct OwnSettings {
     /// Their variables.

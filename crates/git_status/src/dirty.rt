@@ -12,7 +12,7 @@ use crate::fault_place::Search;
 use crate::found::{Found, print_index};
 use crate::output::print_failure;
 use crate::read::ReadIndex;
-use crate::said::{Said, print_said};
+use crate::remarks::{Remarks, print_remarks};
 use git_attributes::AttributeFiles;
 use status_base::worktree::{Pathspec, SubmoduleStatus, Worktree};
 use status_call::index_as_worktree::Error;
@@ -48,11 +48,11 @@ where
     ensures line { result ≡ 2 → IsFaultLine (E.contents faults.old) (E.contents faults.new) }
     ensures quiet { result ≢ 2 → asked.entry.settings.stats ≡ false → asked.entry.settings.notes ≡ false → E.contents faults.new ≡ E.contents faults.old }
 {
-    let said = Said::of(&asked.settings);
+    let remarks = Remarks::of(&asked.settings);
     let search = Search::of(&asked).ok();
     match print_file(rt, read, asked, output) {
         Ok(found) => {
-            print_said(rt.alloc(), said, &found, faults);
+            print_remarks(rt.alloc(), remarks, &found, faults);
             u8::from(found.dirty)
         }
         Err(failure) => report_failure(rt, &read.file.state, search, failure, faults),

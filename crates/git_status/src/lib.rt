@@ -1,11 +1,11 @@
 //! The command `git dirty`, over the bytes of an index file, any worktree and any writers.
 //!
-//! Read `dirty` first, which has the command, `read`, the index file that it is passed, and `asked`, what it is asked. `status` computes the status of an index,
-//! `found` prints it and returns what was found, and `answer` has its lines and its report. `refresh` has the command
-//! with the new bytes of the index file, and `kept` the changes in them. `lines` has git's lines and quoted paths;
-//! `output` writes them. `paths` is a pathspec of files and folders. `watcher` stops at the first difference. `said` has
-//! what is written besides, with `notes` on files that the status doesn't convert. `failure` says why the command fails,
-//! `fault_place` at which path, and `laws` what a user relies on.
+//! Read `dirty` first, which has the command, `read`, the index file that it is passed, and `asked`, what it is asked.
+//! `status` computes the status of an index, `found` prints it and returns what was found, and `answer` has its lines and
+//! its report. `refresh` has the command with the new bytes of the index file, and `kept` the changes in them. `lines` has
+//! git's lines and quoted paths; `output` writes them. `paths` is a pathspec of files and folders. `watcher` stops at the
+//! first difference. `remarks` are written besides the lines, with `notes` on files that the status doesn't convert.
+//! `failure` says why the command fails, `fault_place` at which path, and `laws` what a user relies on.
 #![tactic(auto)]
 
 mod answer;
@@ -22,7 +22,7 @@ mod output;
 mod paths;
 mod read;
 mod refresh;
-mod said;
+mod remarks;
 mod status;
 mod watcher;
 

@@ -13,7 +13,7 @@ use crate::fault_place::Search;
 use crate::found::{Found, print_index};
 use crate::kept::changed_bytes;
 use crate::read::ReadIndex;
-use crate::said::{Said, print_said};
+use crate::remarks::{Remarks, print_remarks};
 use git_attributes::AttributeFiles;
 use status_base::worktree::{Pathspec, SubmoduleStatus, Worktree};
 use std::io;
@@ -77,7 +77,7 @@ where
     ensures line { result.status ≡ 2 → IsFaultLine (E.contents faults.old) (E.contents faults.new) }
     ensures quiet { result.status ≢ 2 → asked.entry.settings.stats ≡ false → asked.entry.settings.notes ≡ false → E.contents faults.new ≡ E.contents faults.old }
 {
-    let said = Said::of(&asked.settings);
+    let remarks = Remarks::of(&asked.settings);
     let search = Search::of(&asked).ok();
     match refresh_file(rt, &mut read, asked, output) {
         Ok(
@@ -88,7 +88,7 @@ where
                 extensions,
             },
         ) => {
-            print_said(rt.alloc(), said, &report, faults);
+            print_remarks(rt.alloc(), remarks, &report, faults);
             Refreshed {
                 status: u8::from(report.dirty),
                 bytes,

@@ -1,4 +1,4 @@
-//! What is written besides the lines of a status: notes, and the counts.
+//! Remarks on a status, which are written besides its lines: notes, and the counts.
 
 ghost use Rattle.std.specs.Prelude.{◌≡◌, false};
 
@@ -9,9 +9,9 @@ use status_call::index_as_worktree::Outcome;
 use std::alloc::Global;
 use std::io::{self, Write as _};
 
-/// What is written besides the lines of a status.
+/// Which remarks on a status are written.
 #[derive(Clone, Copy)]
-pub(crate) struct Said {
+pub(crate) struct Remarks {
     /// Whether there are notes.
     pub(crate) notes: bool,
     /// Whether the counts are written.
@@ -20,13 +20,13 @@ pub(crate) struct Said {
     pub(crate) quote_all: bool,
 }
 
-impl Said {
-    /// Returns what is written by these settings.
-    pub(crate) fn of(settings: &Settings) -> Said
+impl Remarks {
+    /// Returns the remarks that these settings ask for.
+    pub(crate) fn of(settings: &Settings) -> Remarks
         ensures notes { result.notes ≡ settings.now.notes }
         ensures stats { result.stats ≡ settings.now.stats }
     {
-        Said {
+        Remarks {
             notes: settings.notes,
             stats: settings.stats,
             quote_all: settings.lines.is_none_or(|style| style.quote_all),
@@ -35,13 +35,18 @@ impl Said {
 }
 
 /// Writes the notes and the counts of a status, if they are asked for.
-pub(crate) fn print_said<E: io::Write>(alloc: Global, said: Said, found: &Report, faults: &mut E)
-    ensures { said.stats ≡ false → said.notes ≡ false → E.contents faults.new ≡ E.contents faults.old }
+pub(crate) fn print_remarks<E: io::Write>(
+    alloc: Global,
+    remarks: Remarks,
+    found: &Report,
+    faults: &mut E,
+)
+    ensures { remarks.stats ≡ false → remarks.notes ≡ false → E.contents faults.new ≡ E.contents faults.old }
 {
-    if said.notes {
-        print_notes(alloc, found, said.quote_all, faults);
+    if remarks.notes {
+        print_notes(alloc, found, remarks.quote_all, faults);
     }
-    if said.stats {
+    if remarks.stats {
         print_stats(&found.outcome, faults);
     }
 }
