@@ -30,10 +30,6 @@ class Paths(Dirty):
         ("", ["d-"], " M d-\n"),
         ("", ["*"], " M *\n"),
         ("", [":(top)u"], ""),
-        ("", ["a/"], ""),
-        ("", ["./a/", "d/b/"], ""),
-        ("", ["a/."], ""),
-        ("", ["d/b/", "a"], " M a\n"),
         ("", ["d/."], " M d/b\n M d/e/c\n"),
         ("", ["a/.."], None),
         ("", ["d//e///c"], " M d/e/c\n"),
@@ -47,12 +43,13 @@ class Paths(Dirty):
         ("d", ["{top}/a"], " M a\n"),
         ("d", ["{top}/d/e"], " M d/e/c\n"),
         ("d", ["{top}"], None),
-        ("d", ["{top}/a/"], ""),
         ("d", ["{top}/d/e/"], " M d/e/c\n"),
     ]
     # Words that select nothing, and that are no patterns.
     NOTHING = [("", "HEAD"), ("", "typo"), ("", "no/such"), ("", "a/x"), ("", "d/b/x"), ("d", "a"), ("d", "../typo"), ("", "A")]
     NOTHING += [("", "{top}/typo"), ("", "it's"), ("", "-x"), ("", "d/typo/")]
+    # A slash, or a dot after one, selects a folder alone.
+    NOTHING += [("", "a/"), ("", "./a/"), ("", "d/b/"), ("", "a/."), ("d", "{top}/a/")]
     # Git takes these for patterns, unless GIT_LITERAL_PATHSPECS is true.
     PATTERNS = ["*", "a?", "[ab]", "a\\b", ":(top)a", ":!a", ":/a", ":^a", ":", "d/*", "*.md", ":(literal)a", "d/[b]"]
     REFUSED = [("", [".."]), ("", ["../x"]), ("d", ["../../x"]), ("", ["/"]), ("", [""]), ("", ["{top}x"])]

@@ -8,7 +8,7 @@ import shutil
 
 from git_dirty.case import Dirty
 from support.programs import GIT_DIRTY
-from support.repositories import STATUS_OF_HEADS, as_dirty
+from support.repositories import STATUS_OF_HEADS, as_dirty, make_git_folder
 
 
 class Places(Dirty):
@@ -206,6 +206,18 @@ class Places(Dirty):
         self.write("a", "bars")
         self.assert_as_git(" M a\n")
         self.assert_as_git(" M a\n", folder=self.path("d"))
+
+    def test_a_broken_repository_is_not_passed(self):
+        """Git fails for these, and doesn't go on to the repository above."""
+        for name, text in ((".git/commondir", ""), (".git", " " * (1 << 20) + "gitdir: x"), (".git", "gitdir: nowhere\n"), (".git", "odd")):
+            with self.subTest(name=name, text=text[:9]):
+                place = self.path("sub")
+                make_git_folder(os.path.join(place, ".git"), "ref: refs/heads/x")
+                if name == ".git":
+                    shutil.rmtree(os.path.join(place, ".git"))
+                self.write(f"sub/{name}", text)
+                self.assert_both_fail(".", folder=place)
+                shutil.rmtree(place)
 
     def test_what_is_no_repository_is_passed(self):
         self.write("a", "bars")
