@@ -5,7 +5,7 @@ ghost use Rattle.git_status.specs.Reads.{IsRead};
 use crate::index_file::{FoundIndex, read_index_file};
 use crate::refresh::Refresh;
 use crate::refused::{Illformed, Refused};
-use crate::request::{Request, Selected, selected_by};
+use crate::request::{Request, selected_by};
 use crate::selection::{Exceptions, check_each, tops_of};
 use git_attributes::AttributeFiles;
 use git_repository::{
@@ -14,7 +14,7 @@ use git_repository::{
 };
 use git_status::lines::LineStyle;
 use git_status::{
-    Asked, Paths, ReadIndex, Refreshed, Settings, print_failure, run_dirty, run_refresh,
+    Asked, Paths, ReadIndex, Refreshed, Settings, Top, print_failure, run_dirty, run_refresh,
 };
 use status_base::worktree::{Pathspec, SubmoduleStatus, Worktree};
 use status_call::index_as_worktree::{Capabilities, Options};
@@ -59,7 +59,8 @@ where
 }
 
 /// Writes the lines of the checkout's differences to `output`, and notes and failures to `faults`. Returns the exit status of
-/// `git dirty`: 0 if nothing differs, 1 if an entry differs, and 2 after a failure.
+/// `git dirty`: 0 if nothing differs, 1 if an entry differs, and 2 after a failure. A path that isn't UTF-8 fails by itself:
+/// all other lines are written, then a line for each such path, and the index isn't refreshed.
 pub fn run<R: AllocGlobal + Env + Files + Sync + Threads + Wait, O: io::Write, E: io::Write>(
     rt: &R,
     request: &Request<'_>,
@@ -79,7 +80,8 @@ where
 /// Does the same in the repository of the request's folder.
 ///
 /// # Errors
-/// There is no repository, its index can't be read or refreshed, or a path isn't in its worktree or selects nothing.
+/// There is no repository, its index or a setting can't be read, a path isn't in its worktree, is a pattern or selects
+/// nothing, or the index can't be refreshed.
 fn run_in_repository<
     R: AllocGlobal + Env + Files + Sync + Threads + Wait,
     O: io::Write,
@@ -89,103 +91,113 @@ where
     R::File: Send,
     R::Dir: Send,
 {
+    let alloc = rt.alloc();
     let repository = Repository::discover(rt, request.folder)?;
     let selected = selected_by(rt, &repository, &request.paths)?;
     let Some(file) = read_index_file(rt, &repository)? else {
-        let nothing = State::new(rt.alloc(), Moment { secs: 0, nsecs: 0 });
+        let nothing = State::new(alloc, Moment { secs: 0, nsecs: 0 });
         let worktree = GitWorktree::new(rt, repository.top.as_str())?;
-        check_each(rt.alloc(), &nothing, &worktree, &selected)?;
+        check_each(alloc, &nothing, &worktree, &selected)?;
         return Ok(0);
     };
-    run_over_index(rt, request, &repository, &selected, &file, output, faults)
-}
-
-/// Does the same over the repository's index file.
-///
-/// # Errors
-/// The file has no index, or a path selects nothing; or those of a refresh.
-fn run_over_index<R: AllocGlobal + Env + Files + Sync + Threads + Wait, O: io::Write, E: io::Write>(
-    rt: &R,
-    request: &Request<'_>,
-    repository: &Repository,
-    selected: &[Selected<'_>],
-    file: &FoundIndex,
-    output: &mut O,
-    faults: &mut E,
-) -> Result<u8, Refused>
-where
-    R::File: Send,
-    R::Dir: Send,
-{
-    let alloc = rt.alloc();
-    let top = repository.top.as_str();
-    let settings = settings_of(repository, request, file.timestamp);
+    let settings = settings_of(&repository, request, file.timestamp);
     let read = ReadIndex::of(alloc, &file.bytes, &settings)?;
-    let index = &read.file.state;
-    let worktree = worktree_at(rt, top, request.enter)?;
-    check_each(alloc, index, &worktree, selected)?;
-    let ignored = IgnoredSubmodules::read(rt, top, &repository.config, index)?;
-    if !request.quiet {
-        note_unread(repository, &ignored, faults);
-    }
-    let tops = tops_of(alloc, selected)?;
-    let Exceptions {
-        left_out,
-        intended,
-        illformed,
-    } = Exceptions::of(alloc, index, &worktree, &tops, &ignored)?;
-    let unread = AtomicBool::new(false);
-    let attributes = GitAttributeFiles::new(rt, &worktree, repository, &unread)?;
-    let worktree = IntendedWorktree {
-        rt,
-        top,
+    let worktree = worktree_at(rt, repository.top.as_str(), request.enter)?;
+    check_each(alloc, &read.file.state, &worktree, &selected)?;
+    let checkout = Checkout {
+        request,
+        repository: &repository,
+        file: &file,
         worktree: &worktree,
-        intended: &intended,
+        tops: tops_of(alloc, &selected)?,
     };
-    let asked = Asked {
-        settings,
-        worktree: &worktree,
-        submodules: SubmoduleHeads::new(rt, top, &ignored),
-        paths: Paths {
-            tops: &tops,
-            left_out: &left_out,
-        },
-        attributes,
-    };
-    let begun = request
-        .refresh
-        .then(|| time_of_lock(rt, repository.index.as_str()));
-    let compared = compare(rt, request, read, asked, output, faults);
-    let status = match begun {
-        None => compared.status,
-        Some(begun) => {
-            let refresh = Refresh {
-                repository,
-                old: file,
-                begun,
-                unread: unread.load(Ordering::Relaxed),
-            };
-            refresh.end(rt, compared)?
-        }
-    };
-    Ok(print_illformed(alloc, status, &illformed, faults))
+    checkout.run(rt, read, settings, output, faults)
 }
 
-/// Writes a failure for each path that can't be compared since it isn't UTF-8, unless the status failed already. Returns the
-/// exit status.
-fn print_illformed<E: io::Write>(
-    alloc: Global,
-    status: u8,
-    paths: &[Vec<u8>],
-    faults: &mut E,
-) -> u8 {
-    let mut ended = status;
-    if status != FAILED {
-        for path in paths {
-            ended = print_failure(alloc, Illformed { path }, faults);
+/// A request, with the repository that it is about, its index file, and the paths that are compared.
+#[derive(Drop)]
+struct Checkout<'a, W> {
+    request: &'a Request<'a>,
+    repository: &'a Repository,
+    file: &'a FoundIndex,
+    worktree: &'a W,
+    tops: Vec<Top<'a>>,
+}
+
+impl<W: Worktree + Sync> Checkout<'_, W>
+where
+    W::File: Send,
+{
+    /// Prints the status, and refreshes the index if that is asked for. Returns the exit status.
+    ///
+    /// # Errors
+    /// A setting can't be read, the index can't be refreshed, or out of memory.
+    fn run<R: AllocGlobal + Env + Files + Sync + Threads + Wait, O: io::Write, E: io::Write>(
+        &self,
+        rt: &R,
+        read: ReadIndex<'_>,
+        settings: Settings,
+        output: &mut O,
+        faults: &mut E,
+    ) -> Result<u8, Refused>
+    where
+        R::File: Send,
+        R::Dir: Send,
+        requires { IsRead settings read }
+    {
+        let alloc = rt.alloc();
+        let top = self.repository.top.as_str();
+        let index = &read.file.state;
+        let ignored = IgnoredSubmodules::read(rt, top, &self.repository.config, index)?;
+        if !self.request.quiet {
+            note_unread(self.repository, &ignored, faults);
         }
+        let exceptions = Exceptions::of(alloc, index, self.worktree, &self.tops, &ignored)?;
+        let unread = AtomicBool::new(false);
+        let attributes = GitAttributeFiles::new(rt, self.worktree, self.repository, &unread)?;
+        let worktree = IntendedWorktree {
+            rt,
+            top,
+            worktree: self.worktree,
+            intended: &exceptions.intended,
+        };
+        let asked = Asked {
+            settings,
+            worktree: &worktree,
+            submodules: SubmoduleHeads::new(rt, top, &ignored),
+            paths: Paths {
+                tops: &self.tops,
+                left_out: &exceptions.left_out,
+            },
+            attributes,
+        };
+        let begun = self
+            .request
+            .refresh
+            .then(|| time_of_lock(rt, self.repository.index.as_str()));
+        let compared = compare(rt, self.request, read, asked, output, faults);
+        if compared.status != FAILED && !exceptions.illformed.is_empty() {
+            return Ok(print_illformed(alloc, &exceptions.illformed, faults));
+        }
+        let Some(begun) = begun else {
+            return Ok(compared.status);
+        };
+        let refresh = Refresh {
+            repository: self.repository,
+            old: self.file,
+            begun,
+            unread: unread.load(Ordering::Relaxed),
+        };
+        refresh.end(rt, compared)
     }
-    ended
+}
+
+/// Writes a failure for each path that can't be compared since it isn't UTF-8, and returns the exit status of a failure.
+fn print_illformed<E: io::Write>(alloc: Global, paths: &[Vec<u8>], faults: &mut E) -> u8 {
+    for path in paths {
+        print_failure(alloc, Illformed { path }, faults);
+    }
+    FAILED
 }
 
 /// Returns the worktree that begins at `top`. As git does, the process enters it if it may: from there the system has the

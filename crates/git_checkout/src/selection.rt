@@ -3,9 +3,10 @@
 use crate::refused::Refused;
 use crate::request::Selected;
 use bitflags::Flags as _;
-use bstr::BStr;
+use bstr::{BStr, BString};
 use git_repository::IgnoredSubmodules;
 use git_status::{Paths, Top};
+use status_base::stack::{StackError, SymlinkCheck};
 use status_base::worktree::{NodeKind, Pathspec, Worktree};
 use status_index::{Entry, Flags, State};
 use std::alloc::{AllocError, Global};
@@ -62,20 +63,26 @@ pub(crate) fn check_each<W: Worktree>(
     selected: &[Selected<'_>],
 ) -> Result<(), Refused> {
     for one in selected {
-        let path = BStr::new(one.path.as_bytes());
-        if !one.path.is_empty()
-            && !has_entry(alloc, index, path)?
-            && worktree.lstat(path).is_err()
-        {
+        if !one.path.is_empty() && !has_entry(alloc, index, one)? && !has_node(worktree, one) {
             return Err(Refused::unmatched(alloc, one.word));
         }
     }
     Ok(())
 }
 
-/// Returns whether an entry is at a path or below it.
-fn has_entry(alloc: Global, index: &State, path: BStr<'_>) -> Result<bool, AllocError> {
-    if !index.entries_at(path).is_empty() {
+/// Returns whether a node is at a path, and a folder if only that is selected.
+fn has_node<W: Worktree>(worktree: &W, one: &Selected<'_>) -> bool {
+    match worktree.lstat(BStr::new(one.path.as_bytes())) {
+        Ok(node) => !one.is_folder || node.kind == NodeKind::Directory,
+        Err(_) => false,
+    }
+}
+
+/// Returns whether an entry is at a path or below it. At the path it has to be a submodule's if only a folder is selected.
+fn has_entry(alloc: Global, index: &State, one: &Selected<'_>) -> Result<bool, AllocError> {
+    let path = BStr::new(one.path.as_bytes());
+    let mut there = index.entries_at(path).iter();
+    if there.any(|entry| !one.is_folder || entry.mode.is_submodule()) {
         return Ok(true);
     }
     let mut below = Vec::from_slice(alloc, path.as_bytes())?;
@@ -104,6 +111,7 @@ impl Exceptions {
             tops,
             left_out: &nothing,
         };
+        let mut check = SymlinkCheck::new(alloc, BString::new(Vec::new(alloc)));
         let mut found = Exceptions {
             left_out: State::new(alloc, index.timestamp()),
             intended: State::new(alloc, index.timestamp()),
@@ -112,37 +120,21 @@ impl Exceptions {
         for entry in index.entries() {
             let path = entry.path_in(index.path_backing());
             if is_compared(entry) && paths.includes(path, entry.mode.is_submodule()) {
-                found.add(alloc, entry, path, worktree, ignored)?;
+                let is_ignored = entry.mode.is_submodule() && ignored.contains(path);
+                let is_intended = entry.flags.contains(Flags::INTENT_TO_ADD);
+                if str::from_utf8(path.as_bytes()).is_err() {
+                    found
+                        .illformed
+                        .push(Vec::from_slice(alloc, path.as_bytes())?)?;
+                    put(&mut found.left_out, entry, path)?;
+                } else if is_ignored && (is_intended || is_gone(&mut check, worktree, path)) {
+                    put(&mut found.left_out, entry, path)?;
+                } else if is_intended {
+                    put(&mut found.intended, entry, path)?;
+                }
             }
         }
         Ok(found)
-    }
-
-    /// Adds an entry with its path, if it is an exception.
-    fn add<W: Worktree>(
-        &mut self,
-        alloc: Global,
-        entry: &Entry,
-        path: BStr<'_>,
-        worktree: &W,
-        ignored: &IgnoredSubmodules,
-    ) -> Result<(), AllocError> {
-        if str::from_utf8(path.as_bytes()).is_err() {
-            self.illformed
-                .push(Vec::from_slice(alloc, path.as_bytes())?)?;
-            return put(&mut self.left_out, entry, path);
-        }
-        let is_intended = entry.flags.contains(Flags::INTENT_TO_ADD);
-        if entry.mode.is_submodule()
-            && ignored.contains(path)
-            && (is_intended || !is_folder(worktree, path))
-        {
-            put(&mut self.left_out, entry, path)
-        } else if is_intended {
-            put(&mut self.intended, entry, path)
-        } else {
-            Ok(())
-        }
     }
 }
 
@@ -151,9 +143,14 @@ fn is_compared(entry: &Entry) -> bool {
     entry.stage_raw() == 0 && !SKIPPED.iter().any(|flag| entry.flags.contains(*flag))
 }
 
-/// Returns whether a folder is at a path.
-fn is_folder<W: Worktree>(worktree: &W, path: BStr<'_>) -> bool {
-    matches!(worktree.lstat(path), Ok(node) if node.kind == NodeKind::Directory)
+/// Returns whether no folder is at a path, or a link is on the way to it. A path that isn't normal is left to the status, which
+/// refuses it.
+fn is_gone<W: Worktree>(check: &mut SymlinkCheck, worktree: &W, path: BStr<'_>) -> bool {
+    match check.verified_path(worktree, path) {
+        Ok(_) => { !matches!(worktree.lstat(path), Ok(node) if node.kind == NodeKind::Directory) }
+        Err(StackError::ThroughLink { .. } | StackError::Fault(_)) => true,
+        Err(_) => false,
+    }
 }
 
 /// Adds an entry with its path to a list.

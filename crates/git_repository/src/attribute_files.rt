@@ -16,6 +16,9 @@ use std::io;
 use std::rt::{Env, Files};
 use std::sync::atomic::{AtomicBool, Ordering};
 
+/// The length of a path from which on the system refuses it (Linux's `PATH_MAX`).
+const PATH_LIMIT: usize = 4096;
+
 /// The name of attribute files within a worktree.
 const NAME: &str = ".gitattributes";
 
@@ -118,6 +121,11 @@ fn bad_file(value: String) -> RepositoryError {
     }
 }
 
+/// Returns whether a fault says that nothing is at a path.
+fn is_absent(fault: Fault) -> bool {
+    matches!(fault, Fault::NotFound | Fault::NotADirectory)
+}
+
 /// Returns whether a path is that of a file in a folder, and not in a folder below it. A folder's path ends with a slash.
 fn is_directly_in(path: &[u8], folder: &[u8]) -> bool {
     match path.strip_prefix(folder) {
@@ -185,16 +193,16 @@ impl<R: Files + AllocGlobal, W: Worktree> GitAttributeFiles<'_, R, W> {
         }
     }
 
-    /// Adds the file of a folder of the worktree, if there is one that can be read.
-    fn add_inner(&self, search: &mut Inner<'_>, folder: &[u8]) -> Result<(), AllocError> {
+    /// Adds the file of a folder of the worktree, if there is one that can be read. Returns whether there may be folders below.
+    fn add_inner(&self, search: &mut Inner<'_>, folder: &[u8]) -> Result<bool, AllocError> {
         let mut path = Vec::from_slice(self.rt.alloc(), folder)?;
         path.extend_from_slice(NAME.as_bytes())?;
         let path = BStr::new(path.as_slice());
         let bytes = match search.check.verified_path(self.worktree, path) {
             Ok(_) => self.read_inner(path)?,
             Err(StackError::Memory | StackError::Fault(Fault::Memory)) => return Err(AllocError),
-            Err(StackError::Fault(_)) => None,
-            Err(_) => return Ok(()),
+            Err(StackError::Fault(fault)) if !is_absent(fault) => None,
+            Err(_) => return Ok(false),
         };
         match bytes {
             Some(bytes) => search.files.push(AttributeFile {
@@ -208,7 +216,7 @@ impl<R: Files + AllocGlobal, W: Worktree> GitAttributeFiles<'_, R, W> {
                 }
             }
         }
-        Ok(())
+        Ok(folder.len() < PATH_LIMIT)
     }
 
     /// Returns whether the worktree may have files in a folder, whose path ends with a slash.
@@ -232,8 +240,8 @@ impl<R: Files + AllocGlobal, W: Worktree> GitAttributeFiles<'_, R, W> {
         from: usize,
     ) -> Result<(), AllocError> {
         for (at, byte) in path.iter().enumerate() {
-            if *byte == b'/' && at >= from {
-                self.add_inner(search, &path[..at + 1])?;
+            if *byte == b'/' && at >= from && !self.add_inner(search, &path[..at + 1])? {
+                break;
             }
         }
         Ok(())

@@ -1,6 +1,7 @@
 //! The variables of git's configuration.
 
 use std::alloc::{AllocError, AllocFailed, Global};
+use std::sync::Arc;
 use thiserror::Error;
 
 /// Why a configuration file isn't read.
@@ -32,8 +33,11 @@ impl<T: Drop> From<AllocFailed<T>> for ConfigError {
 /// A variable of a configuration.
 #[derive(Debug, Drop)]
 pub struct Variable {
-    /// The section in lower case. If there is a subsection, a dot and the subsection follow.
-    pub(crate) header: Vec<u8>,
+    /// The section in lower case. If there is a subsection, a dot and the subsection follow. The variables below one header
+    /// share it.
+    pub(crate) header: Arc<Vec<u8>>,
+    /// The number of the header in its configuration.
+    pub(crate) section: usize,
     /// The name in lower case.
     pub(crate) name: Vec<u8>,
     /// The value. None if the file has no `=`.
@@ -47,6 +51,16 @@ impl Variable {
             Some(value) => Some(value.as_slice()),
             None => None,
         }
+    }
+
+    /// Returns the number of the header that the variable is below. Other headers of the configuration have other numbers.
+    pub fn section(&self) -> usize {
+        self.section
+    }
+
+    /// Returns whether the variable has this name, whatever its section. The name is in lower case.
+    pub fn has_name(&self, name: &[u8]) -> bool {
+        self.name.as_slice() == name
     }
 
     /// Returns whether this is the variable of a section, subsection and name. Section and name are in lower case.
@@ -75,7 +89,9 @@ impl Variable {
 /// The variables of one or more configuration files, in order. Of several with one name the last counts.
 #[derive(Debug, Drop)]
 pub struct Config {
-    pub(crate) variables: Vec<Variable>,
+    variables: Vec<Variable>,
+    // The number of headers.
+    sections: usize,
 }
 
 impl Config {
@@ -83,7 +99,32 @@ impl Config {
     pub fn new(alloc: Global) -> Config {
         Config {
             variables: Vec::new(alloc),
+            sections: 0,
         }
+    }
+
+    /// Begins a section: the variables that are added from now on are below another header.
+    pub(crate) fn begin_section(&mut self) {
+        self.sections = self.sections.saturating_add(1);
+    }
+
+    /// Adds a variable below the header that was begun last.
+    ///
+    /// # Errors
+    /// Out of memory.
+    pub(crate) fn add(
+        &mut self,
+        header: &Arc<Vec<u8>>,
+        name: Vec<u8>,
+        value: Option<Vec<u8>>,
+    ) -> Result<(), AllocError> {
+        self.variables.push(Variable {
+            header: Arc::try_clone(header)?,
+            section: self.sections,
+            name,
+            value,
+        })?;
+        Ok(())
     }
 
     /// Returns the variables in order.
@@ -107,11 +148,7 @@ impl Config {
     pub fn has_include(&self) -> bool {
         self.variables.iter().any(|variable| {
             variable.is_named(b"include", None, b"path")
-                || variable.subsection_of(b"includeif").is_some_and(|condition| variable.is_named(
-                    b"includeif",
-                    Some(condition),
-                    b"path",
-                ))
+                || variable.has_name(b"path") && variable.subsection_of(b"includeif").is_some()
         })
     }
 
@@ -120,9 +157,15 @@ impl Config {
     /// # Errors
     /// Out of memory.
     pub fn append(&mut self, later: Config) -> Result<(), AllocError> {
+        self.begin_section();
         for variable in later.variables {
-            self.variables.push(variable)?;
+            let section = self.sections.saturating_add(variable.section);
+            self.variables.push(Variable {
+                section,
+                ..variable
+            })?;
         }
+        self.sections = self.sections.saturating_add(later.sections);
         Ok(())
     }
 
@@ -154,11 +197,7 @@ impl Config {
             Some(value) => Some(Vec::from_slice(alloc, value)?),
             None => None,
         };
-        self.variables.push(Variable {
-            header,
-            name,
-            value,
-        })?;
-        Ok(())
+        self.begin_section();
+        self.add(&Arc::new(alloc, header)?, name, value)
     }
 }

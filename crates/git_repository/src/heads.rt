@@ -129,15 +129,19 @@ fn target_of<R: Files + AllocGlobal>(
     common_dir: &str,
     name: &str,
 ) -> Result<Option<Target>, RepositoryError> {
-    if name.split('/').any(|part| part == "..") {
+    if !is_name(name) {
         return Ok(None);
     }
     let alloc = rt.alloc();
-    for folder in [git_dir, common_dir] {
-        let path = joined(alloc, folder, name)?;
-        if let Some(target) = loose_target(rt, path.as_str())? {
-            return Ok(target);
-        }
+    let folder = if is_of_worktree(name) {
+        git_dir
+    } else {
+        common_dir
+    };
+    match loose_target(rt, joined(alloc, folder, name)?.as_str())? {
+        Loose::Leads(target) => return Ok(Some(target)),
+        Loose::LeadsNowhere => return Ok(None),
+        Loose::Missing => {}
     }
     let path = joined(alloc, common_dir, "packed-refs")?;
     match read_if_there(rt, path.as_str(), PACKED_LIMIT)? {
@@ -149,29 +153,66 @@ fn target_of<R: Files + AllocGlobal>(
     }
 }
 
-// Returns what a reference's own file leads to, if it is there. As in git, a symbolic link whose target begins with `refs/`
-// names another reference, a folder is no file, and a link that leads to none leads to nothing.
-fn loose_target<R: Files + AllocGlobal>(
-    rt: &R,
-    path: &str,
-) -> Result<Option<Option<Target>>, RepositoryError> {
+// A reference's own file.
+#[derive(Drop)]
+enum Loose {
+    // It isn't there, so that the packed references count.
+    Missing,
+    // It leads to nothing.
+    LeadsNowhere,
+    Leads(Target),
+}
+
+// Returns what a reference's own file leads to. As in git, a symbolic link whose target begins with `refs/` names another
+// reference, a folder is no file, and a link that leads to no file leads nowhere.
+fn loose_target<R: Files + AllocGlobal>(rt: &R, path: &str) -> Result<Loose, RepositoryError> {
     let alloc = rt.alloc();
-    let nothing = match link_at(rt, path) {
+    let without_file = match link_at(rt, path) {
         Ok(Some(target)) if target.as_bytes().starts_with(REFERENCES) => {
-            return Ok(Some(Some(Target::Name(target))));
+            return Ok(Loose::Leads(Target::Name(target)));
         }
-        Ok(Some(_)) => Some(None),
-        Ok(None) => None,
-        Err(Unread::System(kind)) if is_missing(kind) => return Ok(None),
+        Ok(Some(_)) => Loose::LeadsNowhere,
+        Ok(None) => Loose::Missing,
+        Err(Unread::System(kind)) if is_missing(kind) => return Ok(Loose::Missing),
         Err(why) => return Err(unreadable(alloc, path, why)),
     };
     match read_regular(rt, path, SMALL_LIMIT) {
-        Ok(found) => Ok(Some(target_in(alloc, &found.bytes)?)),
+        Ok(found) => match target_in(alloc, &found.bytes)? {
+            Some(target) => Ok(Loose::Leads(target)),
+            None => Ok(Loose::LeadsNowhere),
+        },
         Err(Unread::System(kind)) if is_missing(kind) || kind == io::ErrorKind::IsADirectory => {
-            Ok(nothing)
+            Ok(without_file)
         }
         Err(why) => Err(unreadable(alloc, path, why)),
     }
+}
+
+// Returns whether a worktree has a reference of this name of its own: `HEAD` and its like, and those of a few folders.
+fn is_of_worktree(name: &str) -> bool {
+    !name.as_bytes().starts_with(REFERENCES)
+        || ["refs/bisect/", "refs/worktree/", "refs/rewritten/"]
+            .iter()
+            .any(|front| name.starts_with(*front))
+}
+
+// Returns whether git accepts the name of a reference (git check-ref-format, with one component or more).
+fn is_name(name: &str) -> bool {
+    name != "@"
+        && !name.ends_with('.')
+        && !name.contains("..")
+        && !name.contains("@{")
+        && name.split('/').all(is_component)
+}
+
+// Returns whether git accepts a component of a reference's name.
+fn is_component(part: &str) -> bool {
+    !part.is_empty()
+        && !part.starts_with('.')
+        && !part.ends_with(".lock")
+        && !part.bytes().any(|byte| {
+            byte <= b' ' || matches!(byte, 127 | b'~' | b'^' | b':' | b'?' | b'*' | b'[' | b'\\')
+        })
 }
 
 // Reads a reference's file: the id of a commit, or `ref:` and a name.

@@ -3,7 +3,7 @@
 use crate::config::Config;
 use crate::error::RepositoryError;
 use crate::files::{canonical, is_folder, joined, variable};
-use crate::git_dir::{common_dir_of, git_dir_in, is_git_dir, named_git_dir, parent_of};
+use crate::git_dir::{Refusal, common_dir_of, git_dir_in, is_git_dir, named_git_dir, parent_of};
 use crate::regular::Unread;
 use crate::settings::{OwnSettings, Settings, read_own, read_settings};
 use std::alloc::{AllocError, Global};
@@ -127,11 +127,11 @@ fn search<R: Files + AllocGlobal>(
     let alloc = rt.alloc();
     let mut here = folder;
     for _ in 0..usize::MAX {
-        if let Some(git_dir) = readable(git_dir_in(rt, here), None)? {
+        if let Some(git_dir) = git_dir_in(rt, here, Refusal::IsMissing)? {
             let top = Some(String::from_str(alloc, here)?);
             return Ok(Place { git_dir, top });
         }
-        if readable(is_git_dir(rt, here), false)? {
+        if is_git_dir(rt, here, Refusal::IsMissing)? {
             let git_dir = String::from_str(alloc, here)?;
             return Ok(Place { git_dir, top: None });
         }
@@ -141,14 +141,6 @@ fn search<R: Files + AllocGlobal>(
         }
     }
     Err(RepositoryError::NotFound)
-}
-
-// Returns what was found in a folder. A node that the system refuses to read counts as missing.
-fn readable<T: Drop>(found: Result<T, RepositoryError>, nothing: T) -> Result<T, RepositoryError> {
-    match found {
-        Err(RepositoryError::Unreadable { .. }) => Ok(nothing),
-        found => found,
-    }
 }
 
 fn is_ceiling(folder: &str, ceilings: &str) -> bool {

@@ -1,10 +1,11 @@
 //! Reads git's configuration files.
 
-use crate::config::{Config, ConfigError, Variable};
+use crate::config::{Config, ConfigError};
 use crate::state::{
     State, is_blank, is_of_name, step_before_subsection, step_escape, step_section, step_subsection,
 };
 use std::alloc::{AllocError, Global};
+use std::sync::Arc;
 
 // The UTF-8 byte order mark, which a file may begin with.
 const BYTE_ORDER_MARK: [u8; 3] = [0xef, 0xbb, 0xbf];
@@ -18,11 +19,13 @@ struct Reader {
     line: usize,
     // The last header that was read, as a variable has it.
     header: Vec<u8>,
+    // The same, as the variables below it share it, once there is one.
+    shared: Option<Arc<Vec<u8>>>,
     name: Vec<u8>,
     value: Vec<u8>,
     // The length of the value without the blanks at its end.
     value_len: usize,
-    variables: Vec<Variable>,
+    config: Config,
 }
 
 /// Reads a configuration file as git reads it, with two exceptions. Blanks within a value stay as they are, as of git
@@ -52,10 +55,11 @@ impl Reader {
             state: State::Between,
             line: 1,
             header: Vec::new(alloc),
+            shared: None,
             name: Vec::new(alloc),
             value: Vec::new(alloc),
             value_len: 0,
-            variables: Vec::new(alloc),
+            config: Config::new(alloc),
         }
     }
 
@@ -93,9 +97,7 @@ impl Reader {
             self.feed(b'\n')?;
         }
         self.feed(b'\n')?;
-        Ok(Config {
-            variables: self.variables,
-        })
+        Ok(self.config)
     }
 
     // Returns what the byte after this one is part of. None if git doesn't read this byte here.
@@ -125,6 +127,8 @@ impl Reader {
             b'#' | b';' => Ok(Some(State::Comment)),
             b'[' => {
                 self.header.clear();
+                self.shared = None;
+                self.config.begin_section();
                 Ok(Some(State::Section))
             }
             b'\n' => Ok(Some(State::Between)),
@@ -200,11 +204,12 @@ impl Reader {
     }
 
     fn end_variable(&mut self, value: Option<Vec<u8>>) -> Result<Option<State>, AllocError> {
-        self.variables.push(Variable {
-            header: self.header.clone()?,
-            name: self.name.clone()?,
-            value,
-        })?;
+        let header = match self.shared.take() {
+            Some(header) => header,
+            None => Arc::new(self.alloc, self.header.clone()?)?,
+        };
+        self.config.add(&header, self.name.clone()?, value)?;
+        self.shared = Some(header);
         Ok(Some(State::Between))
     }
 }

@@ -1,4 +1,5 @@
-//! The one function that opens a file which a repository may control.
+//! The function that opens the files of a repository's own folder and of git's configuration, which a repository may
+//! control. A file of the worktree is opened by the worktree, after `lstat` and the link check.
 
 use std::alloc::Global;
 use std::fs::{self, Metadata, OpenFile as _};
@@ -15,6 +16,9 @@ pub const ATTRIBUTES_LIMIT: usize = 100 << 20;
 
 /// The most bytes of a file of packed references.
 pub const PACKED_LIMIT: usize = 128 << 20;
+
+/// The most bytes of a file `.git`, as in git.
+pub const GIT_FILE_LIMIT: usize = 1 << 20;
 
 /// The most bytes of any other file of a repository, or of git's configuration.
 pub const SMALL_LIMIT: usize = 16 << 20;
@@ -72,7 +76,7 @@ pub fn read_regular<R: Files + AllocGlobal>(
     }
     check(&metadata, limit)?;
     let file = found(fs::open(rt, path))?;
-    // Another node may be at the path by now.
+    // Another file may be at the path by now. (A pipe that came meanwhile is waited for.)
     let metadata = found(file.metadata())?;
     check(&metadata, limit)?;
     let bytes = read_to(rt.alloc(), file, limit)?;
