@@ -3,17 +3,17 @@
 
     python3 tools/gate/contracts.py > docs/contracts.txt
 
-First come the exported items, sorted by crate, file and name: functions and methods with their signature and clauses, traits,
+Exported items are sorted by module and name: functions and methods with their signature and clauses, traits,
 implementations with their ghost members, types with their derives and their public fields or variants, the items that macros
-write, and the names that are exported again. Then come the definitions of specs/ that these clauses use, directly or through other definitions. White
-space is folded, and comments, bodies, other attributes and `use` lines are left out. So whoever changes a contract changes
-docs/contracts.txt in the same commit: test_contracts.py compares the two.
+write, and the names that are exported again. White space is folded, and comments, bodies, other attributes and `use` lines are
+left out. So whoever changes a contract changes docs/contracts.txt in the same commit: test_contracts.py compares the two. The
+definitions that the clauses use are in specs/, and a change of them shows there.
 """
 
 import os
 import re
 import sys
-from dataclasses import dataclass, field
+from dataclasses import dataclass
 from pathlib import Path
 
 TOP = Path(__file__).resolve().parents[2]
@@ -34,10 +34,6 @@ MACRO = re.compile(r"\s*(\w+)!")
 # The traits that bitflag_items! of the kit's crate bitflags implements.
 FLAG_TRAITS = [f"std::fmt::{name}" for name in ("Binary", "Octal", "LowerHex", "UpperHex")] + ["IntoIterator", "std::ops::Not"]
 FLAG_TRAITS += [f"std::ops::{name}{ending}" for name in ("BitOr", "BitAnd", "BitXor", "Sub") for ending in ("", "Assign")]
-# How a definition's first line begins. A line of a body may begin with `record {`.
-DEFINITION = re.compile(
-    r"\s*(?:(?:abbrev|unfoldable)\s+(?:pub\s+)?|(?:pub\s+)?(?:record|data)\s+(?=[^\s{].*\s:\s)|infix[lr]?\s+\d+\s+)(\S+)"
-)
 
 
 @dataclass(frozen=True)
@@ -47,14 +43,6 @@ class Item:
     head: str
     body: str | None
     derives: str = ""
-
-
-@dataclass
-class Contracts:
-    """The lines of each exported item and of each definition, by its title."""
-
-    items: dict = field(default_factory=dict)
-    definitions: dict = field(default_factory=dict)
 
 
 def fold(text):
@@ -241,85 +229,23 @@ def exported_in(module, text):
     return items
 
 
-# Definitions
-
-
-def definitions_of(text):
-    """Yields the definitions of a file of specs/: their names, and their lines, after those of the module around them."""
-    lines = [line for line in re.sub(r"(^|\s)--(\s[^\n]*)?$", r"\1", text, flags=re.M).split("\n") if line.strip()]
-    around, groups = [], []
-    for line in lines:
-        depth = len(line) - len(line.lstrip())
-        around = [it for it in around if it[0] < depth]
-        words = line.split()
-        if words[0] in ("use", "pub") and words[1:2] != ["record"] and words[0:2] != ["pub", "data"]:
-            if words[0] == "use" or words[1] == "mod":
-                groups.append(None)
-                continue
-        if words[0] == "module":
-            around.append((depth, [line]))
-            groups.append(("module", around[-1][1]))
-        elif begun := DEFINITION.match(line):
-            groups.append((begun[1], [*[it for _, it in around], [line]]))
-        elif groups and groups[-1]:
-            groups[-1][1].append(line) if groups[-1][0] == "module" else groups[-1][1][-1].append(line)
-    for group in groups:
-        if group and group[0] != "module":
-            yield group[0], [fold(line) for part in group[1] for line in part]
-
-
-def key_of(name):
-    """Returns the word by which a line uses a definition: of an operator, as `◌>>=◌`, its first part."""
-    return next(part for part in name.split("◌") if part)
-
-
-def words_of(lines):
-    """Returns the words of these lines that may be names of definitions, with operators."""
-    return {word for line in lines for word in (*NAME.findall(line), *line.split())}
-
-
-def all_definitions(top):
-    """Returns the definitions of specs/, by the words that use them: titles and lines."""
-    found = {}
-    for path in sorted(top.glob("crates/*/specs/**/*.antt")):
-        crate, inside = path.relative_to(top / "crates").parts[0], path.stem
-        for name, text in definitions_of(path.read_text(encoding="utf-8")):
-            title = f"{crate}: {inside}.{name}" + (", its binding" if text[-1].startswith("infix") else "")
-            found.setdefault(key_of(name), []).append((title, text))
-    return found
-
-
-def used(lines, there):
-    """Returns the definitions that these lines use, directly or through others, by their titles."""
-    shown, open_names = {}, words_of(lines)
-    seen = set()
-    while open_names:
-        name = open_names.pop()
-        seen.add(name)
-        for title, text in there.get(name, []):
-            if title not in shown:
-                shown[title] = text
-                open_names |= words_of(text) - seen
-    return shown
-
-
 def contracts(top):
-    """Returns the contracts of a repository's crates."""
+    """Returns the lines of each exported item of a repository's crates, by its title."""
     names = re.findall(r"^(\w+)", (top / "crates.txt").read_text(encoding="utf-8"), re.M)
     all_items = {}
     for crate in sorted(set(names) - set(WITHOUT_CALLERS)):
         for path in sorted((top / "crates" / crate / "src").rglob("*.rt")):
             inside = path.relative_to(top / "crates" / crate).as_posix()
             all_items.update(exported(crate, inside, path.read_text(encoding="utf-8")))
-    shown = used([line for lines in all_items.values() for line in lines], all_definitions(top))
-    return Contracts(all_items, shown)
+    return all_items
 
 
-def text_of(found):
-    """Returns the text that docs/contracts.txt has."""
-    shown = lambda parts: [f"{title}\n" + "".join(f"  {line}\n" for line in lines) for title, lines in sorted(parts.items())]
-    heads = ("# Exported items\n", "# Definitions that their clauses use\n")
-    return "\n".join([heads[0], *shown(found.items), heads[1], *shown(found.definitions)])
+def text_of(items):
+    """Returns the text that docs/contracts.txt has: each module, with its items."""
+    modules = {}
+    for title, lines in sorted(items.items()):
+        modules.setdefault(title.partition(": ")[0], []).extend(lines)
+    return "\n".join(f"{module}\n" + "".join(f"  {line}\n" for line in lines) for module, lines in sorted(modules.items()))
 
 
 if __name__ == "__main__":

@@ -11,7 +11,7 @@ from pathlib import Path
 
 from gate import contracts
 
-# A crate of one file of code and one of definitions.
+# A crate of one file of code.
 CODE = """
 //! The least of two numbers.
 #![tactic(auto)]
@@ -49,81 +49,27 @@ impl Pair {
 
 pub(crate) fn inner() {}
 """
-DEFINITIONS = """
--- The least of a pair.
-use Rattle.std.specs.Prelude.{◌≤◌}
-
-abbrev pub is_first : Pair → Type 0
-is_first p = p.first ≤ p.second -- by order
-
-infixl 10 ◌but◌
-abbrev pub ◌but◌ : Type 0 → Type 0 → Type 0
-a but b = a
-
-abbrev pub copy_of : Pair → Pair
-copy_of p =
-    record {
-      first = p.first;
-      second = p.second;
-    }
-
-abbrev pub IsLeast : Pair → ℕ → Type 0
-IsLeast p n = is_first (copy_of p) but (n ≡ p.first)
-
-abbrev pub unused : ℕ
-unused = 3
-"""
 TEXT = """
-# Exported items
-
-low::lib: Pair
+low::lib
   #[derive(Clone, Copy)]
   pub struct Pair
     pub first: u32
     ghost ordered: { first ≤ second }
-
-low::lib: impl Pair
   impl Pair
     pub fn least(&self) -> u32
       requires { 0 ≤ self.now.first }
       ensures least { IsLeast self.now result }
       ensures few { result ≤ self.now.first }
-
-# Definitions that their clauses use
-
-low: Least.IsLeast
-  abbrev pub IsLeast : Pair → ℕ → Type 0
-  IsLeast p n = is_first (copy_of p) but (n ≡ p.first)
-
-low: Least.copy_of
-  abbrev pub copy_of : Pair → Pair
-  copy_of p =
-  record {
-  first = p.first;
-  second = p.second;
-  }
-
-low: Least.is_first
-  abbrev pub is_first : Pair → Type 0
-  is_first p = p.first ≤ p.second
-
-low: Least.◌but◌
-  abbrev pub ◌but◌ : Type 0 → Type 0 → Type 0
-  a but b = a
-
-low: Least.◌but◌, its binding
-  infixl 10 ◌but◌
 """
 
 
-def text_of(code, definitions=DEFINITIONS):
+def text_of(code):
     """Returns the text for a crate with this code."""
     with tempfile.TemporaryDirectory() as room:
         top = Path(room)
         (top / "crates.txt").write_text("# a comment\nlow: bstr\n", encoding="utf-8")
-        for folder, name, text in (("src", "lib.rt", code), ("specs", "Least.antt", definitions)):
-            (top / "crates" / "low" / folder).mkdir(parents=True)
-            (top / "crates" / "low" / folder / name).write_text(text, encoding="utf-8")
+        (top / "crates" / "low" / "src").mkdir(parents=True)
+        (top / "crates" / "low" / "src" / "lib.rt").write_text(code, encoding="utf-8")
         return contracts.text_of(contracts.contracts(top))
 
 
@@ -137,7 +83,7 @@ class Contracts(unittest.TestCase):
         words = "a contract was changed: python3 tools/gate/contracts.py > docs/contracts.txt, and read the difference"
         self.assertTrue(found == there, f"{words}\n{changes[:4000]}")
 
-    def test_exported_items_are_shown_with_their_clauses_and_definitions(self):
+    def test_exported_items_are_shown_with_their_clauses(self):
         self.assertEqual(text_of(CODE), textwrap.dedent(TEXT).lstrip())
 
     def test_a_change_of_a_contract_shows(self):
@@ -152,18 +98,9 @@ class Contracts(unittest.TestCase):
             with self.subTest(old=old):
                 self.assertEqual(CODE.count(old), 1)
                 self.assertNotEqual(text_of(CODE.replace(old, new)), text_of(CODE))
-        for old, new in (
-            ("p.first ≤ p.second", "⊤"),
-            ("second = p.second", "second = 0"),
-            ("a but b = a", "a but b = b"),
-            ("infixl", "infixr"),
-        ):
-            with self.subTest(old=old):
-                self.assertEqual(DEFINITIONS.count(old), 1)
-                self.assertNotEqual(text_of(CODE, DEFINITIONS.replace(old, new)), text_of(CODE))
 
     def test_items_of_a_module_in_the_text_show(self):
-        shown = "low::inner: least\n  pub fn least() -> u32\n"
+        shown = "low::inner\n  pub fn least() -> u32\n"
         self.assertIn(shown, text_of(CODE + "pub mod inner {\n    pub fn least() -> u32 {\n        0\n    }\n}\n"))
         self.assertNotIn("inner", text_of(CODE + "mod inner {\n    pub fn least() -> u32 {\n        0\n    }\n}\n"))
 
@@ -171,7 +108,7 @@ class Contracts(unittest.TestCase):
 
     def test_items_that_a_macro_writes_show(self):
         shown = text_of(CODE + self.FLAGS)
-        lines = ["low::lib: impl Bits", "  impl Bits", "    pub const A: Bits = Bits(0x1)", "    pub const B: Bits = Bits(0x2)"]
+        lines = ["  impl Bits", "    pub const A: Bits = Bits(0x1)", "    pub const B: Bits = Bits(0x2)"]
         self.assertIn("\n".join([*lines, "    pub const FLAGS: &'static [bitflags::Flag<Bits>]\n"]), shown)
         self.assertIn("\n  impl std::ops::BitOr for Bits\n", shown)
         for old, new in (("0x2", "0x4"), ("const B", "const C"), ("        const A = 0x1;\n", "")):
@@ -184,4 +121,3 @@ class Contracts(unittest.TestCase):
         self.assertEqual(text_of(CODE.replace("/// The first.", "// {")), text_of(CODE))
         self.assertEqual(text_of(CODE.replace("ensures { result ≡ 0 }", "")), text_of(CODE))
         self.assertEqual(text_of(CODE.replace("    ensures few", "ensures\n   few")), text_of(CODE))
-        self.assertEqual(text_of(CODE, DEFINITIONS.replace("unused = 3", "unused = 4")), text_of(CODE))

@@ -44,12 +44,6 @@ def has_code(text, code):
     return any("\n" + textwrap.indent(lines, " " * width) in "\n" + text for width in range(0, 16, 4))
 
 
-def plain(text):
-    """A text without marks of comments, code and links, on one line."""
-    text = re.sub(r"^\s*-- ?", "", text, flags=re.M)
-    return " ".join(re.sub(r"\[([^\]]*)\]\([^)]*\)", r"\1", text).replace("`", "").split())
-
-
 # Words
 
 
@@ -298,30 +292,30 @@ class Docs(unittest.TestCase):
         words = f"{tests} tests in Rattle, .* {rows} rows of text, .* {functions} test functions in Python"
         self.assertRegex(" ".join(text_of("docs", "EVIDENCE.md").split()), words)
 
-    def test_the_definitions_are_in_the_files_that_are_named(self):
+    def linked_definitions(self):
+        """Returns the files of specs/ that PROOFS links, with the names of these links, by crates."""
         page = text_of("docs", "PROOFS.md")
-        parts = re.findall(r"^### (\w+)\n(.*?)(?=^##|\Z)", page, re.M | re.S)
-        there = {path.split(os.sep)[-2] for path in glob.glob(os.path.join(TOP, "crates", "*", "specs"))}
-        self.assertEqual({crate for crate, _ in parts}, there - {"status_callers"})
-        for crate, part in parts:
-            for files, words in re.findall(r"^\| (\[`[^|]*?) \| ([^|]*) \|", part, re.M):
-                with self.subTest(crate=crate, files=files):
-                    names = re.findall(r"`(\w+)`", files)
-                    texts = [text_of("crates", crate, "specs", name + ".antt") for name in names]
-                    for word in re.findall(r"`(\w+)`", words):
-                        self.assertRegex("\n".join(texts), rf"\b{word}\b")
+        rows = re.findall(r"^\| `(\w+)` \| (.*) \|$", page[page.index("## Definitions") :], re.M)
+        return {crate: re.findall(rf"\[`(\w+)`\]\(\.\./crates/{crate}/specs/([\w/]+)\.antt\)", row) for crate, row in rows}
 
-    def test_the_definitions_have_the_same_sentences_in_specs(self):
-        page = text_of("docs", "PROOFS.md")
-        rows = 0
-        for crate, part in re.findall(r"^### (\w+)\n(.*?)(?=^##|\Z)", page, re.M | re.S):
-            for files, sentence in re.findall(r"^\| (\[`[^|]*?) \| [^|]* \| ([^|]*?) \|", part, re.M):
-                names = re.findall(r"`(\w+)`", files)
-                texts = [text_of("crates", crate, "specs", name + ".antt") for name in names]
-                with self.subTest(crate=crate, files=files, sentence=sentence):
-                    self.assertIn(plain(sentence), plain("\n".join(texts)))
-                rows += 1
-        self.assertGreater(rows, 100)
+    def test_each_file_of_definitions_is_linked_once(self):
+        files = {}
+        for path in texts_of("crates/*/specs/**/*.antt"):
+            _, crate, _, inside = path.split(os.sep, 3)
+            # A file Lib only names the others.
+            files.setdefault(crate, set()).update({inside.removesuffix(".antt")} - {"Lib"})
+        linked = self.linked_definitions()
+        self.assertEqual(set(linked), set(files))
+        for crate, links in linked.items():
+            with self.subTest(crate=crate):
+                self.assertEqual(sorted(path for _, path in links), sorted(files[crate]))
+
+    def test_the_files_of_definitions_are_those_that_the_links_name(self):
+        for crate, links in self.linked_definitions().items():
+            for name, path in links:
+                with self.subTest(crate=crate, name=name):
+                    self.assertEqual(name, path)
+                    self.assertRegex(text_of("crates", crate, "specs", path + ".antt"), r"(?m)^(\S.* )?(abbrev|unfoldable|record|data|module)\b")
 
     def test_the_pictures_have_the_figures_of_the_page(self):
         command = [sys.executable, os.path.join(TOP, "bench", "plot.py"), "--check"]
