@@ -90,7 +90,7 @@ class Differences(Dirty):
         self.assert_ends(self.ran(), b" D .gitmodules\n M m\n")
 
     def test_unread_settings_of_submodules(self):
-        """`.gitmodules` that can't be read, or has a line that can't be"""
+        """`.gitmodules` that has a line that can't be read, or a variable without the value that it needs"""
         self.make_module("m")
         self.git("add", "m")
         self.commit(folder="m")
