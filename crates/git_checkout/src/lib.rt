@@ -2,8 +2,9 @@
 //! it.
 //!
 //! Read `request` first, the options of a call and the paths that it selects, and then `checkout`, the calls. They find
-//! the repository, read its index file (`index_file`) and choose its entries (`selection`). The contract of the comparison is that of `run_dirty` in the
-//! crate git_status. `refresh` writes the new index file, and `refused` is why a call can't begin.
+//! the repository, read its index file (`index_file`) and choose its entries (`selection`). The contract of the comparison
+//! is that of `run_dirty` in the crate git_status. `refresh` writes the new index file, and `refused` is why a call can't
+//! begin.
 #![tactic(auto)]
 
 pub mod checkout;

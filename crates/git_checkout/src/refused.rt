@@ -20,20 +20,12 @@ pub enum Refused {
     },
     /// The index file has no index.
     Index(Failure),
-    /// A path isn't in the worktree.
-    Outside {
+    /// A path selects nothing that is compared.
+    Path {
         /// The path that was passed.
         path: String,
-    },
-    /// A path is a pattern.
-    Pattern {
-        /// The path that was passed.
-        path: String,
-    },
-    /// Nothing is at a path, and no tracked file was.
-    Unmatched {
-        /// The path that was passed.
-        path: String,
+        /// Why it selects nothing.
+        why: PathRefusal,
     },
     /// A path is empty.
     EmptyPath,
@@ -48,27 +40,22 @@ pub enum Refused {
     Memory,
 }
 
+/// Why a path selects nothing.
+#[derive(Clone, Copy, Debug)]
+pub enum PathRefusal {
+    /// It isn't in the worktree.
+    Outside,
+    /// It is a pattern.
+    Pattern,
+    /// Nothing is there, and the index has no entry at it or below it.
+    Unmatched,
+}
+
 impl Refused {
-    /// Returns the refusal of a path that isn't in the worktree.
-    pub fn outside(alloc: Global, path: &str) -> Refused {
+    /// Returns the refusal of a path.
+    pub fn path(alloc: Global, path: &str, why: PathRefusal) -> Refused {
         match String::from_str(alloc, path) {
-            Ok(path) => Refused::Outside { path },
-            Err(_) => Refused::Memory,
-        }
-    }
-
-    /// Returns the refusal of a path that is a pattern.
-    pub fn pattern(alloc: Global, path: &str) -> Refused {
-        match String::from_str(alloc, path) {
-            Ok(path) => Refused::Pattern { path },
-            Err(_) => Refused::Memory,
-        }
-    }
-
-    /// Returns the refusal of a path at which nothing is.
-    pub fn unmatched(alloc: Global, path: &str) -> Refused {
-        match String::from_str(alloc, path) {
-            Ok(path) => Refused::Unmatched { path },
+            Ok(path) => Refused::Path { path, why },
             Err(_) => Refused::Memory,
         }
     }
@@ -91,12 +78,14 @@ impl fmt::Display for Refused {
             Refused::Repository(error) => write!(f, "{error}"),
             Refused::Unreadable { path, why } => write!(f, "can't read the index {path}: {why}"),
             Refused::Index(failure) => write!(f, "{failure}"),
-            Refused::Outside { path } => write!(f, "'{path}' is outside of the worktree"),
-            Refused::Pattern { path } => write!(
-                f,
-                "patterns aren't supported: '{path}' (git --literal-pathspecs takes it for a path)"
-            ),
-            Refused::Unmatched { path } => write!(f, "no tracked file matches '{path}'"),
+            Refused::Path { path, why } => match why {
+                PathRefusal::Outside => write!(f, "'{path}' is outside of the worktree"),
+                PathRefusal::Pattern => write!(
+                    f,
+                    "patterns aren't supported: '{path}' (git --literal-pathspecs takes it for a path)"
+                ),
+                PathRefusal::Unmatched => write!(f, "no tracked file matches '{path}'"),
+            },
             Refused::EmptyPath => f.write_str("an empty path: use . for the working folder"),
             Refused::Unrefreshed { reason } => write!(
                 f,

@@ -1,6 +1,6 @@
 //! The request of a call: its options, and the paths that it selects.
 
-use crate::refused::Refused;
+use crate::refused::{PathRefusal, Refused};
 use git_repository::{Repository, is_set};
 use std::alloc::Global;
 use std::rt::Env;
@@ -68,7 +68,7 @@ pub(crate) fn selected_by<'a, R: AllocGlobal + Env>(
     let mut selected = Vec::new(alloc);
     for word in words {
         if !is_literal && is_pattern(word) {
-            return Err(Refused::pattern(alloc, word));
+            return Err(Refused::path(alloc, word, PathRefusal::Pattern));
         }
         selected.push(Selected {
             word,
@@ -105,7 +105,7 @@ fn path_from_top(alloc: Global, top: &str, prefix: &str, word: &str) -> Result<S
     let mut path = String::new(alloc);
     if word.starts_with("/") {
         let Some(below) = below_top(top.trim_end_matches("/"), word) else {
-            return Err(Refused::outside(alloc, word));
+            return Err(Refused::path(alloc, word, PathRefusal::Outside));
         };
         return walk(alloc, path, below, word);
     }
@@ -127,7 +127,7 @@ fn walk(alloc: Global, mut path: String, components: &str, word: &str) -> Result
     for component in components.split("/") {
         match component {
             "" | "." => {}
-            ".." if path.is_empty() => return Err(Refused::outside(alloc, word)),
+            ".." if path.is_empty() => return Err(Refused::path(alloc, word, PathRefusal::Outside)),
             ".." => {
                 let parent = match path.as_str().rsplit_once("/") {
                     Some((parent, _)) => String::from_str(alloc, parent)?,

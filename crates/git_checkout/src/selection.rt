@@ -1,6 +1,6 @@
 //! The entries of an index that a request compares.
 
-use crate::refused::Refused;
+use crate::refused::{PathRefusal, Refused};
 use crate::request::Selected;
 use bitflags::Flags as _;
 use bstr::{BStr, BString};
@@ -64,7 +64,7 @@ pub(crate) fn check_each<W: Worktree>(
 ) -> Result<(), Refused> {
     for one in selected {
         if !one.path.is_empty() && !has_entry(alloc, index, one)? && !has_node(worktree, one) {
-            return Err(Refused::unmatched(alloc, one.word));
+            return Err(Refused::path(alloc, one.word, PathRefusal::Unmatched));
         }
     }
     Ok(())
