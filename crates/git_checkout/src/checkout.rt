@@ -5,7 +5,7 @@ ghost use Rattle.git_status.specs.Reads.{IsRead};
 use crate::index_file::{FoundIndex, read_index_file};
 use crate::refresh::Refresh;
 use crate::refused::{Illformed, Refused};
-use crate::request::{Request, selected_by};
+use crate::request::{Request, Selected, selected_by};
 use crate::selection::{Exceptions, check_each, tops_of};
 use git_attributes::AttributeFiles;
 use git_repository::{
@@ -14,7 +14,7 @@ use git_repository::{
 };
 use git_status::lines::LineStyle;
 use git_status::{
-    Asked, Paths, ReadIndex, Refreshed, Settings, Top, print_failure, run_dirty, run_refresh,
+    Asked, Paths, ReadIndex, Refreshed, Settings, print_failure, run_dirty, run_refresh,
 };
 use status_base::worktree::{Pathspec, SubmoduleStatus, Worktree};
 use status_call::index_as_worktree::{Capabilities, Options};
@@ -93,103 +93,73 @@ where
 {
     let alloc = rt.alloc();
     let repository = Repository::discover(rt, request.folder)?;
+    let top = repository.top.as_str();
     let selected = selected_by(rt, &repository, &request.paths)?;
+    let tops = tops_of(alloc, &selected)?;
     let Some(file) = read_index_file(rt, &repository)? else {
-        let nothing = State::new(alloc, Moment { secs: 0, nsecs: 0 });
-        let worktree = GitWorktree::new(rt, repository.top.as_str())?;
-        check_each(alloc, &nothing, &worktree, &selected)?;
+        check_without_index(rt, top, &selected)?;
         return Ok(0);
     };
     let settings = settings_of(&repository, request, file.timestamp);
     let read = ReadIndex::of(alloc, &file.bytes, &settings)?;
-    let worktree = worktree_at(rt, repository.top.as_str(), request.enter)?;
+    let worktree = worktree_at(rt, top, request.enter)?;
     check_each(alloc, &read.file.state, &worktree, &selected)?;
-    let checkout = Checkout {
-        request,
-        repository: &repository,
-        file: &file,
+    let ignored = IgnoredSubmodules::read(rt, top, &repository.config, &read.file.state)?;
+    note_unread(request, &repository, &ignored, faults);
+    let Exceptions {
+        left_out,
+        intended,
+        illformed,
+    } = Exceptions::of(alloc, &read.file.state, &worktree, &selected, &ignored)?;
+    let unread = AtomicBool::new(false);
+    let attributes = GitAttributeFiles::new(rt, &worktree, &repository, &unread)?;
+    let asked = Asked {
+        settings,
         worktree: &worktree,
-        tops: tops_of(alloc, &selected)?,
+        submodules: SubmoduleHeads::new(rt, top, &ignored),
+        paths: Paths {
+            tops: &tops,
+            left_out: &left_out,
+        },
+        attributes,
     };
-    checkout.run(rt, read, settings, output, faults)
-}
-
-/// A request, with the repository that it is about, its index file, and the paths that are compared.
-#[derive(Drop)]
-struct Checkout<'a, W> {
-    request: &'a Request<'a>,
-    repository: &'a Repository,
-    file: &'a FoundIndex,
-    worktree: &'a W,
-    tops: Vec<Top<'a>>,
-}
-
-impl<W: Worktree + Sync> Checkout<'_, W>
-where
-    W::File: Send,
-{
-    /// Prints the status, and refreshes the index if that is asked for. Returns the exit status.
-    ///
-    /// # Errors
-    /// A setting can't be read, the index can't be refreshed, or out of memory.
-    fn run<R: AllocGlobal + Env + Files + Sync + Threads + Wait, O: io::Write, E: io::Write>(
-        &self,
-        rt: &R,
-        read: ReadIndex<'_>,
-        settings: Settings,
-        output: &mut O,
-        faults: &mut E,
-    ) -> Result<u8, Refused>
-    where
-        R::File: Send,
-        R::Dir: Send,
-        requires { IsRead settings read }
-    {
-        let alloc = rt.alloc();
-        let top = self.repository.top.as_str();
-        let index = &read.file.state;
-        let ignored = IgnoredSubmodules::read(rt, top, &self.repository.config, index)?;
-        if !self.request.quiet {
-            note_unread(self.repository, &ignored, faults);
-        }
-        let exceptions = Exceptions::of(alloc, index, self.worktree, &self.tops, &ignored)?;
-        let unread = AtomicBool::new(false);
-        let attributes = GitAttributeFiles::new(rt, self.worktree, self.repository, &unread)?;
-        let worktree = IntendedWorktree {
-            rt,
-            top,
-            worktree: self.worktree,
-            intended: &exceptions.intended,
-        };
-        let asked = Asked {
-            settings,
-            worktree: &worktree,
-            submodules: SubmoduleHeads::new(rt, top, &ignored),
-            paths: Paths {
-                tops: &self.tops,
-                left_out: &exceptions.left_out,
-            },
-            attributes,
-        };
-        let begun = self
-            .request
-            .refresh
-            .then(|| time_of_lock(rt, self.repository.index.as_str()));
-        let compared = compare(rt, self.request, read, asked, output, faults);
-        if compared.status != FAILED && !exceptions.illformed.is_empty() {
-            return Ok(print_illformed(alloc, &exceptions.illformed, faults));
-        }
-        let Some(begun) = begun else {
-            return Ok(compared.status);
-        };
-        let refresh = Refresh {
-            repository: self.repository,
-            old: self.file,
-            begun,
-            unread: unread.load(Ordering::Relaxed),
-        };
-        refresh.end(rt, compared)
+    let begun = if request.refresh {
+        Some(time_of_lock(rt, repository.index.as_str()))
+    } else {
+        None
+    };
+    let nested = Nested {
+        top,
+        intended: &intended,
+    };
+    let compared = compare(rt, request, read, nested, asked, output, faults);
+    if compared.status != FAILED && !illformed.is_empty() {
+        return Ok(print_illformed(alloc, &illformed, faults));
     }
+    let Some(begun) = begun else {
+        return Ok(compared.status);
+    };
+    let refresh = Refresh {
+        repository: &repository,
+        old: &file,
+        begun,
+        unread: unread.load(Ordering::Relaxed),
+    };
+    refresh.end(rt, compared)
+}
+
+/// Checks the selected paths in a repository without an index file, which has no entries.
+///
+/// # Errors
+/// Nothing is at one, or out of memory.
+fn check_without_index<R: AllocGlobal + Env + Files>(
+    rt: &R,
+    top: &str,
+    selected: &[Selected<'_>],
+) -> Result<(), Refused> {
+    let nothing = State::new(rt.alloc(), Moment { secs: 0, nsecs: 0 });
+    let worktree = GitWorktree::new(rt, top)?;
+    check_each(rt.alloc(), &nothing, &worktree, selected)
 }
 
 /// Writes a failure for each path that can't be compared since it isn't UTF-8, and returns the exit status of a failure.
@@ -213,11 +183,21 @@ fn worktree_at<'r, R: AllocGlobal + Env + Files>(
     GitWorktree::new(rt, top)
 }
 
-/// Prints the status of an index file. There are new bytes only if the file is to be refreshed.
+/// The repositories that may be nested in a worktree.
+#[derive(Clone, Copy)]
+struct Nested<'x> {
+    /// The worktree's folder.
+    top: &'x str,
+    /// The entries at whose paths they count.
+    intended: &'x State,
+}
+
+/// Prints the status of an index file. A nested repository counts as a node at the paths of some entries. There are new bytes
+/// only if the file is to be refreshed.
 fn compare<
-    'a,
+    'x,
     'b,
-    R: AllocGlobal + Threads + Wait,
+    R: AllocGlobal + Files + Sync + Threads + Wait,
     W: Worktree + Sync,
     S: SubmoduleStatus + Send,
     P: Pathspec + Send,
@@ -225,18 +205,34 @@ fn compare<
     O: io::Write,
     E: io::Write,
 >(
-    rt: &R,
+    rt: &'x R,
     request: &Request<'_>,
     read: ReadIndex<'b>,
-    asked: Asked<'a, W, S, P, A>,
+    nested: Nested<'x>,
+    asked: Asked<'x, W, S, P, A>,
     output: &mut O,
     faults: &mut E,
 ) -> Refreshed<'b>
 where
+    R::File: Send,
+    R::Dir: Send,
     W::File: Send,
     S::Output: Send,
     requires { IsRead asked.settings read }
 {
+    let worktree = IntendedWorktree {
+        rt,
+        top: nested.top,
+        worktree: asked.worktree,
+        intended: nested.intended,
+    };
+    let asked = Asked {
+        settings: asked.settings,
+        worktree: &worktree,
+        submodules: asked.submodules,
+        paths: asked.paths,
+        attributes: asked.attributes,
+    };
     if !request.refresh {
         Refreshed {
             status: run_dirty(rt, &read, asked, output, faults),
@@ -251,8 +247,16 @@ where
     }
 }
 
-/// Writes notes on the configuration that isn't read.
-fn note_unread<E: io::Write>(repository: &Repository, ignored: &IgnoredSubmodules, faults: &mut E) {
+/// Writes notes on the configuration that isn't read, unless the request is quiet.
+fn note_unread<E: io::Write>(
+    request: &Request<'_>,
+    repository: &Repository,
+    ignored: &IgnoredSubmodules,
+    faults: &mut E,
+) {
+    if request.quiet {
+        return;
+    }
     if repository.settings.has_include {
         note(faults, "files that the configuration includes aren't read");
     }

@@ -95,7 +95,7 @@ fn has_entry(alloc: Global, index: &State, one: &Selected<'_>) -> Result<bool, A
 }
 
 impl Exceptions {
-    /// Returns the exceptions among the entries of an index that these paths select.
+    /// Returns the exceptions among the entries of an index that are selected.
     ///
     /// # Errors
     /// Out of memory.
@@ -103,12 +103,13 @@ impl Exceptions {
         alloc: Global,
         index: &State,
         worktree: &W,
-        tops: &[Top<'_>],
+        selected: &[Selected<'_>],
         ignored: &IgnoredSubmodules,
     ) -> Result<Exceptions, AllocError> {
         let nothing = State::new(alloc, index.timestamp());
+        let tops = tops_of(alloc, selected)?;
         let paths = Paths {
-            tops,
+            tops: &tops,
             left_out: &nothing,
         };
         let mut check = SymlinkCheck::new(alloc, BString::new(Vec::new(alloc)));
