@@ -6,7 +6,8 @@
 draw_repositories.py draws the repository of each seed. The program is run over its top with one thread, and for parts of
 the seeds with four threads, with -z, with -q, from a folder of the worktree, and with paths. Each run has to print the
 lines of `git status --porcelain -uno --no-renames --ignore-submodules=dirty`, as `as_dirty` changes them, and nothing else
-but notes where git prints warnings. The program's own exit status has to be 1 if there is a line, and otherwise 0.
+but notes if git prints warnings. The program's own exit status has to be 1 if there is a line, and otherwise 0. If a path
+selects nothing, it has to fail instead.
 
 The environment's GIT_DIRTY names the built program; without it that of this checkout is run. Each difference is printed
 with its seed, and the exit status is 1 if there is one, and 2 if the seeds can't be run. With --keep the repositories that
@@ -31,6 +32,8 @@ from support.repositories import as_dirty, status_words
 PART = 25
 # What the program may print to standard error if git prints warnings there, and otherwise.
 NOTES, NOTHING = rb"\A(git dirty: note: [^\n]*\n)*\Z", rb"\A\Z"
+# Its failure for a path that selects nothing.
+REFUSED = rb"\Agit dirty: no tracked file matches '.*'\n\Z"
 
 
 class Comparer:
@@ -65,15 +68,29 @@ class Comparer:
         if chance(0.3):
             yield ["-C", inside], self.lines(inside)
         if chance(0.5):
-            words = [*(["-z"] if chance(0.3) else []), "--", *drawing.some_paths(folder)]
-            yield ["-C", inside, *words], self.lines(inside, *words)
+            options, paths = ["-z"] if chance(0.3) else [], drawing.some_paths(folder)
+            found = [path for path in paths if self.selects(inside, path)]
+            if found != paths:
+                yield ["-C", inside, *options, "--", *paths], (None, REFUSED)
+            if found:
+                words = [*options, "--", *found]
+                yield ["-C", inside, *words], self.lines(inside, *words)
+
+    def selects(self, folder, path):
+        """Returns whether a path selects something: an entry of the index is at it or below it, or a node is there."""
+        words = ["--literal-pathspecs", "-C", folder, "ls-files", "-z", "--", path]
+        place = os.path.normpath(os.path.join(folder, path))
+        is_folder = os.path.basename(path) in ("", ".", "..")
+        is_there = os.path.isdir(place) and not os.path.islink(place) if is_folder else os.path.lexists(place)
+        return is_there or self.git.run(words, self.drawing.environment).out != b""
 
     def differences(self):
         """Yields how each run that differs does."""
         for words, (lines, notes) in self.runs():
-            ended = self.program.run(words, self.drawing.environment)
-            printed = b"" if "-q" in words else lines
-            is_same = (ended.status, ended.out) == (int(lines != b""), printed) and re.search(notes, ended.fault)
+            ended = self.program.run(words, {**self.drawing.environment, "GIT_LITERAL_PATHSPECS": "1"})
+            printed = b"" if lines is None or "-q" in words else lines
+            status = 2 if lines is None else int(lines != b"")
+            is_same = (ended.status, ended.out) == (status, printed) and re.search(notes, ended.fault)
             if not is_same:
                 drawn_by = "; ".join(self.drawing.notes)
                 yield f"seed {self.drawing.seed}, {words}: {ended.text()}\n  git: {printed!r}\n  drawn: {drawn_by}"

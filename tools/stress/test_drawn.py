@@ -175,8 +175,9 @@ class Drawn(unittest.TestCase):
 class Spoilt(unittest.TestCase):
     """Programs whose ends are spoilt. Each script has to notice it."""
 
-    # For each seed a script runs its program once, and some print at least two lines.
-    SCRIPTS = [(partial(draw_histories.run, events=200), STATUS_PROGRAM, [24]), (draw_profiles.run, STATUS_PROGRAM, range(20))]
+    # For each seed a script runs its program once, and some print at least two lines. The last line of the history of seed 2
+    # isn't one that depends on times alone.
+    SCRIPTS = [(partial(draw_histories.run, events=200), STATUS_PROGRAM, [2]), (draw_profiles.run, STATUS_PROGRAM, range(20))]
     SCRIPTS += [(partial(compare_dirty.compared, kind=AttributeDrawing), GIT_DIRTY, range(2))]
     SCRIPTS += [(mutate_index.run, GIT_DIRTY, range(20)), (mutate_settings.run, GIT_DIRTY, range(20))]
 
