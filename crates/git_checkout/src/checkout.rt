@@ -9,19 +9,20 @@ use crate::request::{Request, Selected, selected_by};
 use crate::selection::{Exceptions, check_each, tops_of};
 use git_attributes::AttributeFiles;
 use git_repository::{
-    GitAttributeFiles, GitWorktree, IgnoredSubmodules, IntendedWorktree, Repository,
-    SubmoduleHeads, time_of_lock,
+    GitAttributeFiles, IgnoredSubmodules, IntendedWorktree, Repository, SubmoduleHeads,
+    time_of_lock,
 };
 use git_status::lines::LineStyle;
 use git_status::{
     Asked, Paths, ReadIndex, Refreshed, Settings, print_failure, run_dirty, run_refresh,
 };
-use status_base::worktree::{Pathspec, SubmoduleStatus, Worktree};
+use status_base::worktree::{DiskWorktree, Pathspec, StatFields, SubmoduleStatus, Worktree};
 use status_call::index_as_worktree::{Capabilities, Options};
 use status_index::{Moment, State, stat};
 use std::alloc::{AllocError, Global};
 use std::env;
 use std::io::{self, Write as _};
+use std::path::Path;
 use std::rt::{Env, Files};
 use std::sync::Wait;
 use std::sync::atomic::{AtomicBool, Ordering};
@@ -158,7 +159,7 @@ fn check_without_index<R: AllocGlobal + Env + Files>(
     selected: &[Selected<'_>],
 ) -> Result<(), Refused> {
     let nothing = State::new(rt.alloc(), Moment { secs: 0, nsecs: 0 });
-    let worktree = GitWorktree::new(rt, top)?;
+    let worktree = git_worktree(rt, top)?;
     check_each(rt.alloc(), &nothing, &worktree, selected)
 }
 
@@ -176,11 +177,19 @@ fn worktree_at<'r, R: AllocGlobal + Env + Files>(
     rt: &'r R,
     top: &str,
     enter: bool,
-) -> Result<GitWorktree<&'r R>, AllocError> {
+) -> Result<DiskWorktree<&'r R>, AllocError> {
     if enter && env::set_current_dir(rt, top).is_ok() {
-        return GitWorktree::new(rt, "");
+        return git_worktree(rt, "");
     }
-    GitWorktree::new(rt, top)
+    git_worktree(rt, top)
+}
+
+/// Returns the worktree that begins at `top`, with all that git records of a file.
+fn git_worktree<'r, R: AllocGlobal + Files>(
+    rt: &'r R,
+    top: &str,
+) -> Result<DiskWorktree<&'r R>, AllocError> {
+    DiskWorktree::with_fields(rt, Path::new(top), StatFields::Git)
 }
 
 /// The repositories that may be nested in a worktree.

@@ -2,8 +2,8 @@
 
 use crate::refused::Refused;
 use git_repository::regular::INDEX_LIMIT;
-use git_repository::worktree::metadata_of;
 use git_repository::{RegularFile, Repository, Unread, read_regular};
+use status_base::worktree::StatFields;
 use status_index::Moment;
 use std::fs::Metadata;
 use std::io;
@@ -41,7 +41,7 @@ pub fn read_index_file<R: AllocGlobal + Files>(
 
 /// Returns when a file was last changed, or 1970 if that isn't known: then every entry counts as racy.
 fn changed_at(found: &Metadata) -> Moment {
-    let (secs, nsecs) = match metadata_of(found).mtime {
+    let (secs, nsecs) = match StatFields::Git.metadata_of(found).mtime {
         Some(time) => (time.secs, time.nsecs),
         None => (0, 0),
     };

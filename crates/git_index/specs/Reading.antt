@@ -26,6 +26,10 @@ Reads view (Ok x) read = read ≡ Ok (view x)
 Reads view (Err e) read = read ≡ Err e
 
 -- A field is a value and the bytes after it.
+-- The first bytes, and those after them.
+abbrev pub taken_at : ℕ → List ℕ → Result (List ℕ × List ℕ) Fault
+taken_at n bytes = if nat_lt (length bytes) n then Err Truncated else Ok (take n bytes, drop n bytes)
+
 unfoldable pub u16_at : List ℕ → Result (ℕ × List ℕ) Fault
 u16_at bytes = if nat_lt (length bytes) 2 then Err Truncated else Ok (from_be_bytes w16 (take 2 bytes), drop 2 bytes)
 

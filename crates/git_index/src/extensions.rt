@@ -2,11 +2,10 @@
 
 ghost use Rattle.std.specs.Prelude.{OnOk, IfErr};
 ghost use Rattle.git_index.specs.File.{AreExtensions};
-ghost use Rattle.git_index.specs.Reading.{Reads, content_at, extension_at, extension_name_at};
 ghost use Rattle.git_index.specs.Refusals.{NoExtensionAt};
 
+use crate::cursor::Cursor;
 use crate::fault::Fault;
-use crate::number::u32_of;
 
 /// Bytes that begin with no optional extension, and why not.
 #[derive(Clone, Copy)]
@@ -15,40 +14,38 @@ pub(crate) struct NoExtension<'a> {
     pub(crate) fault: Fault,
 }
 
-#[tactic(auto, unfolding(crate::specs::Reading::extension_name_at))]
-fn name_of(bytes: &[u8]) -> Result<(&[u8], &[u8]), Fault>
-    ensures { Reads (λ x. (x.0.now, x.1.now)) result (extension_name_at bytes.now) }
-{
-    if bytes.len() < 4 {
-        return Err(Fault::Truncated);
-    }
-    Ok(bytes.split_at(4))
-}
+impl<'a> Cursor<'a> {
+    ghost use Rattle.git_index.specs.Reading.{Reads, content_at, extension_at, extension_name_at};
 
-#[tactic(auto, unfolding(crate::specs::Reading::content_at))]
-fn content_of(bytes: &[u8]) -> Result<(&[u8], &[u8]), Fault>
-    ensures { Reads (λ x. (x.0.now, x.1.now)) result (content_at bytes.now) }
-{
-    let (len, rest) = u32_of(bytes)?;
-    let len = len as usize;
-    if rest.len() < len {
-        return Err(Fault::Truncated);
+    /// Takes an optional extension: its name and its content.
+    #[tactic(auto, unfolding(crate::specs::Reading::extension_at))]
+    fn extension(&mut self) -> Result<(&'a [u8], &'a [u8]), Fault>
+        ensures { Reads (λ x. ((x.0.now, x.1.now), self.new.rest.now)) result (extension_at self.old.rest.now) }
+    {
+        let name = self.extension_name()?;
+        match name {
+            [b'A'..=b'Z', ..] => {}
+            _ => return Err(Fault::Required),
+        }
+        let content = self.content()?;
+        Ok((name, content))
     }
-    Ok(rest.split_at(len))
-}
 
-/// Reads an optional extension: its name and its content.
-#[tactic(auto, unfolding(crate::specs::Reading::extension_at))]
-fn extension_of(bytes: &[u8]) -> Result<((&[u8], &[u8]), &[u8]), Fault>
-    ensures { Reads (λ x. ((x.0.0.now, x.0.1.now), x.1.now)) result (extension_at bytes.now) }
-{
-    let (name, rest) = name_of(bytes)?;
-    match name {
-        [b'A'..=b'Z', ..] => {}
-        _ => return Err(Fault::Required),
+    #[tactic(auto, unfolding(crate::specs::Reading::extension_name_at))]
+    fn extension_name(&mut self) -> Result<&'a [u8], Fault>
+        ensures { Reads (λ name. (name.now, self.new.rest.now)) result (extension_name_at self.old.rest.now) }
+    {
+        self.take(4)
     }
-    let (content, rest) = content_of(rest)?;
-    Ok(((name, content), rest))
+
+    /// Takes a content, after its length.
+    #[tactic(auto, unfolding(crate::specs::Reading::content_at))]
+    fn content(&mut self) -> Result<&'a [u8], Fault>
+        ensures { Reads (λ content. (content.now, self.new.rest.now)) result (content_at self.old.rest.now) }
+    {
+        let len = self.u32()?;
+        self.take(len as usize)
+    }
 }
 
 /// Checks that these bytes are optional extensions, one after the other.
@@ -56,10 +53,11 @@ pub(crate) fn check_extensions(bytes: &[u8]) -> Result<(), NoExtension<'_>>
     ensures ok { OnOk result (AreExtensions bytes.now) }
     ensures refused { IfErr result (λ e. NoExtensionAt bytes.now e.rest.now e.fault) }
 {
-    let mut rest = bytes;
-    'extensions: while !rest.is_empty() {
-        match extension_of(rest) {
-            Ok((_extension, after)) => rest = after,
+    let mut cursor = Cursor { rest: bytes };
+    'extensions: while !cursor.rest.is_empty() {
+        let rest = cursor.rest;
+        match cursor.extension() {
+            Ok(_extension) => {}
             Err(fault) => return Err(NoExtension { rest, fault }),
         }
     }

@@ -1,11 +1,12 @@
 //! Git's index file: its entries read and written, versions 2, 3 and 4, with SHA-1 and SHA-256.
 //!
 //! Read `index_file` first, the file in memory, and `read`: a file is a header, entries, extensions and a checksum.
-//! `entry` reads the bytes of one entry, with `number`, and `paths` makes its path. `extensions` and `checksum` read the
-//! file's end, and `write` writes a file. `fault` has the errors.
+//! `cursor` takes the file's numbers and `entry` the bytes of one entry, and `paths` makes its path. `extensions` and
+//! `checksum` read the file's end. `write` writes a file, with `number`. `fault` has the errors.
 #![tactic(auto)]
 
 mod checksum;
+mod cursor;
 mod entry;
 mod extensions;
 pub mod fault;

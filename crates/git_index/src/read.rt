@@ -4,18 +4,17 @@ ghost use Rattle.std.specs.Prelude.{◌≡◌, ◌↔◌, ◌≤◌, [], List, l
 ghost use Rattle.status_index.specs.Entries.{IndexEntry, IsIndex};
 ghost use Rattle.status_index.specs.States.{index_of, timestamp_of};
 ghost use Rattle.git_index.specs.RawEntry.{id_len};
-ghost use Rattle.git_index.specs.Reading.{Reads, header_at};
 ghost use Rattle.git_index.specs.File.{IsFileOf, IsIndexFile};
 ghost use Rattle.git_index.specs.WholeFile.{IsWholeFile};
 ghost use Rattle.git_index.specs.Refusals.{IsFileRefusal, sum_of};
 ghost use Rattle.git_index.specs.Counting.{IsEntriesError, IsExtensionError, AreEntries};
 
 use crate::checksum::{id_len_of, is_checksum};
-use crate::entry::{PREFIXED, raw_of};
+use crate::cursor::Cursor;
+use crate::entry::PREFIXED;
 use crate::extensions::{NoExtension, check_extensions};
 use crate::fault::{Fault, IndexFileError};
 use crate::index_file::IndexFile;
-use crate::number::u32_of;
 use crate::paths::push_unless_refused;
 use status_index::{HashKind, Moment, ObjectId, State};
 use std::alloc::{AllocError, Global};
@@ -34,21 +33,32 @@ struct Entries<'a> {
     rest: &'a [u8],
 }
 
-/// Reads the signature, the version, and the number of entries.
-#[tactic(auto, unfolding(crate::specs::Reading::header_at))]
-fn header_of(bytes: &[u8]) -> Result<((u32, (u32, u32)), &[u8]), Fault>
-    ensures { Reads (λ x. (x.0, x.1.now)) result (header_at bytes.now) }
-{
-    let (signature, rest) = u32_of(bytes)?;
-    if signature != SIGNATURE {
-        return Err(Fault::BadSignature);
+/// What a file begins with, after its signature.
+#[derive(Clone, Copy)]
+struct Header {
+    version: u32,
+    count: u32,
+}
+
+impl<'a> Cursor<'a> {
+    ghost use Rattle.git_index.specs.EntryViews.{header_view};
+    ghost use Rattle.git_index.specs.Reading.{Reads, header_at};
+
+    /// Takes the signature, the version, and the number of entries.
+    #[tactic(auto, unfolding(crate::specs::Reading::header_at))]
+    fn header(&mut self) -> Result<Header, Fault>
+        ensures { Reads (λ header. (header_view header, self.new.rest.now)) result (header_at self.old.rest.now) }
+    {
+        if self.u32()? != SIGNATURE {
+            return Err(Fault::BadSignature);
+        }
+        let version = self.u32()?;
+        if version != 2 && (version != 3 && version != PREFIXED) {
+            return Err(Fault::UnknownVersion);
+        }
+        let count = self.u32()?;
+        Ok(Header { version, count })
     }
-    let (version, rest) = u32_of(rest)?;
-    if version != 2 && (version != 3 && version != PREFIXED) {
-        return Err(Fault::UnknownVersion);
-    }
-    let (count, rest) = u32_of(rest)?;
-    Ok(((signature, (version, count)), rest))
 }
 
 /// Returns an empty index with room for so many entries, as far as these bytes can have them.
@@ -82,19 +92,18 @@ fn entries_of(
     let mut state = with_room(alloc, count, bytes, timestamp)?;
     let mut last = Vec::new(alloc);
     let mut refused = None;
-    let mut rest = bytes;
+    let mut cursor = Cursor { rest: bytes };
     'entries: for at in 0..count {
-        let (entry, after) = match raw_of(kind, version, rest) {
-            Ok(found) => found,
+        let entry = match cursor.entry(kind, version) {
+            Ok(entry) => entry,
             Err(fault) => return Err(IndexFileError::Entry { at, fault }),
         };
         refused = push_unless_refused(&mut state, &mut last, version, at, &entry, refused);
-        rest = after;
     }
     Ok(Entries {
         state,
         refused,
-        rest,
+        rest: cursor.rest,
     })
 }
 
@@ -141,7 +150,8 @@ pub fn read_index(
         return Err(IndexFileError::Header(Fault::Truncated));
     }
     let (content, sum) = bytes.split_at(bytes.len() - sum_len);
-    let ((_, (version, count)), rest) = match header_of(content) {
+    let mut cursor = Cursor { rest: content };
+    let Header { version, count } = match cursor.header() {
         Ok(header) => header,
         Err(fault) => return Err(IndexFileError::Header(fault)),
     };
@@ -152,7 +162,7 @@ pub fn read_index(
         state,
         refused,
         rest,
-    } = entries_of(alloc, kind, version, count, rest, timestamp)?;
+    } = entries_of(alloc, kind, version, count, cursor.rest, timestamp)?;
     if let Err(none) = check_extensions(rest) {
         return Err(extension_error(content, none));
     }

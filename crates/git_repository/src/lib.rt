@@ -1,10 +1,10 @@
-//! A repository on disk: where it is, its settings, its worktree with all that git records of a file, and submodules' heads.
+//! A repository on disk: where it is, its settings, the attribute files of its worktree, and submodules' heads.
 //!
 //! Read `location` first, which finds the repository of a folder by `git_dir`. `settings` are those that a status depends
 //! on, with `format`, from what `sources` names and `parameters` reads. `config` has git's configuration, which `reader`
-//! reads by `state`, and `values` reads a variable's value. `worktree` is a worktree with all that git records of a file,
-//! `intended` one in which nested repositories count, and `attribute_files` finds its attribute files. `submodules` compares the heads of submodules, which `heads` finds.
-//! `regular` opens files, `files` reads small ones and has the paths of calls. `lock` replaces the index file, and `error` has the errors.
+//! reads by `state`, and `values` reads a variable's value. `intended` is a worktree in which nested repositories count,
+//! and `attribute_files` finds its attribute files. `submodules` compares the heads of submodules, which `heads` finds.
+//! `regular` opens files, and `files` reads small ones. `lock` replaces the index file, and `error` has the errors.
 #![tactic(auto)]
 
 pub mod attribute_files;
@@ -26,7 +26,6 @@ mod sources;
 mod state;
 pub mod submodules;
 pub mod values;
-pub mod worktree;
 
 pub use attribute_files::GitAttributeFiles;
 pub use config::{Config, ConfigError, Variable};
@@ -40,4 +39,3 @@ pub use regular::{RegularFile, Unread, read_regular};
 pub use settings::{OwnSettings, Settings, read_own, read_settings};
 pub use sources::is_set;
 pub use submodules::{SubmoduleHead, SubmoduleHeads};
-pub use worktree::{GitFile, GitWorktree};

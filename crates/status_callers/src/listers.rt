@@ -4,8 +4,7 @@ ghost use Rattle.std.specs.Prelude.{None, false, refl};
 
 use bstr::{BStr, BString};
 use gix_status::fscache::Stat;
-use gix_status::worktree::disk::metadata_of;
-use gix_status::worktree::{Lister, Listing, Metadata, NodeKind};
+use gix_status::worktree::{Lister, Listing, Metadata, NodeKind, StatFields};
 use std::alloc::{AllocError, Global};
 use std::fs::DirEntry;
 use std::rt::Files;
@@ -96,7 +95,7 @@ fn add<R: Files>(
     entries: &mut Vec<(BString, Stat)>,
     found: &DirEntry<R>,
 ) -> io::Result<()> {
-    let node = metadata_of(&found.metadata()?);
+    let node = StatFields::Portable.metadata_of(&found.metadata()?);
     if let Some(stat) = listed(&node) {
         entries.push((BString::from_slice(alloc, found.file_name())?, stat))?;
     }

@@ -2,15 +2,15 @@
 
 ghost use Rattle.std.specs.Prelude.{None};
 
-mod folder;
+mod listing;
 mod pending;
 
-use crate::disk::folder::{Folder, fault_at, found};
+use crate::disk::listing::{fault_at, found, list};
 use crate::disk::pending::Pending;
 use crate::untracked::{is_submodule, is_tracked};
 use crate::{Action, Delegate, DirEntry, Kind, Outcome, Status, Walk, WalkError};
 use bstr::{BStr, BString};
-use status_base::worktree::{Fault, Pathspec, Worktree};
+use status_base::worktree::{Fault, Folder, Pathspec, Worktree};
 use status_index::State;
 use std::alloc::AllocError;
 use std::path::Path;
@@ -56,8 +56,8 @@ impl<R: Files + AllocGlobal + Clone + Drop> DiskWalk<R> {
         directory: &str,
         pending: &mut Pending,
     ) -> Result<(), WalkError> {
-        let alloc = self.folder.alloc();
-        let listing = match self.folder.list(directory) {
+        let alloc = self.folder.rt.alloc();
+        let listing = match list(&self.folder, directory) {
             Ok(listing) => listing,
             Err(Fault::NotFound) => return Ok(()),
             Err(fault) => return Err(fault_at(alloc, name_of(directory), fault)),
@@ -85,7 +85,7 @@ impl<W: Worktree, R: Files + AllocGlobal + Clone + Drop> Walk<W> for DiskWalk<R>
         pathspec: &P,
         delegate: &mut D,
     ) -> Result<Outcome, WalkError> {
-        let mut pending = Pending::root(self.folder.alloc())?;
+        let mut pending = Pending::root(self.folder.rt.alloc())?;
         let mut emitted = 0;
         for turn in 0..u64::MAX {
             let Some((path, kind)) = pending.pop() else {

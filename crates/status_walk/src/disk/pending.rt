@@ -1,6 +1,6 @@
 //! The nodes that a walk over a folder still has to visit.
 
-use crate::disk::folder::fault_at;
+use crate::disk::listing::fault_at;
 use crate::{Kind, WalkError};
 use bstr::BStr;
 use status_base::worktree::{Fault, NodeKind, Worktree};

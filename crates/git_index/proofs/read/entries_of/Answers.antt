@@ -8,7 +8,7 @@ pub entries-preserved : goal.entries-preserved
 entries-preserved c =
     let push = c.push_unless_refused-refused in
     record {
-      so_far = more_so_far c.args.kind c.args.version c.entries.at c.args.bytes.now (index_of c.entries.state) (index_of push.new.state) c.entries.last.items push.new.last.items c.entries.refused push.result c.entries.rest.now (raw_entry c.in-Ok.found.0) c.in-Ok.found.1.now
+      so_far = more_so_far c.args.kind c.args.version c.entries.at c.args.bytes.now (index_of c.entries.state) (index_of push.new.state) c.entries.last.items push.new.last.items c.entries.refused push.result c.entries.cursor.rest.now (raw_entry c.in-Ok.entry) c.entry.new.self.rest.now
           c.entries.invariant.so_far c.in-Ok.ensures push.ensures.index;
       timestamp = push.ensures.timestamp ∙ c.entries.invariant.timestamp;
     }
