@@ -22,7 +22,8 @@ use Rattle.status_compare.specs.declared.error.Error.{Error}
 use Rattle.status_index.specs.States.{index_of, timestamp_of}
 use Rattle.status_index.specs.declared.state.State.{State}
 use Rattle.git_status.specs.Failures.{failure_of_status}
-use Rattle.git_status.specs.Printing.{IsBegun, IsUnwritten}
+use Rattle.text_output.specs.Written.{IsBegun}
+use Rattle.git_status.specs.Printing.{IsUnwritten}
 use Rattle.git_status.specs.declared.asked.Settings.{Settings}
 use Rattle.git_status.specs.declared.answer.Report.{Report}
 use Rattle.git_status.specs.declared.failure.Failure.{Failure}

@@ -9,11 +9,11 @@ ghost use Rattle.git_status.specs.Runs.{IsCommandEnd, IsFound, IsPrintFailure, i
 
 use crate::failure::Failure;
 use crate::lines::{LineStyle, letters, push_line};
-use crate::output::print;
 use bstr::BString;
 use status_call::index_as_worktree::{Error, Outcome, Record};
 use std::alloc::{AllocError, Global};
 use std::io;
+use text_output::print_all;
 
 /// The result of a status.
 #[derive(Debug, Drop)]
@@ -61,7 +61,7 @@ fn print_lines<T: Drop, U: Drop, O: io::Write>(
         return Ok(());
     };
     let text = lines_of(alloc, style, records)?;
-    print(&text, output)
+    Ok(print_all(&text, output)?)
 }
 
 /// Returns what a status found.

@@ -20,6 +20,7 @@ use status_index::State;
 use std::io;
 use std::sync::Wait;
 use std::thread::Threads;
+use text_output::OutputError;
 
 /// Prints a line to `output` for each entry of an index file that differs from the worktree, in index order. A quiet
 /// command prints nothing, and ends at the first such entry.
@@ -73,7 +74,7 @@ where
     ensures line { IsFaultLine (E.contents faults.old) (E.contents faults.new) }
 {
     let alloc = rt.alloc();
-    if matches!(failure, Failure::Closed) {
+    if matches!(failure, Failure::Output(OutputError::Closed)) {
         return 2;
     }
     if let (Some(search), true) = (search, is_of_an_entry(&failure)) {

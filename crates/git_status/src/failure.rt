@@ -8,6 +8,7 @@ use git_index::IndexFileError;
 use status_call::index_as_worktree::Error;
 use std::alloc::AllocError;
 use std::fmt;
+use text_output::OutputError;
 
 /// Why the command fails over an index file and a worktree.
 #[derive(Debug, Drop)]
@@ -18,10 +19,8 @@ pub enum Failure {
     Status(Error),
     /// The status ended early, before any entry that differs.
     Interrupted,
-    /// The output can't be written.
-    Output,
-    /// The reader of the output has ended.
-    Closed,
+    /// The output takes no more.
+    Output(OutputError),
     /// Memory ran out.
     Memory,
 }
@@ -55,8 +54,7 @@ impl fmt::Display for Failure {
             }
             Failure::Status(error) => write!(f, "{error}"),
             Failure::Interrupted => f.write_str("interrupted"),
-            Failure::Output => f.write_str("the output can't be written"),
-            Failure::Closed => f.write_str("the reader of the output has ended"),
+            Failure::Output(error) => write!(f, "{error}"),
             Failure::Memory => f.write_str("out of memory"),
         }
     }
@@ -98,5 +96,16 @@ impl From<Error> for Failure {
             Error::Memory => Failure::Memory,
             error => Failure::Status(error),
         }
+    }
+}
+
+impl From<OutputError> for Failure {
+    ghost use Rattle.std.specs.Prelude.{◌≡◌};
+    ghost use Rattle.git_status.specs.declared.failure.Failure.TheVariants.{Output};
+
+    ghost from_gives = { λ e f. f ≡ Output e };
+
+    fn from(error: OutputError) -> Failure {
+        Failure::Output(error)
     }
 }

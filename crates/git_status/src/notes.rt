@@ -7,13 +7,13 @@ ghost use Rattle.git_status.specs.Kept.{is_compared, is_left_out};
 
 use crate::answer::Report;
 use crate::lines::push_quoted;
-use crate::output::print;
 use bstr::BString;
 use git_attributes::{Attributes, is_unconverted};
 use status_call::index_as_worktree::{Change, EntryStatus, Record};
 use status_index::Mode;
 use std::alloc::{AllocError, Global};
 use std::io;
+use text_output::print_all;
 
 /// Returns the paths of files with other contents for which a conversion is asked that isn't made here. None if no notes are
 /// asked for, or memory runs out: then no note is written.
@@ -98,7 +98,7 @@ pub(crate) fn print_notes<E: io::Write>(
         for path in paths {
             // If the line can't be written, there is nowhere left to report that.
             if let Ok(line) = note_of(alloc, path.as_bytes(), quote_all) {
-                let _ = print(&line, faults);
+                let _ = print_all(&line, faults);
             }
         }
     }

@@ -7,11 +7,13 @@ use Rattle.std.specs.Io.KnownBytes.{Appends}
 use Rattle.std.proofs.KnownBytes.{Appends-trans}
 use Rattle.status_call.specs.declared.index_as_worktree.apply.ApplyChange.{ApplyChange}
 use Rattle.status_call.specs.declared.index_as_worktree.types.Outcome.{Outcome}
+use Rattle.text_output.proofs.Begun.{all_begun, begun_more, begun_longer}
 use Rattle.status_cli.specs.declared.failure.Failure.{Failure}
 use Rattle.status_cli.specs.declared.failure.Failure.TheVariants.{Memory, Output}
 use Rattle.status_cli.specs.declared.status.inputs.WantedChanges.{WantedChanges}
 use Rattle.status_cli.specs.FaultLines.{IsFaultWritten, memory_line}
-use Rattle.status_cli.specs.Printing.{IsBegun, IsPrinted, IsUnprinted, IsAllWritten}
+use Rattle.text_output.specs.Written.{IsBegun}
+use Rattle.status_cli.specs.Printing.{IsPrinted, IsUnprinted, IsAllWritten}
 use Rattle.status_cli.specs.Statuses.{IsPrintEnd, IsJoinedAnswer, IsJoinedPrinted, IsStatusPrinted, JoinedInputs, answered, closing, entry_lines, joined_answered, returned_changes, visit_lines}
 use Rattle.status_index.specs.declared.id.HashKind.{HashKind}
 use Rattle.status_index.specs.declared.state.State.{State}
@@ -29,33 +31,9 @@ use Rattle.status_compare.specs.declared.compare.Comparer.{Comparer}
 use Rattle.status_compare.specs.NamedComparers.{compared_by}
 use Rattle.status_cli.proofs.NoThreads.{lone_comparers}
 
--- all of it was printed
-pub all_begun : (text : List ℕ) (old new : Option (List ℕ)) → Appends old new text → IsBegun text old new
-all_begun text old new grew = record { printed = text; grew = grew; beginning = ([], append-nil text) }
-
--- some first bytes were printed
-pub first_printed : (n : ℕ) (text : List ℕ) (old new : Option (List ℕ)) → Appends old new (take n text) → IsBegun text old new
-first_printed n text old new grew = record { printed = take n text; grew = grew; beginning = (drop n text, take-append-drop n text) }
-
--- one text was printed, and then another or a beginning of it
-pub begun_more : (first second : List ℕ) (a b c : Option (List ℕ)) → Appends a b first → IsBegun second b c → IsBegun (first ++ second) a c
-begun_more first second a b c grew more = record {
-  printed = first ++ more.printed;
-  grew = Appends-trans a b c first more.printed grew more.grew;
-  beginning = (more.beginning.0, append_assoc first more.printed more.beginning.0 ∙ ap (λ t. first ++ t) more.beginning.1);
-}
-
 pub printed_more : {T : Type 0} (first second : List ℕ) (a b c : Option (List ℕ)) (result : Result T Failure) → Appends a b first → IsPrinted second b result c → IsPrinted (first ++ second) a result c
 printed_more first second a b c (Ok v) grew more = Appends-trans a b c first second grew more
 printed_more first second a b c (Err e) grew more = (begun_more first second a b c grew more.0, more.1)
-
--- what a beginning of a text is, it is of a longer one
-pub begun_longer : (first second : List ℕ) (a b : Option (List ℕ)) → IsBegun first a b → IsBegun (first ++ second) a b
-begun_longer first second a b some = record {
-  printed = some.printed;
-  grew = some.grew;
-  beginning = (some.beginning.0 ++ second, sym (append_assoc some.printed some.beginning.0 second) ∙ ap (λ t. t ++ second) some.beginning.1);
-}
 
 -- a text that was written was begun
 written_begun : {T : Type 0} (text : List ℕ) (old new : Option (List ℕ)) (result : Result T Failure) → IsAllWritten text old result new → IsBegun text old new
@@ -66,12 +44,6 @@ written_begun text old new (Err e) some = some.0
 pub fault_begun : {T : Type 0} (names : Bool) (text : List ℕ) (old new : Option (List ℕ)) (result : Result T Failure) → IsFaultWritten names text old result new → IsBegun text old new ⊎ ((names ≡ true) × IsBegun memory_line old new)
 fault_begun names text old new result (inl all) = inl (written_begun text old new result all)
 fault_begun names text old new result (inr (is, all)) = inr (is, written_begun memory_line old new result all)
-
--- all that is left is its own beginning
-pub rest_taken : (xs : List ℕ) (n : ℕ) → take (length xs - n) (drop n xs) ≡ drop n xs
-rest_taken xs n =
-    let len = length-drop n xs in
-    take_all (length xs - n) (drop n xs) (omega arith)
 
 -- ---- lines, one after the other
 

@@ -12,7 +12,8 @@ use Rattle.status_world.specs.declared.world.event.Event.{Event}
 use Rattle.status_world.specs.declared.world.run.Report.{Report}
 use Rattle.status_profile.specs.declared.history.History.{History}
 use Rattle.status_cli.specs.declared.failure.Failure.{Failure}
-use Rattle.status_cli.specs.Printing.{IsBegun, IsUnprinted}
+use Rattle.text_output.specs.Written.{IsBegun}
+use Rattle.status_cli.specs.Printing.{IsUnprinted}
 use Rattle.status_cli.specs.Replays.{IsHistoryPrinted, IsNoStart, IsReplayed, IsReplayText, IsReplayEnded, replay_lines, run_lines, runs_behind, start_of}
 
 runs-append : (counts : Bool) (before : ℕ) (xs ys : List Report) → runs_behind counts before (xs ++ ys) ≡ runs_behind counts before xs ++ runs_behind counts (before + length xs) ys
@@ -28,15 +29,6 @@ one_more counts reports at report inside =
     runs-append counts 0 (take at reports) (report ∷ [])
     ∙ ap (λ t. replay_lines counts (take at reports) ++ t) (append-nil (run_lines counts (0 + length (take at reports) + 1) report))
     ∙ ap (λ n. replay_lines counts (take at reports) ++ run_lines counts (n + 1) report) (omega (arith, long))
-
--- the lines of all runs are those of the first, of one, and of the others
-pub runs_whole : (counts : Bool) (reports : List Report) (at : ℕ) (report : Report) → at < length reports → take (at + 1) reports ≡ take at reports ++ report ∷ []
-    → replay_lines counts reports ≡ (replay_lines counts (take at reports) ++ run_lines counts (at + 1) report) ++ runs_behind counts (0 + length (take (at + 1) reports)) (drop (at + 1) reports)
-runs_whole counts reports at report inside next =
-    let done = take (at + 1) reports in let rest = runs_behind counts (0 + length done) (drop (at + 1) reports) in
-    ap (replay_lines counts) (sym (take-append-drop (at + 1) reports))
-    ∙ runs-append counts 0 done (drop (at + 1) reports)
-    ∙ ap (λ t. t ++ rest) (ap (replay_lines counts) next ∙ one_more counts reports at report inside)
 
 -- ---- a whole history
 

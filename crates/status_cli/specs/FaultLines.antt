@@ -21,7 +21,8 @@ use Rattle.status_profile.specs.declared.error.ProfileError.TheVariants as profi
 use Rattle.status_cli.specs.declared.failure.Failure.{Failure}
 use Rattle.status_cli.specs.declared.failure.Failure.TheVariants as failures
 use Rattle.status_cli.specs.Lines.{line, path_text}
-use Rattle.status_cli.specs.Printing.{IsBegun, IsAllWritten}
+use Rattle.text_output.specs.Written.{IsBegun}
+use Rattle.status_cli.specs.Printing.{IsAllWritten}
 
 abbrev pub fault_text : Fault → List ℕ
 fault_text faults.NotFound = codes "not found"

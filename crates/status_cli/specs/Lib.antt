@@ -1,4 +1,3 @@
-pub mod Buffering
 pub mod Exactness
 pub mod Failures
 pub mod FaultLines

@@ -3,15 +3,9 @@ use Rattle.std.specs.Prelude.{◌≡◌, ◌⊎◌, ℕ, List, map, Option, Resu
 use Rattle.std.specs.Borrow.{Bor}
 use Rattle.std.specs.List.{flat_map}
 use Rattle.std.specs.Io.KnownBytes.{Appends}
-use Rattle.status_call.specs.StatusTheorem.{IsBeginning}
+use Rattle.text_output.specs.Written.{IsBegun}
 use Rattle.status_cli.specs.declared.failure.Failure.{Failure}
 use Rattle.status_cli.specs.declared.failure.Failure.TheVariants.{Output, Memory}
-
--- the bytes of an output grew by a beginning of a text. Of an output whose bytes aren't known nothing is claimed
-pub record IsBegun (text : List ℕ) (old new : Option (List ℕ)) : Type 0 where
-  pub printed : List ℕ
-  pub grew : Appends old new printed
-  pub beginning : IsBeginning printed text
 
 -- the output can't be written, or memory ran out
 abbrev pub IsUnprinted : Failure → Type 0

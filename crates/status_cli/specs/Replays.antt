@@ -22,7 +22,8 @@ use Rattle.status_cli.specs.ProfileStatuses.{IsFailed, IsUnreadPrinted}
 use Rattle.status_cli.specs.declared.failure.Failure.{Failure}
 use Rattle.status_cli.specs.declared.failure.Failure.TheVariants.{Memory}
 use Rattle.status_cli.specs.Lines.{record_line, run_line}
-use Rattle.status_cli.specs.Printing.{IsBegun, IsUnprinted}
+use Rattle.text_output.specs.Written.{IsBegun}
+use Rattle.status_cli.specs.Printing.{IsUnprinted}
 use Rattle.status_cli.specs.Statuses.{totals_text}
 
 abbrev pub reported_line : Reported → List ℕ

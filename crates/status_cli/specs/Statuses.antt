@@ -27,7 +27,8 @@ use Rattle.status_cli.specs.declared.status.inputs.WantedChanges.{WantedChanges}
 use Rattle.status_cli.specs.declared.status.inputs.WantedChanges.TheVariants.{Returned, Dropped}
 use Rattle.status_cli.specs.Failures.{failure_of_joined, failure_of_status}
 use Rattle.status_cli.specs.Lines.{entry_line, total_line, visit_line}
-use Rattle.status_cli.specs.Printing.{IsBegun, IsPrinted, IsUnprinted}
+use Rattle.text_output.specs.Written.{IsBegun}
+use Rattle.status_cli.specs.Printing.{IsPrinted, IsUnprinted}
 
 -- the lines of records
 abbrev pub visit_lines : {T U : Type 0} → List (Visit T U) → List ℕ

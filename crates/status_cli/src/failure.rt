@@ -14,6 +14,7 @@ use gix_status::world::Refusal;
 use status_profile::ProfileError;
 use std::alloc::AllocError;
 use std::io::{self, ErrorKind};
+use text_output::OutputError;
 
 /// Why a command fails.
 #[derive(Debug, Drop)]
@@ -150,6 +151,17 @@ impl From<AllocError> for Failure {
 
     fn from(_error: AllocError) -> Failure {
         Failure::Memory
+    }
+}
+
+impl From<OutputError> for Failure {
+    ghost use Rattle.std.specs.Prelude.{◌≡◌};
+    ghost use Rattle.status_cli.specs.declared.failure.Failure.TheVariants.{Output};
+
+    ghost from_gives = { λ _ f. f ≡ Output };
+
+    fn from(_error: OutputError) -> Failure {
+        Failure::Output
     }
 }
 

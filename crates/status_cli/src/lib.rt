@@ -1,15 +1,14 @@
 //! The program's commands `status`, `replay` and `refresh`, over any reader and writers.
 //!
-//! Read `status`, `replay` and `refresh` first, a command each. Then `lines`, the text of each line, `line_buffer`,
-//! which collects lines, and `output`, which writes them and reads a profile's file. `failure` is why a command fails,
-//! with `fault_line`, the line that says so, and `status_fault`, that of a status. `whole` writes the file of a refreshed
-//! profile, and `laws` has a theorem about the definitions.
+//! Read `status`, `replay` and `refresh` first, a command each. Then `lines`, the text of each line, and `output`, which
+//! writes texts and reads a profile's file. `failure` is why a command fails, with `fault_line`, the line that says so, and
+//! `status_fault`, that of a status. `whole` writes the file of a refreshed profile, and `laws` has a theorem about the
+//! definitions.
 #![tactic(auto)]
 
 mod failure;
 mod fault_line;
 pub mod laws;
-mod line_buffer;
 pub mod lines;
 mod output;
 mod refresh;

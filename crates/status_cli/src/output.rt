@@ -6,6 +6,7 @@ ghost use Rattle.status_cli.specs.Printing.{IsAllWritten, spelled};
 use crate::failure::Failure;
 use std::alloc::Global;
 use std::io;
+use text_output::print_all;
 
 /// Writes these parts, one after the other.
 pub fn print_parts<O: io::Write>(parts: &[&str], output: &mut O) -> Result<(), Failure>
@@ -17,24 +18,11 @@ pub fn print_parts<O: io::Write>(parts: &[&str], output: &mut O) -> Result<(), F
     Ok(())
 }
 
-/// Writes bytes. Only a write that a signal interrupts is tried again.
-pub fn print<O: io::Write>(bytes: &[u8], output: &mut O) -> Result<(), Failure>
-    ensures { IsAllWritten bytes.now (O.contents output.old) result (O.contents output.new) }
+/// Writes all bytes of a text.
+pub fn print<O: io::Write>(text: &[u8], output: &mut O) -> Result<(), Failure>
+    ensures { IsAllWritten text.now (O.contents output.old) result (O.contents output.new) }
 {
-    let mut written = 0;
-    // The turns are counted, so that this is known to end.
-    'writes: for _ in 0..u64::MAX {
-        if written >= bytes.len() {
-            return Ok(());
-        }
-        match output.write(&bytes[written..]) {
-            Ok(0) => return Err(Failure::Output),
-            Ok(count) => written += count,
-            Err(error) if error.kind() == io::ErrorKind::Interrupted => {}
-            Err(_) => return Err(Failure::Output),
-        }
-    }
-    Err(Failure::Output)
+    Ok(print_all(text, output)?)
 }
 
 /// Reads all bytes of a profile's file.

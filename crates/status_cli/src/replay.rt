@@ -1,20 +1,20 @@
 //! The replay of a profile's history.
 
-ghost use Rattle.std.specs.Prelude.{◌≡◌, ◌⊎◌, All, IfErr, IfOk, IfSome, None, Some, take};
+ghost use Rattle.std.specs.Prelude.{◌≡◌, ◌⊎◌, ◌++◌, All, IfErr, IfOk, IfSome, OnOk, None, Some, take};
+ghost use Rattle.std.specs.List.{flat_map};
 ghost use Rattle.status_world.specs.Refusals.{start_refusal};
 ghost use Rattle.status_world.specs.Reports.{HasSum, report_value};
-ghost use Rattle.status_cli.specs.Buffering.{IsTextAdded};
 ghost use Rattle.status_cli.specs.Printing.{IsPrinted};
 ghost use Rattle.status_cli.specs.Replays.{IsHistoryPrinted, IsNoStart, IsReplayed, IsReplayFailed, IsReplayText, IsStopOf};
-ghost use Rattle.status_cli.specs.Replays.{counted_up, event_count, replay_lines, report_lines, run_lines, start_of};
+ghost use Rattle.status_cli.specs.Replays.{counted_up, event_count, replay_lines, reported_line, run_lines, start_of};
 
 use crate::failure::Failure;
-use crate::line_buffer::LineBuffer;
-use crate::output::read_all;
+use crate::lines::{push_record, push_run, push_totals};
+use crate::output::{print, read_all};
 use gix_status::world::{Event, Report, World};
 use status_profile::History;
 use status_stored::{ReopenedReplay, Stop, replay_reopening};
-use std::alloc::Global;
+use std::alloc::{AllocError, Global};
 use std::io;
 use std::sync::Wait;
 use std::thread::Threads;
@@ -133,66 +133,48 @@ fn print_reports<O: io::Write>(
     requires { All HasSum reports.now }
     ensures { IsPrinted (replay_lines counts reports.now) (O.contents output.old) result (O.contents output.new) }
 {
-    let mut lines = LineBuffer::new(alloc);
-    let added = add_reports(&mut lines, alloc, reports, counts, output);
-    lines.finish(added, output)
+    let text = lines_of(alloc, reports, counts)?;
+    print(&text, output)
 }
 
-/// Adds the lines of the reports of the runs, numbered from 1.
-fn add_reports<O: io::Write>(
-    lines: &mut LineBuffer,
-    alloc: Global,
-    reports: &[Report],
-    counts: bool,
-    output: &mut O,
-) -> Result<(), Failure>
+/// Returns the lines of the reports of the runs, numbered from 1.
+fn lines_of(alloc: Global, reports: &[Report], counts: bool) -> Result<Vec<u8>, AllocError>
     requires { All HasSum reports.now }
-    ensures { IsTextAdded (replay_lines counts reports.now)
-        lines.old.lines.items (O.contents output.old) result lines.new.lines.items (O.contents output.new) }
+    ensures { IfOk result (λ text. text.items ≡ replay_lines counts reports.now) }
 {
+    let mut text = Vec::new(alloc);
     for (at, report) in reports.iter().enumerate() {
-        add_numbered(lines, alloc, at + 1, report, counts, output)?;
+        push_numbered(&mut text, alloc, at + 1, report, counts)?;
     }
-    Ok(())
+    Ok(text)
 }
 
-/// Adds the lines of the report of a run, after that of its number.
-fn add_numbered<O: io::Write>(
-    lines: &mut LineBuffer,
+/// Appends the lines of the report of a run, after that of its number.
+fn push_numbered(
+    text: &mut Vec<u8>,
     alloc: Global,
     run: usize,
     report: &Report,
     counts: bool,
-    output: &mut O,
-) -> Result<(), Failure>
+) -> Result<(), AllocError>
     requires { HasSum report.now }
-    ensures { IsTextAdded (run_lines counts run report.now)
-        lines.old.lines.items (O.contents output.old) result lines.new.lines.items (O.contents output.new) }
+    ensures { OnOk result (text.new.items ≡ text.old.items ++ run_lines counts run report.now) }
 {
-    lines.add_run(run, output)?;
-    add_report(lines, alloc, report, counts, output)
+    push_run(text, run)?;
+    push_records(text, alloc, report)?;
+    if counts {
+        push_totals(text, &report.outcome)?;
+    }
+    Ok(())
 }
 
-/// Adds the lines of the report of a run.
-fn add_report<O: io::Write>(
-    lines: &mut LineBuffer,
-    alloc: Global,
-    report: &Report,
-    counts: bool,
-    output: &mut O,
-) -> Result<(), Failure>
-    requires { HasSum report.now }
-    ensures { IsTextAdded (report_lines counts (report_value report.now))
-        lines.old.lines.items (O.contents output.old) result lines.new.lines.items (O.contents output.new) }
+/// Appends a line for each record of a run.
+fn push_records(text: &mut Vec<u8>, alloc: Global, report: &Report) -> Result<(), AllocError>
+    ensures { OnOk result (text.new.items ≡ text.old.items ++ flat_map reported_line (report_value report.now).records) }
 {
     for record in &report.records {
-        lines.add_record(
-            alloc,
-            record.entry_index,
-            record.path.as_bstr(),
-            &record.status,
-            output,
-        )?;
+        let (at, path) = (record.entry_index, record.path.as_bstr());
+        push_record(text, alloc, at, path, &record.status)?;
     }
-    lines.add_totals(&report.outcome, counts, output)
+    Ok(())
 }

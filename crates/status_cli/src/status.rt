@@ -10,6 +10,7 @@ ghost use Rattle.status_cli.specs.ProfileStatuses.{asked_by, changes_returned, w
 ghost use Rattle.status_index.specs.States.{index_of};
 ghost use Rattle.status_call.specs.IndexChanges.{AreInside};
 
+mod closing;
 mod inputs;
 mod joined;
 mod plain;

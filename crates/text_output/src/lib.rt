@@ -17,11 +17,22 @@ pub enum OutputError {
     Unwritable,
 }
 
-/// Writes all bytes of a text, without a flush. Only a write that a signal interrupts is tried again.
+/// Writes all bytes of a text and flushes the output. Only a write that a signal interrupts is tried again.
 ///
 /// # Errors
 /// The output doesn't take them all. Then a beginning of them is written.
 pub fn print_all<O: io::Write>(text: &[u8], output: &mut O) -> Result<(), OutputError>
+    ensures { IsWritten text.now (O.contents output.old) result (O.contents output.new) }
+{
+    write_all(text, output)?;
+    match output.flush() {
+        Ok(()) => Ok(()),
+        Err(error) => Err(error_of(error.kind())),
+    }
+}
+
+/// Writes all bytes of a text, without a flush.
+fn write_all<O: io::Write>(text: &[u8], output: &mut O) -> Result<(), OutputError>
     ensures { IsWritten text.now (O.contents output.old) result (O.contents output.new) }
 {
     let mut written = 0;

@@ -1,16 +1,17 @@
 //! The status of a profile with untracked files, renames or sorted lines.
 
-ghost use Rattle.std.specs.Prelude.{◌≡◌, map};
+ghost use Rattle.std.specs.Prelude.{◌≡◌, map, IfOk};
 ghost use Rattle.status_call.specs.Inputs.{usual};
 ghost use Rattle.status_joined.specs.Entries.{reported_entry};
 ghost use Rattle.status_profile.specs.Options.{option_values};
-ghost use Rattle.status_cli.specs.Buffering.{IsTextAdded};
 ghost use Rattle.status_cli.specs.Printing.{IsPrinted};
 ghost use Rattle.status_cli.specs.ProfileStatuses.{IsJoinedOver, IsJoinedReported, asked_by, results_of, walked_by};
 ghost use Rattle.status_cli.specs.Statuses.{entry_lines, joined_answered, joined_options};
 
 use crate::failure::Failure;
-use crate::line_buffer::{LineBuffer, print_closing};
+use crate::lines::push_entry;
+use crate::output::print;
+use crate::status::closing::print_closing;
 use crate::status::inputs::ProfileStatus;
 use gix_status::index::HashKind;
 use gix_status::index_as_worktree;
@@ -24,7 +25,7 @@ use gix_status::walk::Walk;
 use gix_status::worktree::{MemoryObjects, NoFilter, NoLister, NoSubmodules, Pathspec, Worktree};
 use status_call::index_as_worktree::inputs::{Ask, UsualInputs};
 use status_profile::ProfileOptions;
-use std::alloc::Global;
+use std::alloc::{AllocError, Global};
 use std::io;
 use std::sync::Wait;
 use std::thread::Threads;
@@ -137,23 +138,20 @@ fn print_entries<T: Drop, U: Drop, O: io::Write>(
 ) -> Result<(), Failure>
     ensures { IsPrinted (entry_lines (map reported_entry entries.now)) (O.contents output.old) result (O.contents output.new) }
 {
-    let mut lines = LineBuffer::new(alloc);
-    let added = add_entries(&mut lines, alloc, entries, output);
-    lines.finish(added, output)
+    let text = lines_of(alloc, entries)?;
+    print(&text, output)
 }
 
-/// Adds a line for each entry.
-fn add_entries<T: Drop, U: Drop, O: io::Write>(
-    lines: &mut LineBuffer,
+/// Returns a line for each entry.
+fn lines_of<T: Drop, U: Drop>(
     alloc: Global,
     entries: &[Entry<'_, T, U>],
-    output: &mut O,
-) -> Result<(), Failure>
-    ensures { IsTextAdded (entry_lines (map reported_entry entries.now))
-        lines.old.lines.items (O.contents output.old) result lines.new.lines.items (O.contents output.new) }
+) -> Result<Vec<u8>, AllocError>
+    ensures { IfOk result (λ text. text.items ≡ entry_lines (map reported_entry entries.now)) }
 {
+    let mut text = Vec::new(alloc);
     for entry in entries {
-        lines.add_entry(alloc, entry, output)?;
+        push_entry(&mut text, alloc, entry)?;
     }
-    Ok(())
+    Ok(text)
 }

@@ -4,19 +4,20 @@ ghost use Rattle.std.specs.Prelude.{◌≡◌, ◌<◌, IfOk, map, vec_items};
 ghost use Rattle.status_index.specs.States.{index_of};
 ghost use Rattle.status_call.specs.IndexChanges.{AreInside};
 ghost use Rattle.status_call.specs.RecorderVisits.{visit_of};
-ghost use Rattle.status_cli.specs.Buffering.{IsTextAdded};
 ghost use Rattle.status_cli.specs.Printing.{IsPrinted, result_map};
 ghost use Rattle.status_cli.specs.ProfileStatuses.{IsPlainOver, asked_by, results_of};
 ghost use Rattle.status_cli.specs.Statuses.{answered, visit_lines};
 
 use crate::failure::Failure;
-use crate::line_buffer::{LineBuffer, print_closing};
+use crate::lines::push_record;
+use crate::output::print;
+use crate::status::closing::print_closing;
 use crate::status::inputs::{ProfileStatus, Request, WantedChanges};
 use gix_status::index_as_worktree::{
     ApplyChange, Error, Outcome, Record, Recorder, index_as_worktree_with_defaults,
 };
 use gix_status::worktree::{Pathspec, Worktree};
-use std::alloc::Global;
+use std::alloc::{AllocError, Global};
 use std::io;
 use std::sync::Wait;
 use std::thread::Threads;
@@ -88,29 +89,21 @@ fn print_records<T: Drop, U: Drop, O: io::Write>(
 ) -> Result<(), Failure>
     ensures { IsPrinted (visit_lines (map visit_of records.now)) (O.contents output.old) result (O.contents output.new) }
 {
-    let mut lines = LineBuffer::new(alloc);
-    let added = add_records(&mut lines, alloc, records, output);
-    lines.finish(added, output)
+    let text = lines_of(alloc, records)?;
+    print(&text, output)
 }
 
-/// Adds a line for each record.
-fn add_records<T: Drop, U: Drop, O: io::Write>(
-    lines: &mut LineBuffer,
+/// Returns a line for each record.
+fn lines_of<T: Drop, U: Drop>(
     alloc: Global,
     records: &[Record<'_, T, U>],
-    output: &mut O,
-) -> Result<(), Failure>
-    ensures { IsTextAdded (visit_lines (map visit_of records.now))
-        lines.old.lines.items (O.contents output.old) result lines.new.lines.items (O.contents output.new) }
+) -> Result<Vec<u8>, AllocError>
+    ensures { IfOk result (λ text. text.items ≡ visit_lines (map visit_of records.now)) }
 {
+    let mut text = Vec::new(alloc);
     for record in records {
-        lines.add_record(
-            alloc,
-            record.entry_index,
-            record.relative_path,
-            &record.status,
-            output,
-        )?;
+        let (at, path) = (record.entry_index, record.relative_path);
+        push_record(&mut text, alloc, at, path, &record.status)?;
     }
-    Ok(())
+    Ok(text)
 }

@@ -4,7 +4,7 @@ use Rattle.std.proofs.lemmas.List.{get_or-map, length-map}
 use Rattle.std.proofs.lemmas.List.Folds.{list_any-from_Any}
 use Rattle.status_call.specs.RecorderVisits.{visit_of}
 use Rattle.git_status.specs.Runs.{is_difference}
-use Rattle.git_status.proofs.Printed.{some_mapped}
+use Rattle.git_status.proofs.Mapped.{some_mapped}
 use Rattle.git_status.proofs.answer.has_difference.Goals as goal
 
 pub returns-then-is_some : goal.returns-then-is_some

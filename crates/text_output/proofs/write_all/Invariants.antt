@@ -1,6 +1,6 @@
 use Rattle.std.proofs.Common.{◌≤◌, length, take}
 use Rattle.std.specs.Io.KnownBytes.{Appends}
-use Rattle.text_output.proofs.print_all.Given as goal
+use Rattle.text_output.proofs.write_all.Given as goal
 
 -- some first bytes were written
 abbrev pub invariant-writes : goal.invariant-writes
