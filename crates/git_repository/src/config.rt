@@ -1,6 +1,6 @@
 //! The variables of git's configuration.
 
-use std::alloc::{AllocError, AllocFailed, Global};
+use std::alloc::{AllocError, Global};
 use std::sync::Arc;
 use thiserror::Error;
 
@@ -15,19 +15,7 @@ pub enum ConfigError {
     },
     /// An allocation failed.
     #[error("Out of memory")]
-    Memory,
-}
-
-impl From<AllocError> for ConfigError {
-    fn from(_error: AllocError) -> ConfigError {
-        ConfigError::Memory
-    }
-}
-
-impl<T: Drop> From<AllocFailed<T>> for ConfigError {
-    fn from(_refused: AllocFailed<T>) -> ConfigError {
-        ConfigError::Memory
-    }
+    Memory(#[from(alloc)] AllocError),
 }
 
 /// A variable of a configuration.

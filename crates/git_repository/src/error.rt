@@ -1,7 +1,7 @@
 //! Why a repository isn't read, or its index isn't written.
 
 use crate::regular::Unread;
-use std::alloc::{AllocError, AllocFailed};
+use std::alloc::AllocError;
 use std::io;
 use thiserror::Error;
 
@@ -137,27 +137,5 @@ pub enum RepositoryError {
     },
     /// An allocation failed.
     #[error("Out of memory")]
-    Memory,
-}
-
-impl From<AllocError> for RepositoryError {
-    ghost use Rattle.std.specs.Prelude.{◌≡◌};
-    ghost use Rattle.git_repository.specs.declared.error.RepositoryError.TheVariants.{Memory};
-
-    ghost from_gives = { λ _ e. e ≡ Memory };
-
-    fn from(_error: AllocError) -> RepositoryError {
-        RepositoryError::Memory
-    }
-}
-
-impl<T: Drop> From<AllocFailed<T>> for RepositoryError {
-    ghost use Rattle.std.specs.Prelude.{◌≡◌};
-    ghost use Rattle.git_repository.specs.declared.error.RepositoryError.TheVariants.{Memory};
-
-    ghost from_gives = { λ _ e. e ≡ Memory };
-
-    fn from(_refused: AllocFailed<T>) -> RepositoryError {
-        RepositoryError::Memory
-    }
+    Memory(#[from(alloc)] AllocError),
 }

@@ -35,9 +35,11 @@ pub fn canonical<R: Files + AllocGlobal>(rt: &R, path: &str) -> Result<String, R
 /// Returns the error of a path that isn't read.
 pub fn unreadable(alloc: Global, path: &str, why: Unread) -> RepositoryError {
     match String::from_str(alloc, path) {
-        Ok(_) if why == Unread::System(io::ErrorKind::OutOfMemory) => RepositoryError::Memory,
+        Ok(_) if why == Unread::System(io::ErrorKind::OutOfMemory) => RepositoryError::Memory(
+            AllocError,
+        ),
         Ok(path) => RepositoryError::Unreadable { path, why },
-        Err(_) => RepositoryError::Memory,
+        Err(_) => RepositoryError::Memory(AllocError),
     }
 }
 
@@ -69,7 +71,9 @@ pub fn is_missing(kind: io::ErrorKind) -> bool {
 pub fn is_folder<R: Files>(rt: &R, path: &str) -> Result<bool, RepositoryError> {
     match fs::metadata(rt, path) {
         Ok(found) => Ok(found.is_dir()),
-        Err(error) if error.kind() == io::ErrorKind::OutOfMemory => Err(RepositoryError::Memory),
+        Err(error) if error.kind() == io::ErrorKind::OutOfMemory => Err(RepositoryError::Memory(
+            AllocError,
+        )),
         Err(_) => Ok(false),
     }
 }
@@ -104,7 +108,7 @@ pub fn variable<R: Env + AllocGlobal>(
         Err(VarError::NotUnicode) => Err(RepositoryError::BadEnvironment {
             name: String::from_str(rt.alloc(), name)?,
         }),
-        Err(VarError::OutOfMemory) => Err(RepositoryError::Memory),
+        Err(VarError::OutOfMemory) => Err(RepositoryError::Memory(AllocError)),
     }
 }
 

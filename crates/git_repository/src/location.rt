@@ -97,7 +97,7 @@ fn working_folder<R: Files + AllocGlobal>(rt: &R, path: &str) -> Result<String, 
 fn not_a_folder(alloc: Global, path: &str, why: Unread) -> RepositoryError {
     match String::from_str(alloc, path) {
         Ok(path) => RepositoryError::NotAFolder { path, why },
-        Err(_) => RepositoryError::Memory,
+        Err(_) => RepositoryError::Memory(AllocError),
     }
 }
 

@@ -3,15 +3,13 @@
 use crate::error::RepositoryError;
 use crate::files::{canonical, is_missing, unreadable};
 use crate::regular::{INDEX_LIMIT, Unread, read_regular};
-use std::alloc::Global;
-use std::fs::{self, FileTimes, Metadata, OpenFile, OpenOptions, Permissions};
-use std::io::{self, Write};
-use std::os::unix::fs::{MetadataExt as _, OpenOptionsExt as _, PermissionsExt as _, chown};
+use file_lock::{Replacement, create_lock, replace_file};
+use std::alloc::{AllocError, Global};
+use std::fs::{self, Metadata};
+use std::io;
+use std::os::unix::fs::MetadataExt as _;
 use std::rt::Files;
 use std::time::SystemTime;
-
-// The bits of a mode that say who may read, write and run a file.
-const PERMISSION_BITS: u32 = 0o777;
 
 // The mode of a new lock: only this user, who may read the index, opens it. It gets the permissions of the index later.
 const LOCK_MODE: u32 = 0o600;
@@ -28,7 +26,7 @@ pub fn time_of_lock<R: Files + AllocGlobal>(
 ) -> Result<SystemTime, RepositoryError> {
     let path = target_of(rt, index)?;
     let lock = format!(in rt.alloc(); "{path}.lock")?;
-    drop(create_lock(rt, lock.as_str())?);
+    drop(new_lock(rt, lock.as_str())?);
     let time = match fs::symlink_metadata(rt, lock.as_str()) {
         Ok(found) => found.modified(),
         Err(error) => Err(error),
@@ -68,22 +66,25 @@ pub fn replace_index<R: Files + AllocGlobal>(
 ) -> Result<(), RepositoryError> {
     let path = target_of(rt, index)?;
     let lock = format!(in rt.alloc(); "{path}.lock")?;
-    let file = create_lock(rt, lock.as_str())?;
-    let ended = match metadata_of_unchanged(rt, path.as_str(), old) {
-        Ok(found) => {
-            let filled = fill(file, &found, new, time);
-            match replace(rt, path.as_str(), lock.as_str(), &found, filled) {
-                Ok(()) => Ok(()),
-                Err(error) => Err(unwritable(rt.alloc(), lock.as_str(), error.kind())),
-            }
+    let file = new_lock(rt, lock.as_str())?;
+    let found = match metadata_of_unchanged(rt, path.as_str(), old) {
+        Ok(found) => found,
+        Err(error) => {
+            // If the lock can't be removed it stays, and the error that is returned says more.
+            let _ = fs::remove_file(rt, lock.as_str());
+            return Err(error);
         }
-        Err(error) => Err(error),
     };
-    if ended.is_err() {
-        // If the lock can't be removed it stays, and the error that is returned says more.
-        let _ = fs::remove_file(rt, lock.as_str());
+    let replacement = Replacement {
+        bytes: new,
+        permissions: Some(found.mode()),
+        owner: Some((found.uid(), found.gid())),
+        modified: Some(time),
+    };
+    match replace_file(rt, path.as_str(), lock.as_str(), file, replacement) {
+        Ok(()) => Ok(()),
+        Err(error) => Err(unwritable(rt.alloc(), lock.as_str(), error.kind())),
     }
-    ended
 }
 
 // Returns the path of the file that is to be replaced: that of the index, or of the file to which a link there leads.
@@ -97,10 +98,8 @@ fn target_of<R: Files + AllocGlobal>(rt: &R, index: &str) -> Result<String, Repo
 }
 
 // Creates a lock that isn't there.
-fn create_lock<R: Files + AllocGlobal>(rt: &R, lock: &str) -> Result<R::File, RepositoryError> {
-    let mut options = OpenOptions::new();
-    options.write(true).create_new(true).mode(LOCK_MODE);
-    match options.open(rt, lock) {
+fn new_lock<R: Files + AllocGlobal>(rt: &R, lock: &str) -> Result<R::File, RepositoryError> {
+    match create_lock(rt, lock, LOCK_MODE) {
         Ok(file) => Ok(file),
         Err(error) => Err(not_created(rt.alloc(), lock, error.kind())),
     }
@@ -109,10 +108,10 @@ fn create_lock<R: Files + AllocGlobal>(rt: &R, lock: &str) -> Result<R::File, Re
 // Returns the error of a lock that can't be created.
 fn not_created(alloc: Global, lock: &str, kind: io::ErrorKind) -> RepositoryError {
     match String::from_str(alloc, lock) {
-        Ok(_) if kind == io::ErrorKind::OutOfMemory => RepositoryError::Memory,
+        Ok(_) if kind == io::ErrorKind::OutOfMemory => RepositoryError::Memory(AllocError),
         Ok(path) if kind == io::ErrorKind::AlreadyExists => RepositoryError::Locked { path },
         Ok(path) => RepositoryError::NotLocked { path, error: kind },
-        Err(_) => RepositoryError::Memory,
+        Err(_) => RepositoryError::Memory(AllocError),
     }
 }
 
@@ -131,44 +130,11 @@ fn metadata_of_unchanged<R: Files + AllocGlobal>(
     }
 }
 
-// Sets the owner and the group of a lock that was filled to those of the index, if the system allows that, and renames it over
-// the index.
-fn replace<R: Files>(
-    rt: &R,
-    path: &str,
-    lock: &str,
-    found: &Metadata,
-    filled: io::Result<()>,
-) -> io::Result<()> {
-    filled?;
-    // Mostly they are the same already. Only root may give a file away; as with git, it is the user's own otherwise.
-    let _ = chown(rt, lock, Some(found.uid()), Some(found.gid()));
-    fs::rename(rt, lock, path)
-}
-
-// Sets the permissions of a new file, whatever the umask, writes all of it, and sets its time.
-fn fill<F: OpenFile + Write + Drop>(
-    mut file: F,
-    found: &Metadata,
-    bytes: &[u8],
-    time: SystemTime,
-) -> io::Result<()> {
-    file.set_permissions(Permissions::from_mode(found.mode() & PERMISSION_BITS))?;
-    file.write_all(bytes)?;
-    file.set_times(FileTimes::new().set_modified(time))?;
-    file.sync_all()?;
-    // A later time would hide changes.
-    if file.metadata()?.modified()? > time {
-        return Err(io::ErrorKind::Unsupported.into());
-    }
-    Ok(())
-}
-
 // Returns the error of a lock that can't be written.
 fn unwritable(alloc: Global, lock: &str, kind: io::ErrorKind) -> RepositoryError {
     match String::from_str(alloc, lock) {
-        Ok(_) if kind == io::ErrorKind::OutOfMemory => RepositoryError::Memory,
+        Ok(_) if kind == io::ErrorKind::OutOfMemory => RepositoryError::Memory(AllocError),
         Ok(path) => RepositoryError::Unwritable { path, error: kind },
-        Err(_) => RepositoryError::Memory,
+        Err(_) => RepositoryError::Memory(AllocError),
     }
 }

@@ -28,7 +28,7 @@ pub fn read_file<R: Files + AllocGlobal>(rt: &R, path: &str) -> Result<Config, R
             line,
             path: String::from_str(rt.alloc(), path)?,
         }),
-        Err(ConfigError::Memory) => Err(RepositoryError::Memory),
+        Err(ConfigError::Memory(error)) => Err(RepositoryError::Memory(error)),
     }
 }
 

@@ -85,7 +85,7 @@ impl<'a, R: Files + AllocGlobal> SubmoduleStatus for SubmoduleHeads<'a, R> {
 
 // Returns why a submodule has no status.
 fn fault_of(alloc: Global, error: &RepositoryError) -> SubmoduleFault {
-    if matches!(error, RepositoryError::Memory) {
+    if matches!(error, RepositoryError::Memory(_)) {
         return SubmoduleFault::Memory;
     }
     let Ok(words) = format!(in alloc; "{error}") else {

@@ -1,13 +1,11 @@
 //! Writing a file whole or not at all.
 
 use crate::failure::Failure;
-use std::fs::{self, Metadata, OpenFile, OpenOptions, Permissions};
-use std::io::{self, Write};
-use std::os::unix::fs::{MetadataExt as _, OpenOptionsExt as _, PermissionsExt as _};
+use file_lock::{PERMISSION_BITS, Replacement, create_lock, replace_file};
+use std::fs::{self, Metadata};
+use std::io;
+use std::os::unix::fs::MetadataExt as _;
 use std::rt::Files;
-
-/// The bits of a mode that say who may read, write and run a file.
-const PERMISSION_BITS: u32 = 0o777;
 
 /// The mode that is asked for a file that replaces none. The process's umask narrows it.
 const NEW_MODE: u32 = 0o666;
@@ -37,17 +35,17 @@ pub fn write_whole<R: AllocGlobal + Files>(
 ) -> Result<(), Failure> {
     let Target { path, mode } = target_of(rt, name)?;
     let lock = format!(in rt.alloc(); "{path}.lock")?;
-    let mut file = create_lock(rt, lock.as_str(), mode).map_err(Failure::of_writing)?;
-    let filled = fill(&mut file, mode, bytes);
-    drop(file);
-    match filled.and_then(|()| fs::rename(rt, lock.as_str(), path.as_str())) {
-        Ok(()) => Ok(()),
-        Err(error) => {
-            // If the new file can't be removed it stays, and there is nowhere left to report that.
-            let _ = fs::remove_file(rt, lock.as_str());
-            Err(Failure::of_writing(error))
-        }
-    }
+    // Nobody who may not open the file that is replaced may open the lock.
+    let file = create_lock(rt, lock.as_str(), mode.unwrap_or(NEW_MODE)).map_err(
+        Failure::of_writing,
+    )?;
+    let new = Replacement {
+        bytes,
+        permissions: mode,
+        owner: None,
+        modified: None,
+    };
+    replace_file(rt, path.as_str(), lock.as_str(), file, new).map_err(Failure::of_writing)
 }
 
 /// Returns the file that is to be written under this name.
@@ -82,23 +80,4 @@ fn mode_of_file(found: &Metadata) -> Result<u32, Failure> {
         return Err(Failure::Unwritable);
     }
     Ok(found.mode() & PERMISSION_BITS)
-}
-
-/// Creates a lock file that isn't there. Nobody who may not open the file that it replaces may open it.
-fn create_lock<R: Files>(rt: &R, lock: &str, mode: Option<u32>) -> io::Result<R::File> {
-    let mut options = OpenOptions::new();
-    options
-        .write(true)
-        .create_new(true)
-        .mode(mode.unwrap_or(NEW_MODE));
-    options.open(rt, lock)
-}
-
-/// Writes all of a new file. If it replaces one with this mode, it gets that mode too, whatever the umask.
-fn fill<F: OpenFile + Write>(file: &mut F, mode: Option<u32>, bytes: &[u8]) -> io::Result<()> {
-    if let Some(mode) = mode {
-        file.set_permissions(Permissions::from_mode(mode))?;
-    }
-    file.write_all(bytes)?;
-    file.sync_all()
 }
