@@ -12,7 +12,7 @@ use std::time::SystemTime;
 /// The bits of a mode that say who may read, write and run a file.
 pub const PERMISSION_BITS: u32 = 0o777;
 
-/// What a file is replaced by.
+/// The new content of a file, and how it is stored.
 #[derive(Clone, Copy)]
 pub struct Replacement<'b> {
     /// The content.

@@ -28,7 +28,7 @@ pub(crate) struct RawEntry<'a> {
     pub(crate) name: &'a [u8],
 }
 
-/// What the flags of an entry state.
+/// The flags of an entry, with the length of the path that they state.
 #[derive(Clone, Copy)]
 struct StatedFlags {
     flags: u32,
@@ -38,7 +38,7 @@ struct StatedFlags {
     size: usize,
 }
 
-/// What names an entry: how many bytes of the path before it are stripped, and what follows the rest of that path.
+/// The name of an entry: how many bytes of the path before it are stripped, and the bytes after the rest of that path.
 #[derive(Clone, Copy)]
 struct Name<'a> {
     strip: usize,

@@ -33,7 +33,7 @@ struct Entries<'a> {
     rest: &'a [u8],
 }
 
-/// What a file begins with, after its signature.
+/// The header of a file, after its signature.
 #[derive(Clone, Copy)]
 struct Header {
     version: u32,
