@@ -3,12 +3,14 @@
 //! Begin at `line_ends`, the filter, which converts a file by its `normalization`, and compares that with git's rule.
 //! `attributes` has the states that `files` give to a path's attributes: it reads their lines (`line`), which have a
 //! pattern or a macro, and assignments (`assignment`), between blanks or in quotes (`words`). `pattern` reads a
-//! pattern's pieces and sets of bytes (`set`), and `table` compares paths with them.
+//! pattern's pieces and sets of bytes (`set`), and `table` compares paths with them. `laws` states what the test of a
+//! pattern means.
 #![tactic(auto)]
 
 pub mod assignment;
 pub mod attributes;
 pub mod files;
+pub mod laws;
 mod line;
 pub mod line_ends;
 pub mod normalization;
