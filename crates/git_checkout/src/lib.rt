@@ -13,8 +13,6 @@ mod refresh;
 mod refused;
 pub mod request;
 mod selection;
-#[cfg(test)]
-mod tests;
 
 pub use checkout::{is_dirty, run};
 pub use request::Request;

@@ -1,6 +1,6 @@
 //! A test of `is_dirty` over a repository that it makes: each of its three results comes.
 
-use crate::checkout::is_dirty;
+use git_checkout::is_dirty;
 use std::alloc::{AllocError, Global};
 use std::test::Fail;
 use std::{env, fs, io, process};
