@@ -175,7 +175,7 @@ fn a_command_whose_output_fails_ends_without_a_word(rt: HostRuntime) {
     }
 }
 
-/// The number of entries whose lines don't fit into one write.
+/// The number of entries of a long profile.
 const MANY: usize = 1000;
 
 /// Returns a profile of many entries whose files are gone, with these options.
@@ -203,9 +203,8 @@ fn long_text(alloc: Global) -> Result<String, AllocError> {
 
 static OPTIONS: [&str; 2] = ["{}", "{\"sort\":true}"];
 
-// The text has 18,890 bytes, of which some 8 KB are written at a time.
 #[test]
-fn many_lines_are_written_together(rt: HostRuntime) -> Result<(), Fail> {
+fn many_lines_are_written_by_one_call(rt: HostRuntime) -> Result<(), Fail> {
     let text = long_text(rt.alloc())?;
     assert_eq!(rt; text.len(), 18_890);
     for options in &OPTIONS {
@@ -213,12 +212,12 @@ fn many_lines_are_written_together(rt: HostRuntime) -> Result<(), Fail> {
         let mut output = Output::new(rt.alloc());
         assert!(rt; is_quiet(&rt, Command::Status, profile.as_bytes(), &mut output, 0));
         assert_eq!(rt; output.taken.as_slice(), text.as_bytes(), "{options}");
-        assert!(rt; output.calls >= 2 && output.calls <= 5, "{}", output.calls);
+        assert_eq!(rt; output.calls, 1, "{options}");
     }
     Ok(())
 }
 
-// The fault comes in the first write, in a later one, or in the last.
+// The output takes this many bytes of the text, and then fails.
 #[test]
 fn after_a_write_that_fails_no_later_line_is_written(rt: HostRuntime) -> Result<(), Fail> {
     let text = long_text(rt.alloc())?;
