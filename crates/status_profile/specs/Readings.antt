@@ -1,4 +1,4 @@
--- What is read of a text: its JSON value, and what keys of it say.
+-- The readings of a text: its JSON value, and what keys of it say.
 use Rattle.std.specs.Prelude.{◌≡◌, List, ℕ, Option, Some, None, Result, Ok, Err, ⊤}
 use Rattle.std.specs.Str.{IsUtf8}
 use Rattle.serde_json.specs.Data.{Data}

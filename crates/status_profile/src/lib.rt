@@ -3,7 +3,7 @@
 //! Read `profile` and `history` first, then `options`, `node` and `event`, what they are made of, and `error`. `keys` reads
 //! a text as a JSON value, and what its keys say. `form` has the forms of values; the crates status_format and
 //! status_stored have those of entries. `refreshed` writes a profile again with another index, and `laws` states that this
-//! index is read as the same. What a text says is defined in `specs`: `Profiles` and `Histories`, over `Readings`,
+//! index is read as the same. The folder `specs` defines what a text says: `Profiles` and `Histories`, over `Readings`,
 //! `Options`, `Nodes`, `Events`, `Forms` and `Words`. `Refreshed` has what is written.
 #![tactic(auto)]
 

@@ -79,7 +79,7 @@ impl Profile {
     }
 }
 
-/// What the keys of a profile say.
+/// The values that the keys of a profile say.
 #[derive(Drop)]
 struct Fields {
     /// How ids are made.
