@@ -23,16 +23,16 @@ TOTALS = b"total: to process 0, processed 0, skipped 0, lstat 0, to update 0, ra
 
 # Nested lists within a profile, by their number of levels. A profile is itself the first level, and its index the second.
 LEVELS = [
-    ("", 128, "", "bad profile: hash"),
-    ("", 129, "", "not JSON"),
-    ('{"more":', 127, "}", "bad profile: timestamp"),
-    ('{"more":', 128, "}", "not JSON"),
-    ('{"index":[', 126, "]}", "bad profile: timestamp"),
-    ('{"index":[', 127, "]}", "not JSON"),
-    ('{"worktree":', 127, "}", "bad profile: timestamp"),
-    ('{"worktree":', 128, "}", "not JSON"),
+    ("", 127, "", "bad profile: hash"),
+    ("", 128, "", "not JSON"),
+    ('{"more":', 126, "}", "bad profile: timestamp"),
+    ('{"more":', 127, "}", "not JSON"),
+    ('{"index":[', 125, "]}", "bad profile: timestamp"),
+    ('{"index":[', 126, "]}", "not JSON"),
+    ('{"worktree":', 126, "}", "bad profile: timestamp"),
+    ('{"worktree":', 127, "}", "not JSON"),
 ]
-# Profiles that are no UTF-8, or no JSON by a byte order mark, a tab in a text, or more than 128 levels.
+# Profiles that are no UTF-8, or no JSON by a byte order mark, a tab in a text, or more than 127 levels.
 TEXTS = [(b'{"hash":"\xff"}', "not JSON"), ("\ufeff{}", "not JSON")]
 TEXTS += [('{"timestamp":[9,0],"index":[{"path":"a","id":"%s","more":"\t"}],"worktree":[]}' % FOO, "not JSON")]
 TEXTS += [(front + "[" * levels + "]" * levels + back, fault) for front, levels, back, fault in LEVELS]

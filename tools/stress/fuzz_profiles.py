@@ -39,9 +39,8 @@ from support.small_profiles import more_words, wrong_files
 # How many seeds a process takes at once.
 PART = 50
 USAGE = "usage: status_program status FILE | replay FILE | refresh FILE OUT SECS NSECS\n"
-# The most levels of nesting that the program's reader takes, and its writer.
-MOST_LEVELS = 128
-MOST_LEVELS_WRITTEN = 127
+# The most levels of nesting that the program takes.
+MOST_LEVELS = 127
 
 FAULT = r"not found|not a directory|permission denied|interrupted|unexpected end|not normal|time|other 0"
 MOMENTS = r"stamp later|bad moment"
@@ -94,10 +93,6 @@ def levels(text):
     return most
 
 
-def any_number(text):
-    return 0
-
-
 def check_number(text):
     """Raises a ValueError for a number that isn't in a float's range."""
     if abs(float(text)) == float("inf"):
@@ -118,24 +113,15 @@ def check_texts(value):
             check_texts(item)
 
 
-def is_text(content, parse_number, most_levels):
-    how = {"parse_float": parse_number, "parse_int": parse_number, "parse_constant": refuse}
+def is_json(content):
+    """Returns whether the program has to accept this as JSON."""
+    how = {"parse_float": check_number, "parse_int": check_number, "parse_constant": refuse}
     try:
         text = content.decode()
         check_texts(json.loads(text, object_pairs_hook=list, **how))
     except (ValueError, RecursionError):
         return False
-    return levels(text) <= most_levels
-
-
-def is_json(content):
-    """Returns whether the program's reader has to accept this as JSON."""
-    return is_text(content, any_number, MOST_LEVELS)
-
-
-def is_rewritable(content):
-    """Returns whether `refresh` has to write this again, if it is a profile."""
-    return is_text(content, check_number, MOST_LEVELS_WRITTEN)
+    return levels(text) <= MOST_LEVELS
 
 
 def wrong_lines(command, status, out):
@@ -158,13 +144,6 @@ def wrong_lines(command, status, out):
     return "a status that failed has a total line" if closed and status == 1 and command != "replay" else None
 
 
-def is_other_opinion(case, status, is_refused):
-    """Returns whether the program accepts a text that isn't JSON, or refuses one that is."""
-    if case.command == "refresh" and is_json(case.content) and not is_rewritable(case.content):
-        return status == 0
-    return is_refused == is_json(case.content)
-
-
 def wrong(case, ended):
     """Returns what is wrong with how a run ended, or None."""
     if ended.status not in (0, 1, 2):
@@ -182,7 +161,7 @@ def wrong(case, ended):
         return "another line on standard error"
     if fault.startswith("cannot read ") != case.is_missing:
         return "a file that is there can't be read, or one that isn't is read"
-    if not case.is_missing and is_other_opinion(case, ended.status, fault == "not JSON\n"):
+    if not case.is_missing and (fault == "not JSON\n") == is_json(case.content):
         return "another opinion of what JSON is"
     return wrong_lines(case.command, ended.status, out)
 

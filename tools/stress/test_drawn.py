@@ -13,7 +13,7 @@ from functools import partial
 from status_program.row_files import read_rows
 from stress import compare_dirty, draw_histories, draw_profiles, fuzz_profiles, mutate_index, mutate_settings
 from stress.draw_attributes import AttributeDrawing
-from stress.fuzz_profiles import is_json, is_rewritable
+from stress.fuzz_profiles import is_json
 from stress.seeds import run_all
 from support.programs import GIT_DIRTY, STATUS_PROGRAM, Ended
 from support.repositories import as_dirty, read, write
@@ -54,11 +54,11 @@ FAULTS = {"status": ["bad profile: worktree", "bad index: mixed hash at 3", "bad
 FAULTS["replay"] = ["bad profile: events", "refused start: stamp later", "refused 4: clock end"]
 WRONG_FAULTS = ["out of memory", "status failed: no thread", "", "bad profile: folder", "not JSON", "cannot read a"]
 
-DEEP = b"[" * 128 + b"]" * 128
-JSON = [b"{}", b" [1, -0, 1.5e-3]\n", b'"\\ud83d\\ude00"', b"1e308", b"9" * 300, b"1e400", b'"' + b"[" * 200 + b'"', DEEP]
+DEEP = b"[" * 127 + b"]" * 127
+JSON = [b"{}", b" [1, -0, 1.5e-3]\n", b'"\\ud83d\\ude00"', b"1e308", b"9" * 300, b'"' + b"[" * 200 + b'"', DEEP]
 NO_JSON = [b"", b"{", b"[1,]", b"01", b"+1", b".5", b"NaN", b"-Infinity", b"'a'", b'"\t"', b'"\\x"', b"\x0c1", b"\xc2\xa01"]
 NO_JSON += [b"\xef\xbb\xbf{}", b"{} {}", b'"\xff"', b'"\xed\xa0\x80"', b'"\\ud800"', b'{"\\udc00":1}']
-NO_JSON += [b'{"a":"\\ud800","a":1}', b"[" + DEEP + b"]", b"[" * 5000 + b"]" * 5000]
+NO_JSON += [b"1e400", b"-" + b"9" * 400, b'{"a":"\\ud800","a":1}', b"[" + DEEP + b"]", b"[" * 5000 + b"]" * 5000]
 
 
 def put_script(room, script):
@@ -311,7 +311,7 @@ class Ends(unittest.TestCase):
         usage = fuzz_profiles.USAGE
         rows = [(2, usage, {"is_usage": True}), (1, "cannot read a\n", {"is_missing": True})]
         rows += [(1, "not JSON\n", {"content": b"{"})]
-        rows += [(1, fault, {"content": b"1e400", "command": "refresh"}) for fault in ("not JSON\n", "bad profile: hash\n")]
+        rows += [(1, "not JSON\n", {"content": b"1e400", "command": "refresh"})]
         self.assertEqual([row for row in rows if not self.is_right(row[0], "", row[1], **row[2])], [])
         rows = [(2, usage, {}), (0, "", {"is_usage": True}), (2, "", {"is_usage": True}), (0, "", {"is_missing": True})]
         rows += [(0, "", {"content": b"{"}), (0, "", {"content": b"1e400", "command": "refresh"})]
@@ -319,6 +319,3 @@ class Ends(unittest.TestCase):
 
     def test_json_is_that_of_the_standard(self):
         self.assertEqual(([it for it in JSON if not is_json(it)], [it for it in NO_JSON if is_json(it)]), ([], []))
-        self.assertTrue(is_rewritable(b"[" * 127 + b"1e308" + b"]" * 127))
-        for text in (b"1e400", b"-" + b"9" * 400, DEEP, b"{"):
-            self.assertFalse(is_rewritable(text), text)

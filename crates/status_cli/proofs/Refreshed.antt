@@ -1,10 +1,11 @@
 -- How a refresh ends, by the ends of its parts.
-use Rattle.std.proofs.Common.{◌≡◌, false, ℕ, zero, suc, List, [], ◌∷◌, ◌++◌, Option, Some, Result, Ok, Err, inl, inr, refl, sym, ap, subst, ◌∙◌}
+use Rattle.std.proofs.Common.{◌≡◌, ℕ, zero, suc, List, [], ◌∷◌, ◌++◌, Option, Some, Result, Ok, Err, inl, inr, refl, sym, ap, subst, ◌∙◌}
 use Rattle.std.specs.Prelude.{◌⊎◌, IfErr}
 use Rattle.std.specs.Result.{IsErrAnd}
 use Rattle.std.specs.Str.{IsUtf8}
 use Rattle.std.proofs.lemmas.List.Elements.{All-cons, All-head, All-tail}
-use Rattle.json.specs.Json.{Json, document}
+use Rattle.serde_json.specs.Data.{Data}
+use Rattle.serde_json.specs.Read.{read as json_of}
 use Rattle.status_index.specs.Entries.{IndexEntry, index_entries}
 use Rattle.status_index.specs.States.{backing_of, entries_of, index_of, timestamp_of}
 use Rattle.status_index.specs.declared.stat.Moment.{Moment}
@@ -12,17 +13,13 @@ use Rattle.status_index.specs.declared.state.State.{State}
 use Rattle.status_call.specs.IndexChanges.{applied, applied_one, change_at, changed_entry, entry_index_of}
 use Rattle.status_call.specs.declared.index_as_worktree.apply.ApplyChange.{ApplyChange}
 use Rattle.status_call.specs.declared.index_as_worktree.apply.ApplyChange.TheVariants.{NewStat, SetSizeToZero}
-use Rattle.status_profile.specs.Entries.{AreUtf8}
-use Rattle.status_profile.specs.Forms.{is_object}
-use Rattle.status_profile.specs.Profiles.{IsRead, profile_in, profile_values}
-use Rattle.status_profile.specs.Refreshed.{IsUnwritten, refreshed_text}
-use Rattle.status_profile.specs.Texts.{IsTextsRead}
-use Rattle.status_profile.specs.declared.error.Key.TheVariants as keys
+use Rattle.status_stored.specs.Storable.{AreUtf8}
+use Rattle.status_profile.specs.Profiles.{IsRead}
+use Rattle.status_profile.specs.Refreshed.{IsLineOf, IsUnwritten, refreshed}
 use Rattle.status_profile.specs.declared.error.ProfileError.{ProfileError}
 use Rattle.status_profile.specs.declared.error.ProfileError.TheVariants as profiles
 use Rattle.status_profile.specs.declared.options.Kind.TheVariants.{Plain}
 use Rattle.status_profile.specs.declared.profile.Profile.{Profile}
-use Rattle.status_profile.proofs.Keys.{no_profile}
 use Rattle.status_cli.specs.declared.failure.Failure.{Failure}
 use Rattle.status_cli.specs.declared.failure.Failure.TheVariants.{Unreadable, Memory}
 use Rattle.status_cli.specs.declared.status.inputs.WantedChanges.TheVariants.{Returned}
@@ -47,14 +44,6 @@ pub unrefreshed_index : (p : Profile) (timestamp : Moment) (old new : Option (Li
 unrefreshed_index p timestamp old new (Ok index) e h printed = absurd h
 unrefreshed_index p timestamp old new (Err f) e h printed = subst (λ d. IsProfilePrinted p Returned old (Err d) new) (sym h) printed
 
--- a profile is an object
-no_object_read : (text : List ℕ) (p : Profile) → IsRead Plain text (Ok p) → (j : Json) → document text ≡ Some j → is_object j ≡ false → ⊥
-no_object_read text p read j is none =
-    let here : Some read.1.0 ≡ Some j = sym read.1.1 ∙ is in
-    let one : read.1.0 ≡ j = cc in
-    let wrong : Err keys.Hash ≡ Ok (profile_values p) = sym (no_profile Plain j none) ∙ subst (λ d. profile_in Plain d ≡ Ok (profile_values p)) one read.1.2 in
-    let never : ⊥ = cc in never
-
 -- if paths are UTF-8, nothing but memory can be missing
 unwritten_memory : (es : List IndexEntry) → AreUtf8 es → (e : ProfileError) → IsUnwritten es e → e ≡ profiles.Memory
 unwritten_memory es utf8 profiles.NotJson h = absurd h
@@ -76,13 +65,6 @@ applied_utf8 : (cs : List ApplyChange) (es : List IndexEntry) → AreUtf8 es →
 applied_utf8 [] es all = all
 applied_utf8 (c ∷ cs) es all = applied_utf8 cs (applied_one c es) (change_utf8 c (entry_index_of c) es all)
 
--- members of a text that says a profile are read, unless memory runs out
-members_memory : (text : List ℕ) (p : Profile) → IsRead Plain text (Ok p) → (e : ProfileError) → IsTextsRead text (Err e) → e ≡ profiles.Memory
-members_memory text p read profiles.NotJson h = let none = h read.0 in let said = read.1.1 in let never : ⊥ = cc in absurd never
-members_memory text p read (profiles.Bad key) h = absurd (no_object_read text p read h.1.1.0 h.1.1.1 h.1.1.2)
-members_memory text p read (profiles.Index e) h = absurd h
-members_memory text p read profiles.Memory h = refl
-
 module _ (text : List ℕ) (old : Option (List ℕ)) where
   -- the text couldn't be read
   pub failed_unread : (f : Failure) → (f ≡ Unreadable) ⊎ (f ≡ Memory) → IsRefreshFailed text old f old
@@ -92,34 +74,31 @@ module _ (text : List ℕ) (old : Option (List ℕ)) where
   pub failed_read : (e : ProfileError) → IsRead Plain text (Err e) → (f : Failure) → f ≡ failure_of_profile e → IsRefreshFailed text old f old
   failed_read e read f is = inl (inl (inr (e, read, is, refl)))
 
-  -- its members can't be read
-  pub failed_members : (p : Profile) → IsRead Plain text (Ok p) → (e : ProfileError) → IsTextsRead text (Err e) → (f : Failure) → f ≡ failure_of_profile e → IsRefreshFailed text old f old
-  failed_members p read e unread f is = failed_unread f (inr (is ∙ ap failure_of_profile (members_memory text p read e unread)))
-
 module _ (text : List ℕ) (old new : Option (List ℕ)) (p : Profile) (read : IsRead Plain text (Ok p)) where
   -- the status failed
   pub failed_status : (e f : Failure) → f ≡ e → IsProfilePrinted p Returned old (Err e) new → IsRefreshFailed text old f new
   failed_status e f is printed = subst (λ d. IsRefreshFailed text old d new) (sym is) (inl (inr (p, read, printed)))
 
-  module _ (timestamp : Moment) (index : State) (refreshed : IsIndexRefreshed p timestamp old (Ok index) new) where
+  module _ (timestamp : Moment) (index : State) (refreshed_by : IsIndexRefreshed p timestamp old (Ok index) new) where
     abbrev status : PrintedStatus text old new
-    status = record { profile = p; read = read; changes = refreshed.0; printed = refreshed.1 }
+    status = record { profile = p; read = read; changes = refreshed_by.0; printed = refreshed_by.1 }
 
     -- there was no memory for the refreshed text
     pub failed_text : AreUtf8 (index_of p.index) → (e : ProfileError) → IsUnwritten (index_of index) e → (f : Failure) → f ≡ failure_of_profile e → IsRefreshFailed text old f new
     failed_text utf8 e unwritten f is =
-        let kept = applied_utf8 refreshed.0 (index_of p.index) utf8 in
-        inr (status, is ∙ ap failure_of_profile (unwritten_memory (applied refreshed.0 (index_of p.index)) kept e (subst (λ es. IsUnwritten es e) refreshed.2 unwritten)))
+        let kept = applied_utf8 refreshed_by.0 (index_of p.index) utf8 in
+        inr (status, is ∙ ap failure_of_profile (unwritten_memory (applied refreshed_by.0 (index_of p.index)) kept e (subst (λ es. IsUnwritten es e) refreshed_by.2 unwritten)))
 
     -- it is made
-    pub text_made : (j : Json) → document text ≡ Some j → (bytes : List ℕ) → bytes ≡ refreshed_text j (index_of index) (timestamp_of index) → IsRefreshed text timestamp old new [] bytes
-    text_made j parsed bytes is =
-        (status, j, parsed, is ∙ ap (λ es. refreshed_text j es (timestamp_of index)) refreshed.2 ∙ ap (refreshed_text j (applied refreshed.0 (index_of p.index))) refreshed.3)
+    pub text_made : (d : Data) → json_of text ≡ Some d → (line : List ℕ) → IsLineOf (refreshed d (index_of index) (timestamp_of index)) line → IsRefreshed text timestamp old new [] line
+    text_made d parsed line is =
+        let same = ap (λ es. refreshed d es (timestamp_of index)) refreshed_by.2 ∙ ap (refreshed d (applied refreshed_by.0 (index_of p.index))) refreshed_by.3 in
+        (status, d, parsed, line, subst (λ v. IsLineOf v line) same is, refl)
 
 module _ (text : List ℕ) (timestamp : Moment) (old new : Option (List ℕ)) (before added : List ℕ) (h : IsRefreshed text timestamp old new [] added) where
   -- the refreshed text was appended
   pub text_appended : (after : List ℕ) → after ≡ before ++ added → IsRefreshed text timestamp old new before after
-  text_appended after grew = (h.0, h.1, h.2, grew ∙ ap (λ text. before ++ text) h.3)
+  text_appended after grew = (h.0, h.1, h.2, h.3, h.4, grew ∙ ap (λ text. before ++ text) h.5)
 
   -- there was no memory for it
   pub text_lost : IsRefreshFailed text old Memory new

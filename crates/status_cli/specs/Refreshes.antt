@@ -1,7 +1,8 @@
 -- A refresh prints a profile's status, and then writes the profile again, with the changes that the status asks for in its index and with
 -- this timestamp.
 use Rattle.std.specs.Prelude.{◌≡◌, ◌⊎◌, ℕ, List, ◌++◌, Option, Some, Result, Ok, Err}
-use Rattle.json.specs.Json.{Json, document}
+use Rattle.serde_json.specs.Data.{Data}
+use Rattle.serde_json.specs.Read.{read}
 use Rattle.status_index.specs.Entries.{IndexEntry}
 use Rattle.status_index.specs.States.{index_of, timestamp_of}
 use Rattle.status_index.specs.declared.stat.Moment.{Moment}
@@ -9,7 +10,7 @@ use Rattle.status_index.specs.declared.state.State.{State}
 use Rattle.status_call.specs.IndexChanges.{applied}
 use Rattle.status_call.specs.declared.index_as_worktree.apply.ApplyChange.{ApplyChange}
 use Rattle.status_profile.specs.Profiles.{IsRead}
-use Rattle.status_profile.specs.Refreshed.{refreshed_text}
+use Rattle.status_profile.specs.Refreshed.{IsLineOf, refreshed}
 use Rattle.status_profile.specs.declared.options.Kind.TheVariants.{Plain}
 use Rattle.status_profile.specs.declared.profile.Profile.{Profile}
 use Rattle.status_cli.specs.declared.failure.Failure.{Failure}
@@ -35,10 +36,11 @@ pub record PrintedStatus (text : List ℕ) (old new : Option (List ℕ)) : Type 
 abbrev pub refreshed_entries : {text : List ℕ} {old new : Option (List ℕ)} → PrintedStatus text old new → List IndexEntry
 refreshed_entries s = applied s.changes (index_of s.profile.index)
 
--- the status was printed, and a list of bytes grew by the refreshed text of the text's JSON value, with these entries and this timestamp
+-- the status was printed, and a list of bytes grew by a line: the text of the text's JSON value with these entries and this timestamp
 abbrev pub IsRefreshed : List ℕ → Moment → Option (List ℕ) → Option (List ℕ) → List ℕ → List ℕ → Type 0
 IsRefreshed text timestamp old new before after =
-    (s : PrintedStatus text old new) × (j : Json) × (document text ≡ Some j) × (after ≡ before ++ refreshed_text j (refreshed_entries s) timestamp)
+    (s : PrintedStatus text old new) × (d : Data) × (read text ≡ Some d) × (line : List ℕ)
+    × IsLineOf (refreshed d (refreshed_entries s) timestamp) line × (after ≡ before ++ line)
 
 -- the refresh of a text fails as its status does; or all of its status was printed, and memory ran out
 abbrev pub IsRefreshFailed : List ℕ → Option (List ℕ) → Failure → Option (List ℕ) → Type 0

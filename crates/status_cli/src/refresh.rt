@@ -9,7 +9,7 @@ use crate::output::read_all;
 use crate::status::{IndexChanges, WantedChanges, print_profile};
 use gix_status::index::{Moment, State};
 use gix_status::index_as_worktree::apply_changes;
-use status_profile::{Kind, MemberTexts, Profile};
+use status_profile::{Kind, Profile, read_json, refreshed_text};
 use std::alloc::AllocError;
 use std::io;
 use std::rt::Files;
@@ -85,11 +85,11 @@ where
 {
     let alloc = rt.alloc();
     let text = read_all(alloc, profile)?;
-    let profile = Profile::from_json(alloc, text.as_slice(), Kind::Plain)?;
-    let members = MemberTexts::from_json(alloc, text.as_slice())?;
+    let value = read_json(alloc, text.as_slice())?;
     drop(text);
+    let profile = Profile::from_value(alloc, &value, Kind::Plain)?;
     let index = refresh_index(rt, profile, timestamp, output)?;
-    Ok(members.with_index(alloc, index)?)
+    Ok(refreshed_text(alloc, value, index)?)
 }
 
 /// Prints the status of a profile. Returns its index, with the changes that the status asks for and with this timestamp.

@@ -6,7 +6,6 @@ use Rattle.std.proofs.lemmas.Nat.Bits.{and_pow}
 use Rattle.serde_json.specs.Data.{array, string}
 use Rattle.serde_json.specs.View.{items_of}
 use Rattle.status_index.specs.FlagBits.{bits_of_stage, stage_of_bits}
-use Rattle.status_format.specs.DataFields.{data_field}
 use Rattle.status_format.specs.Reading.{flags_in}
 use Rattle.status_format.specs.Storable.{known_bits}
 use Rattle.status_format.specs.StoredEntry.{stored_flags}
@@ -17,7 +16,7 @@ abbrev bits_at : ℕ → ℕ
 bits_at k = k / 32 * 0x1000 + k % 32
 
 abbrev read_back : ℕ → Option ℕ
-read_back bits = flags_in (bits_of_stage (stage_of_bits bits)) (data_field (stored_flags bits))
+read_back bits = flags_in (bits_of_stage (stage_of_bits bits)) (stored_flags bits)
 
 -- Whether the flags of this number are read back. All flags are below the default 0x10000.
 abbrev is_back : ℕ → Bool
@@ -68,12 +67,12 @@ words_known bits =
     λ i. first i ++ (second i ++ (third i ++ (fourth i ++ (fifth i ++ []))))
 
 -- The known flags are read back, since they are those of a number below 128.
-pub flags_back : (bits : ℕ) → flags_in (bits_of_stage (stage_of_bits bits)) (data_field (stored_flags bits)) ≡ Some (known_bits bits)
+pub flags_back : (bits : ℕ) → flags_in (bits_of_stage (stage_of_bits bits)) (stored_flags bits) ≡ Some (known_bits bits)
 flags_back bits =
     let k = bits / 0x1000 % 4 * 32 + bits % 32 in
     let small : k < 128 = omega arith in
     let same : bits_at k ≡ known_bits bits = omega arith in
     let back : read_back (known_bits bits) ≡ Some (known_bits bits) = subst (λ b. read_back b ≡ Some b) same (back_of k small) in
-    let as_known : flags_in (bits_of_stage (stage_of_bits bits)) (data_field (stored_flags bits)) ≡ read_back (known_bits bits) =
-    λ i. flags_in (bits_of_stage (sym (stage_known bits) i)) (data_field (array (items_of (map string (sym (words_known bits) i))))) in
+    let as_known : flags_in (bits_of_stage (stage_of_bits bits)) (stored_flags bits) ≡ read_back (known_bits bits) =
+    λ i. flags_in (bits_of_stage (sym (stage_known bits) i)) (array (items_of (map string (sym (words_known bits) i)))) in
     as_known ∙ back

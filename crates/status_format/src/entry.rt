@@ -12,7 +12,6 @@ ghost use Rattle.status_format.specs.Reading.{entry_in, stat_in};
 ghost use Rattle.status_format.specs.Reads.{Reads};
 
 use crate::read::{FieldError, flags_at, id_at, mode_at, number_at, stage_at, text_at, time_at};
-use crate::value::JsonValue;
 use bitflags::Flags as _;
 use serde_json::{Value, json};
 use status_index::{Entry, Flags, Mode, ObjectId, PathStorage, Stat, Time};
@@ -39,8 +38,8 @@ pub struct EntryFields<'v> {
 /// # Errors
 /// A key without a default is missing, or a key of an entry has a wrong form.
 #[tactic(auto, unfolding(crate::specs::Reading::entry_in))]
-pub fn read_entry<J: JsonValue>(object: &J) -> Result<EntryFields<'_>, FieldError>
-    ensures { Reads entry_of result (entry_in (J.fields object.now)) }
+pub fn read_entry(object: &Value) -> Result<EntryFields<'_>, FieldError>
+    ensures { Reads entry_of result (entry_in (view object.now)) }
 {
     let path = text_at(object, "path")?;
     let id = id_at(object, "id")?;
@@ -63,8 +62,8 @@ pub fn read_entry<J: JsonValue>(object: &J) -> Result<EntryFields<'_>, FieldErro
 /// # Errors
 /// A key of a stat has a wrong form.
 #[tactic(auto, unfolding(crate::specs::Reading::stat_in))]
-pub fn stat_of<J: JsonValue>(object: &J, size: u32) -> Result<Stat, FieldError>
-    ensures { Reads (λ s. s) result (stat_in size (J.fields object.now)) }
+pub fn stat_of(object: &Value, size: u32) -> Result<Stat, FieldError>
+    ensures { Reads (λ s. s) result (stat_in size (view object.now)) }
 {
     let mtime = time_at(object, "mtime", Time { secs: 0, nsecs: 0 })?;
     let ctime = time_at(object, "ctime", mtime)?;

@@ -2,16 +2,17 @@
 //! missing, but may not have a wrong form.
 
 ghost use Rattle.status_index.specs.declared.mode.Mode.TheVariants.{File};
-ghost use Rattle.status_format.specs.Field.{number_in, text_in};
-ghost use Rattle.status_format.specs.Reading.{flags_in, id_in, mode_in, stage_in, stamp_in, time_in};
+ghost use Rattle.serde_json.specs.Find.{as_array, as_str, get};
+ghost use Rattle.serde_json.specs.View.{items_view, view};
+ghost use Rattle.status_format.specs.Reading.{flags_in, id_in, mode_in, number_in, stage_in, stamp_in, time_in};
 ghost use Rattle.status_format.specs.Reads.{Reads, needed, or_default, error_of_digits};
 ghost use Rattle.std.specs.Prelude.{◌≡◌, option_map};
 ghost use Rattle.status_format.specs.Words.{flag_named, id_named, mode_named};
 ghost use Rattle.status_format.specs.declared.read.FieldError.TheVariants.{Memory};
 
-use crate::value::JsonValue;
 use bitflags::Flags as _;
 use hex::{FromHex, FromHexError};
+use serde_json::Value;
 use status_index::{Flags, Mode, Moment, ObjectId, Time};
 use std::alloc::{AllocError, AllocFailed};
 
@@ -53,51 +54,64 @@ impl From<FromHexError> for FieldError {
 }
 
 /// Reads a text.
-pub fn text_of<J: JsonValue>(value: &J) -> Result<&str, FieldError>
-    ensures { Reads (λ text. text.now) result (text_in (J.field value.now)) }
+pub fn text_of(value: &Value) -> Result<&str, FieldError>
+    ensures { Reads (λ text. text.now) result (as_str (view value.now)) }
 {
-    match value.text() {
+    match value.as_str() {
         Some(text) => Ok(text),
         None => Err(FieldError::Form),
     }
 }
 
 /// Reads the text at a key, which may not be missing.
-pub fn text_at<'v, J: JsonValue>(object: &'v J, key: &str) -> Result<&'v str, FieldError>
-    ensures { Reads (λ text. text.now) result (needed text_in (J.fields object.now key.now)) }
+pub fn text_at<'v>(object: &'v Value, key: &str) -> Result<&'v str, FieldError>
+    ensures { Reads (λ text. text.now) result (needed as_str (get key.now (view object.now))) }
 {
-    match object.member(key) {
+    match object.get(key) {
         Some(value) => text_of(value),
         None => Err(FieldError::Form),
     }
 }
 
 /// Reads a whole number below 2^32, written without a point, an exponent and a sign.
-pub fn number_of<J: JsonValue>(value: &J) -> Result<u32, FieldError>
-    ensures { Reads (λ n. n) result (number_in (J.field value.now)) }
+pub fn number_of(value: &Value) -> Result<u32, FieldError>
+    ensures { Reads (λ n. n) result (number_in (view value.now)) }
 {
-    match value.number() {
-        Some(number) => Ok(number),
-        None => Err(FieldError::Form),
+    let Some(number) = value.as_u64() else {
+        return Err(FieldError::Form);
+    };
+    match u32::try_from(number) {
+        Ok(number) => Ok(number),
+        Err(_) => Err(FieldError::Form),
     }
 }
 
 /// Reads the number at a key. It is 0 if the key is missing.
-pub fn number_at<J: JsonValue>(object: &J, key: &str) -> Result<u32, FieldError>
-    ensures { Reads (λ n. n) result (or_default number_in 0 (J.fields object.now key.now)) }
+pub fn number_at(object: &Value, key: &str) -> Result<u32, FieldError>
+    ensures { Reads (λ n. n) result (or_default number_in 0 (get key.now (view object.now))) }
 {
-    match object.member(key) {
+    match object.get(key) {
         Some(number) => number_of(number),
         None => Ok(0),
     }
 }
 
+/// Reads a list.
+pub fn list_of(value: &Value) -> Result<&[Value], FieldError>
+    ensures { Reads (λ items. items_view items.now) result (as_array (view value.now)) }
+{
+    match value.as_array() {
+        Some(items) => Ok(items.as_slice()),
+        None => Err(FieldError::Form),
+    }
+}
+
 /// Reads a list of seconds and nanoseconds.
 #[tactic(auto, using(crate::proofs::Stamps::two_in_short, crate::proofs::Stamps::two_in_long))]
-pub fn time_of<J: JsonValue>(value: &J) -> Result<Time, FieldError>
-    ensures { Reads (λ t. t) result (time_in (J.field value.now)) }
+pub fn time_of(value: &Value) -> Result<Time, FieldError>
+    ensures { Reads (λ t. t) result (time_in (view value.now)) }
 {
-    let Some([secs, nsecs]) = value.items() else {
+    let [secs, nsecs] = list_of(value)? else {
         return Err(FieldError::Form);
     };
     Ok(Time {
@@ -107,28 +121,28 @@ pub fn time_of<J: JsonValue>(value: &J) -> Result<Time, FieldError>
 }
 
 /// Reads the time at a key. It is `default` if the key is missing.
-pub fn time_at<J: JsonValue>(object: &J, key: &str, default: Time) -> Result<Time, FieldError>
-    ensures { Reads (λ t. t) result (or_default time_in default (J.fields object.now key.now)) }
+pub fn time_at(object: &Value, key: &str, default: Time) -> Result<Time, FieldError>
+    ensures { Reads (λ t. t) result (or_default time_in default (get key.now (view object.now))) }
 {
-    match object.member(key) {
+    match object.get(key) {
         Some(time) => time_of(time),
         None => Ok(default),
     }
 }
 
 /// Reads the moment that a list of seconds and nanoseconds is.
-pub fn stamp_of<J: JsonValue>(value: &J) -> Result<Moment, FieldError>
-    ensures { Reads (λ m. m) result (stamp_in (J.field value.now)) }
+pub fn stamp_of(value: &Value) -> Result<Moment, FieldError>
+    ensures { Reads (λ m. m) result (stamp_in (view value.now)) }
 {
     let Time { secs, nsecs } = time_of(value)?;
     Ok(Moment { secs, nsecs })
 }
 
 /// Reads the stage of an entry, 0 to 3. It is 0 if the key is missing.
-pub fn stage_at<J: JsonValue>(object: &J, key: &str) -> Result<u32, FieldError>
-    ensures { Reads (λ n. n) result (or_default stage_in 0 (J.fields object.now key.now)) }
+pub fn stage_at(object: &Value, key: &str) -> Result<u32, FieldError>
+    ensures { Reads (λ n. n) result (or_default stage_in 0 (get key.now (view object.now))) }
 {
-    match object.member(key) {
+    match object.get(key) {
         Some(stage) => match number_of(stage)? {
             number @ 0..=3 => Ok(number),
             _ => Err(FieldError::Form),
@@ -138,14 +152,11 @@ pub fn stage_at<J: JsonValue>(object: &J, key: &str) -> Result<u32, FieldError>
 }
 
 /// Returns the flags `start` together with those that a list names.
-fn flags_of<J: JsonValue>(value: &J, start: Flags) -> Result<Flags, FieldError>
-    ensures { Reads (λ f. f.0) result (flags_in start.0 (J.field value.now)) }
+fn flags_of(value: &Value, start: Flags) -> Result<Flags, FieldError>
+    ensures { Reads (λ f. f.0) result (flags_in start.0 (view value.now)) }
 {
-    let Some(words) = value.items() else {
-        return Err(FieldError::Form);
-    };
     let mut flags = start;
-    for word in words {
+    for word in list_of(value)? {
         match flag_of_word(text_of(word)?) {
             Some(flag) => flags.insert(flag),
             None => return Err(FieldError::Form),
@@ -155,20 +166,20 @@ fn flags_of<J: JsonValue>(value: &J, start: Flags) -> Result<Flags, FieldError>
 }
 
 /// Reads the flags of an entry at this stage. They are those of the stage alone if the key is missing.
-pub fn flags_at<J: JsonValue>(object: &J, key: &str, stage: Flags) -> Result<Flags, FieldError>
-    ensures { Reads (λ f. f.0) result (or_default (flags_in stage.0) stage.0 (J.fields object.now key.now)) }
+pub fn flags_at(object: &Value, key: &str, stage: Flags) -> Result<Flags, FieldError>
+    ensures { Reads (λ f. f.0) result (or_default (flags_in stage.0) stage.0 (get key.now (view object.now))) }
 {
-    match object.member(key) {
+    match object.get(key) {
         Some(words) => flags_of(words, stage),
         None => Ok(stage),
     }
 }
 
 /// Reads the mode of an entry. It is a file's if the key is missing.
-pub fn mode_at<J: JsonValue>(object: &J, key: &str) -> Result<Mode, FieldError>
-    ensures { Reads (λ m. m) result (or_default mode_in File (J.fields object.now key.now)) }
+pub fn mode_at(object: &Value, key: &str) -> Result<Mode, FieldError>
+    ensures { Reads (λ m. m) result (or_default mode_in File (get key.now (view object.now))) }
 {
-    let Some(value) = object.member(key) else {
+    let Some(value) = object.get(key) else {
         return Ok(Mode::File);
     };
     match mode_of_word(text_of(value)?) {
@@ -178,8 +189,8 @@ pub fn mode_at<J: JsonValue>(object: &J, key: &str) -> Result<Mode, FieldError>
 }
 
 /// Reads an id, whose kind follows from the number of its hexadecimal digits.
-pub fn id_of<J: JsonValue>(value: &J) -> Result<ObjectId, FieldError>
-    ensures { Reads (λ id. id) result (id_in (J.field value.now)) }
+pub fn id_of(value: &Value) -> Result<ObjectId, FieldError>
+    ensures { Reads (λ id. id) result (id_in (view value.now)) }
 {
     match id_of_word(text_of(value)?) {
         Some(id) => Ok(id),
@@ -188,10 +199,10 @@ pub fn id_of<J: JsonValue>(value: &J) -> Result<ObjectId, FieldError>
 }
 
 /// Reads the id at a key, which may not be missing.
-pub fn id_at<J: JsonValue>(object: &J, key: &str) -> Result<ObjectId, FieldError>
-    ensures { Reads (λ id. id) result (needed id_in (J.fields object.now key.now)) }
+pub fn id_at(object: &Value, key: &str) -> Result<ObjectId, FieldError>
+    ensures { Reads (λ id. id) result (needed id_in (get key.now (view object.now))) }
 {
-    match object.member(key) {
+    match object.get(key) {
         Some(id) => id_of(id),
         None => Err(FieldError::Form),
     }

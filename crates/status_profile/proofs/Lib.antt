@@ -1,15 +1,4 @@
-pub mod Eaches
-pub mod Fronts
-pub mod Held
-pub mod Histories
-pub mod IndexTexts
-pub mod Joined
-pub mod Keys
 pub mod Lengths
-pub mod MemberSteps
-pub mod Puts
-pub mod Renewed
-pub mod SortedValues
+pub mod Readings
 pub mod Stretches
-pub mod Tokens
 pub mod WrittenIndexes

@@ -1,9 +1,7 @@
 -- The stretches of a list of events, item by item.
-use Rattle.std.proofs.Common.{◌≡◌, ℕ, ◌+◌, ◌<◌, true, false, List, [], ◌∷◌, ◌++◌, length, get_or, drop, map, suc, Option, Some, None, option_map, refl, sym, ap, ◌∙◌, add-one, append_assoc, drop-cons}
-use Rattle.json.specs.Json.{Json, Items, item}
-use Rattle.json.specs.Find.{as_array}
-use Rattle.json.specs.Value.{items_view, value_view}
-use Rattle.json.specs.declared.value.Value.{Value}
+use Rattle.std.proofs.Common.{◌≡◌, true, false, List, [], ◌∷◌, ◌++◌, map, Option, Some, None, option_map, refl, sym, ◌∙◌, append_assoc}
+use Rattle.serde_json.specs.Data.{Data, Items, item}
+use Rattle.serde_json.specs.Find.{as_array}
 use Rattle.std.proofs.lemmas.List.{map-append}
 use Rattle.std.specs.Prelude.{Vec}
 use Rattle.std.specs.declared.alloc.Global.{Global}
@@ -18,20 +16,15 @@ onto_more : (s : List (List EventValue)) (e : List EventValue) (r : Option (List
 onto_more s e None = refl
 onto_more s e (Some rest) = simp append_assoc
 
-module _ (s : List (List EventValue)) (e : List EventValue) (j : Json) (js parts : Items) (list : as_array j ≡ Some parts) where
+module _ (s : List (List EventValue)) (e : List EventValue) (j : Data) (js parts : Items) (list : as_array j ≡ Some parts) where
   reopened : is_reopening parts ≡ true → stretches_onto s e (item j js) ≡ stretches_onto (s ++ e ∷ []) [] js
   reopened is = rw (list, is) (onto_more s e (stretches_from [] js))
 
   one_event : is_reopening parts ≡ false → (x : EventValue) → event_of parts ≡ Some x → stretches_onto s e (item j js) ≡ stretches_onto s (e ++ x ∷ []) js
   one_event is x h = rw (list, is, h) refl
 
--- the first item of what is left
-module _ {A : Type 0} where
-  pub first_item : (vs : List (Value A)) (i : ℕ) (v : Value A) → i < length vs → v ≡ get_or vs i v → items_view (drop i vs) ≡ item (value_view v) (items_view (drop (i + 1) vs))
-  first_item vs i v h is = rw (add-one, drop-cons vs i v) (ap (λ (d : Value A). item (value_view d) (items_view (drop (suc i) vs))) (sym is))
-
 -- a turn of the loop
-module _ (stretches : Vec (Vec Event Global) Global) (stretch : Vec Event Global) (j : Json) (js parts : Items) (list : as_array j ≡ Some parts) (whole : Option (List (List EventValue))) (held : stretches_onto (stretch_values stretches) (map event_value stretch.items) (item j js) ≡ whole) where
+module _ (stretches : Vec (Vec Event Global) Global) (stretch : Vec Event Global) (j : Data) (js parts : Items) (list : as_array j ≡ Some parts) (whole : Option (List (List EventValue))) (held : stretches_onto (stretch_values stretches) (map event_value stretch.items) (item j js) ≡ whole) where
   pub turn_reopened : is_reopening parts ≡ true → (moved : Vec Event Global) → moved ≡ stretch → (after : Vec (Vec Event Global) Global) → after.items ≡ stretches.items ++ moved ∷ [] → (fresh : Vec Event Global) → fresh.items ≡ [] → stretches_onto (stretch_values after) (map event_value fresh.items) js ≡ whole
   turn_reopened is moved same after pushed fresh empty = rw (pushed, empty, same, map-append) (sym (reopened (stretch_values stretches) (map event_value stretch.items) j js parts list is) ∙ held)
 

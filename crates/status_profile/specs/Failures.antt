@@ -1,21 +1,20 @@
 -- The error of a profile for an error of a part of it.
 use Rattle.std.specs.Prelude.{Result, Ok, Err}
-use Rattle.json.specs.declared.error.Error.{Error}
-use Rattle.json.specs.declared.error.Error.TheVariants as json
 use Rattle.status_index.specs.declared.state.IndexError.{IndexError}
 use Rattle.status_index.specs.declared.state.IndexError.TheVariants as index_errors
 use Rattle.status_format.specs.declared.read.FieldError.{FieldError}
 use Rattle.status_format.specs.declared.read.FieldError.TheVariants as fields
+use Rattle.status_stored.specs.declared.error.StoreError.{StoreError}
+use Rattle.status_stored.specs.declared.error.StoreError.TheVariants as store_errors
 use Rattle.status_profile.specs.declared.error.Key.{Key}
+use Rattle.status_profile.specs.declared.error.Key.TheVariants as keys
 use Rattle.status_profile.specs.declared.error.ProfileError.{ProfileError}
-use Rattle.status_profile.specs.declared.error.ProfileError.TheVariants.{NotJson, Bad, Index, Memory}
+use Rattle.status_profile.specs.declared.error.ProfileError.TheVariants.{Bad, Index, Memory}
 
--- of its text
-abbrev pub error_of_json : Error → ProfileError
-error_of_json json.OutOfMemory = Memory
-error_of_json json.Invalid = NotJson
-error_of_json json.TooLong = NotJson
-error_of_json json.DuplicateKey = NotJson
+-- of storing its index
+abbrev pub error_of_store : StoreError → ProfileError
+error_of_store (store_errors.NotUtf8 at) = Bad keys.Index
+error_of_store store_errors.Memory = Memory
 
 -- of its entries
 abbrev pub error_of_index : IndexError → ProfileError

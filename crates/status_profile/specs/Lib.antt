@@ -1,16 +1,10 @@
-pub mod Entries
 pub mod Events
 pub mod Failures
 pub mod Forms
-pub mod Held
 pub mod Histories
-pub mod Members
 pub mod Nodes
 pub mod Options
-pub mod Parts
 pub mod Profiles
+pub mod Readings
 pub mod Refreshed
-pub mod Sorted
-pub mod Steps
-pub mod Texts
 pub mod Words

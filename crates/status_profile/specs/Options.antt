@@ -2,8 +2,8 @@
 -- (`Kind.Plain`) refuses these and sorting.
 use Rattle.std.specs.Prelude.{ℕ, ◌||◌, Bool, true, false, List, [], codes, Option, Some, None, is_some, if◌then◌else◌}
 use Rattle.bstr.specs.Owned.{bstring_bytes}
-use Rattle.json.specs.Json.{Json}
-use Rattle.json.specs.Find.{get, as_bool, as_str}
+use Rattle.serde_json.specs.Data.{Data}
+use Rattle.serde_json.specs.Find.{get, as_bool, as_str}
 use Rattle.status_index.specs.declared.stat.Options.{Options as StatOptions}
 use Rattle.status_call.specs.declared.index_as_worktree.types.Options.{Options}
 use Rattle.status_compare.specs.declared.compare.Comparer.{Comparer}
@@ -12,12 +12,13 @@ use Rattle.status_profile.specs.declared.options.HistoryOptions.{HistoryOptions}
 use Rattle.status_profile.specs.declared.options.Kind.{Kind}
 use Rattle.status_profile.specs.declared.options.Kind.TheVariants as kinds
 use Rattle.status_profile.specs.declared.options.ProfileOptions.{ProfileOptions}
+use Rattle.status_format.specs.Reading.{number_in}
 use Rattle.status_format.specs.Reads.{◌>>=◌, or_default}
-use Rattle.status_profile.specs.Forms.{limit_in, json_number, object_or_empty}
+use Rattle.status_profile.specs.Forms.{limit_in, object_or_empty}
 use Rattle.status_profile.specs.Words.{comparer_in}
 
 -- which parts of stats have to be equal
-abbrev pub stat_options_in : Json → Option StatOptions
+abbrev pub stat_options_in : Data → Option StatOptions
 stat_options_in o = do
   trust_ctime ← or_default as_bool true (get (codes "trust_ctime") o)
   check_stat ← or_default as_bool true (get (codes "check_stat") o)
@@ -26,7 +27,7 @@ stat_options_in o = do
   Some (record { trust_ctime = trust_ctime; check_stat = check_stat; use_nsec = use_nsec; use_stdev = use_stdev })
 
 -- the options of a history, which a status has too
-unfoldable pub common_options_in : Json → Option HistoryOptions
+unfoldable pub common_options_in : Data → Option HistoryOptions
 common_options_in o = do
   stat ← stat_options_in o
   executable_bit ← or_default as_bool true (get (codes "executable_bit") o)
@@ -34,11 +35,11 @@ common_options_in o = do
   Some (record { stat = stat; executable_bit = executable_bit; counts = counts })
 
 -- how a status is computed, with these options of a history; listings are never used
-unfoldable pub status_options_in : HistoryOptions → Json → Option Options
+unfoldable pub status_options_in : HistoryOptions → Data → Option Options
 status_options_in common o = do
   symlink ← or_default as_bool true (get (codes "symlink") o)
   thread_limit ← or_default limit_in None (get (codes "thread_limit") o)
-  chunk_size ← or_default json_number 0 (get (codes "chunk_size") o)
+  chunk_size ← or_default number_in 0 (get (codes "chunk_size") o)
   Some (record {
     fs = record { symlink = symlink; executable_bit = common.executable_bit };
     thread_limit = thread_limit;
@@ -73,7 +74,7 @@ abbrev pub is_joined : OptionValues → Bool
 is_joined o = o.untracked || o.renames || o.sort
 
 -- the options by the fields of an object
-unfoldable pub fields_in : Json → Option OptionValues
+unfoldable pub fields_in : Data → Option OptionValues
 fields_in o = do
   common ← common_options_in o
   status ← status_options_in common o
@@ -107,7 +108,7 @@ if_kind kinds.Any o = Some o
 if_kind kinds.Plain o = if is_joined o then None else Some o
 
 -- the options of a status, by the values of `options` and `folder`; all of them may be missing
-abbrev pub options_in : Kind → Option Json → Option Json → Option OptionValues
+abbrev pub options_in : Kind → Option Data → Option Data → Option OptionValues
 options_in kind options folder = do
   object ← object_or_empty options
   values ← fields_in object
@@ -115,7 +116,7 @@ options_in kind options folder = do
   if_kind kind placed
 
 -- the options of a history, by the value of `options`
-abbrev pub history_options_in : Option Json → Option HistoryOptions
+abbrev pub history_options_in : Option Data → Option HistoryOptions
 history_options_in options = do
   object ← object_or_empty options
   common_options_in object

@@ -1,8 +1,8 @@
 -- The words for kinds of ids, comparers and kinds of nodes.
 use Rattle.std.specs.Prelude.{ℕ, List, codes, Option, Some, None, if◌then◌else◌}
 use Rattle.std.specs.Str.{bytes_eq}
-use Rattle.json.specs.Json.{Json}
-use Rattle.json.specs.Find.{as_str}
+use Rattle.serde_json.specs.Data.{Data}
+use Rattle.serde_json.specs.Find.{as_str}
 use Rattle.status_index.specs.declared.id.HashKind.{HashKind}
 use Rattle.status_index.specs.declared.id.HashKind.TheVariants.{Sha1, Sha256}
 use Rattle.status_index.specs.declared.stat.NodeKind.{NodeKind}
@@ -32,11 +32,11 @@ kind_named word =
     else (if bytes_eq word (codes "other") then Some kinds.Other
     else None)))
 
-abbrev pub hash_in : Json → Option HashKind
-hash_in j = as_str j >>= hash_named
+abbrev pub hash_in : Data → Option HashKind
+hash_in d = as_str d >>= hash_named
 
-abbrev pub comparer_in : Json → Option Comparer
-comparer_in j = as_str j >>= comparer_named
+abbrev pub comparer_in : Data → Option Comparer
+comparer_in d = as_str d >>= comparer_named
 
-abbrev pub kind_in : Json → Option NodeKind
-kind_in j = as_str j >>= kind_named
+abbrev pub kind_in : Data → Option NodeKind
+kind_in d = as_str d >>= kind_named

@@ -2,7 +2,8 @@
 
 ghost use Rattle.std.specs.Prelude.{◌≡◌};
 
-use gix_status::index::IndexError;
+use status_base::index::IndexError;
+use status_stored::StoreError;
 use std::alloc::{AllocError, AllocFailed};
 use std::fmt;
 use thiserror::Error;
@@ -79,29 +80,17 @@ impl<T: Drop> From<AllocFailed<T>> for ProfileError {
     }
 }
 
-impl From<json::Error> for ProfileError {
+impl From<StoreError> for ProfileError {
     ghost use Rattle.std.specs.Prelude.{◌≡◌};
-    ghost use Rattle.status_profile.specs.Failures.{error_of_json};
+    ghost use Rattle.status_profile.specs.Failures.{error_of_store};
 
-    ghost from_gives = { λ error e. e ≡ error_of_json error };
+    ghost from_gives = { λ error e. e ≡ error_of_store error };
 
-    fn from(error: json::Error) -> ProfileError {
+    fn from(error: StoreError) -> ProfileError {
         match error {
-            json::Error::OutOfMemory => ProfileError::Memory,
-            json::Error::Invalid | json::Error::TooLong | json::Error::DuplicateKey =>
-                ProfileError::NotJson,
+            StoreError::NotUtf8 { .. } => ProfileError::Bad(Key::Index),
+            StoreError::Memory => ProfileError::Memory,
         }
-    }
-}
-
-impl From<json::Invalid> for ProfileError {
-    ghost use Rattle.std.specs.Prelude.{◌≡◌};
-    ghost use Rattle.status_profile.specs.declared.error.ProfileError.TheVariants.{NotJson};
-
-    ghost from_gives = { λ _ e. e ≡ NotJson };
-
-    fn from(_invalid: json::Invalid) -> ProfileError {
-        ProfileError::NotJson
     }
 }
 

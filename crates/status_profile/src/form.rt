@@ -1,33 +1,24 @@
 //! The forms of values in a profile.
 
 ghost use Rattle.std.specs.Prelude.{◌≡◌, []};
-ghost use Rattle.json.specs.Find.{as_array, as_bool, as_str, get};
-ghost use Rattle.json.specs.Value.{items_view, value_view};
+ghost use Rattle.serde_json.specs.Find.{as_bool, as_str, get};
+ghost use Rattle.serde_json.specs.View.{view};
+ghost use Rattle.status_format.specs.Reading.{number_in};
 ghost use Rattle.status_format.specs.Reads.{Reads, or_default};
-ghost use Rattle.status_profile.specs.Forms.{json_at, object_at, object_or_empty, json_number, limit_in, moment_in};
+ghost use Rattle.status_profile.specs.Forms.{value_at, object_at, object_or_empty, limit_in, moment_in};
 ghost use Rattle.status_profile.specs.Words.{comparer_in, hash_in, kind_in, comparer_named, hash_named, kind_named};
 
-use gix_status::index::HashKind;
-use gix_status::worktree::NodeKind;
-use json::Value;
+use serde_json::Value;
+use status_base::index::HashKind;
+use status_base::worktree::NodeKind;
 use status_compare::Comparer;
 use status_format::FieldError;
-use status_format::read::{number_of, stamp_of};
+use status_format::read::{number_of, stamp_of, text_of};
 use status_index::Moment;
 
-/// Reads a text.
-pub fn text_of<'a>(value: &Value<'a>) -> Result<&'a str, FieldError>
-    ensures { Reads (λ text. text.now) result (as_str (value_view value.now)) }
-{
-    match value.as_str() {
-        Some(text) => Ok(text),
-        None => Err(FieldError::Form),
-    }
-}
-
 /// Reads a truth value.
-pub fn truth_of(value: &Value<'_>) -> Result<bool, FieldError>
-    ensures { Reads (λ b. b) result (as_bool (value_view value.now)) }
+pub fn truth_of(value: &Value) -> Result<bool, FieldError>
+    ensures { Reads (λ b. b) result (as_bool (view value.now)) }
 {
     match value.as_bool() {
         Some(truth) => Ok(truth),
@@ -35,21 +26,11 @@ pub fn truth_of(value: &Value<'_>) -> Result<bool, FieldError>
     }
 }
 
-/// Reads a list.
-pub fn list_of<'v, 'a>(value: &'v Value<'a>) -> Result<&'v [Value<'a>], FieldError>
-    ensures { Reads (λ items. items_view items.now) result (as_array (value_view value.now)) }
-{
-    match value {
-        Value::Array(items) => Ok(items.as_slice()),
-        _ => Err(FieldError::Form),
-    }
-}
-
 /// Reads a moment: a number of seconds, or a list of seconds and nanoseconds.
-pub fn moment_of(value: &Value<'_>) -> Result<Moment, FieldError>
-    ensures { Reads (λ m. m) result (moment_in (value_view value.now)) }
+pub fn moment_of(value: &Value) -> Result<Moment, FieldError>
+    ensures { Reads (λ m. m) result (moment_in (view value.now)) }
 {
-    if value.as_number().is_none() {
+    if !value.is_number() {
         return stamp_of(value);
     }
     Ok(Moment {
@@ -59,8 +40,8 @@ pub fn moment_of(value: &Value<'_>) -> Result<Moment, FieldError>
 }
 
 /// Reads the greatest number of workers. Null sets none.
-pub fn limit_of(value: &Value<'_>) -> Result<Option<usize>, FieldError>
-    ensures { Reads (λ limit. limit) result (limit_in (value_view value.now)) }
+pub fn limit_of(value: &Value) -> Result<Option<usize>, FieldError>
+    ensures { Reads (λ limit. limit) result (limit_in (view value.now)) }
 {
     if value.is_null() {
         return Ok(None);
@@ -69,8 +50,8 @@ pub fn limit_of(value: &Value<'_>) -> Result<Option<usize>, FieldError>
 }
 
 /// Returns the value of a key that must be there.
-pub fn required<'v, 'a>(value: Option<&'v Value<'a>>) -> Result<&'v Value<'a>, FieldError>
-    ensures { Reads (λ v. value_view v.now) result (json_at value.entry) }
+pub fn required(value: Option<&Value>) -> Result<&Value, FieldError>
+    ensures { Reads (λ v. view v.now) result (value_at value.entry) }
 {
     match value {
         Some(value) => Ok(value),
@@ -79,8 +60,8 @@ pub fn required<'v, 'a>(value: Option<&'v Value<'a>>) -> Result<&'v Value<'a>, F
 }
 
 /// Reads a number, which is 0 if it is missing.
-pub fn number_or_zero(value: Option<&Value<'_>>) -> Result<u32, FieldError>
-    ensures { Reads (λ n. n) result (or_default json_number 0 (json_at value.entry)) }
+pub fn number_or_zero(value: Option<&Value>) -> Result<u32, FieldError>
+    ensures { Reads (λ n. n) result (or_default number_in 0 (value_at value.entry)) }
 {
     match value {
         Some(number) => number_of(number),
@@ -89,8 +70,8 @@ pub fn number_or_zero(value: Option<&Value<'_>>) -> Result<u32, FieldError>
 }
 
 /// Reads a truth value, or returns `default` if it is missing.
-pub fn truth_or(value: Option<&Value<'_>>, default: bool) -> Result<bool, FieldError>
-    ensures { Reads (λ b. b) result (or_default as_bool default (json_at value.entry)) }
+pub fn truth_or(value: Option<&Value>, default: bool) -> Result<bool, FieldError>
+    ensures { Reads (λ b. b) result (or_default as_bool default (value_at value.entry)) }
 {
     match value {
         Some(truth) => truth_of(truth),
@@ -99,8 +80,8 @@ pub fn truth_or(value: Option<&Value<'_>>, default: bool) -> Result<bool, FieldE
 }
 
 /// Reads a text, which is empty if it is missing.
-pub fn text_or_empty<'a>(value: Option<&Value<'a>>) -> Result<&'a str, FieldError>
-    ensures { Reads (λ text. text.now) result (or_default as_str [] (json_at value.entry)) }
+pub fn text_or_empty(value: Option<&Value>) -> Result<&str, FieldError>
+    ensures { Reads (λ text. text.now) result (or_default as_str [] (value_at value.entry)) }
 {
     match value {
         Some(text) => text_of(text),
@@ -112,8 +93,8 @@ pub fn text_or_empty<'a>(value: Option<&Value<'a>>) -> Result<&'a str, FieldErro
 ///
 /// # Errors
 /// It isn't an object.
-pub fn object_of<'v, 'a>(value: Option<&'v Value<'a>>) -> Result<Option<&'v Value<'a>>, FieldError>
-    ensures { Reads object_at result (object_or_empty (json_at value.entry)) }
+pub fn object_of(value: Option<&Value>) -> Result<Option<&Value>, FieldError>
+    ensures { Reads object_at result (object_or_empty (value_at value.entry)) }
 {
     match value {
         Some(Value::Object(_)) | None => Ok(value),
@@ -122,8 +103,8 @@ pub fn object_of<'v, 'a>(value: Option<&'v Value<'a>>) -> Result<Option<&'v Valu
 }
 
 /// Returns the value of a key of an object that may be missing.
-pub fn field<'v, 'a>(object: Option<&'v Value<'a>>, key: &str) -> Option<&'v Value<'a>>
-    ensures { json_at result ≡ get key.now (object_at object.entry) }
+pub fn field<'v>(object: Option<&'v Value>, key: &str) -> Option<&'v Value>
+    ensures { value_at result ≡ get key.now (object_at object.entry) }
 {
     object?.get(key)
 }
@@ -164,8 +145,8 @@ fn kind_of_word(word: &str) -> Option<NodeKind>
 }
 
 /// Reads how ids are made.
-pub fn hash_of(value: &Value<'_>) -> Result<HashKind, FieldError>
-    ensures { Reads (λ h. h) result (hash_in (value_view value.now)) }
+pub fn hash_of(value: &Value) -> Result<HashKind, FieldError>
+    ensures { Reads (λ h. h) result (hash_in (view value.now)) }
 {
     match hash_of_word(text_of(value)?) {
         Some(hash) => Ok(hash),
@@ -174,8 +155,8 @@ pub fn hash_of(value: &Value<'_>) -> Result<HashKind, FieldError>
 }
 
 /// Reads how files are compared.
-pub fn comparer_of(value: &Value<'_>) -> Result<Comparer, FieldError>
-    ensures { Reads (λ c. c) result (comparer_in (value_view value.now)) }
+pub fn comparer_of(value: &Value) -> Result<Comparer, FieldError>
+    ensures { Reads (λ c. c) result (comparer_in (view value.now)) }
 {
     match comparer_of_word(text_of(value)?) {
         Some(comparer) => Ok(comparer),
@@ -184,8 +165,8 @@ pub fn comparer_of(value: &Value<'_>) -> Result<Comparer, FieldError>
 }
 
 /// Reads the kind of a node.
-pub fn kind_of(value: &Value<'_>) -> Result<NodeKind, FieldError>
-    ensures { Reads (λ k. k) result (kind_in (value_view value.now)) }
+pub fn kind_of(value: &Value) -> Result<NodeKind, FieldError>
+    ensures { Reads (λ k. k) result (kind_in (view value.now)) }
 {
     match kind_of_word(text_of(value)?) {
         Some(kind) => Ok(kind),

@@ -1,26 +1,24 @@
 //! The profile of a replay.
 
-ghost use Rattle.std.specs.Prelude.{◌≡◌, codes, option_and_then};
-ghost use Rattle.json.specs.Find.{get};
-ghost use Rattle.json.specs.Value.{value_view};
-ghost use Rattle.status_index.specs.declared.id.HashKind.TheVariants.{Sha1};
+ghost use Rattle.std.specs.Prelude.{codes};
+ghost use Rattle.serde_json.specs.Find.{get};
+ghost use Rattle.serde_json.specs.View.{view};
 ghost use Rattle.status_profile.specs.Events.{stretch_values, stretches_in};
-ghost use Rattle.status_format.specs.Reads.{Reads, or_default};
-ghost use Rattle.status_profile.specs.Forms.{is_object, json_at, moment_in};
-ghost use Rattle.status_profile.specs.Histories.{IsHistory, IsHistoryRead, history_in};
+ghost use Rattle.status_format.specs.Reads.{Reads, needed};
+ghost use Rattle.status_profile.specs.Forms.{value_at, moment_in};
+ghost use Rattle.status_profile.specs.Histories.{IsHistoryRead, history_in, history_values};
 ghost use Rattle.status_profile.specs.Options.{history_options_in};
-ghost use Rattle.status_profile.specs.Parts.{ReadsUnder};
-ghost use Rattle.status_profile.specs.Words.{hash_in};
+ghost use Rattle.status_profile.specs.Readings.{ReadsKeys, under};
 
 use crate::error::{Key, ProfileError};
 use crate::event::read_stretches;
 use crate::form::{moment_of, required};
+use crate::keys::{read_hash, read_json, under};
 use crate::options::{HistoryOptions, read_history_options};
-use crate::profile::{hash_or_sha1, under};
-use gix_status::index::{HashKind, Moment};
-use gix_status::world::Event;
-use json::{Scratch, Value};
+use serde_json::Value;
+use status_base::index::{HashKind, Moment};
 use status_format::FieldError;
+use status_world::world::Event;
 use std::alloc::Global;
 
 /// A world's start, and the events in it.
@@ -46,17 +44,17 @@ impl History {
     pub fn from_json(alloc: Global, text: &[u8]) -> Result<History, ProfileError>
         ensures { IsHistoryRead text.now result }
     {
-        let mut scratch = Scratch::new(alloc);
-        let value = Value::from_slice(alloc, text, &mut scratch)?;
+        let value = read_json(alloc, text)?;
         read_history(alloc, &value)
     }
 }
 
 /// Reads a history from a JSON value.
-fn read_history(alloc: Global, value: &Value<'_>) -> Result<History, ProfileError>
-    ensures { IsHistory (history_in (value_view value.now)) result }
+#[tactic(auto, unfolding(crate::specs::Histories::history_in))]
+fn read_history(alloc: Global, value: &Value) -> Result<History, ProfileError>
+    ensures { ReadsKeys history_values result (history_in (view value.now)) }
 {
-    if !is_object(value) {
+    if !value.is_object() {
         return Err(ProfileError::Bad(Key::Hash));
     }
     let hash = read_hash(value)?;
@@ -73,61 +71,44 @@ fn read_history(alloc: Global, value: &Value<'_>) -> Result<History, ProfileErro
     })
 }
 
-/// Whether this is an object.
-fn is_object(value: &Value<'_>) -> bool
-    ensures { result ≡ is_object (value_view value.now) }
-{
-    matches!(value, Value::Object(_))
-}
-
-/// Reads how ids are made.
-fn read_hash(value: &Value<'_>) -> Result<HashKind, ProfileError>
-    ensures { ReadsUnder Key.Hash (λ h. h) result (or_default hash_in Sha1 (get (codes "hash") (value_view value.now))) }
-{
-    under(Key::Hash, hash_or_sha1(value.get("hash")))
-}
-
 /// Reads the first time on the clock.
-fn read_clock(value: &Value<'_>) -> Result<Moment, ProfileError>
-    ensures { ReadsUnder Key.Clock (λ m. m) result (option_and_then moment_in (get (codes "clock") (value_view value.now))) }
+fn read_clock(value: &Value) -> Result<Moment, ProfileError>
+    ensures { ReadsKeys (λ m. m) result (under Key.Clock (needed moment_in (get (codes "clock") (view value.now)))) }
 {
     under(Key::Clock, required_moment(value.get("clock")))
 }
 
 /// Reads the timestamp of the empty index.
-fn read_timestamp(value: &Value<'_>) -> Result<Moment, ProfileError>
-    ensures { ReadsUnder Key.Timestamp (λ m. m) result (option_and_then moment_in (get (codes "timestamp") (value_view value.now))) }
+fn read_timestamp(value: &Value) -> Result<Moment, ProfileError>
+    ensures { ReadsKeys (λ m. m) result (under Key.Timestamp (needed moment_in (get (codes "timestamp") (view value.now)))) }
 {
     under(Key::Timestamp, required_moment(value.get("timestamp")))
 }
 
 /// Reads the options.
-fn read_options(value: &Value<'_>) -> Result<HistoryOptions, ProfileError>
-    ensures { ReadsUnder Key.Options (λ o. o) result (history_options_in (get (codes "options") (value_view value.now))) }
+fn read_options(value: &Value) -> Result<HistoryOptions, ProfileError>
+    ensures { ReadsKeys (λ o. o) result (under Key.Options (history_options_in (get (codes "options") (view value.now)))) }
 {
     under(Key::Options, read_history_options(value.get("options")))
 }
 
 /// Reads the events.
-fn read_events(alloc: Global, value: &Value<'_>) -> Result<Vec<Vec<Event>>, ProfileError>
-    ensures { ReadsUnder Key.Events stretch_values result (option_and_then stretches_in (get (codes "events") (value_view value.now))) }
+fn read_events(alloc: Global, value: &Value) -> Result<Vec<Vec<Event>>, ProfileError>
+    ensures { ReadsKeys stretch_values result (under Key.Events (needed stretches_in (get (codes "events") (view value.now)))) }
 {
     under(Key::Events, required_stretches(alloc, value.get("events")))
 }
 
 /// Reads a moment, which must be there.
-fn required_moment(value: Option<&Value<'_>>) -> Result<Moment, FieldError>
-    ensures { Reads (λ m. m) result (option_and_then moment_in (json_at value.entry)) }
+fn required_moment(value: Option<&Value>) -> Result<Moment, FieldError>
+    ensures { Reads (λ m. m) result (needed moment_in (value_at value.entry)) }
 {
     moment_of(required(value)?)
 }
 
 /// Reads the events, which must be there, in stretches.
-fn required_stretches(
-    alloc: Global,
-    value: Option<&Value<'_>>,
-) -> Result<Vec<Vec<Event>>, FieldError>
-    ensures { Reads stretch_values result (option_and_then stretches_in (json_at value.entry)) }
+fn required_stretches(alloc: Global, value: Option<&Value>) -> Result<Vec<Vec<Event>>, FieldError>
+    ensures { Reads stretch_values result (needed stretches_in (value_at value.entry)) }
 {
     read_stretches(alloc, required(value)?)
 }

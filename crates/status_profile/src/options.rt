@@ -3,7 +3,7 @@
 ghost use Rattle.std.specs.Prelude.{◌≡◌, None};
 ghost use Rattle.status_compare.specs.declared.compare.Comparer.TheVariants.{Hash};
 ghost use Rattle.status_format.specs.Reads.{Reads, or_default};
-ghost use Rattle.status_profile.specs.Forms.{json_at, limit_in, object_at};
+ghost use Rattle.status_profile.specs.Forms.{value_at, limit_in, object_at};
 ghost use Rattle.status_profile.specs.Options.{common_options_in, fields_in, history_options_in, if_kind, is_joined, option_values, options_in, over_folder, over_place, stat_options_in, status_options_in};
 ghost use Rattle.status_profile.specs.Words.{comparer_in};
 
@@ -11,9 +11,9 @@ use crate::form::{
     comparer_of, field, limit_of, number_or_zero, object_of, text_or_empty, truth_or,
 };
 use bstr::BString;
-use gix_status::index::stat;
-use gix_status::index_as_worktree::{Capabilities, Options};
-use json::Value;
+use serde_json::Value;
+use status_base::index::stat;
+use status_call::index_as_worktree::{Capabilities, Options};
 use status_compare::Comparer;
 use status_format::FieldError;
 use std::alloc::Global;
@@ -87,10 +87,10 @@ pub enum Kind {
 pub fn read_options(
     alloc: Global,
     kind: Kind,
-    options: Option<&Value<'_>>,
-    folder: Option<&Value<'_>>,
+    options: Option<&Value>,
+    folder: Option<&Value>,
 ) -> Result<ProfileOptions, FieldError>
-    ensures { Reads option_values result (options_in kind (json_at options.entry) (json_at folder.entry)) }
+    ensures { Reads option_values result (options_in kind (value_at options.entry) (value_at folder.entry)) }
 {
     let values = read_fields(alloc, object_of(options)?)?;
     let values = over_place(values, folder.is_some())?;
@@ -119,7 +119,7 @@ fn check_kind(options: ProfileOptions, kind: Kind) -> Result<ProfileOptions, Fie
 
 /// Reads the options of a status from an object.
 #[tactic(auto, unfolding(crate::specs::Options::fields_in))]
-fn read_fields(alloc: Global, object: Option<&Value<'_>>) -> Result<ProfileOptions, FieldError>
+fn read_fields(alloc: Global, object: Option<&Value>) -> Result<ProfileOptions, FieldError>
     ensures { Reads option_values result (fields_in (object_at object.entry)) }
 {
     let common = read_common(object)?;
@@ -138,8 +138,8 @@ fn read_fields(alloc: Global, object: Option<&Value<'_>>) -> Result<ProfileOptio
 }
 
 /// Reads how files are compared. The default is by ids.
-fn comparer_or_hash(value: Option<&Value<'_>>) -> Result<Comparer, FieldError>
-    ensures { Reads (λ c. c) result (or_default comparer_in Hash (json_at value.entry)) }
+fn comparer_or_hash(value: Option<&Value>) -> Result<Comparer, FieldError>
+    ensures { Reads (λ c. c) result (or_default comparer_in Hash (value_at value.entry)) }
 {
     match value {
         Some(comparer) => comparer_of(comparer),
@@ -149,7 +149,7 @@ fn comparer_or_hash(value: Option<&Value<'_>>) -> Result<Comparer, FieldError>
 
 /// Reads how a status is computed. Listings are never used.
 #[tactic(auto, unfolding(crate::specs::Options::status_options_in))]
-fn read_status(common: HistoryOptions, object: Option<&Value<'_>>) -> Result<Options, FieldError>
+fn read_status(common: HistoryOptions, object: Option<&Value>) -> Result<Options, FieldError>
     ensures { Reads (λ o. o) result (status_options_in common (object_at object.entry)) }
 {
     let symlink = truth_or(field(object, "symlink"), true)?;
@@ -168,8 +168,8 @@ fn read_status(common: HistoryOptions, object: Option<&Value<'_>>) -> Result<Opt
 }
 
 /// Reads the greatest number of workers, of which there is none if it is missing.
-fn limit_or_none(value: Option<&Value<'_>>) -> Result<Option<usize>, FieldError>
-    ensures { Reads (λ limit. limit) result (or_default limit_in None (json_at value.entry)) }
+fn limit_or_none(value: Option<&Value>) -> Result<Option<usize>, FieldError>
+    ensures { Reads (λ limit. limit) result (or_default limit_in None (value_at value.entry)) }
 {
     match value {
         Some(limit) => limit_of(limit),
@@ -181,15 +181,15 @@ fn limit_or_none(value: Option<&Value<'_>>) -> Result<Option<usize>, FieldError>
 ///
 /// # Errors
 /// An option has a wrong form.
-pub fn read_history_options(options: Option<&Value<'_>>) -> Result<HistoryOptions, FieldError>
-    ensures { Reads (λ o. o) result (history_options_in (json_at options.entry)) }
+pub fn read_history_options(options: Option<&Value>) -> Result<HistoryOptions, FieldError>
+    ensures { Reads (λ o. o) result (history_options_in (value_at options.entry)) }
 {
     read_common(object_of(options)?)
 }
 
 /// Reads the options of a history from an object.
 #[tactic(auto, unfolding(crate::specs::Options::common_options_in))]
-fn read_common(object: Option<&Value<'_>>) -> Result<HistoryOptions, FieldError>
+fn read_common(object: Option<&Value>) -> Result<HistoryOptions, FieldError>
     ensures { Reads (λ o. o) result (common_options_in (object_at object.entry)) }
 {
     Ok(HistoryOptions {
@@ -200,7 +200,7 @@ fn read_common(object: Option<&Value<'_>>) -> Result<HistoryOptions, FieldError>
 }
 
 /// Reads which parts of stats have to be equal.
-fn read_stat_options(object: Option<&Value<'_>>) -> Result<stat::Options, FieldError>
+fn read_stat_options(object: Option<&Value>) -> Result<stat::Options, FieldError>
     ensures { Reads (λ o. o) result (stat_options_in (object_at object.entry)) }
 {
     Ok(stat::Options {

@@ -10,7 +10,8 @@ use Rattle.status_index.specs.declared.mode.Mode.TheVariants as modes
 use Rattle.status_index.specs.declared.stat.Moment.{Moment}
 use Rattle.status_index.specs.BlobId.{id_kind}
 use Rattle.status_index.specs.Entries.{IndexEntry, IsIndex, entry_cmp}
-use Rattle.status_stored.specs.Reading.{entries_from, index_in}
+use Rattle.status_format.specs.Reading.{each, entry_in}
+use Rattle.status_stored.specs.Reading.{index_in}
 use Rattle.status_stored.specs.Storable.{AreKnown, IsStorableIndex}
 use Rattle.status_format.specs.Storable.{HasKnownBits, known_entry, IsStorable}
 use Rattle.status_format.specs.StoredEntry.{stored_entry}
@@ -18,7 +19,7 @@ use Rattle.status_stored.specs.StoredIndex.{stored_index}
 use Rattle.status_format.proofs.FlagsBack.{stage_known}
 use Rattle.status_format.proofs.EntryBack.{entry_back, entry_same, moment_back}
 
-entries_back : (es : List IndexEntry) → All IsStorable es → entries_from (items_of (map stored_entry es)) ≡ Some (map known_entry es)
+pub entries_back : (es : List IndexEntry) → All IsStorable es → each entry_in (items_of (map stored_entry es)) ≡ Some (map known_entry es)
 entries_back [] h = refl
 entries_back (e ∷ es) h =
     let first = entry_back e (All-head IsStorable e es h) in

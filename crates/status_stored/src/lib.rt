@@ -12,4 +12,4 @@ mod store;
 
 pub use error::{LoadError, ReopenError, StoreError};
 pub use replay::{ReopenedReplay, Stop, reopened, replay_reopening};
-pub use store::{load_index, store_index};
+pub use store::{load_index, read_entries, store_index, with_index};

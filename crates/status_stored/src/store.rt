@@ -1,27 +1,25 @@
 //! Stores an index as a JSON value, and loads it from one.
 
-ghost use Rattle.std.specs.Prelude.{◌≡◌, ◌<◌, codes, length, IfOk, [], ◌∷◌, map};
+ghost use Rattle.std.specs.Prelude.{◌≡◌, ◌<◌, codes, length, IfOk, IsUtf8, map};
 ghost use Rattle.std.specs.List.{HoldsAt};
-ghost use Rattle.serde_json.specs.Data.{array, object};
-ghost use Rattle.serde_json.specs.View.{view, items_view};
+ghost use Rattle.serde_json.specs.Data.{array, put};
+ghost use Rattle.serde_json.specs.View.{view, items_view, members_view};
 ghost use Rattle.status_index.specs.Entries.{index_entry, index_entries, new_entry};
 ghost use Rattle.status_index.specs.States.{index_of, timestamp_of};
 ghost use Rattle.status_format.specs.Storable.{IsEntryStored, Fits32};
 ghost use Rattle.status_stored.specs.Steps.{AreStored};
-ghost use Rattle.status_stored.specs.Storable.{IsStored};
-ghost use Rattle.status_format.specs.StoredEntry.{stored_stamp, members_with};
-ghost use Rattle.serde_json.specs.Find.{get};
+ghost use Rattle.status_stored.specs.Storable.{AreUtf8, IsStored, IsStoredWith};
+ghost use Rattle.status_format.specs.StoredEntry.{stored_stamp};
 ghost use Rattle.status_stored.specs.Loading.{IsLoaded};
-ghost use Rattle.status_format.specs.DataFields.{data_fields};
-ghost use Rattle.status_format.specs.Reading.{entry_in};
-ghost use Rattle.status_format.specs.Reads.{Reads, needed};
-ghost use Rattle.status_stored.specs.Reading.{entries_in, index_in};
+ghost use Rattle.status_format.specs.Reading.{entries_in, entry_in};
+ghost use Rattle.status_format.specs.Reads.{Reads};
+ghost use Rattle.status_stored.specs.Reading.{index_in};
 
 use crate::error::{LoadError, StoreError};
 use bstr::BString;
-use serde_json::{Value, json};
+use serde_json::{Map, Value};
 use status_format::entry::{stamp_value, store_entry};
-use status_format::read::stamp_of;
+use status_format::read::{list_of, stamp_of};
 use status_format::{FieldError, read_entry};
 use status_index::{Entry, Moment, NewEntry, PathStorage, State};
 use std::alloc::{AllocError, Global};
@@ -33,24 +31,61 @@ use std::alloc::{AllocError, Global};
 pub fn store_index(alloc: Global, state: &State) -> Result<Value, StoreError>
     ensures { IsStored (index_of state.now) (timestamp_of state.now) result }
 {
+    match with_index(alloc, Map::new(alloc), state) {
+        Ok(members) => Ok(Value::Object(members)),
+        Err(refused) => Err(refused),
+    }
+}
+
+/// Returns an object's members with those of an index, which replace members with their keys.
+///
+/// # Errors
+/// Those of [`store_index`].
+pub fn with_index(
+    alloc: Global,
+    members: Map<String, Value>,
+    state: &State,
+) -> Result<Map<String, Value>, StoreError>
+    ensures { IsStoredWith (members_view members.entries) (index_of state.now) (timestamp_of state.now) result }
+{
     let entries = match store_entries(alloc, state.entries(), state.path_backing()) {
         Ok(entries) => entries,
         Err(refused) => return Err(refused),
     };
-    match index_value(alloc, entries, state.timestamp()) {
-        Ok(value) => Ok(value),
+    match with_index_members(alloc, members, entries, state.timestamp()) {
+        Ok(members) => Ok(members),
         Err(_) => Err(StoreError::Memory),
     }
 }
 
-/// Returns the value of an index with these entry objects.
-fn index_value(alloc: Global, entries: Vec<Value>, t: Moment) -> Result<Value, AllocError>
-    ensures value { IfOk result (λ v. view v ≡ object (members_with ((codes "index", array (items_view entries.items)) ∷ (codes "timestamp", stored_stamp t.secs t.nsecs) ∷ []))) }
+/// Returns members with those of an index that has these entry objects.
+fn with_index_members(
+    alloc: Global,
+    members: Map<String, Value>,
+    entries: Vec<Value>,
+    t: Moment,
+) -> Result<Map<String, Value>, AllocError>
+    ensures members { IfOk result (λ m. members_view m.entries ≡ put (codes "timestamp") (stored_stamp t.secs t.nsecs)
+        (put (codes "index") (array (items_view entries.items)) (members_view members.entries))) }
     ensures secs { Fits32 t.secs }
     ensures nsecs { Fits32 t.nsecs }
 {
+    let members = with_member(alloc, members, "index", Value::Array(entries))?;
     let timestamp = stamp_value(alloc, t.secs, t.nsecs)?;
-    json!(in alloc; {"index": entries, "timestamp": timestamp})
+    with_member(alloc, members, "timestamp", timestamp)
+}
+
+/// Returns members with this value at a key.
+fn with_member(
+    alloc: Global,
+    mut members: Map<String, Value>,
+    key: &str,
+    value: Value,
+) -> Result<Map<String, Value>, AllocError>
+    ensures { IfOk result (λ m. members_view m.entries ≡ put key.now (view value) (members_view members.entries)) }
+{
+    drop(members.insert(String::from_str(alloc, key)?, value)?);
+    Ok(members)
 }
 
 /// Returns the objects of the entries, in order.
@@ -98,20 +133,22 @@ pub fn load_index(alloc: Global, value: &Value) -> Result<State, LoadError>
         Some(timestamp) => stamp_of(timestamp)?,
         None => return Err(LoadError::Form),
     };
-    let entries = entries_at(alloc, value)?;
+    let entries = match value.get("index") {
+        Some(entries) => read_entries(alloc, entries)?,
+        None => return Err(LoadError::Form),
+    };
     Ok(State::from_entries(alloc, entries, timestamp)?)
 }
 
-/// Returns the entries of an index, in order.
-fn entries_at(alloc: Global, index: &Value) -> Result<Vec<NewEntry>, FieldError>
-    ensures { Reads (λ es. map new_entry es.items) result (needed entries_in (get (codes "index") (view index.now))) }
+/// Returns the entries of a list, in order.
+///
+/// # Errors
+/// Returns `Form` if the value isn't a list of entries, and `Memory` if an allocation fails.
+pub fn read_entries(alloc: Global, list: &Value) -> Result<Vec<NewEntry>, FieldError>
+    ensures read { Reads (λ es. map new_entry es.items) result (entries_in (view list.now)) }
+    ensures utf8 { IfOk result (λ es. AreUtf8 (map new_entry es.items)) }
 {
-    let Some(value) = index.get("index") else {
-        return Err(FieldError::Form);
-    };
-    let Some(items) = value.as_array() else {
-        return Err(FieldError::Form);
-    };
+    let items = list_of(list)?;
     let mut entries = Vec::with_capacity(alloc, items.len())?;
     for item in items {
         entries.push(entry_of(alloc, item)?)?;
@@ -121,7 +158,8 @@ fn entries_at(alloc: Global, index: &Value) -> Result<Vec<NewEntry>, FieldError>
 
 /// Returns an entry, with defaults for missing fields.
 fn entry_of(alloc: Global, value: &Value) -> Result<NewEntry, FieldError>
-    ensures { Reads new_entry result (entry_in (data_fields (view value.now))) }
+    ensures read { Reads new_entry result (entry_in (view value.now)) }
+    ensures utf8 { IfOk result (λ e. IsUtf8 (new_entry e).path) }
 {
     let entry = read_entry(value)?;
     Ok(NewEntry {

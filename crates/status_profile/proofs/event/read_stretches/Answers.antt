@@ -1,7 +1,8 @@
 use Rattle.std.proofs.Common.{◌+◌, map, drop, sym, ap, ◌∙◌}
-use Rattle.json.specs.Value.{items_view}
+use Rattle.serde_json.specs.View.{items_view}
 use Rattle.status_profile.specs.Events.{event_value, stretch_values}
-use Rattle.status_profile.proofs.Stretches.{first_item, stretches_onto, turn_event, turn_reopened}
+use Rattle.status_stored.proofs.Fronts.{first_item}
+use Rattle.status_profile.proofs.Stretches.{stretches_onto, turn_event, turn_reopened}
 use Rattle.status_profile.proofs.event.read_stretches.Goals as goal
 use Rattle.status_profile.proofs.event.read_stretches.Goals.{then-is_reopening+in_ok-push, else-is_reopening+in_ok-read_event+in_ok-push-2}
 

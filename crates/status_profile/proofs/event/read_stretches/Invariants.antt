@@ -1,6 +1,6 @@
 -- The rest of the list, after the stretches that were read, says the same as the whole list.
 use Rattle.std.proofs.Common.{◌≡◌, [], map, drop}
-use Rattle.json.specs.Value.{items_view}
+use Rattle.serde_json.specs.View.{items_view}
 use Rattle.status_profile.specs.Events.{event_value, stretch_values, stretches_from}
 use Rattle.status_profile.proofs.Stretches.{stretches_onto}
 use Rattle.status_profile.proofs.event.read_stretches.Given as goal
