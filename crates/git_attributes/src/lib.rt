@@ -3,8 +3,8 @@
 //! Begin at `line_ends`, the filter, which converts a file by its `normalization`, and compares that with git's rule.
 //! `attributes` has the states that `files` give to a path's attributes: it reads their lines (`line`), which have a
 //! pattern or a macro, and assignments (`assignment`), between blanks or in quotes (`words`). `pattern` reads a
-//! pattern's pieces and sets of bytes (`set`), and `table` compares paths with them. `laws` states what the test of a
-//! pattern means.
+//! pattern's pieces and sets of bytes (`set`), and `table` compares paths with them. `laws` has the law of
+//! these comparisons.
 #![tactic(auto)]
 
 pub mod assignment;
