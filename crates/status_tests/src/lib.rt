@@ -1,8 +1,8 @@
 //! Tests of what no clause states, and the example of docs/GUIDE.md.
 //!
-//! Begin at `example`. Each folder tests a layer, from the bottom up: `board`, `index`, `base`, `compare`, `call`,
-//! `walk`, `joined` (with renames and copies) and `world` (with the stored index). Its `mod.rt` says where to begin.
-//! `support` has what several of them use.
+//! Begin at `example`. Each folder tests a layer, from the bottom up: `board`, `index`, `base`, `call`, `walk`, `joined`
+//! (with renames and copies) and `world` (with the stored index). Its `mod.rt` says where to begin. `words` has the texts
+//! of errors of all layers. `support` has what several of them use.
 #![tactic(auto)]
 
 #[cfg(test)]
@@ -11,8 +11,6 @@ mod base;
 mod board;
 #[cfg(test)]
 mod call;
-#[cfg(test)]
-mod compare;
 #[cfg(test)]
 mod example;
 #[cfg(test)]
@@ -23,5 +21,7 @@ mod joined;
 mod support;
 #[cfg(test)]
 mod walk;
+#[cfg(test)]
+mod words;
 #[cfg(test)]
 mod world;

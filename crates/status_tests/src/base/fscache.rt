@@ -69,22 +69,6 @@ fn listed(alloc: Global, names: &[(&str, u64)]) -> Result<Vec<(BString, Stat)>, 
     Ok(entries)
 }
 
-fn no_counts() -> [AtomicUsize; 3] {
-    [
-        AtomicUsize::new(0),
-        AtomicUsize::new(0),
-        AtomicUsize::new(0),
-    ]
-}
-
-fn counts(asked: &[AtomicUsize; 3]) -> [usize; 3] {
-    [
-        asked[0].load(Ordering::SeqCst),
-        asked[1].load(Ordering::SeqCst),
-        asked[2].load(Ordering::SeqCst),
-    ]
-}
-
 // Returns the size of a path that the cache knows, if any.
 fn size_at(cache: &mut FsCache<'_, Table<'_>>, path: &str) -> Result<Option<u64>, AllocError> {
     match cache.get(BStr::from(path))? {
@@ -93,102 +77,73 @@ fn size_at(cache: &mut FsCache<'_, Table<'_>>, path: &str) -> Result<Option<u64>
     }
 }
 
-/// A call of the cache: whether memory is refused, a path, and the known size of that, or None if the call fails.
-type Look = (bool, &'static str, Option<Option<u64>>);
+/// A path, and the size that the cache knows of it, or None if memory is refused.
+type Look = (&'static str, Option<Option<u64>>);
 
-/// The name of a row, the calls in order, how often each directory was listed by then, and the count of listings.
-type Row = (&'static str, &'static [Look], [usize; 3], u64);
+/// The calls in order, how often each directory was listed by then, and the count of listings.
+type Row = (&'static [Look], [usize; 3], u64);
+
+const NESTED: Look = ("subdir/nested.txt", Some(Some(2)));
+
+const TEST: Look = ("test.txt", Some(Some(1)));
+
+const REFUSED: Look = ("test.txt", None);
+
+const OTHER_CASE: Look = ("Test.txt", Some(None));
 
 const ROWS: [Row; 7] = [
     (
-        "names in two directories",
-        &[
-            (false, "test.txt", Some(Some(1))),
-            (false, "subdir/nested.txt", Some(Some(2))),
-            (false, "Test.txt", Some(None)),
-            (false, "does-not-exist", Some(None)),
-        ],
+        &[TEST, NESTED, OTHER_CASE, ("does-not-exist", Some(None))],
         [1, 1, 0],
         2,
     ),
-    (
-        "a directory that can't be listed",
-        &[(false, "d/x", Some(None)), (false, "d/y", Some(None))],
-        [0, 0, 1],
-        1,
-    ),
-    (
-        "a name twice",
-        &[(false, "twice", Some(Some(6)))],
-        [1, 0, 0],
-        1,
-    ),
-    (
-        "a name as another, and not the directory above",
-        &[(false, "..", Some(None))],
-        [1, 0, 0],
-        1,
-    ),
-    (
-        "no file name, so nothing to be listed",
-        &[
-            (false, "d/", Some(None)),
-            (false, "subdir/", Some(None)),
-            (false, "", Some(None)),
-        ],
-        [0, 0, 0],
-        0,
-    ),
-    (
-        "what was listed is known after a refusal",
-        &[
-            (false, "subdir/nested.txt", Some(Some(2))),
-            (true, "test.txt", None),
-            (false, "subdir/nested.txt", Some(Some(2))),
-        ],
-        [1, 1, 0],
-        1,
-    ),
-    (
-        "a refused listing is asked for again",
-        &[
-            (false, "subdir/nested.txt", Some(Some(2))),
-            (true, "test.txt", None),
-            (false, "test.txt", Some(Some(1))),
-        ],
-        [2, 1, 0],
-        2,
-    ),
+    // The directory can't be listed.
+    (&[("d/x", Some(None)), ("d/y", Some(None))], [0, 0, 1], 1),
+    // The name is there twice, and the last counts.
+    (&[("twice", Some(Some(6)))], [1, 0, 0], 1),
+    // It is a name as another, and not the directory above.
+    (&[("..", Some(None))], [1, 0, 0], 1),
+    // There is no file name, so nothing to be listed.
+    (&[("d/", Some(None)), ("", Some(None))], [0, 0, 0], 0),
+    // What was listed is known after a refusal. The refused listing is asked for again.
+    (&[NESTED, REFUSED, NESTED], [1, 1, 0], 1),
+    (&[NESTED, REFUSED, TEST], [2, 1, 0], 2),
 ];
 
 // Returns whether the results and the counts are those of a row.
 fn is_row(alloc: Global, row: &Row) -> bool {
-    let (_name, looks, wanted, listings) = *row;
-    let (asked, refuses) = (no_counts(), AtomicBool::new(false));
+    let (looks, wanted, listings) = *row;
+    let refuses = AtomicBool::new(false);
+    let asked = [
+        AtomicUsize::new(0),
+        AtomicUsize::new(0),
+        AtomicUsize::new(0),
+    ];
     let lister = Table {
         alloc,
         asked: &asked,
         refuses: &refuses,
     };
     let mut cache = FsCache::new(alloc, &lister);
-    for (refused, path, size) in looks {
-        refuses.store(*refused, Ordering::SeqCst);
+    for (path, size) in looks {
+        refuses.store(size.is_none(), Ordering::SeqCst);
         if size_at(&mut cache, *path).ok() != *size {
             return false;
         }
     }
-    counts(&asked) == wanted && cache.listings() == listings
+    for (asked, wanted) in asked.iter().zip(wanted) {
+        if asked.load(Ordering::SeqCst) != wanted {
+            return false;
+        }
+    }
+    cache.listings() == listings
 }
 
 #[test]
 fn each_directory_is_listed_once(rt: HostRuntime) {
-    for row in &ROWS {
-        assert!(rt; is_row(rt.alloc(), row), "{}", row.0);
+    for (at, row) in ROWS.iter().enumerate() {
+        assert!(rt; is_row(rt.alloc(), row), "row {at}");
     }
-}
-
-#[test]
-fn no_directory_is_listed(rt: HostRuntime) {
     assert!(rt; matches!(NoLister.list(BStr::from("d")), Ok(None)));
 }
 

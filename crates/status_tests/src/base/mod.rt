@@ -1,8 +1,7 @@
-//! Tests of worktrees on disk and in memory, listings of directories, the check for symbolic links, and the texts of errors.
+//! Tests of worktrees on disk and in memory, listings of directories, and the check for symbolic links.
 //!
 //! Begin at `disk`. `looks` has what its tests use.
 
-mod base_words;
 mod disk;
 mod disk_reads;
 mod fscache;

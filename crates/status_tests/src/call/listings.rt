@@ -1,21 +1,21 @@
 //! Listings of directories, which replace calls of `lstat`.
 
-use crate::call::inputs::{EntryRow, NodeRow, index, worktree};
-use crate::call::reports::{is_removed, is_taken, read};
+use crate::call::reports::{is_taken, read};
 use crate::call::statuses::listed_status;
+use crate::support::calls::{Calls, counted};
 use crate::support::contents::Content;
+use crate::support::inputs::{NodeRow, index, worktree};
 use crate::support::stats::{LATER, LISTED_FILE, STAGED};
+use Verdict::{Executable, Nothing, Removed};
 use bstr::BStr;
 use gix_status::fscache::Stat;
 use gix_status::index::{Mode, ObjectId};
 use gix_status::index_as_worktree::{Capabilities, Change, EntryStatus, Options, Outcome};
 use gix_status::worktree::{MemoryWorktree, NodeKind};
 use status_callers::listers::{Directories, Directory};
-use status_callers::statuses::{StatusReport, options};
-use status_callers::worktrees::Counted;
+use status_callers::statuses::options;
 use std::alloc::Global;
 use std::sync::Wait;
-use std::sync::atomic::{AtomicUsize, Ordering};
 use std::test::Fail;
 use std::thread::Threads;
 
@@ -38,8 +38,18 @@ const DIRECTORIES: [Directory<'static>; 3] = [
     ("l", Some(&[("x", LISTED_FILE)])),
 ];
 
+/// Each file is unchanged. A link is at `l`, which has a listing like a directory.
+const NODES: [NodeRow<'static>; 6] = [
+    ("clean", NodeKind::File, b"foo", 3, Some(STAGED)),
+    ("directory", NodeKind::File, b"foo", 3, Some(STAGED)),
+    ("executable", NodeKind::File, b"foo", 3, Some(STAGED)),
+    ("d/x", NodeKind::File, b"foo", 3, Some(STAGED)),
+    ("d/y", NodeKind::File, b"foo", 3, Some(STAGED)),
+    ("l", NodeKind::Link, b"d", 1, Some(LATER)),
+];
+
 /// The report of each entry.
-#[derive(Clone, Copy)]
+#[derive(Clone, Copy, PartialEq)]
 enum Verdict {
     Nothing,
     Removed,
@@ -50,61 +60,20 @@ enum Verdict {
 /// The report of each entry, how often `lstat` is called on entries' paths, and how many files of three bytes are read.
 type Answer = (Verdict, usize, usize);
 
-/// Entries, and the results of the status with listings and without. The entries are alike: `lstat` is called on the
-/// paths of all, or of none.
-#[derive(Clone, Copy)]
-struct Row {
-    name: &'static str,
-    entries: &'static [EntryRow<'static>],
-    listed: Answer,
-    unlisted: Answer,
-}
+/// Entries, whether they are executable files, and the results of the status with listings and without. The entries
+/// are alike: `lstat` is called on the paths of all, or of none.
+type Row = (&'static [&'static str], bool, Answer, Answer);
 
 static ROWS: [Row; 5] = [
-    Row {
-        name: "no lstat of a listed file",
-        entries: &[("clean", 0, Mode::File, Content::Foo)],
-        listed: (Verdict::Nothing, 0, 0),
-        unlisted: (Verdict::Nothing, 1, 0),
-    },
-    Row {
-        name: "a listed directory is no file",
-        entries: &[("directory", 0, Mode::File, Content::Foo)],
-        listed: (Verdict::Removed, 0, 0),
-        unlisted: (Verdict::Nothing, 1, 0),
-    },
-    // The file is read, because its executability seems to have changed.
-    Row {
-        name: "a listed file is never executable",
-        entries: &[("executable", 0, Mode::FileExecutable, Content::Foo)],
-        listed: (Verdict::Executable, 0, 1),
-        unlisted: (Verdict::Nothing, 1, 0),
-    },
-    Row {
-        name: "lstat of each file in a directory that can't be listed",
-        entries: &[
-            ("d/x", 0, Mode::File, Content::Foo),
-            ("d/y", 0, Mode::File, Content::Foo),
-        ],
-        listed: (Verdict::Nothing, 2, 0),
-        unlisted: (Verdict::Nothing, 2, 0),
-    },
-    Row {
-        name: "no path leads through a link, whatever is listed below it",
-        entries: &[("l/x", 0, Mode::File, Content::Foo)],
-        listed: (Verdict::Removed, 0, 0),
-        unlisted: (Verdict::Removed, 0, 0),
-    },
-];
-
-/// Each file is unchanged. A link is at `l`, which has a listing like a directory.
-const NODES: [NodeRow<'static>; 6] = [
-    ("clean", NodeKind::File, b"foo", 3, Some(STAGED)),
-    ("directory", NodeKind::File, b"foo", 3, Some(STAGED)),
-    ("executable", NodeKind::File, b"foo", 3, Some(STAGED)),
-    ("d/x", NodeKind::File, b"foo", 3, Some(STAGED)),
-    ("d/y", NodeKind::File, b"foo", 3, Some(STAGED)),
-    ("l", NodeKind::Link, b"d", 1, Some(LATER)),
+    (&["clean"], false, (Nothing, 0, 0), (Nothing, 1, 0)),
+    // A listed directory is no file.
+    (&["directory"], false, (Removed, 0, 0), (Nothing, 1, 0)),
+    // A listed file is never executable. It is read, because its executability seems to have changed.
+    (&["executable"], true, (Executable, 0, 1), (Nothing, 1, 0)),
+    // The directory can't be listed.
+    (&["d/x", "d/y"], false, (Nothing, 2, 0), (Nothing, 2, 0)),
+    // No path leads through a link, whatever is listed below it.
+    (&["l/x"], false, (Removed, 0, 0), (Removed, 0, 0)),
 ];
 
 // Returns the worktree of the nodes, one of which is executable.
@@ -118,62 +87,18 @@ fn files(alloc: Global) -> Result<MemoryWorktree, Fail> {
     Ok(files)
 }
 
-// Returns whether an entry's status is the reported one.
-fn is_status(status: &EntryStatus<ObjectId, ()>, reported: Verdict) -> bool {
-    match (reported, status) {
-        (Verdict::Removed, _) => is_removed(status),
-        (
-            Verdict::Executable,
-            EntryStatus::Change(
-                Change::Modification {
-                    executable_bit_changed: true,
-                    content_change: None,
-                    set_entry_stat_size_zero: false,
-                },
-            ),
-        ) => true,
-        _ => false,
-    }
-}
-
-impl Row {
-    // Returns options by which executability counts if the first entry is executable.
-    fn options(&self, fscache: bool) -> Options {
-        let executable_bit = match self.entries.first() {
-            Some((_path, _stage, mode, _content)) => *mode == Mode::FileExecutable,
-            None => false,
-        };
-        Options {
-            fs: Capabilities {
-                symlink: true,
-                executable_bit,
+// Returns what is reported of an entry. None if no row has it.
+fn verdict_of(status: &EntryStatus<ObjectId, ()>) -> Option<Verdict> {
+    match status {
+        EntryStatus::Change(Change::Removed) => Some(Removed),
+        EntryStatus::Change(
+            Change::Modification {
+                executable_bit_changed: true,
+                content_change: None,
+                set_entry_stat_size_zero: false,
             },
-            fscache,
-            ..options()
-        }
-    }
-
-    // Returns whether this is reported for each entry, in order.
-    fn is_each(&self, report: &StatusReport<'_, ObjectId, ()>, reported: Verdict) -> bool {
-        if matches!(reported, Verdict::Nothing) {
-            return report.records.is_empty();
-        }
-        for (at, record) in report.records.iter().enumerate() {
-            if record.entry_index != at || !is_status(&record.status, reported) {
-                return false;
-            }
-        }
-        report.records.len() == self.entries.len()
-    }
-
-    // Returns whether a report is the expected result.
-    fn is_answer(&self, report: &StatusReport<'_, ObjectId, ()>, answer: Answer) -> bool {
-        let (reported, lstats, files) = answer;
-        let wanted = Outcome {
-            symlink_metadata_calls: lstats,
-            ..read(self.entries.len(), files, (files as u64).saturating_mul(3))
-        };
-        self.is_each(report, reported) && is_taken(&report.answer, &wanted)
+        ) => Some(Executable),
+        _ => None,
     }
 }
 
@@ -184,40 +109,57 @@ fn is_right<R: AllocGlobal + Threads + Wait>(
     row: &Row,
     fscache: bool,
 ) -> Result<bool, Fail> {
-    let alloc = rt.alloc();
-    let Some((first, _stage, _mode, _content)) = row.entries.first() else {
+    let (paths, executable_bit, listed, unlisted) = *row;
+    let (verdict, lstats, opens) = if fscache { listed } else { unlisted };
+    let (Some(first), alloc) = (paths.first(), rt.alloc()) else {
         return Ok(false);
     };
-    let index = index(alloc, row.entries)?;
-    let (lstats, opens) = (AtomicUsize::new(0), AtomicUsize::new(0));
-    let worktree = Counted {
-        worktree: files(alloc)?,
-        path: *first,
-        looks: &lstats,
-        opens: &opens,
+    let mode = if executable_bit {
+        Mode::FileExecutable
+    } else {
+        Mode::File
     };
+    let mut entries = Vec::new(alloc);
+    for path in paths {
+        entries.push((*path, 0, mode, Content::Foo))?;
+    }
+    let (index, calls) = (index(alloc, &entries)?, Calls::new());
+    let worktree = counted(files(alloc)?, *first, &calls);
     let lister = Directories {
         alloc,
         directories: &DIRECTORIES,
     };
-    let report = listed_status(rt, &index, &worktree, lister, row.options(fscache));
-    let answer = if fscache { row.listed } else { row.unlisted };
-    Ok(
-        row.is_answer(&report, answer)
-            && lstats.load(Ordering::SeqCst) == answer.1.min(1)
-            && opens.load(Ordering::SeqCst) == answer.2,
-    )
+    let fs = Capabilities {
+        symlink: true,
+        executable_bit,
+    };
+    let options = Options {
+        fs,
+        fscache,
+        ..options()
+    };
+    let report = listed_status(rt, &index, &worktree, lister, options);
+    for record in &report.records {
+        if verdict_of(&record.status) != Some(verdict) {
+            return Ok(false);
+        }
+    }
+    let records = if verdict == Nothing { 0 } else { paths.len() };
+    let bytes = (opens as u64).saturating_mul(3);
+    let wanted = Outcome {
+        symlink_metadata_calls: lstats,
+        ..read(paths.len(), opens, bytes)
+    };
+    let is_counted = calls.made() == (lstats.min(1), opens) && report.records.len() == records;
+    Ok(is_counted && is_taken(&report.answer, &wanted))
 }
 
 #[test]
 fn listings_replace_lstat(rt: HostRuntime) -> Result<(), Fail> {
     for row in &ROWS {
-        assert!(rt; is_right(&rt, row, true)?, "{}", row.name);
-        assert!(rt;
-            is_right(&rt, row, false)?,
-            "without listings: {}",
-            row.name
-        );
+        for fscache in [true, false] {
+            assert!(rt; is_right(&rt, row, fscache)?, "{:?}, {fscache}", row.0);
+        }
     }
     Ok(())
 }

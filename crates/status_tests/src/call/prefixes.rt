@@ -1,7 +1,7 @@
 //! Statuses of the paths with a prefix, and which entries they skip.
 
-use crate::call::inputs::{NodeRow, foo_entry, index, worktree};
-use crate::call::reports::{Says, Wanted, are_records, found, is_taken};
+use crate::call::reports::{Says, Wanted, found, is_report};
+use crate::support::inputs::{NodeRow, foos, worktree};
 use crate::support::stats::STAGED;
 use bstr::BStr;
 use gix_status::index_as_worktree::Outcome;
@@ -23,36 +23,30 @@ fn is_reported<R: AllocGlobal + Threads + Wait>(
     rt: &R,
     prefix: &str,
     wanted: &[Wanted<'_>],
-    outcome: &Outcome,
+    outcome: Outcome,
 ) -> Result<bool, Fail> {
     let alloc = rt.alloc();
-    let index = index(alloc, &[foo_entry("a"), foo_entry("b"), foo_entry("c")])?;
-    let worktree = worktree(alloc, &NODES)?;
+    let (index, worktree) = (foos(alloc, &["a", "b", "c"])?, worktree(alloc, &NODES)?);
     let pathspec = Prefix::new(alloc, BStr::from(prefix))?;
     let objects = MemoryObjects::new(alloc);
     let request = StatusRequest::new(NoSubmodules, objects, pathspec, NoFilter, options());
     let report = status_of(rt, &index, &worktree, HashEq, request, None);
-    Ok(are_records(&report.records, wanted) && is_taken(&report.answer, outcome))
+    Ok(is_report(&report, wanted, &Ok(outcome)))
 }
 
 #[test]
-fn entries_outside_a_prefix_are_not_considered(rt: HostRuntime) -> Result<(), Fail> {
+fn entries_outside_a_prefix_are_skipped(rt: HostRuntime) -> Result<(), Fail> {
     let outcome = Outcome {
         entries_skipped_by_common_prefix: 2,
         ..found(1)
     };
-    assert!(rt; is_reported(&rt, "b", &[(1, "b", Says::Removed)], &outcome)?);
-    Ok(())
-}
-
-// No path has the prefix, so all entries are considered, and then skipped by the pathspec.
-#[test]
-fn a_prefix_of_no_path_skips_each_entry(rt: HostRuntime) -> Result<(), Fail> {
+    assert!(rt; is_reported(&rt, "b", &[(1, "b", Says::Removed)], outcome)?);
+    // No path has this prefix, so all entries are considered, and then skipped by the pathspec.
     let outcome = Outcome {
         entries_skipped_by_pathspec: 3,
         symlink_metadata_calls: 0,
         ..found(3)
     };
-    assert!(rt; is_reported(&rt, "z", &[], &outcome)?);
+    assert!(rt; is_reported(&rt, "z", &[], outcome)?);
     Ok(())
 }

@@ -1,7 +1,7 @@
 //! Refreshed indexes.
 
-use crate::call::inputs::{NodeRow, foo_entry, index, worktree};
 use crate::call::reports::status_by_pieces;
+use crate::support::inputs::{foos, worktree};
 use crate::support::stats::{LATER, STAGED, WRITTEN};
 use gix_status::index::{Moment, State};
 use gix_status::worktree::{MemoryWorktree, NodeKind};
@@ -12,29 +12,6 @@ use std::thread::Threads;
 
 /// How many files a status reads, how many records it has, and the size of the first entry.
 type Counts = (usize, usize, u32);
-
-/// The name of a row, when the index was written, the file, and the counts before a refresh and after it.
-type Row = (&'static str, Moment, NodeRow<'static>, Counts, Counts);
-
-const ROWS: [Row; 2] = [
-    (
-        "a refresh spares the next status a comparison",
-        WRITTEN,
-        ("a", NodeKind::File, b"foo", 3, Some(LATER)),
-        (1, 1, 3),
-        (0, 0, 3),
-    ),
-    (
-        "a refresh hides no racy change",
-        Moment {
-            secs: STAGED,
-            nsecs: 0,
-        },
-        ("a", NodeKind::File, b"bar", 3, Some(STAGED)),
-        (1, 1, 3),
-        (1, 1, 0),
-    ),
-];
 
 /// Returns the counts of a status. None if it fails, or there is no entry.
 fn counts_of<R: AllocGlobal + Threads + Wait>(
@@ -52,21 +29,24 @@ fn counts_of<R: AllocGlobal + Threads + Wait>(
     }
 }
 
-/// Returns whether a row has the counts before a refresh of the index and after it.
-fn is_refreshed<R: AllocGlobal + Threads + Wait>(rt: &R, row: &Row) -> Result<bool, Fail> {
-    let (_name, written, node, before, after) = *row;
-    let mut index = index(rt.alloc(), &[foo_entry("a")])?;
-    index.set_timestamp(written);
-    let worktree = worktree(rt.alloc(), &[node])?;
-    let is_before = counts_of(rt, &index, &worktree) == Some(before);
-    refresh(rt, &mut index, &worktree, WRITTEN)?;
-    Ok(is_before && counts_of(rt, &index, &worktree) == Some(after))
-}
-
 #[test]
 fn a_refresh_stores_what_a_status_asks(rt: HostRuntime) -> Result<(), Fail> {
-    for row in &ROWS {
-        assert!(rt; is_refreshed(&rt, row)?, "{}", row.0);
+    for (written, bytes, mtime, after) in [
+        // It spares the next status a comparison.
+        (WRITTEN.secs, b"foo", LATER, (0, 0, 3)),
+        // It hides no racy change.
+        (STAGED, b"bar", STAGED, (1, 1, 0)),
+    ] {
+        let mut index = foos(rt.alloc(), &["a"])?;
+        index.set_timestamp(Moment {
+            secs: written,
+            nsecs: 0,
+        });
+        let file = ("a", NodeKind::File, bytes.as_slice(), 3, Some(mtime));
+        let worktree = worktree(rt.alloc(), &[file])?;
+        assert!(rt; counts_of(&rt, &index, &worktree) == Some((1, 1, 3)));
+        refresh(&rt, &mut index, &worktree, WRITTEN)?;
+        assert!(rt; counts_of(&rt, &index, &worktree) == Some(after));
     }
     Ok(())
 }

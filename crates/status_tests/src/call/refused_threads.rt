@@ -1,10 +1,9 @@
 //! Threads that are refused, and rounds that start none.
 
-use crate::call::inputs::{EntryRow, index};
-use crate::call::reports::is_removed;
-use crate::support::contents::Content;
+use crate::call::reports::{Says, is_said};
+use crate::support::inputs::foos;
 use bstr::BStr;
-use gix_status::index::{Mode, ObjectId, State, stat};
+use gix_status::index::{ObjectId, State, stat};
 use gix_status::index_as_worktree::traits::HashEq;
 use gix_status::index_as_worktree::{Capabilities, Error, Record, Recorder};
 use gix_status::worktree::{
@@ -16,7 +15,6 @@ use status_call::index_as_worktree::decider::Decider;
 use status_call::index_as_worktree::inputs::{Inputs, Settings};
 use status_call::index_as_worktree::run_rounds::run_rounds;
 use status_call::index_as_worktree::workers::Workers;
-use std::alloc::Global;
 use std::sync::Wait;
 use std::sync::atomic::AtomicBool;
 use std::test::Fail;
@@ -33,69 +31,20 @@ enum End {
     Interrupted,
 }
 
-/// Entries that are compared with an empty worktree, in pieces of one.
-#[derive(Clone, Copy)]
-struct Row {
-    name: &'static str,
-    entries: &'static [EntryRow<'static>],
-    /// How many workers there are at most.
-    most: usize,
-    /// Whether their stacks are too large for any thread.
-    too_large: bool,
-    /// Whether the flag is set.
-    is_set: bool,
-    end: End,
-}
+/// The entries of files, none of which is there, how many workers there are at most, whether their stacks are too large
+/// for any thread, whether the flag is set, and the end.
+type Row = (&'static [&'static str], usize, bool, bool, End);
 
-/// Three entries of files, none of which is there.
-const THREE: [EntryRow<'static>; 3] = [
-    ("a", 0, Mode::File, Content::Foo),
-    ("b", 0, Mode::File, Content::Foo),
-    ("c", 0, Mode::File, Content::Foo),
-];
+const THREE: &[&str] = &["a", "b", "c"];
 
 static ROWS: [Row; 5] = [
-    Row {
-        name: "a refused thread ends the status",
-        entries: &THREE,
-        most: 2,
-        too_large: true,
-        is_set: false,
-        end: End::Refused,
-    },
-    Row {
-        name: "the caller alone starts no thread",
-        entries: &THREE,
-        most: 1,
-        too_large: true,
-        is_set: false,
-        end: End::Removed,
-    },
-    // One entry is one piece, so the caller is the only worker.
-    Row {
-        name: "one piece starts no thread",
-        entries: &[("a", 0, Mode::File, Content::Foo)],
-        most: 2,
-        too_large: true,
-        is_set: false,
-        end: End::Removed,
-    },
-    Row {
-        name: "with the usual stacks no thread is refused",
-        entries: &THREE,
-        most: 2,
-        too_large: false,
-        is_set: false,
-        end: End::Removed,
-    },
-    Row {
-        name: "a flag that is set before a round starts no thread",
-        entries: &THREE,
-        most: 2,
-        too_large: true,
-        is_set: true,
-        end: End::Interrupted,
-    },
+    (THREE, 2, true, false, End::Refused),
+    // The caller alone starts no thread. Nor does it for one piece, for which it is the only worker.
+    (THREE, 1, true, false, End::Removed),
+    (&["a"], 2, true, false, End::Removed),
+    (THREE, 2, false, false, End::Removed),
+    // A flag that is set before a round starts none.
+    (THREE, 2, true, true, End::Interrupted),
 ];
 
 // Compares an index with an empty worktree, in pieces of one entry.
@@ -126,69 +75,50 @@ fn report_rounds<'index, R: Threads + Wait>(
     run_rounds(&considered, 1, workers, &decider, recorder)
 }
 
-// Returns whether records are of the first entries of an index, in order, and report that their files are gone.
-fn are_removed(records: &[Record<'_, ObjectId, ()>]) -> bool {
+// Returns how rounds ended with this result and these records, of so many entries. None if no row has it.
+fn end_of(
+    answer: &Result<Progress, Error>,
+    records: &[Record<'_, ObjectId, ()>],
+    entries: usize,
+) -> Option<End> {
     for (at, record) in records.iter().enumerate() {
-        if record.entry_index != at || !is_removed(&record.status) {
-            return false;
+        if record.entry_index != at || !is_said(&record.status, Says::Removed) {
+            return None;
         }
     }
-    true
-}
-
-impl Row {
-    fn ends(&self, answer: &Result<Progress, Error>, records: &[Record<'_, ObjectId, ()>]) -> bool {
-        match answer {
-            Err(Error::SpawnThread) => self.end == End::Refused && records.is_empty(),
-            Err(_) => false,
-            Ok(progress) if progress.interrupted => {
-                self.end == End::Interrupted && records.is_empty()
-            }
-            Ok(_) => {
-                self.end == End::Removed
-                    && records.len() == self.entries.len()
-                    && are_removed(records)
-            }
-        }
+    match answer {
+        Err(Error::SpawnThread) if records.is_empty() => Some(End::Refused),
+        Ok(progress) if progress.interrupted && records.is_empty() => Some(End::Interrupted),
+        Ok(progress) if !progress.interrupted && records.len() == entries => Some(End::Removed),
+        _ => None,
     }
-}
-
-// Returns the workers of a row, or None if there can't be as many.
-fn workers<'a, R>(
-    rt: &'a R,
-    alloc: Global,
-    row: &Row,
-    interrupt: Option<&'a AtomicBool>,
-) -> Option<Workers<'a, R>> {
-    if row.most < 1 || row.most > 64 {
-        return None;
-    }
-    Some(Workers {
-        rt,
-        alloc,
-        count: row.most,
-        stack_size: row.too_large.then_some(usize::MAX),
-        interrupt,
-    })
 }
 
 // Returns whether rounds end as their row says.
 fn is_right<R: AllocGlobal + Threads + Wait>(rt: &R, row: &Row) -> Result<bool, Fail> {
-    let alloc = rt.alloc();
-    let index = index(alloc, row.entries)?;
-    let flag = AtomicBool::new(row.is_set);
-    let Some(workers) = workers(rt, alloc, row, Some(&flag)) else {
+    let (paths, count, too_large, is_set, end) = *row;
+    if count < 1 || count > 64 {
         return Ok(false);
+    }
+    let alloc = rt.alloc();
+    let index = foos(alloc, paths)?;
+    let flag = AtomicBool::new(is_set);
+    let workers = Workers {
+        rt,
+        alloc,
+        count,
+        stack_size: too_large.then_some(usize::MAX),
+        interrupt: Some(&flag),
     };
     let mut recorder = Recorder::new(alloc);
     let answer = report_rounds(&index, &workers, &mut recorder);
-    Ok(row.ends(&answer, &recorder.records))
+    Ok(end_of(&answer, &recorder.records, paths.len()) == Some(end))
 }
 
 #[test]
 fn a_refused_thread_ends_the_status_and_nothing_is_reported(rt: HostRuntime) -> Result<(), Fail> {
-    for row in &ROWS {
-        assert!(rt; is_right(&rt, row)?, "{}", row.name);
+    for (at, row) in ROWS.iter().enumerate() {
+        assert!(rt; is_right(&rt, row)?, "row {at}");
     }
     Ok(())
 }

@@ -8,13 +8,12 @@ use gix_status::index::{Entry, ObjectId, State};
 use gix_status::index_as_worktree::traits::HashEq;
 use gix_status::index_as_worktree::{
     Context, EntryStatus, Options, Recorder, VisitEntry, index_as_worktree,
-    index_as_worktree_without_threads,
 };
 use gix_status::worktree::{
     AllPaths, Lister, MemoryObjects, NoFilter, NoLister, NoSubmodules, Worktree,
 };
 use status_callers::statuses::{StatusReport, report_to, request_with};
-use std::alloc::{AllocError, Global};
+use std::alloc::AllocError;
 use std::sync::Wait;
 use std::sync::atomic::{AtomicBool, Ordering};
 use std::thread::Threads;
@@ -22,8 +21,8 @@ use std::thread::Threads;
 /// A collector that passes each record on to another one, and sets its flag, if it has one.
 #[derive(Drop)]
 pub struct FlagSetter<'a, V> {
-    inner: V,
-    flag: Option<&'a AtomicBool>,
+    pub inner: V,
+    pub flag: Option<&'a AtomicBool>,
 }
 
 impl<'index, 'a, V: VisitEntry<'index>> VisitEntry<'index> for FlagSetter<'a, V>
@@ -78,6 +77,8 @@ where
         inner: Recorder::new(alloc),
         flag: of_collector,
     };
+    let request = request_with(alloc, options);
+    let flag = Some(interrupt);
     let answer = report_to(
         rt,
         alloc,
@@ -85,43 +86,8 @@ where
         worktree,
         &mut collector,
         HashEq,
-        request_with(alloc, options),
-        Some(interrupt),
-    );
-    StatusReport {
-        records: collector.inner.records,
-        answer,
-    }
-}
-
-/// Calls the same without threads. The collector sets the flag at each record.
-pub fn status_without_threads_until_record<'index, W: Worktree>(
-    alloc: Global,
-    index: &'index State,
-    worktree: &W,
-    options: Options,
-    interrupt: &AtomicBool,
-) -> StatusReport<'index, ObjectId, ()> {
-    let mut collector = FlagSetter {
-        inner: Recorder::new(alloc),
-        flag: Some(interrupt),
-    };
-    let context = Context {
-        pathspec: AllPaths,
-        filter: NoFilter,
-        lister: NoLister,
-        should_interrupt: Some(interrupt),
-    };
-    let answer = index_as_worktree_without_threads(
-        alloc,
-        index,
-        worktree,
-        &mut collector,
-        HashEq,
-        NoSubmodules,
-        MemoryObjects::new(alloc),
-        context,
-        options,
+        request,
+        flag,
     );
     StatusReport {
         records: collector.inner.records,

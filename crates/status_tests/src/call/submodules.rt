@@ -1,12 +1,12 @@
 //! Submodules whose status is computed by a caller's own interface.
 
-use crate::call::inputs::{index, worktree};
 use crate::call::reports::{found, is_at, is_taken};
 use crate::support::contents::Content;
+use crate::support::inputs::{index, worktree};
 use crate::support::stats::STAGED;
 use gix_status::index::Mode;
 use gix_status::index_as_worktree::traits::HashEq;
-use gix_status::index_as_worktree::{Change, EntryStatus, Error, Outcome, Record};
+use gix_status::index_as_worktree::{Change, EntryStatus, Error};
 use gix_status::worktree::{AllPaths, MemoryObjects, NoFilter, NodeKind};
 use status_callers::statuses::{StatusRequest, options, status_of};
 use status_callers::submodules::Alike;
@@ -24,44 +24,25 @@ fn is_submodule_reported<R: AllocGlobal + Threads + Wait>(
     let index = index(alloc, &[("sub", 0, Mode::Commit, Content::Foo)])?;
     let directory = ("sub", NodeKind::Directory, b"".as_slice(), 0, Some(STAGED));
     let worktree = worktree(alloc, &[directory])?;
-    let objects = MemoryObjects::new(alloc);
-    let submodule = Alike { alloc, answer };
+    let (submodule, objects) = (Alike { alloc, answer }, MemoryObjects::new(alloc));
     let request = StatusRequest::new(submodule, objects, AllPaths, NoFilter, options());
     let report = status_of(rt, &index, &worktree, HashEq, request, None);
-    Ok(match answer {
-        Ok(change) => {
-            is_taken(&report.answer, &found(1)) && is_modified(&report.records, change)
+    let change = match report.records.as_slice() {
+        [] => None,
+        [record] if is_at(record, 0, "sub") => match &record.status {
+            EntryStatus::Change(Change::SubmoduleModification(found)) => Some(*found),
+            _ => return Ok(false),
+        },
+        _ => return Ok(false),
+    };
+    Ok(match (answer, &report.answer) {
+        (Ok(wanted), _) => is_taken(&report.answer, &found(1)) && change == wanted,
+        (Err(wanted), Err(Error::SubmoduleStatus { rela_path, text })) => {
+            let is_at_sub = rela_path.as_bytes() == b"sub".as_slice();
+            change.is_none() && is_at_sub && text.as_bytes() == wanted
         }
-        Err(text) => report.records.is_empty() && is_failed_at_sub(&report.answer, text),
+        _ => false,
     })
-}
-
-/// Returns whether the only record is of the submodule `sub`, with this change. Without a change there must be no
-/// record.
-fn is_modified<T>(records: &[Record<'_, T, u32>], change: Option<u32>) -> bool {
-    match (records.first(), change) {
-        (Some(record), Some(change)) => {
-            records.len() == 1 && is_at(record, 0, "sub") && is_modification(&record.status, change)
-        }
-        (None, None) => true,
-        _ => false,
-    }
-}
-
-fn is_modification<T>(status: &EntryStatus<T, u32>, change: u32) -> bool {
-    match status {
-        EntryStatus::Change(Change::SubmoduleModification(found)) => *found == change,
-        _ => false,
-    }
-}
-
-fn is_failed_at_sub(answer: &Result<Outcome, Error>, wanted: &[u8]) -> bool {
-    match answer {
-        Err(Error::SubmoduleStatus { rela_path, text }) => {
-            rela_path.as_bytes() == "sub".as_bytes() && text.as_bytes() == wanted
-        }
-        _ => false,
-    }
 }
 
 #[test]

@@ -1,26 +1,26 @@
-//! Statuses in the caller's thread alone.
+//! Statuses in the caller's thread alone. They have no rounds: the flag is checked before each entry and after each piece,
+//! whose records are reported before the next piece.
 
-use crate::call::inputs::{foo_entry, index, later_file, worktree};
-use crate::call::reports::{
-    Says, Wanted, are_records, is_failed_by, is_taken, read, status_by_pieces,
-};
-use crate::call::side_effects::{OnLstat, WatchedWorktree};
+use crate::call::reports::{Says, Wanted, by_pieces, is_report, read, status_by_pieces, updated};
+use crate::call::statuses::FlagSetter;
+use crate::support::calls::{Calls, counted};
 use crate::support::contents::Content;
+use crate::support::inputs::{foo_entry, index, later_file, worktree};
+use crate::support::side_effects::{OnLstat, WatchedWorktree};
 use crate::support::stats::STAGED;
 use bstr::BStr;
 use gix_status::index::{Mode, Moment, ObjectId, State};
 use gix_status::index_as_worktree::traits::HashEq;
 use gix_status::index_as_worktree::{
-    Context, Options, Outcome, Recorder, index_as_worktree_without_threads,
+    Context, Error, Options, Outcome, Recorder, VisitEntry, index_as_worktree_without_threads,
 };
 use gix_status::worktree::{
     AllPaths, Fault, MemoryObjects, MemoryWorktree, NoFilter, NoLister, NoSubmodules, NodeKind,
     Point, Worktree,
 };
-use status_callers::statuses::{StatusReport, options};
-use status_callers::worktrees::Counted;
+use status_callers::statuses::StatusReport;
 use std::alloc::Global;
-use std::sync::atomic::{AtomicBool, AtomicUsize, Ordering};
+use std::sync::atomic::AtomicBool;
 use std::test::Fail;
 
 /// The records of the five entries. The submodule at `d` has none.
@@ -36,14 +36,14 @@ const CHUNK_SIZES: [usize; 4] = [1, 2, 6, 0];
 
 /// Returns the index of the five entries. It was written in the second in which they were staged.
 fn five_entries(alloc: Global) -> Result<State, Fail> {
-    let entries = [
+    let submodule = ("d", 0, Mode::Commit, Content::Foo);
+    let (a, b, c, e) = (
         foo_entry("a"),
         foo_entry("b"),
         foo_entry("c"),
-        ("d", 0, Mode::Commit, Content::Foo),
         foo_entry("e"),
-    ];
-    let mut index = index(alloc, &entries)?;
+    );
+    let mut index = index(alloc, &[a, b, c, submodule, e])?;
     index.set_timestamp(Moment {
         secs: STAGED,
         nsecs: 0,
@@ -54,11 +54,13 @@ fn five_entries(alloc: Global) -> Result<State, Fail> {
 /// Returns a worktree in which `a` is gone, `b` was changed, `c` was written again with the same content, `d` is a
 /// directory, and `e` is unchanged.
 fn four_nodes(alloc: Global) -> Result<MemoryWorktree, Fail> {
+    let directory = ("d", NodeKind::Directory, b"".as_slice(), 0, Some(STAGED));
+    let clean = ("e", NodeKind::File, b"foo".as_slice(), 3, Some(STAGED));
     let nodes = [
         later_file("b", b"bar"),
         later_file("c", b"foo"),
-        ("d", NodeKind::Directory, b"".as_slice(), 0, Some(STAGED)),
-        ("e", NodeKind::File, b"foo".as_slice(), 3, Some(STAGED)),
+        directory,
+        clean,
     ];
     Ok(worktree(alloc, &nodes)?)
 }
@@ -66,13 +68,12 @@ fn four_nodes(alloc: Global) -> Result<MemoryWorktree, Fail> {
 /// Returns the outcome of a status of the five entries: `b`, `c` and `e` are read.
 fn whole() -> Outcome {
     Outcome {
-        entries_to_update: 2,
         racy_clean: 1,
-        ..read(5, 3, 9)
+        ..updated(2, read(5, 3, 9))
     }
 }
 
-/// Returns the outcome of a status that is interrupted after none of the five entries, or after `a` and `b`.
+/// Returns the outcome of a status that is interrupted after none of the five entries, or after `a`, or after `b` too.
 fn interrupted_after(entries: usize) -> Outcome {
     let (files, bytes) = if entries < 2 { (0, 0) } else { (1, 3) };
     Outcome {
@@ -82,131 +83,128 @@ fn interrupted_after(entries: usize) -> Outcome {
     }
 }
 
-/// Returns options with pieces of so many entries.
-fn by_pieces(chunk_size: usize) -> Options {
-    Options {
-        chunk_size,
-        ..options()
-    }
-}
-
-/// Calls the status by ids in this thread alone.
-fn status_without_threads<'index, W: Worktree>(
+/// Reports to `collector` a status by ids in this thread alone.
+fn report_without_threads<
+    'index,
+    W: Worktree,
+    V: VisitEntry<'index, ContentChange = ObjectId, SubmoduleStatus = ()>,
+>(
     alloc: Global,
     index: &'index State,
     worktree: &W,
+    collector: &mut V,
     options: Options,
     interrupt: Option<&AtomicBool>,
-) -> StatusReport<'index, ObjectId, ()> {
-    let mut recorder = Recorder::new(alloc);
+) -> Result<Outcome, Error> {
     let context = Context {
         pathspec: AllPaths,
         filter: NoFilter,
         lister: NoLister,
         should_interrupt: interrupt,
     };
-    let answer = index_as_worktree_without_threads(
+    index_as_worktree_without_threads(
         alloc,
         index,
         worktree,
-        &mut recorder,
+        collector,
         HashEq,
         NoSubmodules,
         MemoryObjects::new(alloc),
         context,
         options,
-    );
+    )
+}
+
+/// Calls it with a collector that sets `of_collector` at each record.
+fn status_without_threads<'index, W: Worktree>(
+    alloc: Global,
+    index: &'index State,
+    worktree: &W,
+    chunk_size: usize,
+    of_collector: Option<&AtomicBool>,
+    interrupt: Option<&AtomicBool>,
+) -> StatusReport<'index, ObjectId, ()> {
+    let mut setter = FlagSetter {
+        inner: Recorder::new(alloc),
+        flag: of_collector,
+    };
+    let options = by_pieces(chunk_size, None);
+    let answer = report_without_threads(alloc, index, worktree, &mut setter, options, interrupt);
     StatusReport {
-        records: recorder.records,
+        records: setter.inner.records,
         answer,
     }
-}
-
-/// Returns whether a report has all records of the five entries, and their counts.
-fn is_whole(report: &StatusReport<'_, ObjectId, ()>) -> bool {
-    are_records(&report.records, &RECORDS) && is_taken(&report.answer, &whole())
-}
-
-/// Returns whether a status of the five entries without threads reports them all.
-fn is_reported(alloc: Global, options: Options) -> Result<bool, Fail> {
-    let (index, worktree) = (five_entries(alloc)?, four_nodes(alloc)?);
-    let report = status_without_threads(alloc, &index, &worktree, options, None);
-    Ok(is_whole(&report))
 }
 
 #[test]
 fn a_status_without_threads_reports_what_one_with_four_workers_does(
     rt: HostRuntime,
 ) -> Result<(), Fail> {
-    let alloc = rt.alloc();
+    let (alloc, end) = (rt.alloc(), Ok(whole()));
     let (index, worktree) = (five_entries(alloc)?, four_nodes(alloc)?);
-    let alone = status_without_threads(alloc, &index, &worktree, by_pieces(1), None);
-    assert!(rt; is_whole(&alone));
+    let alone = status_without_threads(alloc, &index, &worktree, 1, None, None);
+    assert!(rt; is_report(&alone, &RECORDS, &end));
     let shared = status_by_pieces(&rt, &index, &worktree, 1, 4);
-    assert!(rt; is_whole(&shared));
+    assert!(rt; is_report(&shared, &RECORDS, &end));
     Ok(())
 }
 
-#[test]
-fn a_status_without_threads_is_the_same_by_pieces_of_any_size(rt: HostRuntime) -> Result<(), Fail> {
-    for chunk_size in CHUNK_SIZES {
-        assert!(rt;
-            is_reported(rt.alloc(), by_pieces(chunk_size))?,
-            "{chunk_size}"
-        );
-    }
-    Ok(())
+/// Who sets the flag: the caller, before the call; the collector, at the first record; or `lstat` of `b`.
+#[derive(Clone, Copy)]
+enum SetBy {
+    Caller,
+    Collector,
+    Lstat,
 }
 
-#[test]
-fn a_status_without_threads_is_the_same_by_any_limit_of_threads(
-    rt: HostRuntime,
-) -> Result<(), Fail> {
-    for thread_limit in [Some(0), None, Some(1), Some(64)] {
-        let options = Options {
-            thread_limit,
-            ..by_pieces(1)
-        };
-        assert!(rt; is_reported(rt.alloc(), options)?, "{thread_limit:?}");
-    }
-    Ok(())
-}
-
-/// Returns whether a status without threads is interrupted after these records, one for each entry that it processed.
-/// Its flag is set from the start or by `lstat`.
+/// Returns whether a status without threads is interrupted after so many entries, each of which has a record.
 fn is_interrupted(
     alloc: Global,
     chunk_size: usize,
-    is_set: bool,
-    on_lstat: OnLstat,
-    wanted: &[Wanted<'_>],
+    set_by: SetBy,
+    count: usize,
 ) -> Result<bool, Fail> {
-    let flag = AtomicBool::new(is_set);
+    let flag = AtomicBool::new(matches!(set_by, SetBy::Caller));
+    let called = AtomicBool::new(false);
     let index = five_entries(alloc)?;
     let worktree = WatchedWorktree {
         worktree: four_nodes(alloc)?,
-        on_lstat,
+        on_lstat: match set_by {
+            SetBy::Lstat => OnLstat::SetsFlag("b"),
+            SetBy::Caller | SetBy::Collector => OnLstat::Nothing,
+        },
         flag: &flag,
-        called: AtomicBool::new(false),
+        called: &called,
     };
-    let options = by_pieces(chunk_size);
-    let report = status_without_threads(alloc, &index, &worktree, options, Some(&flag));
-    Ok(
-        are_records(&report.records, wanted)
-            && is_taken(&report.answer, &interrupted_after(wanted.len())),
-    )
+    let of_collector = matches!(set_by, SetBy::Collector).then_some(&flag);
+    let report = status_without_threads(
+        alloc,
+        &index,
+        &worktree,
+        chunk_size,
+        of_collector,
+        Some(&flag),
+    );
+    let wanted = RECORDS.get(..count).unwrap_or(&[]);
+    Ok(is_report(&report, wanted, &Ok(interrupted_after(count))))
 }
 
 #[test]
 fn a_flag_ends_a_status_without_threads(rt: HostRuntime) -> Result<(), Fail> {
     for size in CHUNK_SIZES {
         assert!(rt;
-            is_interrupted(rt.alloc(), size, true, OnLstat::Nothing, &[])?,
+            is_interrupted(rt.alloc(), size, SetBy::Caller, 0)?,
             "{size}"
         );
-        let at_b = OnLstat::SetsFlag("b");
         assert!(rt;
-            is_interrupted(rt.alloc(), size, false, at_b, &RECORDS[..2])?,
+            is_interrupted(rt.alloc(), size, SetBy::Lstat, 2)?,
+            "{size}"
+        );
+    }
+    // After the first piece, it sees the flag of the collector.
+    for size in [1, 2] {
+        assert!(rt;
+            is_interrupted(rt.alloc(), size, SetBy::Collector, size)?,
             "{size}"
         );
     }
@@ -214,25 +212,15 @@ fn a_flag_ends_a_status_without_threads(rt: HostRuntime) -> Result<(), Fail> {
 }
 
 /// Returns whether a status without threads ends with a fault at the third entry, after the records before it, and
-/// calls `lstat` on no later one.
+/// makes no call on the last.
 fn is_failed_at_third(alloc: Global, chunk_size: usize) -> Result<bool, Fail> {
-    let index = five_entries(alloc)?;
-    let mut files = four_nodes(alloc)?;
-    files.plant(BStr::from("c"), Point::Open, Fault::PermissionDenied)?;
-    let (looks, opens) = (AtomicUsize::new(0), AtomicUsize::new(0));
-    let worktree = Counted {
-        worktree: files,
-        path: "e",
-        looks: &looks,
-        opens: &opens,
-    };
-    let report = status_without_threads(alloc, &index, &worktree, by_pieces(chunk_size), None);
-    Ok(
-        are_records(&report.records, &RECORDS[..2])
-            && is_failed_by(&report.answer, Fault::PermissionDenied)
-            && looks.load(Ordering::SeqCst) == 0
-            && opens.load(Ordering::SeqCst) == 0,
-    )
+    let (index, mut files) = (five_entries(alloc)?, four_nodes(alloc)?);
+    let fault = Fault::PermissionDenied;
+    files.plant(BStr::from("c"), Point::Open, fault)?;
+    let calls = Calls::new();
+    let worktree = counted(files, "e", &calls);
+    let report = status_without_threads(alloc, &index, &worktree, chunk_size, None, None);
+    Ok(is_report(&report, &RECORDS[..2], &Err(fault)) && calls.made() == (0, 0))
 }
 
 #[test]

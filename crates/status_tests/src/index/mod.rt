@@ -1,12 +1,8 @@
-//! Tests of an index in memory, of ids, stats, modes, flags, streams and searches, and of the texts of errors.
+//! Tests of an index in memory, and of ids, stats, modes and flags.
 //!
-//! Begin at `git_values`.
+//! Begin at `values`.
 
-mod flags;
-mod git_values;
-mod index_words;
 mod node_modes;
-mod reading;
-mod searches;
 mod states;
 mod stats;
+mod values;

@@ -1,12 +1,17 @@
 //! Copies of the options of the joined call, and of its records.
 
-use crate::joined::entries::{RowEntry, RowNode, index, worktree};
 use crate::joined::record_lines::lines_of;
+use crate::joined::rows::{A, FILE_B, FILE_C};
+use crate::support::contents::Content;
+use crate::support::inputs::{index, worktree};
+use crate::support::stats::STAGED;
+use gix_status::worktree::NodeKind;
 use status_callers::joined::broken::Broken;
 use status_callers::joined::statuses::{JoinedRequest, joined};
 use status_callers::joined::trackers::Answers;
 use status_callers::joined::trackers::PlannedPair::{Copied, Renamed};
 use status_callers::joined::walks::{B, C, Found, Passes, UNTRACKED};
+use status_index::Mode;
 use status_joined::index_as_worktree_with_renames::{Options, Sorting};
 use std::sync::Wait;
 use std::test::Fail;
@@ -19,42 +24,33 @@ const D: Found<'static> = Found {
 };
 
 /// A record of each form.
-const LINES: &str = "- renamed \"a\" \"b\"\n- added \"c\"\n- copied \"c\" \"d\"\n1 removed \"e\"\n";
+const LINES: &str = "- Renamed a b\n- Added Untracked c\n- Copied c d\n1 Removed e\n";
 
 // Returns whether copies of records of each form have their lines.
 fn are_copied<R: AllocGlobal + Threads + Wait>(rt: &R) -> Result<bool, Fail> {
     let alloc = rt.alloc();
-    let index = index(alloc, &[("a", RowEntry::Foo), ("e", RowEntry::Foo)])?;
-    let files = [
-        ("b", RowNode::File("foo")),
-        ("c", RowNode::File("bar")),
-        ("d", RowNode::File("bar")),
-    ];
+    let index = index(alloc, &[A, ("e", 0, Mode::File, Content::Foo)])?;
+    let d = ("d", NodeKind::File, b"foo".as_slice(), 3, Some(STAGED));
     let worktree = Broken {
-        worktree: worktree(alloc, &files)?,
+        worktree: worktree(alloc, &[FILE_B, FILE_C, d])?,
         faults: &[],
     };
+    let (nodes, fault) = (&[B, C, D], None);
+    let pairs = &[Renamed(0, 1), Copied(2, 3)];
     let walk = Passes {
         alloc,
-        nodes: &[B, C, D],
-        fault: None,
+        nodes,
+        fault,
     };
-    let pairs = &[Renamed(0, 1), Copied(2, 3)];
     let request = JoinedRequest::rewritten(walk, Answers { alloc, pairs });
     let report = joined(rt, &index, &worktree, request);
-    let copies = report.records.clone()?;
-    let text = lines_of(alloc, &copies)?;
+    let text = lines_of(alloc, &report.records.clone()?)?;
     Ok(text.as_str() == LINES)
 }
 
 #[test]
-fn records_of_each_form_can_be_copied(rt: HostRuntime) -> Result<(), Fail> {
+fn records_and_options_can_be_copied(rt: HostRuntime) -> Result<(), Fail> {
     assert!(rt; are_copied(&rt)?);
-    Ok(())
-}
-
-#[test]
-fn options_can_be_copied(rt: HostRuntime) -> Result<(), Fail> {
     let options = Options {
         sorting: Some(Sorting::ByPathCaseSensitive),
         fscache: true,

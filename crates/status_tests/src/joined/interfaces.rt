@@ -1,4 +1,4 @@
-//! The worktree, walk, tracker and submodules of a row. They note which of them are called.
+//! The walk, tracker and submodules of a row. They note which of them are called.
 
 ghost use Rattle.std.specs.Prelude.{⊤, None};
 
@@ -6,73 +6,13 @@ use bstr::BStr;
 use status_base::worktree::{
     Fault, MemoryWorktree, Pathspec, SubmoduleFault, SubmoduleStatus, Worktree,
 };
-use status_callers::joined::broken::{Broken, Point};
 use status_callers::joined::trackers::{Answers, PlannedPair};
 use status_callers::joined::walks::{Found, Passes};
-use status_callers::worktrees::Counted;
 use status_index::{Entry, EntryKind, ObjectId, State};
 use status_rewrites::{Change, ChangeKind, IdentityTracker, Pair, Rewrites, Tracker, TrackerError};
 use status_walk::{Delegate, Outcome, UntrackedWalk, Walk, WalkError};
 use std::alloc::Global;
-use std::sync::atomic::{AtomicBool, AtomicUsize, Ordering};
-
-/// Which parts of a status are called.
-#[derive(Clone, Copy, PartialEq, Eq)]
-pub struct Asked {
-    pub walk: bool,
-    /// `lstat` or `open` of `b`, to compute its id.
-    pub id: bool,
-    pub tracker: bool,
-}
-
-/// Notes of the calls of a status.
-#[derive(Drop)]
-pub struct Calls {
-    walk: AtomicBool,
-    looks: AtomicUsize,
-    opens: AtomicUsize,
-    tracker: AtomicBool,
-}
-
-impl Calls {
-    /// Notes of no call.
-    pub fn new() -> Calls {
-        Calls {
-            walk: AtomicBool::new(false),
-            looks: AtomicUsize::new(0),
-            opens: AtomicUsize::new(0),
-            tracker: AtomicBool::new(false),
-        }
-    }
-
-    /// Which parts were called.
-    pub fn asked(&self) -> Asked {
-        let looks = self.looks.load(Ordering::SeqCst);
-        let opens = self.opens.load(Ordering::SeqCst);
-        Asked {
-            walk: self.walk.load(Ordering::SeqCst),
-            id: looks > 0 || opens > 0,
-            tracker: self.tracker.load(Ordering::SeqCst),
-        }
-    }
-}
-
-/// The worktree of a row.
-pub type RowWorktree<'a> = Counted<'a, Broken<'a>>;
-
-/// Returns a worktree with these faults.
-pub fn row_worktree<'a>(
-    worktree: MemoryWorktree,
-    faults: &'a [(Point, &'a str, Fault)],
-    calls: &'a Calls,
-) -> RowWorktree<'a> {
-    Counted {
-        worktree: Broken { worktree, faults },
-        path: "b",
-        looks: &calls.looks,
-        opens: &calls.opens,
-    }
-}
+use std::sync::atomic::{AtomicBool, Ordering};
 
 /// How a worktree is walked.
 #[derive(Clone, Copy)]
@@ -90,7 +30,7 @@ pub struct RowWalk<'a> {
     pub kind: WalkKind<'a>,
     /// The worktree that is walked, without the faults.
     pub nodes: &'a MemoryWorktree,
-    pub calls: &'a Calls,
+    pub called: &'a AtomicBool,
 }
 
 impl<'a, W: Worktree> Walk<W> for RowWalk<'a> {
@@ -103,7 +43,7 @@ impl<'a, W: Worktree> Walk<W> for RowWalk<'a> {
         pathspec: &P,
         delegate: &mut D,
     ) -> Result<Outcome, WalkError> {
-        self.calls.walk.store(true, Ordering::SeqCst);
+        self.called.store(true, Ordering::SeqCst);
         let alloc = self.alloc;
         match self.kind {
             WalkKind::Untracked => {
@@ -146,7 +86,7 @@ pub enum TrackerKind<'a> {
 pub struct RowTracker<'a> {
     pub alloc: Global,
     pub kind: TrackerKind<'a>,
-    pub calls: &'a Calls,
+    pub called: &'a AtomicBool,
 }
 
 // Returns whether the changes are these.
@@ -174,7 +114,7 @@ impl<'a> Tracker for RowTracker<'a> {
         items: &[C],
         rewrites: Rewrites,
     ) -> Result<Vec<Pair>, TrackerError> {
-        self.calls.tracker.store(true, Ordering::SeqCst);
+        self.called.store(true, Ordering::SeqCst);
         let alloc = self.alloc;
         match self.kind {
             TrackerKind::Identity => match IdentityTracker::new(alloc).pairs(items, rewrites) {

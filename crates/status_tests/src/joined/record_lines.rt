@@ -1,12 +1,11 @@
-//! Records as lines of text.
+//! Reports as lines of text.
 
 use status_index::ObjectId;
-use status_joined::index_as_worktree_with_renames::{Entry, Summary};
-use status_walk::Status;
+use status_joined::index_as_worktree_with_renames::{Entry, Error, Outcome};
 use std::alloc::{AllocError, Global};
 
-/// Returns a line for each record, in order: its index position or `-`, a word, and its path. A rename or a copy has
-/// both paths.
+/// Returns a line for each record, in order: its index position or `-`, its summary, the status of an untracked file, and
+/// its path. A rename or a copy has both paths.
 pub fn lines_of<U>(
     alloc: Global,
     records: &[Entry<'_, ObjectId, U>],
@@ -19,41 +18,42 @@ pub fn lines_of<U>(
 }
 
 fn line<U>(alloc: Global, record: &Entry<'_, ObjectId, U>) -> Result<String, AllocError> {
-    let word = word(record);
-    let source = record.source_rela_path();
-    let destination = record.destination_rela_path();
+    let word = match record.summary() {
+        Some(summary) => format!(in alloc; "{summary:?}")?,
+        None => String::from_str(alloc, "none")?,
+    };
+    let (source, destination) = (record.source_rela_path(), record.destination_rela_path());
     match record {
         Entry::Modification { entry_index, .. } => {
-            format!(in alloc; "{entry_index} {word} \"{source}\"\n")
+            format!(in alloc; "{entry_index} {word} {source}\n")
         }
-        Entry::DirectoryContents { .. } => format!(in alloc; "- {word} \"{source}\"\n"),
-        Entry::Rewrite { .. } => format!(in alloc; "- {word} \"{source}\" \"{destination}\"\n"),
+        Entry::DirectoryContents { entry, .. } => {
+            format!(in alloc; "- {word} {:?} {source}\n", entry.status)
+        }
+        Entry::Rewrite { .. } => format!(in alloc; "- {word} {source} {destination}\n"),
     }
 }
 
-fn word<U>(record: &Entry<'_, ObjectId, U>) -> &'static str {
-    match record.summary() {
-        Some(Summary::Removed) => "removed",
-        Some(Summary::Added) => "added",
-        Some(Summary::Modified) => "modified",
-        Some(Summary::TypeChange) => "type",
-        Some(Summary::Renamed) => "renamed",
-        Some(Summary::Copied) => "copied",
-        Some(Summary::IntentToAdd) => "intent",
-        Some(Summary::Conflict) => "conflict",
-        None => word_without_summary(record),
+/// Returns the line of a call's result: how many entries were processed, if the call was interrupted, how many nodes the
+/// walk passed, if there was one, and how many renames and copies there are, if they were looked for; or the error.
+pub fn end_of(alloc: Global, answer: &Result<Outcome, Error>) -> Result<String, AllocError> {
+    let outcome = match answer {
+        Ok(outcome) => outcome,
+        Err(error) => return format!(in alloc; "{error:?}"),
+    };
+    let mut text = String::new(alloc);
+    let tracked = &outcome.tracked_file_modification;
+    if tracked.interrupted {
+        let (processed, lstats) = (tracked.entries_processed, tracked.symlink_metadata_calls);
+        text.push_str(&format!(in alloc; "cut after {processed}, {lstats}; ")?)?;
     }
-}
-
-fn word_without_summary<U>(record: &Entry<'_, ObjectId, U>) -> &'static str {
-    match record {
-        Entry::Modification { .. } => "update",
-        Entry::DirectoryContents { entry, .. } => match entry.status {
-            Status::Untracked => "untracked",
-            Status::Ignored => "ignored",
-            Status::Tracked => "tracked",
-            Status::Pruned => "pruned",
-        },
-        Entry::Rewrite { .. } => "rewritten",
+    if let Some(walk) = &outcome.dirwalk {
+        let end = if walk.cancelled { ", cancelled" } else { "" };
+        text.push_str(&format!(in alloc; "{} nodes{end}", walk.emitted)?)?;
     }
+    if let Some(pairs) = &outcome.rewrites {
+        let (renames, copies) = (pairs.renames, pairs.copies);
+        text.push_str(&format!(in alloc; "; {renames} renames, {copies} copies")?)?;
+    }
+    Ok(text)
 }

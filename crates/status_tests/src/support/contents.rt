@@ -25,8 +25,7 @@ pub const EMPTY: ObjectId = ObjectId::Sha1([
     0xe4, 0x8c, 0x53, 0x91,
 ]);
 
-/// The id of `bars`.
-pub const BARS: ObjectId = ObjectId::Sha1([
+const BARS: ObjectId = ObjectId::Sha1([
     0x54, 0x12, 0x04, 0xba, 0x8c, 0x2e, 0xa9, 0x10, 0xe6, 0x4a, 0x91, 0xdd, 0xcf, 0xc8, 0x34, 0x7f,
     0x39, 0x10, 0x1c, 0xa7,
 ]);
@@ -41,7 +40,7 @@ const LONG: ObjectId = ObjectId::Sha1([
     0x41, 0x30, 0x60, 0xbb,
 ]);
 
-/// A content of a file.
+/// The content of a file.
 #[derive(Clone, Copy)]
 pub enum Content {
     Foo,
@@ -52,6 +51,7 @@ pub enum Content {
     Line,
     /// 200,000 times `x`.
     Long,
+    Empty,
 }
 
 impl Content {
@@ -64,6 +64,7 @@ impl Content {
             Content::Bars => BARS,
             Content::Line => A_LINE,
             Content::Long => LONG,
+            Content::Empty => EMPTY,
         }
     }
 }

@@ -1,93 +1,94 @@
 //! The walk over a folder of the disk.
 
+use crate::support::contents::Content;
 use crate::support::folders::{FolderNode, fill, own_folder, within};
+use crate::support::inputs::EntryRow;
 use crate::support::nodes::metadata;
-use crate::walk::walk_lines::{Case, all, assert_folder, assert_walks};
+use crate::walk::walk_lines::assert_walk;
+use FolderNode::{File, Folder, Link};
 use bstr::BStr;
-use status_base::worktree::{Fault, MemoryFile, Metadata, NodeKind, Worktree};
+use status_base::worktree::{DiskWorktree, Fault, MemoryFile, Metadata, NodeKind, Worktree};
 use status_index::Mode;
+use std::path::Path;
 use std::process::Abort;
 use std::rt::Files;
 use std::test::Fail;
 use std::{fs, io};
 
 static NODES: [(&str, FolderNode); 29] = [
-    ("a", FolderNode::Folder),
-    ("a/c", FolderNode::Folder),
-    (".git", FolderNode::Folder),
-    (".git/refs", FolderNode::Folder),
-    ("n", FolderNode::Folder),
-    ("n/.git", FolderNode::Folder),
-    ("sub", FolderNode::Folder),
-    ("sub/y", FolderNode::Folder),
-    ("empty", FolderNode::Folder),
-    ("empty/e", FolderNode::Folder),
-    ("a-", FolderNode::File("")),
-    ("a/b", FolderNode::File("")),
-    ("a/c/d", FolderNode::File("")),
-    ("a0", FolderNode::File("")),
-    ("t", FolderNode::File("")),
-    ("t.x", FolderNode::File("")),
-    ("a/t", FolderNode::File("")),
-    (".git/config", FolderNode::File("")),
-    (".git/refs/head", FolderNode::File("")),
-    (".gitignore", FolderNode::File("")),
-    ("n/.git/config", FolderNode::File("")),
-    ("n/f", FolderNode::File("")),
-    ("sub/x", FolderNode::File("")),
-    ("sub/y/z", FolderNode::File("")),
-    ("sub.x", FolderNode::File("")),
-    ("é\n\x01", FolderNode::File("")),
-    ("l", FolderNode::Link("a")),
-    ("sub-", FolderNode::Link("gone")),
-    ("s", FolderNode::Link("x")),
+    ("a", Folder),
+    ("a/c", Folder),
+    (".git", Folder),
+    (".git/refs", Folder),
+    ("n", Folder),
+    ("n/.git", Folder),
+    ("sub", Folder),
+    ("sub/y", Folder),
+    ("empty", Folder),
+    ("empty/e", Folder),
+    ("a-", File("")),
+    ("a/b", File("")),
+    ("a/c/d", File("")),
+    ("a0", File("")),
+    ("t", File("")),
+    ("t.x", File("")),
+    ("a/t", File("")),
+    (".git/config", File("")),
+    (".git/refs/head", File("")),
+    (".gitignore", File("")),
+    ("n/.git/config", File("")),
+    ("n/f", File("")),
+    ("sub/x", File("")),
+    ("sub/y/z", File("")),
+    ("sub.x", File("")),
+    ("é\n\x01", File("")),
+    ("l", Link("a")),
+    ("sub-", Link("gone")),
+    ("s", Link("x")),
 ];
 
-static ENTRIES: [(&str, Mode); 5] = [
-    ("a", Mode::File),
-    ("a/t", Mode::File),
-    ("s", Mode::File),
-    ("sub", Mode::Commit),
-    ("t", Mode::File),
+static ENTRIES: [EntryRow; 5] = [
+    ("a", 0, Mode::File, Content::Foo),
+    ("a/t", 0, Mode::File, Content::Foo),
+    ("s", 0, Mode::File, Content::Foo),
+    ("sub", 0, Mode::Commit, Content::Foo),
+    ("t", 0, Mode::File, Content::Foo),
 ];
 
-static CASES: [Case; 3] = [
-    Case {
-        below: "",
-        room: 100,
-        found: ".gitignore file\na- file\na/b file\na/c/d file\na0 file\nl link\nn/f file\nsub- link\nsub.x file\nt.x file\né\n\x01 file\nall 11\n",
-    },
-    Case {
-        below: "a/",
-        room: 100,
-        found: "a/b file\na/c/d file\nall 2\n",
-    },
-    Case {
-        below: "",
-        room: 3,
-        found: ".gitignore file\na- file\na/b file\ncancelled at 3\n",
-    },
-];
+const ALL: &str =
+    ".gitignore File\na- File\na/b File\na/c/d File\na0 File\nl Symlink\nn/f File\nsub- Symlink\nsub.x File\nt.x File\né\n\x01 File\nall 11\n";
+
+const IN_A: &str = "a/b File\na/c/d File\nall 2\n";
+
+const THREE: &str = ".gitignore File\na- File\na/b File\ncancelled at 3\n";
 
 #[test]
 fn files_and_links_without_an_entry_are_found(rt: HostRuntime) -> Result<(), Fail> {
     let folder = own_folder(&rt, "disk_walk_finds")?;
-    fill(&rt, folder.as_str(), &NODES)?;
-    assert_folder(&rt, folder.as_str(), &ENTRIES, &CASES)?;
-    fs::remove_dir_all(&rt, folder.as_str())?;
+    let root = folder.as_str();
+    fill(&rt, root, &NODES)?;
+    let worktree = DiskWorktree::new(&rt, Path::new(root))?;
+    for (below, room, found) in [("", 100, ALL), ("a/", 100, IN_A), ("", 3, THREE)] {
+        assert_walk(&rt, root, &worktree, &ENTRIES, (below, room, found))?;
+    }
+    fs::remove_dir_all(&rt, root)?;
     Ok(())
+}
+
+// Asserts the lines of a walk over all of a folder, with an empty index.
+fn assert_all<R: Files + AllocGlobal + Abort>(rt: &R, root: &str, found: &str) -> Result<(), Fail> {
+    let worktree = DiskWorktree::new(rt, Path::new(root))?;
+    assert_walk(rt, root, &worktree, &[], ("", 100, found))
 }
 
 #[test]
 fn a_folder_that_is_not_there_has_nothing(rt: HostRuntime) -> Result<(), Fail> {
     let folder = own_folder(&rt, "disk_walk_nowhere")?;
-    let (missing, file) = (
-        within(&rt, folder.as_str(), "x")?,
-        within(&rt, folder.as_str(), "f")?,
-    );
-    fill(&rt, folder.as_str(), &[("f", FolderNode::File(""))])?;
-    assert_folder(&rt, missing.as_str(), &[], &[all("all 0\n")])?;
-    assert_folder(&rt, file.as_str(), &[], &[all(": not a directory\n")])?;
+    let missing = within(&rt, folder.as_str(), "x")?;
+    let file = within(&rt, folder.as_str(), "f")?;
+    fill(&rt, folder.as_str(), &[("f", File(""))])?;
+    assert_all(&rt, missing.as_str(), "all 0\n")?;
+    assert_all(&rt, file.as_str(), ": not a directory\n")?;
     fs::remove_dir_all(&rt, folder.as_str())?;
     Ok(())
 }
@@ -115,23 +116,19 @@ where
     R::File: Drop,
 {
     let found = if reads_all(rt, root)? {
-        "d/b file\nall 1\n"
+        "d/b File\nall 1\n"
     } else {
         refused
     };
     fill(rt, root, &[("d", FolderNode::Mode(mode))])?;
-    assert_folder(rt, root, &[], &[all(found)])
+    assert_all(rt, root, found)
 }
 
 #[test]
 fn directories_that_may_not_be_read_are_faults(rt: HostRuntime) -> Result<(), Fail> {
     let folder = own_folder(&rt, "disk_walk_locked")?;
     let root = folder.as_str();
-    fill(
-        &rt,
-        root,
-        &[("d", FolderNode::Folder), ("d/b", FolderNode::File(""))],
-    )?;
+    fill(&rt, root, &[("d", Folder), ("d/b", File(""))])?;
     // Without the permission to list, and then with only that permission.
     assert_locked(&rt, root, 0o300, "d: permission denied\n")?;
     assert_locked(&rt, root, 0o400, "d/b: permission denied\n")?;
@@ -179,45 +176,42 @@ impl Worktree for ByLetter {
 }
 
 static BY_LETTER: [(&str, FolderNode); 9] = [
-    ("d", FolderNode::Folder),
-    ("gd", FolderNode::Folder),
-    ("g", FolderNode::Folder),
-    ("p", FolderNode::Folder),
-    ("d/f", FolderNode::File("")),
-    ("d/p", FolderNode::File("")),
-    ("d/g", FolderNode::File("")),
-    ("g/f", FolderNode::File("")),
-    ("p/f", FolderNode::File("")),
+    ("d", Folder),
+    ("gd", Folder),
+    ("g", Folder),
+    ("p", Folder),
+    ("d/f", File("")),
+    ("d/p", File("")),
+    ("d/g", File("")),
+    ("g/f", File("")),
+    ("p/f", File("")),
 ];
 
+// A node that is gone before its `lstat` is skipped.
 #[test]
 fn nodes_are_what_lstat_returns(rt: HostRuntime) -> Result<(), Fail> {
     let folder = own_folder(&rt, "disk_walk_lstat")?;
     let root = folder.as_str();
     fill(&rt, root, &BY_LETTER)?;
-    // A node that is gone before its `lstat` is skipped.
-    assert_walks(
+    let found = "d/f File\nd/p Untrackable\np Untrackable\nall 3\n";
+    assert_walk(&rt, root, &ByLetter, &[], ("", 100, found))?;
+    fill(&rt, root, &[("d/r", File(""))])?;
+    assert_walk(
         &rt,
         root,
         &ByLetter,
         &[],
-        &[all("d/f file\nd/p other\np other\nall 3\n")],
-    )?;
-    fill(&rt, root, &[("d/r", FolderNode::File(""))])?;
-    assert_walks(
-        &rt,
-        root,
-        &ByLetter,
-        &[],
-        &[all("d/r: permission denied\n")],
+        ("", 100, "d/r: permission denied\n"),
     )?;
     // A walk that ends before the fault doesn't return it.
-    fill(&rt, root, &[("c", FolderNode::File(""))])?;
-    let first = Case {
-        room: 1,
-        ..all("c file\ncancelled at 1\n")
-    };
-    assert_walks(&rt, root, &ByLetter, &[], &[first])?;
+    fill(&rt, root, &[("c", File(""))])?;
+    assert_walk(
+        &rt,
+        root,
+        &ByLetter,
+        &[],
+        ("", 1, "c File\ncancelled at 1\n"),
+    )?;
     fs::remove_dir_all(&rt, root)?;
     Ok(())
 }

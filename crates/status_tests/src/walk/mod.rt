@@ -1,8 +1,6 @@
-//! Tests of walks over a worktree in memory and over a folder of the disk, and the texts of errors.
+//! Tests of the walk over a folder of the disk.
 //!
-//! Begin at `untracked`. `walk_lines` has what `disk_walk` uses.
+//! Begin at `disk_walk`. `walk_lines` has what it uses.
 
 mod disk_walk;
-mod untracked;
 mod walk_lines;
-mod walk_words;

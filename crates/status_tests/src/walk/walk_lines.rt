@@ -2,11 +2,10 @@
 
 ghost use Rattle.std.specs.Prelude.{◌≡◌, [], false};
 
-use crate::walk::untracked::index;
+use crate::support::inputs::{EntryRow, index};
 use bstr::BStr;
-use status_base::worktree::{DiskWorktree, Prefix, Worktree};
-use status_index::{Mode, State};
-use status_walk::{Action, Delegate, DirEntry, DiskWalk, Kind, Status, Walk, WalkError};
+use status_base::worktree::{Prefix, Worktree};
+use status_walk::{Action, Delegate, DirEntry, DiskWalk, Status, Walk, WalkError};
 use std::alloc::{AllocError, Global};
 use std::path::Path;
 use std::process::Abort;
@@ -39,17 +38,11 @@ impl Delegate for Lines {
     ghost state = { λ lines. record { keeps = λ _. false; kept = []; cancelled = lines.cancelled } };
 
     fn emit(&mut self, entry: DirEntry, collapsed: Option<Status>) -> Result<Action, AllocError> {
-        let kind = match entry.disk_kind {
-            Some(Kind::File) => "file",
-            Some(Kind::Symlink) => "link",
-            Some(Kind::Untrackable) => "other",
-            _ => "no node",
+        let path = &entry.rela_path;
+        let line = match (entry.status, entry.disk_kind, collapsed) {
+            (Status::Untracked, Some(kind), None) => format!(in self.alloc; "{path} {kind:?}\n")?,
+            _ => format!(in self.alloc; "{path} isn't untracked\n")?,
         };
-        let status = match (entry.status, collapsed) {
-            (Status::Untracked, None) => "",
-            _ => " not untracked",
-        };
-        let line = format!(in self.alloc; "{} {kind}{status}\n", entry.rela_path)?;
         self.text.push_str(line.as_str())?;
         self.room = self.room.saturating_sub(1);
         self.cancelled = self.room == 0;
@@ -61,72 +54,34 @@ impl Delegate for Lines {
     }
 }
 
-/// A walk over the paths that begin with `below`, with room for so many nodes. `found` has a line for each node that it
+/// The beginning of the paths of a walk, for how many nodes it has room, and its lines: one for each node that it
 /// passes, and one for how it ends.
-#[derive(Clone, Copy)]
-pub struct Case<'a> {
-    pub below: &'a str,
-    pub room: usize,
-    pub found: &'a str,
-}
+pub type Case<'a> = (&'a str, usize, &'a str);
 
-/// Returns a walk over all paths, with room for all nodes.
-pub fn all(found: &str) -> Case<'_> {
-    Case {
-        below: "",
-        room: 100,
-        found,
-    }
-}
-
-// Returns the lines of a walk over a folder, which uses a worktree's `lstat`.
-fn found<R: Files + AllocGlobal, W: Worktree>(
+/// Asserts the lines of a walk over a folder, which uses a worktree's `lstat`, with an index of these entries.
+pub fn assert_walk<R: Files + AllocGlobal + Abort, W: Worktree>(
     rt: &R,
     root: &str,
     worktree: &W,
-    index: &State,
-    case: &Case<'_>,
-) -> Result<String, AllocError> {
+    entries: &[EntryRow<'_>],
+    case: Case<'_>,
+) -> Result<(), Fail> {
+    let (below, room, found) = case;
     let alloc = rt.alloc();
-    let mut lines = Lines::new(alloc, case.room);
+    let index = index(alloc, entries)?;
+    let mut lines = Lines::new(alloc, room);
     let mut walk = DiskWalk::new(rt, Path::new(root))?;
-    let pathspec = Prefix::new(alloc, BStr::from(case.below))?;
-    let end = match walk.walk(worktree, index, &pathspec, &mut lines) {
+    let pathspec = Prefix::new(alloc, BStr::from(below))?;
+    let end = match walk.walk(worktree, &index, &pathspec, &mut lines) {
         Ok(outcome) if outcome.cancelled => format!(in alloc;
             "cancelled at {}\n",
             outcome.emitted
         )?,
         Ok(outcome) => format!(in alloc; "all {}\n", outcome.emitted)?,
         Err(WalkError::Fault { rela_path, fault }) => format!(in alloc; "{rela_path}: {fault}\n")?,
-        Err(WalkError::Memory) => return Err(AllocError),
+        Err(WalkError::Memory) => return Err(Fail::from(AllocError)),
     };
     lines.text.push_str(end.as_str())?;
-    Ok(lines.text)
-}
-
-/// Asserts the lines of walks over a folder, with a worktree and an index of these entries.
-pub fn assert_walks<R: Files + AllocGlobal + Abort, W: Worktree>(
-    rt: &R,
-    root: &str,
-    worktree: &W,
-    entries: &[(&str, Mode)],
-    cases: &[Case<'_>],
-) -> Result<(), Fail> {
-    let index = index(rt.alloc(), entries)?;
-    for case in cases {
-        let text = found(rt, root, worktree, &index, case)?;
-        assert_eq!(rt; text.as_str(), case.found);
-    }
+    assert_eq!(rt; lines.text.as_str(), found);
     Ok(())
-}
-
-/// Asserts the same with the folder's own worktree.
-pub fn assert_folder<R: Files + AllocGlobal + Abort>(
-    rt: &R,
-    root: &str,
-    entries: &[(&str, Mode)],
-    cases: &[Case<'_>],
-) -> Result<(), Fail> {
-    let worktree = DiskWorktree::new(rt, Path::new(root))?;
-    assert_walks(rt, root, &worktree, entries, cases)
 }

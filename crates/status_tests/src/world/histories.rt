@@ -1,11 +1,11 @@
-//! Histories with the expected reports of their runs. These have ids and stats, which the program doesn't print.
+//! Histories with the reports of their runs. These have ids and stats, which the program doesn't print.
 
-use crate::support::contents::{BAR, EMPTY};
-use crate::world::run_reports::{Counts, RACY, READ, STAT, Said, Wanted, are_reports};
+use crate::world::run_lines::lines_of;
+use Step::{Executable, Link, Remove, Stage, Tick, Write};
 use bstr::{BStr, BString};
 use gix_status::index::{Moment, stat};
 use gix_status::stack::{StackError, SymlinkCheck};
-use gix_status::world::{Comparer, Refusal, World};
+use gix_status::world::{Comparer, World};
 use status_callers::histories::{Run, Setting, Step, history_at};
 use std::alloc::Global;
 use std::sync::Wait;
@@ -32,24 +32,15 @@ const EXECUTABLE: Setting = Setting {
     ..SECONDS
 };
 
-// Times count by whole seconds, also `ctime`. Executability doesn't count.
-const CTIME: Setting = Setting {
-    stat: stat::Options {
-        trust_ctime: true,
-        check_stat: true,
-        use_nsec: false,
-        use_stdev: false,
-    },
-    executable_bit: false,
-};
-
-/// A run by ids, with pieces of one entry and at most two workers. It stores its changes in second 5.
+/// A run by ids, with pieces of one entry and at most two workers, which stores its changes in second 5.
 pub const RUN: Run = Run {
     comparer: Comparer::Hash,
     chunk_size: 1,
     thread_limit: Some(2),
     stamp: FIVE,
 };
+
+const RUN_5: Step = Step::Run(RUN);
 
 const RUN_6: Step = Step::Run(Run {
     stamp: Moment { secs: 6, nsecs: 0 },
@@ -61,154 +52,89 @@ const RUN_7: Step = Step::Run(Run {
     ..RUN
 });
 
-// A history in which no event is refused: its name, the settings of its world, the steps, and the expected reports.
-type History = (&'static str, Setting, &'static [Step], &'static [Wanted]);
+const FOO: Step = Write("f", "foo");
+
+const BAR: Step = Write("f", "bar");
+
+const STAGE: Step = Stage("f");
+
+// Steps in a world with these settings, none of which is refused, and the lines of each run.
+type History = (Setting, &'static [Step], &'static str);
 
 // A file whose folder is replaced by a link.
 const LINKED: &[Step] = &[
-    Step::Write("d/x", "foo"),
-    Step::Stage("d/x"),
-    Step::Remove("d/x"),
-    Step::Link("d", "e"),
-    Step::Run(RUN),
+    Write("d/x", "foo"),
+    Stage("d/x"),
+    Remove("d/x"),
+    Link("d", "e"),
+    RUN_5,
 ];
 
-static HISTORIES: [History; 7] = [
+static HISTORIES: [History; 5] = [
     // The size is 0 after the first run. So the stat no longer agrees, and the change is seen with any timestamp.
     (
-        "a racy rewrite is reported and smudged",
         SECONDS,
-        &[
-            Step::Write("f", "foo"),
-            Step::Stage("f"),
-            Step::Write("f", "bar"),
-            Step::Tick(1),
-            RUN_6,
-            Step::Tick(1),
-            RUN_7,
-        ],
-        &[
-            (&[(0, "f", Said::Changed(BAR, true))], RACY),
-            (&[(0, "f", Said::Changed(BAR, false))], READ),
-        ],
+        &[FOO, STAGE, BAR, Tick(1), RUN_6, Tick(1), RUN_7],
+        "0 f bar, size to 0; lstat 1, racy 1, to update 0, read 1, bytes 3\n0 f bar; lstat 1, racy 0, to update 0, read 1, bytes 3\n",
     ),
+    // A racy file that didn't change is read once.
     (
-        "a racy file that did not change is read once",
         SECONDS,
-        &[
-            Step::Write("f", "foo"),
-            Step::Stage("f"),
-            Step::Tick(1),
-            RUN_6,
-            Step::Tick(1),
-            RUN_7,
-        ],
-        &[
-            (
-                &[(0, "f", Said::Updated(5, 5))],
-                Counts { updates: 1, ..RACY },
-            ),
-            (&[], STAT),
-        ],
+        &[FOO, STAGE, Tick(1), RUN_6, Tick(1), RUN_7],
+        "0 f update to 5, 5, size 3; lstat 1, racy 1, to update 1, read 1, bytes 3\nlstat 1, racy 0, to update 0, read 0, bytes 0\n",
     ),
     // The file is emptied in the second of staging. So its size and its time are the entry's.
     (
-        "the size zero of a smudged entry hides no empty file",
         SECONDS,
         &[
-            Step::Write("f", "foo"),
-            Step::Stage("f"),
-            Step::Write("f", "bar"),
-            Step::Run(RUN),
-            Step::Write("f", ""),
-            Step::Tick(1),
+            FOO,
+            STAGE,
+            BAR,
+            RUN_5,
+            Write("f", ""),
+            Tick(1),
             RUN_6,
-            Step::Tick(1),
+            Tick(1),
             RUN_7,
         ],
-        &[
-            (&[(0, "f", Said::Changed(BAR, true))], RACY),
-            (
-                &[(0, "f", Said::Changed(EMPTY, false))],
-                Counts { bytes: 0, ..READ },
-            ),
-            (
-                &[(0, "f", Said::Changed(EMPTY, false))],
-                Counts { bytes: 0, ..READ },
-            ),
-        ],
+        "0 f bar, size to 0; lstat 1, racy 1, to update 0, read 1, bytes 3\n0 f empty; lstat 1, racy 0, to update 0, read 1, bytes 0\n0 f empty; lstat 1, racy 0, to update 0, read 1, bytes 0\n",
     ),
+    // An executable change hides no racy rewrite.
     (
-        "an executable change hides no racy rewrite",
         EXECUTABLE,
         &[
-            Step::Write("f", "foo"),
-            Step::Stage("f"),
-            Step::Write("f", "bar"),
-            Step::Executable("f", true),
-            Step::Tick(1),
+            FOO,
+            STAGE,
+            BAR,
+            Executable("f", true),
+            Tick(1),
             RUN_6,
-            Step::Tick(1),
-            Step::Executable("f", false),
+            Tick(1),
+            Executable("f", false),
             RUN_7,
         ],
-        &[
-            (&[(0, "f", Said::Modified(BAR, true))], READ),
-            (&[(0, "f", Said::Changed(BAR, false))], READ),
-        ],
+        "0 f bar, other mode, size to 0; lstat 1, racy 0, to update 0, read 1, bytes 3\n0 f bar; lstat 1, racy 0, to update 0, read 1, bytes 3\n",
     ),
     // `lstat` is called on the directory above, and not on the file itself.
     (
-        "a file below a link is removed",
         SECONDS,
         LINKED,
-        &[(&[(0, "d/x", Said::Removed)], Counts { stats: 0, ..STAT })],
-    ),
-    (
-        "a racy link is reported and smudged",
-        EXECUTABLE,
-        &[
-            Step::Link("l", "foo"),
-            Step::Stage("l"),
-            Step::Link("l", "bar"),
-            Step::Tick(1),
-            RUN_6,
-        ],
-        &[(&[(0, "l", Said::Changed(BAR, true))], RACY)],
-    ),
-    // The `ctime` differs, and the content is the same. After the new stat is stored, nothing is read.
-    (
-        "a permission change is an update where it does not count",
-        CTIME,
-        &[
-            Step::Write("a", "foo"),
-            Step::Stage("a"),
-            Step::Tick(1),
-            Step::Executable("a", true),
-            RUN_6,
-            RUN_6,
-        ],
-        &[
-            (
-                &[(0, "a", Said::Updated(5, 6))],
-                Counts { updates: 1, ..READ },
-            ),
-            (&[], STAT),
-        ],
+        "0 d/x removed; lstat 0, racy 0, to update 0, read 0, bytes 0\n",
     ),
 ];
 
 // Returns whether the runs of a history have the expected reports.
-fn is_history<R: AllocGlobal + Threads + Wait>(rt: &R, history: &History) -> Result<bool, Refusal> {
-    let (_name, setting, steps, wanted) = *history;
+fn is_history<R: AllocGlobal + Threads + Wait>(rt: &R, history: &History) -> Result<bool, Fail> {
+    let (setting, steps, lines) = *history;
     let replayed = history_at(rt, FIVE, setting, steps)?;
-    Ok(replayed.stopped.is_none() && are_reports(&replayed.reports, wanted))
+    let found = lines_of(rt.alloc(), &replayed.reports)?;
+    Ok(replayed.stopped.is_none() && found.as_str() == lines)
 }
 
 #[test]
 fn runs_report_each_change_with_its_id_and_each_new_stat(rt: HostRuntime) -> Result<(), Fail> {
-    for history in &HISTORIES {
-        assert!(rt; is_history(&rt, history)?, "{}", history.0);
+    for (at, history) in HISTORIES.iter().enumerate() {
+        assert!(rt; is_history(&rt, history)?, "history {at}");
     }
     Ok(())
 }

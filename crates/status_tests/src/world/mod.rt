@@ -1,9 +1,8 @@
 //! Tests of histories and of the stored index.
 //!
-//! Begin at `histories`, which has the expected reports of runs; `run_reports` compares them.
+//! Begin at `histories`. `run_lines` has the texts of its reports.
 
 mod histories;
 mod refused_events;
-mod reopening;
-mod run_reports;
+mod run_lines;
 mod stored;

@@ -3,7 +3,7 @@
 ghost use Rattle.std.specs.Prelude.{None, false, Err, refl};
 ghost use Rattle.status_index.specs.declared.fault.Fault.TheVariants.{NotFound};
 
-use crate::support::turns::{MANY_TURNS, comes};
+use crate::support::turns::comes;
 use bstr::BStr;
 use gix_status::worktree::{
     Fault, Lister, Listing, MemoryFile, MemoryWorktree, Metadata, NodeKind, Worktree,
@@ -11,14 +11,16 @@ use gix_status::worktree::{
 use std::alloc::AllocError;
 use std::sync::atomic::{AtomicBool, AtomicUsize, Ordering};
 
-/// The side effect of a call of `lstat`, if there is a node.
+/// The side effect of a call of `lstat`.
 #[derive(Clone, Copy)]
 pub enum OnLstat {
     Nothing,
     /// Sets the flag at this path.
     SetsFlag(&'static str),
-    /// Waits at the first path until `lstat` was called on the second. It fails after very many turns.
-    Meets(&'static str, &'static str),
+    /// Waits at the first path until `lstat` was called on the second. It fails after so many turns.
+    Meets(&'static str, &'static str, u64),
+    /// Waits at this path until the flag is set. It fails after so many turns.
+    AwaitsFlag(&'static str, u64),
     /// Returns a link for the directory at this path, from the second call on.
     FindsLink(&'static str),
 }
@@ -29,38 +31,41 @@ pub struct WatchedWorktree<'a> {
     pub worktree: MemoryWorktree,
     pub on_lstat: OnLstat,
     pub flag: &'a AtomicBool,
-    /// Whether `lstat` was called on the path that another call waits for, or that becomes a link.
-    pub called: AtomicBool,
+    /// Set if `lstat` was called on the path that another call waits for, that waits for the flag, or that becomes a link.
+    pub called: &'a AtomicBool,
+}
+
+fn is_at(path: BStr<'_>, at: &str) -> bool {
+    path.as_bytes() == at.as_bytes()
 }
 
 impl<'a> WatchedWorktree<'a> {
-    // Does the side effect of a call on a path, and returns the result in place of the node that was found.
-    fn effect(&self, path: BStr<'_>, found: Metadata) -> Result<Metadata, Fault> {
-        match self.on_lstat {
-            OnLstat::Nothing => {}
-            OnLstat::SetsFlag(at) => {
-                if path.as_bytes() == at.as_bytes() {
-                    self.flag.store(true, Ordering::SeqCst);
-                }
+    // Does the side effect of a call on a path. Returns whether a link is there instead of the directory.
+    fn effect(&self, path: BStr<'_>) -> Result<bool, Fault> {
+        let is_met = match self.on_lstat {
+            OnLstat::FindsLink(at) if is_at(path, at) => {
+                return Ok(self.called.swap(true, Ordering::SeqCst));
             }
-            OnLstat::Meets(first, second) => {
-                if path.as_bytes() == second.as_bytes() {
-                    self.called.store(true, Ordering::SeqCst);
-                }
-                if path.as_bytes() == first.as_bytes() && !comes(&self.called, MANY_TURNS) {
-                    return Err(Fault::Other(1));
-                }
+            OnLstat::SetsFlag(at) if is_at(path, at) => {
+                self.flag.store(true, Ordering::SeqCst);
+                true
             }
-            OnLstat::FindsLink(at) => {
-                if path.as_bytes() == at.as_bytes() && self.called.swap(true, Ordering::SeqCst) {
-                    return Ok(Metadata {
-                        kind: NodeKind::Link,
-                        ..found
-                    });
-                }
+            OnLstat::Meets(_, second, _) if is_at(path, second) => {
+                self.called.store(true, Ordering::SeqCst);
+                true
             }
+            OnLstat::Meets(first, _, turns) if is_at(path, first) => comes(self.called, turns),
+            OnLstat::AwaitsFlag(at, turns) if is_at(path, at) => {
+                self.called.store(true, Ordering::SeqCst);
+                comes(self.flag, turns)
+            }
+            _ => true,
+        };
+        if is_met {
+            Ok(false)
+        } else {
+            Err(Fault::Other(1))
         }
-        Ok(found)
     }
 }
 
@@ -76,8 +81,12 @@ impl<'a> Worktree for WatchedWorktree<'a> {
     ghost target_of = { λ _ _. Err NotFound };
 
     fn lstat(&self, path: BStr<'_>) -> Result<Metadata, Fault> {
+        let is_link = self.effect(path)?;
         let found = self.worktree.lstat(path)?;
-        self.effect(path, found)
+        Ok(Metadata {
+            kind: if is_link { NodeKind::Link } else { found.kind },
+            ..found
+        })
     }
 
     fn open(&self, path: BStr<'_>) -> Result<MemoryFile, Fault> {

@@ -4,7 +4,7 @@ use crate::support::contents::Content;
 use crate::support::nodes::new_node;
 use crate::support::stats::{LATER, STAGED, WRITTEN, stat};
 use bstr::BStr;
-use gix_status::index::{Flags, IndexError, Mode, State};
+use gix_status::index::{Flags, IndexError, Mode, Stat, State};
 use gix_status::worktree::{MemoryWorktree, NodeKind, TreeError};
 use std::alloc::Global;
 
@@ -16,14 +16,35 @@ pub fn foo_entry(path: &str) -> EntryRow<'_> {
     (path, 0, Mode::File, Content::Foo)
 }
 
-/// Returns the index of these entries, each of which has a size of three bytes.
+/// Returns the index of these entries, each of which has a size of three bytes unless its content is empty.
 pub fn index(alloc: Global, entries: &[EntryRow<'_>]) -> Result<State, IndexError> {
     let mut index = State::new(alloc, WRITTEN);
     for (path, stage, mode, content) in entries {
-        let flags = Flags::from_stage(*stage);
-        index.push_entry(stat(STAGED), content.id(), flags, *mode, BStr::from(*path))?;
+        let stat = match content {
+            Content::Empty => Stat {
+                size: 0,
+                ..stat(STAGED)
+            },
+            _ => stat(STAGED),
+        };
+        index.push_entry(
+            stat,
+            content.id(),
+            Flags::from_stage(*stage),
+            *mode,
+            BStr::from(*path),
+        )?;
     }
     Ok(index)
+}
+
+/// Returns the index of plain entries of the content `foo` at these paths.
+pub fn foos(alloc: Global, paths: &[&str]) -> Result<State, IndexError> {
+    let mut entries = Vec::new(alloc);
+    for path in paths {
+        entries.push(foo_entry(*path))?;
+    }
+    index(alloc, &entries)
 }
 
 /// The path of a node, its kind, its bytes, the length that `lstat` reports, and the second of its last change, if that
