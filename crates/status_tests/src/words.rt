@@ -1,18 +1,16 @@
 //! The texts of errors, of faults and of bytes.
 
+use crate::support::prelude::*;
 use crate::support::texts::is_shown;
 use StatusError::{Find, IllformedUtf8, Io, SpawnThread};
-use bstr::{BStr, BString};
 use status_base::stack::StackError;
-use status_base::worktree::{Fault, FindError, TreeError};
+use status_base::worktree::{FindError, TreeError};
 use status_call::index_as_worktree::Error as StatusError;
-use status_index::{ByteText, IndexError, TimeError};
+use status_index::{ByteText, TimeError};
 use status_joined::index_as_worktree_with_renames::Error;
 use status_rewrites::{Refused, TrackerError};
 use status_stored::{LoadError, ReopenError, StoreError};
 use status_walk::{IdError, WalkError};
-use std::alloc::{AllocError, Global};
-use std::test::Fail;
 
 const MEMORY: &str = "Out of memory";
 

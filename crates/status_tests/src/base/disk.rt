@@ -1,16 +1,11 @@
 //! Nodes and faults of folders of the disk.
 
 use crate::base::looks::{Look, assert_found, assert_looks};
-use crate::support::folders::{FolderNode, fill, own_folder, within};
+use crate::support::folders::within;
+use crate::support::prelude::*;
 use FolderNode::{Changed, File, Folder, Link, Mode};
-use bstr::BStr;
 use status_base::worktree::disk::{fault_of, metadata_of};
-use status_base::worktree::{DiskWorktree, Fault, Metadata, NodeKind, Worktree};
 use status_index::Time;
-use std::path::Path;
-use std::process::Abort;
-use std::rt::Files;
-use std::test::Fail;
 use std::time::Duration;
 use std::{fs, io};
 

@@ -1,18 +1,13 @@
 //! Reads of files of the disk: in pieces, of a file that is shortened meanwhile, and interrupted.
 
-use crate::support::folders::{FolderNode, fill, own_folder, within, writer};
-use bstr::BStr;
-use status_base::worktree::{DiskWorktree, Fault, ReadBytes, Worktree};
-use status_index::{HashKind, ObjectId, compute_stream_hash};
+use crate::support::folders::{within, writer};
+use crate::support::prelude::*;
+use status_index::{HashKind, compute_stream_hash};
 use std::alloc::Allocator;
 use std::cell::Cell;
 use std::fs;
 use std::fs::{Metadata, OpenFile, OpenOptions};
 use std::io::{self, Read, Seek, SeekFrom, Write};
-use std::path::Path;
-use std::process::Abort;
-use std::rt::Files;
-use std::test::Fail;
 
 // Returns the id of the first `len` bytes of the file `a`, and the result of one more read.
 fn read_to<W: Worktree>(
@@ -55,24 +50,6 @@ where
     Ok(compute_stream_hash(HashKind::Sha1, &mut file, 200000))
 }
 
-// Lengths of files, and git's ids of them.
-const LONG: [(u64, [u8; 20]); 2] = [
-    (
-        65536,
-        [
-            0x88, 0x0b, 0x00, 0x53, 0x89, 0xc6, 0xeb, 0x01, 0x1e, 0x1c, 0x1c, 0x3c, 0xc4, 0x20,
-            0xd7, 0xc0, 0x77, 0xcc, 0xf6, 0xd7,
-        ],
-    ),
-    (
-        200000,
-        [
-            0xa2, 0x13, 0xaa, 0x40, 0xf1, 0x1f, 0x7a, 0xf2, 0xa9, 0xc9, 0xe9, 0x73, 0xdf, 0x59,
-            0x92, 0x78, 0x41, 0x30, 0x60, 0xbb,
-        ],
-    ),
-];
-
 // Asserts how the file `a` is read from a folder. The file is at `path`.
 fn assert_pieces<R: Files + AllocGlobal + Abort>(
     rt: &R,
@@ -83,11 +60,9 @@ where
     R::File: Drop,
 {
     let worktree = DiskWorktree::new(rt, Path::new(folder))?;
-    for (len, id) in LONG {
-        write_long(rt, path, len)?;
-        let read = read_to(&worktree, len);
-        assert_eq!(rt; read, Ok((Ok(ObjectId::Sha1(id)), Ok(0))), "at {len}");
-    }
+    write_long(rt, path, 200000)?;
+    let read = read_to(&worktree, 200000);
+    assert_eq!(rt; read, Ok((Ok(Content::Long.id()), Ok(0))));
     let read = read_shortened(rt, &worktree, path)?;
     assert_eq!(rt; read, Err(Fault::UnexpectedEnd));
     Ok(())

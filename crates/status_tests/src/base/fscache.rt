@@ -1,76 +1,34 @@
 //! Listings of directories, and attributes and times of files by Windows.
 
-ghost use Rattle.std.specs.Prelude.{None, false, refl};
-
-use bstr::{BStr, BString};
+use crate::support::prelude::*;
+use crate::support::side_effects::CountingLister;
+use crate::support::stats::LISTED_FILE;
 use status_base::fscache::{FsCache, Stat, filetime_to_unix, type_flags_from_attributes};
-use status_base::worktree::{Lister, Listing, NoLister};
+use status_base::worktree::Lister;
+use status_callers::listers::{Directories, Directory};
 use status_index::Time;
-use std::alloc::{AllocError, Global};
-use std::sync::atomic::{AtomicBool, AtomicUsize, Ordering};
 
-/// A directory's path and its names, each with a file's size, or None if it can't be listed.
-type Directory = (&'static str, Option<&'static [(&'static str, u64)]>);
+/// A listed file of this size.
+const EMPTY: Stat = Stat {
+    size: 0,
+    ..LISTED_FILE
+};
 
-const DIRECTORIES: [Directory; 3] = [
-    (
-        "",
-        Some(&[("twice", 5), ("test.txt", 1), ("subdir", 0), ("twice", 6)]),
-    ),
-    ("subdir", Some(&[("nested.txt", 2)])),
+const NAMES: [(&str, Stat); 4] = [
+    ("twice", EMPTY),
+    ("test.txt", LISTED_FILE),
+    ("subdir", EMPTY),
+    ("twice", LISTED_FILE),
+];
+
+const DIRECTORIES: [Directory<'static>; 3] = [
+    ("", Some(&NAMES)),
+    ("subdir", Some(&[("nested.txt", EMPTY)])),
     ("d", None),
 ];
 
-/// Lists these directories, and counts the calls for each. It isn't modelled.
-#[derive(Clone, Copy)]
-struct Table<'a> {
-    alloc: Global,
-    asked: &'a [AtomicUsize; 3],
-    /// Whether the next listing is refused memory.
-    refuses: &'a AtomicBool,
-}
-
-impl<'a> Lister for Table<'a> {
-    ghost modelled = { λ _. false };
-
-    ghost listing = { λ _ _. None };
-
-    ghost clone_keeps_modelled = { λ _ _ _. refl };
-
-    ghost clone_keeps_listing = { λ _ _ _. refl };
-
-    fn list(&self, directory: BStr<'_>) -> Result<Listing, AllocError> {
-        for ((path, names), asked) in DIRECTORIES.iter().zip(self.asked) {
-            if path.as_bytes() == directory.as_bytes() {
-                asked.fetch_add(1, Ordering::SeqCst);
-                if self.refuses.swap(false, Ordering::SeqCst) {
-                    return Err(AllocError);
-                }
-                return match names {
-                    Some(names) => Ok(Some(listed(self.alloc, *names)?)),
-                    None => Ok(None),
-                };
-            }
-        }
-        Ok(None)
-    }
-}
-
-// Returns a listing of files with these names and sizes.
-fn listed(alloc: Global, names: &[(&str, u64)]) -> Result<Vec<(BString, Stat)>, AllocError> {
-    let mut entries = Vec::new(alloc);
-    for (name, size) in names {
-        let stat = Stat {
-            size: *size,
-            ..Stat::default()
-        };
-        entries.push((BString::from_slice(alloc, *name)?, stat))?;
-    }
-    Ok(entries)
-}
-
 // Returns the size of a path that the cache knows, if any.
-fn size_at(cache: &mut FsCache<'_, Table<'_>>, path: &str) -> Result<Option<u64>, AllocError> {
+fn size_at<L: Lister>(cache: &mut FsCache<'_, L>, path: &str) -> Result<Option<u64>, AllocError> {
     match cache.get(BStr::from(path))? {
         Some(stat) => Ok(Some(stat.size)),
         None => Ok(None),
@@ -80,12 +38,12 @@ fn size_at(cache: &mut FsCache<'_, Table<'_>>, path: &str) -> Result<Option<u64>
 /// A path, and the size that the cache knows of it, or None if memory is refused.
 type Look = (&'static str, Option<Option<u64>>);
 
-/// The calls in order, how often each directory was listed by then, and the count of listings.
-type Row = (&'static [Look], [usize; 3], u64);
+/// The calls in order, how often the lister was called by then, and the count of listings.
+type Row = (&'static [Look], usize, u64);
 
-const NESTED: Look = ("subdir/nested.txt", Some(Some(2)));
+const NESTED: Look = ("subdir/nested.txt", Some(Some(0)));
 
-const TEST: Look = ("test.txt", Some(Some(1)));
+const TEST: Look = ("test.txt", Some(Some(3)));
 
 const REFUSED: Look = ("test.txt", None);
 
@@ -94,35 +52,33 @@ const OTHER_CASE: Look = ("Test.txt", Some(None));
 const ROWS: [Row; 7] = [
     (
         &[TEST, NESTED, OTHER_CASE, ("does-not-exist", Some(None))],
-        [1, 1, 0],
+        2,
         2,
     ),
     // The directory can't be listed.
-    (&[("d/x", Some(None)), ("d/y", Some(None))], [0, 0, 1], 1),
+    (&[("d/x", Some(None)), ("d/y", Some(None))], 1, 1),
     // The name is there twice, and the last counts.
-    (&[("twice", Some(Some(6)))], [1, 0, 0], 1),
+    (&[("twice", Some(Some(3)))], 1, 1),
     // It is a name as another, and not the directory above.
-    (&[("..", Some(None))], [1, 0, 0], 1),
+    (&[("..", Some(None))], 1, 1),
     // There is no file name, so nothing to be listed.
-    (&[("d/", Some(None)), ("", Some(None))], [0, 0, 0], 0),
+    (&[("d/", Some(None)), ("", Some(None))], 0, 0),
     // What was listed is known after a refusal. The refused listing is asked for again.
-    (&[NESTED, REFUSED, NESTED], [1, 1, 0], 1),
-    (&[NESTED, REFUSED, TEST], [2, 1, 0], 2),
+    (&[NESTED, REFUSED, NESTED], 2, 1),
+    (&[NESTED, REFUSED, TEST], 3, 2),
 ];
 
 // Returns whether the results and the counts are those of a row.
 fn is_row(alloc: Global, row: &Row) -> bool {
     let (looks, wanted, listings) = *row;
-    let refuses = AtomicBool::new(false);
-    let asked = [
-        AtomicUsize::new(0),
-        AtomicUsize::new(0),
-        AtomicUsize::new(0),
-    ];
-    let lister = Table {
-        alloc,
-        asked: &asked,
-        refuses: &refuses,
+    let (calls, refuses) = (AtomicUsize::new(0), AtomicBool::new(false));
+    let lister = CountingLister {
+        lister: Directories {
+            alloc,
+            directories: &DIRECTORIES,
+        },
+        calls: &calls,
+        refuses: Some(&refuses),
     };
     let mut cache = FsCache::new(alloc, &lister);
     for (path, size) in looks {
@@ -131,12 +87,7 @@ fn is_row(alloc: Global, row: &Row) -> bool {
             return false;
         }
     }
-    for (asked, wanted) in asked.iter().zip(wanted) {
-        if asked.load(Ordering::SeqCst) != wanted {
-            return false;
-        }
-    }
-    cache.listings() == listings
+    calls.load(Ordering::SeqCst) == wanted && cache.listings() == listings
 }
 
 #[test]

@@ -3,16 +3,9 @@
 ghost use Rattle.std.specs.Prelude.{false, Err};
 ghost use Rattle.status_index.specs.declared.fault.Fault.TheVariants.{NotFound};
 
-use crate::support::inputs::{NodeRow, worktree};
-use crate::support::stats::STAGED;
+use crate::support::prelude::*;
 use NodeKind::{Directory, File, Link};
-use bstr::{BStr, BString};
 use status_base::stack::SymlinkCheck;
-use status_base::worktree::{Fault, MemoryFile, MemoryWorktree, Metadata, NodeKind, Worktree};
-use std::alloc::{AllocError, Global};
-use std::process::Abort;
-use std::sync::atomic::{AtomicUsize, Ordering};
-use std::test::Fail;
 
 /// A worktree in memory that counts all calls of `lstat`. It isn't modelled.
 #[derive(Drop)]

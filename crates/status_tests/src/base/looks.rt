@@ -1,14 +1,7 @@
 //! What calls at the paths of a folder of the disk return, as texts.
 
-use crate::support::folders::{FolderNode, fill};
-use bstr::BStr;
-use status_base::worktree::{DiskWorktree, NodeKind, ReadBytes, Worktree};
-use std::alloc::{AllocError, Global};
+use crate::support::prelude::*;
 use std::fs;
-use std::path::Path;
-use std::process::Abort;
-use std::rt::Files;
-use std::test::Fail;
 
 // Returns the kind of a node and its length, if it isn't a directory, or the fault.
 fn node_text<W: Worktree>(

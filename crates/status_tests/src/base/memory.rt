@@ -1,15 +1,9 @@
 //! A worktree in memory: its nodes, and the faults that are planted in it.
 
-use crate::support::inputs::worktree;
 use crate::support::nodes::new_node;
-use crate::support::stats::STAGED;
+use crate::support::prelude::*;
 use NodeKind::{Directory, File, Link};
-use bstr::BStr;
-use gix_status::worktree::{
-    Fault, MemoryWorktree, NodeKind, Point, ReadBytes, TreeError, Worktree,
-};
-use std::alloc::Global;
-use std::test::Fail;
+use gix_status::worktree::{Point, TreeError};
 
 // Returns a worktree with a file `f`, a link `l`, and a file in the directory `d`.
 fn small(alloc: Global) -> Result<MemoryWorktree, TreeError> {

@@ -3,9 +3,8 @@
 ghost use Rattle.std.specs.Prelude.{◌≡◌, ◌≤◌, ◌^◌, All, IfOk, IfSome, OnOk};
 ghost use Rattle.status_board.specs.Seats.{fresh};
 
+use crate::support::prelude::*;
 use status_board::board::{Board, Seat};
-use std::alloc::{AllocError, Global};
-use std::process::Abort;
 
 /// Returns a board, with its seats.
 pub fn opened(alloc: Global, pieces: usize, seats: usize) -> Result<(Board, Vec<Seat>), AllocError>

@@ -3,10 +3,8 @@
 ghost use Rattle.std.specs.Prelude.{◌≡◌, ◌<◌};
 
 use crate::board::seats::{give_back, opened, seat_of};
+use crate::support::prelude::*;
 use status_board::board::{Board, Seat, Tally};
-use std::alloc::{AllocError, Global};
-use std::process::Abort;
-use std::test::Fail;
 
 // Returns the next number. None if the seat is done.
 fn draw(board: &Board, seat: &mut Seat) -> Option<usize>

@@ -1,14 +1,9 @@
 //! Copies of a status's arguments, and of its records and outcome.
 
 use crate::call::reports::status_by_pieces;
-use crate::support::inputs::{foos, worktree};
-use gix_status::index::ObjectId;
+use crate::support::prelude::*;
 use gix_status::index_as_worktree::Context;
-use gix_status::worktree::{AllPaths, NoFilter, NoLister};
 use status_callers::statuses::{StatusReport, options};
-use std::alloc::AllocError;
-use std::sync::atomic::{AtomicBool, Ordering};
-use std::test::Fail;
 
 /// Returns whether copies of options and of a context equal them.
 fn are_inputs_copied() -> Result<bool, AllocError> {

@@ -1,15 +1,11 @@
 //! Which entries make a conflict, also in lists that aren't a valid index, and where a piece with a conflict ends.
 
-use crate::support::contents::Content;
-use crate::support::inputs::index;
+use crate::support::prelude::*;
 use Mode::{File, FileExecutable, Symlink};
-use bstr::BStr;
-use gix_status::index::{Entry, Mode, PathStorage, State};
+use gix_status::index::{Entry, PathStorage};
 use gix_status::index_as_worktree::Conflict;
 use status_call::index_as_worktree::considered::Considered;
 use status_call::index_as_worktree::piece::piece_end;
-use std::alloc::{AllocError, Global};
-use std::test::Fail;
 
 /// A conflict, how many entries follow its first, and the modes of stage 1, 2 and 3.
 type Found = (Conflict, usize, Option<Mode>, Option<Mode>, Option<Mode>);

@@ -1,19 +1,13 @@
 //! How often a status calls `lstat` on the directory above its entries, and lists it.
 
 use crate::call::statuses::listed_status;
-use crate::support::calls::{Calls, counted};
-use crate::support::inputs::{NodeRow, foos, worktree};
+use crate::support::prelude::*;
 use crate::support::side_effects::CountingLister;
-use crate::support::stats::{LISTED_FILE, STAGED};
-use bstr::BStr;
+use crate::support::stats::LISTED_FILE;
 use gix_status::index_as_worktree::{Error, Options};
-use gix_status::worktree::{Fault, NodeKind, Point};
+use gix_status::worktree::Point;
 use status_callers::listers::{Directories, Directory};
 use status_callers::statuses::options;
-use std::sync::Wait;
-use std::sync::atomic::{AtomicUsize, Ordering};
-use std::test::Fail;
-use std::thread::Threads;
 
 /// The directory `d` lists two files.
 const DIRECTORIES: [Directory<'static>; 1] = [(
@@ -46,6 +40,7 @@ fn lists<R: AllocGlobal + Threads + Wait>(
     let lister = CountingLister {
         lister: Directories { alloc, directories },
         calls: &lists,
+        refuses: None,
     };
     let options = Options {
         fscache,

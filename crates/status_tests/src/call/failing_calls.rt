@@ -2,20 +2,12 @@
 //! `planted` has each fault at each call.
 
 use crate::call::reports::{Says, are_records, is_report, read, status_by_pieces};
-use crate::support::calls::{Calls, counted};
-use crate::support::contents::Content;
-use crate::support::inputs::{NodeRow, foo_entry, index, later_file, worktree};
-use crate::support::stats::{LATER, STAGED};
+use crate::support::prelude::*;
 use End::{Fails, LacksTime, Reports};
 use NodeKind::{File, Link};
-use bstr::BStr;
-use gix_status::index::{Mode, ObjectId};
 use gix_status::index_as_worktree::Error;
-use gix_status::worktree::{Fault, NodeKind, Point};
+use gix_status::worktree::Point;
 use status_callers::statuses::StatusReport;
-use std::sync::Wait;
-use std::test::Fail;
-use std::thread::Threads;
 
 /// How the status ends after the record of the first file.
 #[derive(Clone, Copy)]

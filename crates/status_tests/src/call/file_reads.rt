@@ -4,19 +4,11 @@ ghost use Rattle.std.specs.Prelude.{false, Err};
 ghost use Rattle.status_index.specs.declared.fault.Fault.TheVariants.{NotFound};
 
 use crate::call::reports::{Says, Wanted, is_report, read, status_by_pieces};
-use crate::support::calls::{Calls, counted};
-use crate::support::contents::Content;
-use crate::support::inputs::foos;
 use crate::support::nodes::metadata;
 use crate::support::pieces::Piece;
-use crate::support::stats::{LATER, STAGED, time};
-use bstr::BStr;
+use crate::support::prelude::*;
+use crate::support::stats::time;
 use gix_status::index_as_worktree::Outcome;
-use gix_status::worktree::{Fault, Metadata, NodeKind, ReadBytes, Worktree};
-use std::sync::Wait;
-use std::sync::atomic::{AtomicUsize, Ordering};
-use std::test::Fail;
-use std::thread::Threads;
 
 /// A file that counts its reads.
 #[derive(Clone, Copy)]

@@ -4,21 +4,12 @@ ghost use Rattle.std.specs.Prelude.{refl};
 ghost use Rattle.status_callers.specs.Returns.{without_returns};
 
 use crate::call::reports::{Says, Wanted, is_report, read, updated};
-use crate::support::contents::Content;
-use crate::support::inputs::{EntryRow, NodeRow, foo_entry, index, later_file, worktree};
-use bstr::BStr;
-use gix_status::index::Mode;
+use crate::support::prelude::*;
 use gix_status::index_as_worktree::Outcome;
 use gix_status::index_as_worktree::traits::HashEq;
-use gix_status::worktree::{
-    AllPaths, Fault, MemoryObjects, NoSubmodules, ReadBytes, ToGit, ToGitOutcome,
-};
+use gix_status::worktree::{ToGit, ToGitOutcome};
 use status_callers::WithoutReturns;
 use status_callers::statuses::{StatusRequest, options, status_of};
-use std::sync::Wait;
-use std::sync::atomic::{AtomicUsize, Ordering};
-use std::test::Fail;
-use std::thread::Threads;
 
 /// A filter that removes carriage returns. It counts the files for which its buffer isn't empty at first.
 #[derive(Clone, Copy)]

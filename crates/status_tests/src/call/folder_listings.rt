@@ -2,18 +2,11 @@
 
 use crate::call::reports::{Says, Wanted, is_report, read};
 use crate::call::statuses::listed_status;
-use crate::support::contents::Content;
-use crate::support::folders::{FolderNode, fill, own_folder};
-use crate::support::inputs::foos;
+use crate::support::prelude::*;
 use gix_status::index_as_worktree::{Options, Outcome};
-use gix_status::worktree::DiskWorktree;
 use status_callers::listers::FolderLister;
 use status_callers::statuses::options;
 use std::fs;
-use std::path::Path;
-use std::sync::Wait;
-use std::test::Fail;
-use std::thread::Threads;
 
 /// Two files, one of them in a directory.
 const NODES: [(&str, FolderNode<'static>); 3] = [

@@ -1,21 +1,12 @@
 //! Submodules in folders of the disk, each with a status of its own.
 
 use crate::call::reports::{by_pieces, found, is_taken};
-use crate::support::contents::Content;
-use crate::support::folders::{FolderNode, fill, own_folder};
-use crate::support::inputs::{foos, index};
-use gix_status::index::{Mode, ObjectId};
+use crate::support::prelude::*;
 use gix_status::index_as_worktree::traits::HashEq;
 use gix_status::index_as_worktree::{Change, EntryStatus, Error};
-use gix_status::worktree::{AllPaths, DiskWorktree, MemoryObjects, NoFilter};
 use status_callers::statuses::{StatusReport, StatusRequest, status_of};
 use status_callers::submodules::FolderSubmodules;
 use std::fs;
-use std::path::Path;
-use std::rt::Files;
-use std::sync::Wait;
-use std::test::Fail;
-use std::thread::Threads;
 
 /// The report of the submodules.
 #[derive(Clone, Copy)]

@@ -1,15 +1,11 @@
 //! A collector that runs out of memory.
 
 use crate::call::reports::{Says, Wanted, are_records};
-use crate::support::contents::Content;
-use crate::support::inputs::{foos, later_file, worktree};
+use crate::support::prelude::*;
 use gix_status::index_as_worktree::traits::HashEq;
 use gix_status::index_as_worktree::{Error, Recorder};
 use status_callers::collectors::Full;
 use status_callers::statuses::{plain_request, report_to};
-use std::sync::Wait;
-use std::test::Fail;
-use std::thread::Threads;
 
 const ALL: [Wanted<'static>; 3] = [
     (0, "a", Says::Changed(Content::Bar)),

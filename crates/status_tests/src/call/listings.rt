@@ -2,22 +2,12 @@
 
 use crate::call::reports::{is_taken, read};
 use crate::call::statuses::listed_status;
-use crate::support::calls::{Calls, counted};
-use crate::support::contents::Content;
-use crate::support::inputs::{NodeRow, index, worktree};
-use crate::support::stats::{LATER, LISTED_FILE, STAGED};
-use Verdict::{Executable, Nothing, Removed};
-use bstr::BStr;
+use crate::support::prelude::*;
+use crate::support::stats::LISTED_FILE;
 use gix_status::fscache::Stat;
-use gix_status::index::{Mode, ObjectId};
 use gix_status::index_as_worktree::{Capabilities, Change, EntryStatus, Options, Outcome};
-use gix_status::worktree::{MemoryWorktree, NodeKind};
 use status_callers::listers::{Directories, Directory};
 use status_callers::statuses::options;
-use std::alloc::Global;
-use std::sync::Wait;
-use std::test::Fail;
-use std::thread::Threads;
 
 const LISTED_DIRECTORY: Stat = Stat {
     is_dir: true,
@@ -48,32 +38,43 @@ const NODES: [NodeRow<'static>; 6] = [
     ("l", NodeKind::Link, b"d", 1, Some(LATER)),
 ];
 
-/// The report of each entry.
-#[derive(Clone, Copy, PartialEq)]
-enum Verdict {
-    Nothing,
-    Removed,
-    /// Executability changed, and nothing else.
-    Executable,
-}
+const REMOVED: EntryStatus<ObjectId, ()> = EntryStatus::Change(Change::Removed);
 
-/// The report of each entry, how often `lstat` is called on entries' paths, and how many files of three bytes are read.
-type Answer = (Verdict, usize, usize);
+/// Executability changed, and nothing else.
+const EXECUTABLE: EntryStatus<ObjectId, ()> = EntryStatus::Change(Change::Modification {
+    executable_bit_changed: true,
+    content_change: None,
+    set_entry_stat_size_zero: false,
+});
+
+/// The status of each entry, if it has one, how often `lstat` is called on entries' paths, and how many files of three
+/// bytes are read.
+type Answer = (Option<&'static EntryStatus<ObjectId, ()>>, usize, usize);
 
 /// Entries, whether they are executable files, and the results of the status with listings and without. The entries
 /// are alike: `lstat` is called on the paths of all, or of none.
 type Row = (&'static [&'static str], bool, Answer, Answer);
 
 static ROWS: [Row; 5] = [
-    (&["clean"], false, (Nothing, 0, 0), (Nothing, 1, 0)),
+    (&["clean"], false, (None, 0, 0), (None, 1, 0)),
     // A listed directory is no file.
-    (&["directory"], false, (Removed, 0, 0), (Nothing, 1, 0)),
+    (&["directory"], false, (Some(&REMOVED), 0, 0), (None, 1, 0)),
     // A listed file is never executable. It is read, because its executability seems to have changed.
-    (&["executable"], true, (Executable, 0, 1), (Nothing, 1, 0)),
+    (
+        &["executable"],
+        true,
+        (Some(&EXECUTABLE), 0, 1),
+        (None, 1, 0),
+    ),
     // The directory can't be listed.
-    (&["d/x", "d/y"], false, (Nothing, 2, 0), (Nothing, 2, 0)),
+    (&["d/x", "d/y"], false, (None, 2, 0), (None, 2, 0)),
     // No path leads through a link, whatever is listed below it.
-    (&["l/x"], false, (Removed, 0, 0), (Removed, 0, 0)),
+    (
+        &["l/x"],
+        false,
+        (Some(&REMOVED), 0, 0),
+        (Some(&REMOVED), 0, 0),
+    ),
 ];
 
 // Returns the worktree of the nodes, one of which is executable.
@@ -87,21 +88,6 @@ fn files(alloc: Global) -> Result<MemoryWorktree, Fail> {
     Ok(files)
 }
 
-// Returns what is reported of an entry. None if no row has it.
-fn verdict_of(status: &EntryStatus<ObjectId, ()>) -> Option<Verdict> {
-    match status {
-        EntryStatus::Change(Change::Removed) => Some(Removed),
-        EntryStatus::Change(
-            Change::Modification {
-                executable_bit_changed: true,
-                content_change: None,
-                set_entry_stat_size_zero: false,
-            },
-        ) => Some(Executable),
-        _ => None,
-    }
-}
-
 // Returns whether a status has the result of its row, with listings or without, and calls `lstat` and `open` on the
 // first path as often.
 fn is_right<R: AllocGlobal + Threads + Wait>(
@@ -110,7 +96,7 @@ fn is_right<R: AllocGlobal + Threads + Wait>(
     fscache: bool,
 ) -> Result<bool, Fail> {
     let (paths, executable_bit, listed, unlisted) = *row;
-    let (verdict, lstats, opens) = if fscache { listed } else { unlisted };
+    let (status, lstats, opens) = if fscache { listed } else { unlisted };
     let (Some(first), alloc) = (paths.first(), rt.alloc()) else {
         return Ok(false);
     };
@@ -140,11 +126,11 @@ fn is_right<R: AllocGlobal + Threads + Wait>(
     };
     let report = listed_status(rt, &index, &worktree, lister, options);
     for record in &report.records {
-        if verdict_of(&record.status) != Some(verdict) {
+        if status != Some(&record.status) {
             return Ok(false);
         }
     }
-    let records = if verdict == Nothing { 0 } else { paths.len() };
+    let records = if status.is_none() { 0 } else { paths.len() };
     let bytes = (opens as u64).saturating_mul(3);
     let wanted = Outcome {
         symlink_metadata_calls: lstats,

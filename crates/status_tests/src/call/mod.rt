@@ -14,8 +14,6 @@ mod full_collector;
 mod listings;
 mod orders;
 mod planted;
-mod prefixes;
-mod refreshes;
 mod refused_threads;
 mod reports;
 mod runs;

@@ -1,12 +1,12 @@
 //! The orders of public types whose contracts don't state which of two values is less: by fields or variants, in order.
 //! In most rows only one field isn't 0, so that each step shows which of two fields comes first.
 
-use crate::support::contents::Content;
+use crate::support::prelude::*;
 use Conflict::{
     AddedByThem, AddedByUs, BothAdded, BothDeleted, BothModified, DeletedByThem, DeletedByUs,
 };
 use EntryKind::{Blob, BlobExecutable, Commit, Link, Tree};
-use gix_status::index::{EntryKind, Flags, HashKind, Mode, Stat};
+use gix_status::index::{EntryKind, Flags, HashKind, Stat};
 use gix_status::index_as_worktree::{Change, Conflict, ConflictIndexEntry, EntryStatus, Outcome};
 use std::cmp::Ordering;
 

@@ -1,18 +1,10 @@
 //! Each fault at each call on each path: three entries, two sizes of pieces, two numbers of workers.
 
 use crate::call::reports::{Says, Wanted, is_report, read, status_by_pieces};
-use crate::support::contents::Content;
 use crate::support::faults::FAULTS;
-use crate::support::inputs::{foo_entry, index, later_file, worktree};
-use crate::support::stats::LATER;
-use bstr::BStr;
-use gix_status::index::{IndexError, Mode, State};
+use crate::support::prelude::*;
 use gix_status::index_as_worktree::Outcome;
-use gix_status::worktree::{Fault, MemoryWorktree, NodeKind, Point, TreeError};
-use std::alloc::{AllocError, Global};
-use std::sync::Wait;
-use std::test::Fail;
-use std::thread::Threads;
+use gix_status::worktree::{Point, TreeError};
 
 /// Sizes of pieces and numbers of workers.
 const WAYS: [(usize, usize); 4] = [(1, 1), (1, 3), (2, 1), (2, 3)];

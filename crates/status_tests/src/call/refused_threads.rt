@@ -1,24 +1,16 @@
 //! Threads that are refused, and rounds that start none.
 
 use crate::call::reports::{Says, is_said};
-use crate::support::inputs::foos;
-use bstr::BStr;
-use gix_status::index::{ObjectId, State, stat};
+use crate::support::prelude::*;
+use gix_status::index::stat;
 use gix_status::index_as_worktree::traits::HashEq;
 use gix_status::index_as_worktree::{Capabilities, Error, Record, Recorder};
-use gix_status::worktree::{
-    AllPaths, MemoryObjects, MemoryWorktree, NoFilter, NoLister, NoSubmodules,
-};
 use status_call::index_as_worktree::considered::Considered;
 use status_call::index_as_worktree::counts::Progress;
 use status_call::index_as_worktree::decider::Decider;
 use status_call::index_as_worktree::inputs::{Inputs, Settings};
 use status_call::index_as_worktree::run_rounds::run_rounds;
 use status_call::index_as_worktree::workers::Workers;
-use std::sync::Wait;
-use std::sync::atomic::AtomicBool;
-use std::test::Fail;
-use std::thread::Threads;
 
 /// How rounds end.
 #[derive(Clone, Copy, PartialEq)]

@@ -1,14 +1,10 @@
 //! Statuses by ids, and checks of their reports.
 
-use crate::support::contents::Content;
-use crate::support::stats::{LATER, STAGED, stat};
-use gix_status::index::{ObjectId, State};
+use crate::support::prelude::*;
+use crate::support::stats::stat;
 use gix_status::index_as_worktree::traits::HashEq;
 use gix_status::index_as_worktree::{Change, EntryStatus, Error, Options, Outcome, Record};
-use gix_status::worktree::{Fault, Worktree};
 use status_callers::statuses::{StatusReport, options, request_with, status_of};
-use std::sync::Wait;
-use std::thread::Threads;
 
 /// Returns the usual options, with pieces of so many entries and this limit of threads.
 pub fn by_pieces(chunk_size: usize, thread_limit: Option<usize>) -> Options {

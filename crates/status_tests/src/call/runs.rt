@@ -2,25 +2,16 @@
 
 use crate::call::reports::{Says, by_pieces, is_said, read};
 use crate::call::statuses::interruptible_status;
-use crate::support::calls::{Calls, counted};
-use crate::support::contents::Content;
-use crate::support::inputs::{foo_entry, index, later_file, worktree};
 use crate::support::nodes::new_node;
+use crate::support::prelude::*;
 use crate::support::side_effects::{OnLstat, WatchedWorktree};
 use crate::support::turns::MANY_TURNS;
 use End::{Cut, Denied, Ended, Whole};
 use Event::{Caller, Collector, Lstat, Never};
 use Files::{Below, Changed, Gone};
 use OnLstat::{FindsLink, Meets, Nothing, SetsFlag};
-use bstr::BStr;
-use gix_status::index::{ObjectId, State};
 use gix_status::index_as_worktree::{Error, Outcome, Record};
-use gix_status::worktree::{Fault, MemoryWorktree, Point};
-use std::alloc::{AllocError, Global};
-use std::sync::Wait;
-use std::sync::atomic::AtomicBool;
-use std::test::Fail;
-use std::thread::Threads;
+use gix_status::worktree::Point;
 
 /// The files at the entries' paths, whose names are numbers of four digits.
 #[derive(Clone, Copy)]

@@ -1,24 +1,14 @@
 //! Statuses by sizes, and by a comparer that reads blobs, from memory or from a folder of the disk.
 
 use crate::call::reports::{found, is_changed, is_report};
-use crate::support::contents::Content;
-use crate::support::folders::{FolderNode, fill, own_folder};
-use crate::support::inputs::{EntryRow, foos, index, later_file, worktree};
-use crate::support::stats::LATER;
-use gix_status::index::Mode;
+use crate::support::prelude::*;
 use gix_status::index_as_worktree::traits::FastEq;
 use gix_status::index_as_worktree::{Error, Outcome};
-use gix_status::worktree::{
-    AllPaths, Fault, Find, FindError, MemoryObjects, NoFilter, NoSubmodules, NodeKind,
-};
+use gix_status::worktree::{Find, FindError};
 use status_callers::comparers::BlobLength;
 use status_callers::objects::FolderObjects;
 use status_callers::statuses::{StatusRequest, options, plain_request, status_of};
 use std::fs;
-use std::rt::Files;
-use std::sync::Wait;
-use std::test::Fail;
-use std::thread::Threads;
 
 // The entry's size is the low half of the file's length. So the lengths alone don't show a change, and the file is
 // read.

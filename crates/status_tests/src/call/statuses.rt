@@ -3,20 +3,14 @@
 ghost use Rattle.std.specs.Prelude.{◌≡◌, ◌++◌, ◌∷◌, [], Some, OnOk, OnErr, slice_get};
 ghost use Rattle.bstr.specs.BStr.{bstr_bytes};
 
-use bstr::BStr;
-use gix_status::index::{Entry, ObjectId, State};
+use crate::support::prelude::*;
+use gix_status::index::Entry;
 use gix_status::index_as_worktree::traits::HashEq;
 use gix_status::index_as_worktree::{
     Context, EntryStatus, Options, Recorder, VisitEntry, index_as_worktree,
 };
-use gix_status::worktree::{
-    AllPaths, Lister, MemoryObjects, NoFilter, NoLister, NoSubmodules, Worktree,
-};
+use gix_status::worktree::Lister;
 use status_callers::statuses::{StatusReport, report_to, request_with};
-use std::alloc::AllocError;
-use std::sync::Wait;
-use std::sync::atomic::{AtomicBool, Ordering};
-use std::thread::Threads;
 
 /// A collector that passes each record on to another one, and sets its flag, if it has one.
 #[derive(Drop)]

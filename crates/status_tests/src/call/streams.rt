@@ -2,9 +2,10 @@
 
 use crate::support::contents::FOO;
 use crate::support::pieces::Piece;
-use status_base::worktree::{Fault, ToGitOutcome};
+use crate::support::prelude::*;
+use status_base::worktree::ToGitOutcome;
 use status_compare::Stream;
-use status_index::{HashKind, ObjectId, compute_stream_hash};
+use status_index::{HashKind, compute_stream_hash};
 use std::io::{ErrorKind, Read};
 
 // Returns a reader of `foo`, which then has this fault, if any.

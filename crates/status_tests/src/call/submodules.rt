@@ -1,18 +1,11 @@
 //! Submodules whose status is computed by a caller's own interface.
 
 use crate::call::reports::{found, is_at, is_taken};
-use crate::support::contents::Content;
-use crate::support::inputs::{index, worktree};
-use crate::support::stats::STAGED;
-use gix_status::index::Mode;
+use crate::support::prelude::*;
 use gix_status::index_as_worktree::traits::HashEq;
 use gix_status::index_as_worktree::{Change, EntryStatus, Error};
-use gix_status::worktree::{AllPaths, MemoryObjects, NoFilter, NodeKind};
 use status_callers::statuses::{StatusRequest, options, status_of};
 use status_callers::submodules::Alike;
-use std::sync::Wait;
-use std::test::Fail;
-use std::thread::Threads;
 
 /// Returns whether a status by ids of the submodule `sub` reports the result of that interface: no change, a number, or
 /// a fault with a text.

@@ -3,25 +3,14 @@
 
 use crate::call::reports::{Says, Wanted, by_pieces, is_report, read, status_by_pieces, updated};
 use crate::call::statuses::FlagSetter;
-use crate::support::calls::{Calls, counted};
-use crate::support::contents::Content;
-use crate::support::inputs::{foo_entry, index, later_file, worktree};
+use crate::support::prelude::*;
 use crate::support::side_effects::{OnLstat, WatchedWorktree};
-use crate::support::stats::STAGED;
-use bstr::BStr;
-use gix_status::index::{Mode, Moment, ObjectId, State};
 use gix_status::index_as_worktree::traits::HashEq;
 use gix_status::index_as_worktree::{
     Context, Error, Options, Outcome, Recorder, VisitEntry, index_as_worktree_without_threads,
 };
-use gix_status::worktree::{
-    AllPaths, Fault, MemoryObjects, MemoryWorktree, NoFilter, NoLister, NoSubmodules, NodeKind,
-    Point, Worktree,
-};
+use gix_status::worktree::Point;
 use status_callers::statuses::StatusReport;
-use std::alloc::Global;
-use std::sync::atomic::AtomicBool;
-use std::test::Fail;
 
 /// The records of the five entries. The submodule at `d` has none.
 const RECORDS: [Wanted<'static>; 4] = [

@@ -1,9 +1,10 @@
 //! Modes that a node of the worktree changes.
 
 use crate::support::nodes::metadata;
+use crate::support::prelude::*;
 use NodeKind::{Directory, File, Link, Other};
 use status_index::mode::Change;
-use status_index::{Metadata, Mode, NodeKind};
+use status_index::{Metadata, NodeKind};
 
 /// The mode of an entry, the kind of a node, whether it is executable, whether the file system has links, whether
 /// executability counts, and the change of the mode.

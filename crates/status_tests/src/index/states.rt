@@ -1,11 +1,9 @@
 //! Indexes: entries that are accepted or refused, and a search that counts.
 
+use crate::support::prelude::*;
 use HashKind::{Sha1, Sha256};
 use IndexError::{EmptyPath, MixedHash, NotAscending};
-use bstr::{BStr, BString};
-use status_index::{Flags, HashKind, IndexError, Mode, Moment, NewEntry, ObjectId, Stat, State};
-use std::alloc::{AllocError, Global};
-use std::test::Fail;
+use status_index::{Flags, HashKind, NewEntry, Stat};
 
 // A path and a kind of id.
 type EntryRow = (&'static str, HashKind);

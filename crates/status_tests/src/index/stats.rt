@@ -1,8 +1,8 @@
 //! Stats that are racy.
 
-use crate::support::stats::STAGED;
+use crate::support::prelude::*;
 use status_index::stat::Options;
-use status_index::{Moment, Stat, Time};
+use status_index::{Stat, Time};
 
 /// Options by which whole seconds count.
 const SECONDS: Options = Options {

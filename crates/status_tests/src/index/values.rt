@@ -1,8 +1,9 @@
 //! Ids of contents and modes of entries, which are those of git, and the bits of flags, which are the library's own.
 
 use crate::support::contents::{BAR, EMPTY, FOO};
+use crate::support::prelude::*;
 use bitflags::Flags as _;
-use status_index::{Flags, HashKind, Mode, ObjectId, compute_hash};
+use status_index::{Flags, HashKind, compute_hash};
 
 const EMPTY_BY_SHA256: [u8; 32] = [
     0x47, 0x3a, 0x0f, 0x4c, 0x3b, 0xe8, 0xa9, 0x36, 0x81, 0xa2, 0x67, 0xe3, 0xb1, 0xe9, 0xa7, 0xdc,

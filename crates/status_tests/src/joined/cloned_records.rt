@@ -2,20 +2,13 @@
 
 use crate::joined::record_lines::lines_of;
 use crate::joined::rows::{A, FILE_B, FILE_C};
-use crate::support::contents::Content;
-use crate::support::inputs::{index, worktree};
-use crate::support::stats::STAGED;
-use gix_status::worktree::NodeKind;
+use crate::support::prelude::*;
 use status_callers::joined::broken::Broken;
 use status_callers::joined::statuses::{JoinedRequest, joined};
 use status_callers::joined::trackers::Answers;
 use status_callers::joined::trackers::PlannedPair::{Copied, Renamed};
 use status_callers::joined::walks::{B, C, Found, Passes, UNTRACKED};
-use status_index::Mode;
 use status_joined::index_as_worktree_with_renames::{Options, Sorting};
-use std::sync::Wait;
-use std::test::Fail;
-use std::thread::Threads;
 
 /// The untracked file `d`.
 const D: Found<'static> = Found {

@@ -3,16 +3,11 @@
 
 use crate::joined::interfaces::{TrackerKind, WalkKind};
 use crate::joined::rows::{A, FILE_B, FILE_C, PLAIN, RENAMES, Row, is_right};
-use crate::support::contents::Content;
-use crate::support::inputs::EntryRow;
-use crate::support::stats::{LATER, STAGED};
+use crate::support::prelude::*;
 use NodeKind::{File, Link, Other};
 use WalkKind::Passes;
-use gix_status::worktree::NodeKind;
 use status_callers::joined::walks::{B, C, Found, UNTRACKED};
-use status_index::Mode;
-use status_walk::{Kind, Status};
-use std::test::Fail;
+use status_walk::Status;
 
 const ENTRY_C: EntryRow<'static> = ("c", 0, Mode::File, Content::Foo);
 
@@ -29,17 +24,6 @@ const IGNORED: Found<'static> = Found {
 const TRACKED: Found<'static> = Found {
     status: Status::Tracked,
     ..B
-};
-
-const PRUNED: Found<'static> = Found {
-    status: Status::Pruned,
-    disk_kind: None,
-    ..C
-};
-
-const UNTRACKABLE: Found<'static> = Found {
-    disk_kind: Some(Kind::Untrackable),
-    ..C
 };
 
 /// A walk passes its nodes in its own order.
@@ -59,7 +43,7 @@ const IN_SUBMODULE: Row<'static> = Row {
     ..PLAIN
 };
 
-static ROWS: [Row; 7] = [
+static ROWS: [Row; 6] = [
     // A node that can't be tracked is passed by the walk, and not reported.
     Row {
         entries: &[A],
@@ -93,13 +77,6 @@ static ROWS: [Row; 7] = [
         walk: Passes(&[IGNORED], None),
         lines: "0 none a\n- none Ignored b\n",
         end: "1 nodes",
-        ..PLAIN
-    },
-    // What is tracked or can't be is dropped.
-    Row {
-        walk: Passes(&[TRACKED, IGNORED, UNTRACKABLE, PRUNED], None),
-        lines: "- none Ignored b\n- none Pruned c\n",
-        end: "4 nodes",
         ..PLAIN
     },
 ];

@@ -1,22 +1,15 @@
-//! Which of several faults the joined call returns, pairs that break a rule, and collectors that run out of memory.
+//! Which of several faults the joined call returns, and pairs that break a rule.
 
 use crate::joined::interfaces::{TrackerKind, WalkKind};
-use crate::joined::rows::{A, FILE_B, FILE_C, PLAIN, RENAMES, REWRITTEN, Row, is_right};
-use crate::support::contents::Content;
-use crate::support::inputs::{EntryRow, NodeRow};
-use crate::support::stats::{LATER, STAGED};
+use crate::joined::rows::{A, FILE_B, FILE_C, REWRITTEN, Row, is_right};
+use crate::support::prelude::*;
 use NodeKind::{File, Link};
 use TrackerKind::{Answers, Refuses};
 use WalkKind::Passes;
-use gix_status::worktree::{Fault, NodeKind};
 use status_callers::joined::broken::Point;
 use status_callers::joined::trackers::PlannedPair::Renamed;
 use status_callers::joined::walks::{Found, UNTRACKED};
-use status_index::Mode;
 use status_walk::Kind;
-use std::sync::Wait;
-use std::test::Fail;
-use std::thread::Threads;
 
 const ENTRY_B: EntryRow<'static> = ("b", 0, Mode::File, Content::Foo);
 
@@ -131,42 +124,6 @@ static BAD_PAIRS: [Row; 2] = [
 fn a_pair_that_breaks_a_rule_ends_the_status(rt: HostRuntime) -> Result<(), Fail> {
     for row in &BAD_PAIRS {
         assert!(rt; is_right(&rt, row)?, "{}", row.end);
-    }
-    Ok(())
-}
-
-/// The collector has no memory for any of the three records.
-const FULL: Row<'static> = Row {
-    entries: &[A, ("d", 0, Mode::File, Content::Foo)],
-    nodes: &[FILE_C],
-    room: 0,
-    end: "Memory",
-    ..PLAIN
-};
-
-static ROOMS: [Row; 4] = [
-    FULL,
-    Row {
-        room: 2,
-        lines: "0 Removed a\n- Added Untracked c\n",
-        ..FULL
-    },
-    Row {
-        rewrites: RENAMES,
-        ..FULL
-    },
-    Row {
-        rewrites: RENAMES,
-        room: 1,
-        lines: "- Renamed a c\n",
-        ..FULL
-    },
-];
-
-#[test]
-fn a_collector_that_is_refused_memory_holds_a_beginning(rt: HostRuntime) -> Result<(), Fail> {
-    for (at, row) in ROOMS.iter().enumerate() {
-        assert!(rt; is_right(&rt, row)?, "row {at}");
     }
     Ok(())
 }

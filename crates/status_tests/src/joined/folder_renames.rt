@@ -1,19 +1,11 @@
 //! The joined call over a folder of the disk.
 
 use crate::joined::record_lines::lines_of;
-use crate::support::folders::{FolderNode, fill, own_folder};
-use crate::support::inputs::foos;
-use status_base::worktree::DiskWorktree;
+use crate::support::prelude::*;
 use status_callers::joined::statuses::{JoinedRequest, joined};
 use status_rewrites::IdentityTracker;
 use status_walk::DiskWalk;
 use std::fs;
-use std::path::Path;
-use std::process::Abort;
-use std::rt::Files;
-use std::sync::Wait;
-use std::test::Fail;
-use std::thread::Threads;
 
 /// An empty file, and a directory with a file and a link.
 const NODES: [(&str, FolderNode<'static>); 4] = [

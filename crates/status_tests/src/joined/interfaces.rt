@@ -2,17 +2,13 @@
 
 ghost use Rattle.std.specs.Prelude.{⊤, None};
 
-use bstr::BStr;
-use status_base::worktree::{
-    Fault, MemoryWorktree, Pathspec, SubmoduleFault, SubmoduleStatus, Worktree,
-};
+use crate::support::prelude::*;
+use status_base::worktree::{Pathspec, SubmoduleFault, SubmoduleStatus};
 use status_callers::joined::trackers::{Answers, PlannedPair};
 use status_callers::joined::walks::{Found, Passes};
-use status_index::{Entry, EntryKind, ObjectId, State};
-use status_rewrites::{Change, ChangeKind, IdentityTracker, Pair, Rewrites, Tracker, TrackerError};
+use status_index::Entry;
+use status_rewrites::{Change, IdentityTracker, Pair, Rewrites, Tracker, TrackerError};
 use status_walk::{Delegate, Outcome, UntrackedWalk, Walk, WalkError};
-use std::alloc::Global;
-use std::sync::atomic::{AtomicBool, Ordering};
 
 /// How a worktree is walked.
 #[derive(Clone, Copy)]
@@ -65,9 +61,6 @@ impl<'a, W: Worktree> Walk<W> for RowWalk<'a> {
     }
 }
 
-/// A change as a tracker sees it, without its path, and with its id if that counts.
-pub type Seen = (ChangeKind, EntryKind, Option<ObjectId>);
-
 /// How renames and copies are found.
 #[derive(Clone, Copy)]
 pub enum TrackerKind<'a> {
@@ -75,8 +68,8 @@ pub enum TrackerKind<'a> {
     Identity,
     /// It returns these pairs.
     Answers(&'a [PlannedPair]),
-    /// It returns no pairs if these are the changes. Otherwise it refuses.
-    Sees(&'a [Seen]),
+    /// It returns no pairs if the one change has the null id. Otherwise it refuses.
+    SeesNull,
     /// It refuses, with this code.
     Refuses(u32),
 }
@@ -87,23 +80,6 @@ pub struct RowTracker<'a> {
     pub alloc: Global,
     pub kind: TrackerKind<'a>,
     pub called: &'a AtomicBool,
-}
-
-// Returns whether the changes are these.
-fn are_seen<C: Change>(items: &[C], wanted: &[Seen]) -> bool {
-    if items.len() != wanted.len() {
-        return false;
-    }
-    for (item, (kind, mode, id)) in items.iter().zip(wanted) {
-        let is_id = match id {
-            Some(id) => item.id() == *id,
-            None => true,
-        };
-        if !is_id || item.kind() != *kind || item.entry_mode() != *mode {
-            return false;
-        }
-    }
-    true
 }
 
 impl<'a> Tracker for RowTracker<'a> {
@@ -123,8 +99,10 @@ impl<'a> Tracker for RowTracker<'a> {
                 Err(_) => Err(TrackerError::Memory),
             },
             TrackerKind::Answers(pairs) => Answers { alloc, pairs }.pairs(items, rewrites),
-            TrackerKind::Sees(wanted) if are_seen(items, wanted) => Ok(Vec::new(alloc)),
-            TrackerKind::Sees(_) => Err(TrackerError::Refused(0)),
+            TrackerKind::SeesNull => match items {
+                [item] if item.id().is_null() => Ok(Vec::new(alloc)),
+                _ => Err(TrackerError::Refused(0)),
+            },
             TrackerKind::Refuses(code) => Err(TrackerError::Refused(code)),
         }
     }

@@ -1,8 +1,7 @@
 //! Reports as lines of text.
 
-use status_index::ObjectId;
+use crate::support::prelude::*;
 use status_joined::index_as_worktree_with_renames::{Entry, Error, Outcome};
-use std::alloc::{AllocError, Global};
 
 /// Returns a line for each record, in order: its index position or `-`, its summary, the status of an untracked file, and
 /// its path. A rename or a copy has both paths.

@@ -2,23 +2,13 @@
 
 use crate::joined::interfaces::{RowSubmodules, RowTracker, RowWalk, TrackerKind, WalkKind};
 use crate::joined::record_lines::{end_of, lines_of};
-use crate::support::calls::{Calls, counted};
-use crate::support::contents::Content;
-use crate::support::inputs::{EntryRow, NodeRow, index, worktree};
-use crate::support::stats::STAGED;
-use status_base::worktree::{Fault, NoFilter, NoLister, NodeKind, Worktree};
+use crate::support::prelude::*;
 use status_call::index_as_worktree::{Change, EntryStatus};
 use status_callers::joined::broken::{Broken, Point};
-use status_callers::joined::collectors::Full;
 use status_callers::joined::statuses::{JoinedRequest, options, report_to};
-use status_index::{Mode, ObjectId, State};
 use status_joined::index_as_worktree_with_renames::{Entry, Error, Options, Outcome, Recorder};
 use status_rewrites::{Rewrites, Tracker};
 use status_walk::Walk;
-use std::sync::Wait;
-use std::sync::atomic::{AtomicBool, Ordering};
-use std::test::Fail;
-use std::thread::Threads;
 
 /// The plain entry `a`.
 pub const A: EntryRow<'static> = ("a", 0, Mode::File, Content::Foo);
@@ -43,8 +33,6 @@ pub struct Row<'a> {
     pub rewrites: Option<Rewrites>,
     /// Whether the interrupt flag is set, if one is passed.
     pub flag: Option<bool>,
-    /// How many records the collector has memory for.
-    pub room: usize,
     pub lines: &'a str,
     /// How it ends.
     pub end: &'a str,
@@ -64,7 +52,6 @@ pub const PLAIN: Row<'static> = Row {
     dirwalk: true,
     rewrites: None,
     flag: None,
-    room: 100,
     lines: "",
     end: "",
     called: None,
@@ -99,10 +86,7 @@ where
 {
     let alloc = rt.alloc();
     let flag = AtomicBool::new(row.flag == Some(true));
-    let mut full = Full {
-        collector: Recorder::new(alloc),
-        room: row.room,
-    };
+    let mut recorder = Recorder::new(alloc);
     let submodules = RowSubmodules {
         change: row.submodules,
     };
@@ -118,10 +102,18 @@ where
         interrupt: row.flag.is_some().then_some(&flag),
     };
     let answer = report_to(
-        rt, alloc, index, worktree, &mut full, submodules, NoFilter, NoLister, request,
+        rt,
+        alloc,
+        index,
+        worktree,
+        &mut recorder,
+        submodules,
+        NoFilter,
+        NoLister,
+        request,
     );
     Report {
-        records: full.collector.records,
+        records: recorder.records,
         answer,
     }
 }

@@ -4,25 +4,17 @@ ghost use Rattle.std.specs.Prelude.{None};
 
 use crate::joined::record_lines::{end_of, lines_of};
 use crate::joined::rows::{A, FILE_B, FILE_C, RENAMES};
-use crate::support::contents::Content;
-use crate::support::inputs::{index, worktree};
+use crate::support::prelude::*;
 use crate::support::side_effects::{OnLstat, WatchedWorktree};
 use crate::support::turns::{MANY_TURNS, comes};
 use OnLstat::{AwaitsFlag, Meets};
-use bstr::BString;
-use status_base::worktree::{Fault, Pathspec, Worktree};
+use status_base::worktree::Pathspec;
 use status_call::index_as_worktree;
 use status_callers::joined::statuses::{JoinedRequest, joined, options};
 use status_callers::joined::walks::{B, C, Found, UNTRACKED, emit_nodes};
-use status_index::{Mode, State};
 use status_joined::index_as_worktree_with_renames::Options;
 use status_rewrites::{IdentityTracker, Rewrites};
 use status_walk::{Delegate, Outcome, Walk, WalkError};
-use std::alloc::Global;
-use std::sync::Wait;
-use std::sync::atomic::{AtomicBool, Ordering};
-use std::test::Fail;
-use std::thread::Threads;
 
 /// Passes `b`, sets the flag after a call of `lstat` noted that it began, if that is awaited, and then passes `c` and `d`.
 #[derive(Clone, Copy)]

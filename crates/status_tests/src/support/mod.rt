@@ -10,6 +10,7 @@ pub mod folders;
 pub mod inputs;
 pub mod nodes;
 pub mod pieces;
+pub mod prelude;
 pub mod side_effects;
 pub mod stats;
 pub mod texts;

@@ -98,11 +98,12 @@ impl<'a> Worktree for WatchedWorktree<'a> {
     }
 }
 
-/// A lister that counts its calls.
+/// A lister that counts its calls. It is refused memory in the first one after `refuses` is set.
 #[derive(Clone, Copy)]
 pub struct CountingLister<'a, L> {
     pub lister: L,
     pub calls: &'a AtomicUsize,
+    pub refuses: Option<&'a AtomicBool>,
 }
 
 impl<'a, L: Lister + Copy> Lister for CountingLister<'a, L> {
@@ -116,6 +117,11 @@ impl<'a, L: Lister + Copy> Lister for CountingLister<'a, L> {
 
     fn list(&self, directory: BStr<'_>) -> Result<Listing, AllocError> {
         self.calls.fetch_add(1, Ordering::SeqCst);
+        if let Some(refuses) = self.refuses {
+            if refuses.swap(false, Ordering::SeqCst) {
+                return Err(AllocError);
+            }
+        }
         self.lister.list(directory)
     }
 }

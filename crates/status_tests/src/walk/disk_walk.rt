@@ -1,18 +1,10 @@
 //! The walk over a folder of the disk.
 
-use crate::support::contents::Content;
-use crate::support::folders::{FolderNode, fill, own_folder, within};
-use crate::support::inputs::EntryRow;
-use crate::support::nodes::metadata;
+use crate::support::folders::within;
+use crate::support::prelude::*;
 use crate::walk::walk_lines::assert_walk;
 use FolderNode::{File, Folder, Link};
-use bstr::BStr;
-use status_base::worktree::{DiskWorktree, Fault, MemoryFile, Metadata, NodeKind, Worktree};
-use status_index::Mode;
-use std::path::Path;
-use std::process::Abort;
-use std::rt::Files;
-use std::test::Fail;
+use gix_status::worktree::Point;
 use std::{fs, io};
 
 static NODES: [(&str, FolderNode); 29] = [
@@ -137,45 +129,7 @@ fn directories_that_may_not_be_read_are_faults(rt: HostRuntime) -> Result<(), Fa
     Ok(())
 }
 
-// A worktree whose `lstat` depends on the last letter of a path. It isn't modelled.
-struct ByLetter;
-
-impl Worktree for ByLetter {
-    ghost use Rattle.std.specs.Prelude.{false, Err};
-    ghost use Rattle.status_index.specs.declared.fault.Fault.TheVariants.{NotFound};
-
-    type File = MemoryFile;
-
-    ghost modelled = { λ _. false };
-
-    ghost lstat_of = { λ _ _. Err NotFound };
-
-    ghost open_of = { λ _ _. Err NotFound };
-
-    ghost target_of = { λ _ _. Err NotFound };
-
-    fn lstat(&self, path: BStr<'_>) -> Result<Metadata, Fault> {
-        let kind = match path.as_bytes() {
-            [.., b'g'] => return Err(Fault::NotFound),
-            [.., b'r'] => return Err(Fault::PermissionDenied),
-            [.., b'p'] => NodeKind::Other,
-            [.., b'd'] => NodeKind::Directory,
-            _ => NodeKind::File,
-        };
-        Ok(metadata(kind))
-    }
-
-    fn open(&self, _path: BStr<'_>) -> Result<MemoryFile, Fault> {
-        Err(Fault::NotFound)
-    }
-
-    fn read_link(&self, _path: BStr<'_>, target: &mut Vec<u8>) -> Result<(), Fault> {
-        target.clear();
-        Err(Fault::NotFound)
-    }
-}
-
-static BY_LETTER: [(&str, FolderNode); 9] = [
+static FOLDER: [(&str, FolderNode); 9] = [
     ("d", Folder),
     ("gd", Folder),
     ("g", Folder),
@@ -187,19 +141,30 @@ static BY_LETTER: [(&str, FolderNode); 9] = [
     ("p/f", File("")),
 ];
 
+/// What `lstat` reports of that folder.
+const REPORTED: [NodeRow<'static>; 5] = [
+    ("c", NodeKind::File, b"", 0, None),
+    ("d/f", NodeKind::File, b"", 0, None),
+    ("d/p", NodeKind::Other, b"", 0, None),
+    ("gd", NodeKind::Directory, b"", 0, None),
+    ("p", NodeKind::Other, b"", 0, None),
+];
+
 // A node that is gone before its `lstat` is skipped.
 #[test]
 fn nodes_are_what_lstat_returns(rt: HostRuntime) -> Result<(), Fail> {
     let folder = own_folder(&rt, "disk_walk_lstat")?;
     let root = folder.as_str();
-    fill(&rt, root, &BY_LETTER)?;
+    fill(&rt, root, &FOLDER)?;
+    let mut reported = worktree(rt.alloc(), &REPORTED)?;
+    reported.plant(BStr::from("d/r"), Point::Lstat, Fault::PermissionDenied)?;
     let found = "d/f File\nd/p Untrackable\np Untrackable\nall 3\n";
-    assert_walk(&rt, root, &ByLetter, &[], ("", 100, found))?;
+    assert_walk(&rt, root, &reported, &[], ("", 100, found))?;
     fill(&rt, root, &[("d/r", File(""))])?;
     assert_walk(
         &rt,
         root,
-        &ByLetter,
+        &reported,
         &[],
         ("", 100, "d/r: permission denied\n"),
     )?;
@@ -208,7 +173,7 @@ fn nodes_are_what_lstat_returns(rt: HostRuntime) -> Result<(), Fail> {
     assert_walk(
         &rt,
         root,
-        &ByLetter,
+        &reported,
         &[],
         ("", 1, "c File\ncancelled at 1\n"),
     )?;

@@ -2,15 +2,9 @@
 
 ghost use Rattle.std.specs.Prelude.{◌≡◌, [], false};
 
-use crate::support::inputs::{EntryRow, index};
-use bstr::BStr;
-use status_base::worktree::{Prefix, Worktree};
+use crate::support::prelude::*;
+use status_base::worktree::Prefix;
 use status_walk::{Action, Delegate, DirEntry, DiskWalk, Status, Walk, WalkError};
-use std::alloc::{AllocError, Global};
-use std::path::Path;
-use std::process::Abort;
-use std::rt::Files;
-use std::test::Fail;
 
 // Writes a line for each node, and ends the walk with the last that it has room for.
 #[derive(Drop)]

@@ -1,16 +1,13 @@
-//! Histories with the reports of their runs. These have ids and stats, which the program doesn't print.
+//! Histories in the library. The rows of the program have others, also with events that are refused.
 
-use crate::world::run_lines::lines_of;
-use Step::{Executable, Link, Remove, Stage, Tick, Write};
-use bstr::{BStr, BString};
-use gix_status::index::{Moment, stat};
+use crate::support::contents::BAR;
+use crate::support::prelude::*;
+use Step::{Link, Remove, Stage, Tick, Write};
+use gix_status::index::stat;
+use gix_status::index_as_worktree::{Change, EntryStatus, Outcome};
 use gix_status::stack::{StackError, SymlinkCheck};
-use gix_status::world::{Comparer, World};
+use gix_status::world::{Comparer, Report, World};
 use status_callers::histories::{Run, Setting, Step, history_at};
-use std::alloc::Global;
-use std::sync::Wait;
-use std::test::Fail;
-use std::thread::Threads;
 
 /// The second in which histories begin.
 pub const FIVE: Moment = Moment { secs: 5, nsecs: 0 };
@@ -26,115 +23,49 @@ pub const SECONDS: Setting = Setting {
     executable_bit: false,
 };
 
-// The same, and executability counts.
-const EXECUTABLE: Setting = Setting {
-    executable_bit: true,
-    ..SECONDS
-};
-
-/// A run by ids, with pieces of one entry and at most two workers, which stores its changes in second 5.
-pub const RUN: Run = Run {
-    comparer: Comparer::Hash,
-    chunk_size: 1,
-    thread_limit: Some(2),
-    stamp: FIVE,
-};
-
-const RUN_5: Step = Step::Run(RUN);
-
-const RUN_6: Step = Step::Run(Run {
-    stamp: Moment { secs: 6, nsecs: 0 },
-    ..RUN
-});
-
-const RUN_7: Step = Step::Run(Run {
-    stamp: Moment { secs: 7, nsecs: 0 },
-    ..RUN
-});
-
-const FOO: Step = Write("f", "foo");
-
-const BAR: Step = Write("f", "bar");
-
-const STAGE: Step = Stage("f");
-
-// Steps in a world with these settings, none of which is refused, and the lines of each run.
-type History = (Setting, &'static [Step], &'static str);
-
-// A file whose folder is replaced by a link.
-const LINKED: &[Step] = &[
-    Write("d/x", "foo"),
-    Stage("d/x"),
-    Remove("d/x"),
-    Link("d", "e"),
-    RUN_5,
-];
-
-static HISTORIES: [History; 5] = [
-    // The size is 0 after the first run. So the stat no longer agrees, and the change is seen with any timestamp.
-    (
-        SECONDS,
-        &[FOO, STAGE, BAR, Tick(1), RUN_6, Tick(1), RUN_7],
-        "0 f bar, size to 0; lstat 1, racy 1, to update 0, read 1, bytes 3\n0 f bar; lstat 1, racy 0, to update 0, read 1, bytes 3\n",
-    ),
-    // A racy file that didn't change is read once.
-    (
-        SECONDS,
-        &[FOO, STAGE, Tick(1), RUN_6, Tick(1), RUN_7],
-        "0 f update to 5, 5, size 3; lstat 1, racy 1, to update 1, read 1, bytes 3\nlstat 1, racy 0, to update 0, read 0, bytes 0\n",
-    ),
-    // The file is emptied in the second of staging. So its size and its time are the entry's.
-    (
-        SECONDS,
-        &[
-            FOO,
-            STAGE,
-            BAR,
-            RUN_5,
-            Write("f", ""),
-            Tick(1),
-            RUN_6,
-            Tick(1),
-            RUN_7,
-        ],
-        "0 f bar, size to 0; lstat 1, racy 1, to update 0, read 1, bytes 3\n0 f empty; lstat 1, racy 0, to update 0, read 1, bytes 0\n0 f empty; lstat 1, racy 0, to update 0, read 1, bytes 0\n",
-    ),
-    // An executable change hides no racy rewrite.
-    (
-        EXECUTABLE,
-        &[
-            FOO,
-            STAGE,
-            BAR,
-            Executable("f", true),
-            Tick(1),
-            RUN_6,
-            Tick(1),
-            Executable("f", false),
-            RUN_7,
-        ],
-        "0 f bar, other mode, size to 0; lstat 1, racy 0, to update 0, read 1, bytes 3\n0 f bar; lstat 1, racy 0, to update 0, read 1, bytes 3\n",
-    ),
-    // `lstat` is called on the directory above, and not on the file itself.
-    (
-        SECONDS,
-        LINKED,
-        "0 d/x removed; lstat 0, racy 0, to update 0, read 0, bytes 0\n",
-    ),
-];
-
-// Returns whether the runs of a history have the expected reports.
-fn is_history<R: AllocGlobal + Threads + Wait>(rt: &R, history: &History) -> Result<bool, Fail> {
-    let (setting, steps, lines) = *history;
-    let replayed = history_at(rt, FIVE, setting, steps)?;
-    let found = lines_of(rt.alloc(), &replayed.reports)?;
-    Ok(replayed.stopped.is_none() && found.as_str() == lines)
+/// Returns a run by ids, with pieces of one entry and at most two workers, which stores its changes in this second.
+pub fn run_at(secs: u32) -> Step {
+    Step::Run(Run {
+        comparer: Comparer::Hash,
+        chunk_size: 1,
+        thread_limit: Some(2),
+        stamp: Moment { secs, nsecs: 0 },
+    })
 }
 
+// Returns whether a run reports that the only file, `f`, has the content `bar`, and whether its size is to be 0.
+fn is_bar(report: &Report, to_zero: bool) -> bool {
+    let [record] = report.records.as_slice() else {
+        return false;
+    };
+    let changed = Change::Modification {
+        executable_bit_changed: false,
+        content_change: Some(Some(BAR)),
+        set_entry_stat_size_zero: to_zero,
+    };
+    let outcome = Outcome {
+        entries_to_process: 1,
+        entries_processed: 1,
+        symlink_metadata_calls: 1,
+        racy_clean: usize::from(to_zero),
+        worktree_files_read: 1,
+        worktree_bytes: 3,
+        ..Outcome::default()
+    };
+    record.path.as_bytes() == b"f".as_slice()
+        && record.status == EntryStatus::Change(changed)
+        && report.outcome == outcome
+}
+
+// The size is 0 after the first run. So the stat no longer agrees, and the change is seen with any timestamp.
 #[test]
-fn runs_report_each_change_with_its_id_and_each_new_stat(rt: HostRuntime) -> Result<(), Fail> {
-    for (at, history) in HISTORIES.iter().enumerate() {
-        assert!(rt; is_history(&rt, history)?, "history {at}");
+fn a_racy_rewrite_is_reported_and_smudged(rt: HostRuntime) -> Result<(), Fail> {
+    let (foo, bar) = (Write("f", "foo"), Write("f", "bar"));
+    let steps = [foo, Stage("f"), bar, Tick(1), run_at(6), Tick(1), run_at(7)];
+    let replayed = history_at(&rt, FIVE, SECONDS, &steps)?;
+    assert!(rt; replayed.stopped.is_none() && replayed.reports.len() == 2);
+    for (report, to_zero) in replayed.reports.iter().zip([true, false]) {
+        assert!(rt; is_bar(report, to_zero), "{to_zero}");
     }
     Ok(())
 }
@@ -150,7 +81,9 @@ fn is_link_met(alloc: Global, world: &World) -> bool {
 
 #[test]
 fn the_way_to_a_file_below_a_link_ends_at_the_link(rt: HostRuntime) -> Result<(), Fail> {
-    let replayed = history_at(&rt, FIVE, SECONDS, LINKED)?;
+    let (file, link) = (Write("d/x", "foo"), Link("d", "e"));
+    let steps = [file, Stage("d/x"), Remove("d/x"), link, run_at(5)];
+    let replayed = history_at(&rt, FIVE, SECONDS, &steps)?;
     assert!(rt; is_link_met(rt.alloc(), &replayed.world));
     Ok(())
 }

@@ -1,13 +1,11 @@
 //! Stored indexes: the text of one, and a path that can't be stored.
 
-use crate::world::histories::{FIVE, RUN, SECONDS};
-use bstr::BString;
+use crate::support::prelude::*;
+use crate::world::histories::{FIVE, SECONDS, run_at};
 use gix_status::world::{Event, Refusal};
-use status_callers::histories::{Step, events, new_world};
+use status_callers::histories::{events, new_world};
 use status_callers::stored::{loaded, stored};
 use status_stored::{Stop, replay_reopening};
-use std::alloc::{AllocError, Global};
-use std::test::Fail;
 
 // The entry `bar` at "b". Of the keys with a default it has `size` and `mtime`. `other` and `kind` aren't keys of the
 // format, and are ignored.
@@ -36,7 +34,7 @@ fn odd_stretches(alloc: Global) -> Result<Vec<Vec<Event>>, AllocError> {
     odd_events.push(Event::Stage(BString::from_slice(alloc, b"\xff")?))?;
     let mut stretches = Vec::new(alloc);
     stretches.push(odd_events)?;
-    stretches.push(events(alloc, &[Step::Run(RUN)])?)?;
+    stretches.push(events(alloc, &[run_at(5)])?)?;
     Ok(stretches)
 }
 
