@@ -2,7 +2,7 @@
 //!
 //! Begin at `example`. Each folder tests a layer, from the bottom up: `board`, `index`, `base`, `call`, `walk`, `joined`
 //! (with renames and copies) and `world` (with the stored index). Its `mod.rt` says where to begin. `words` has the texts
-//! of errors of all layers. `support` has what several of them use.
+//! of errors of all layers, and `clones` copies of values. `support` has what several of them use.
 #![tactic(auto)]
 
 #[cfg(test)]
@@ -11,6 +11,8 @@ mod base;
 mod board;
 #[cfg(test)]
 mod call;
+#[cfg(test)]
+mod clones;
 #[cfg(test)]
 mod example;
 #[cfg(test)]

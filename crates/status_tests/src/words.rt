@@ -1,7 +1,6 @@
 //! The texts of errors, of faults and of bytes.
 
 use crate::support::prelude::*;
-use crate::support::texts::is_shown;
 use StatusError::{Find, IllformedUtf8, Io, SpawnThread};
 use status_base::stack::StackError;
 use status_base::worktree::{FindError, TreeError};
@@ -11,11 +10,20 @@ use status_joined::index_as_worktree_with_renames::Error;
 use status_rewrites::{Refused, TrackerError};
 use status_stored::{LoadError, ReopenError, StoreError};
 use status_walk::{IdError, WalkError};
+use std::fmt::Display;
 
 const MEMORY: &str = "Out of memory";
 
 const CLOCK: &str =
     "The clock was off when reading file related metadata after updating a file on disk";
+
+// Returns whether a value has this text.
+fn is_shown<T: Display>(alloc: Global, value: &T, want: &str) -> bool {
+    match format!(in alloc; "{value}") {
+        Ok(text) => text.as_str() == want,
+        Err(_) => false,
+    }
+}
 
 #[test]
 fn faults_have_words(rt: HostRuntime) {

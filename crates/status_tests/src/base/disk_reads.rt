@@ -62,7 +62,7 @@ where
     let worktree = DiskWorktree::new(rt, Path::new(folder))?;
     write_long(rt, path, 200000)?;
     let read = read_to(&worktree, 200000);
-    assert_eq!(rt; read, Ok((Ok(Content::Long.id()), Ok(0))));
+    assert_eq!(rt; read, Ok((Ok(LONG), Ok(0))));
     let read = read_shortened(rt, &worktree, path)?;
     assert_eq!(rt; read, Err(Fault::UnexpectedEnd));
     Ok(())

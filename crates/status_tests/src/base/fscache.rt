@@ -8,22 +8,22 @@ use status_base::worktree::Lister;
 use status_callers::listers::{Directories, Directory};
 use status_index::Time;
 
-/// A listed file of this size.
-const EMPTY: Stat = Stat {
+/// A listed file of no bytes.
+const NOTHING: Stat = Stat {
     size: 0,
     ..LISTED_FILE
 };
 
 const NAMES: [(&str, Stat); 4] = [
-    ("twice", EMPTY),
+    ("twice", NOTHING),
     ("test.txt", LISTED_FILE),
-    ("subdir", EMPTY),
+    ("subdir", NOTHING),
     ("twice", LISTED_FILE),
 ];
 
 const DIRECTORIES: [Directory<'static>; 3] = [
     ("", Some(&NAMES)),
-    ("subdir", Some(&[("nested.txt", EMPTY)])),
+    ("subdir", Some(&[("nested.txt", NOTHING)])),
     ("d", None),
 ];
 

@@ -62,35 +62,14 @@ fn calls_return_the_node_or_why_there_is_none(rt: HostRuntime) -> Result<(), Fai
     Ok(())
 }
 
-// Puts a node.
-fn put(
-    worktree: &mut MemoryWorktree,
-    alloc: Global,
-    path: &str,
-    kind: NodeKind,
-) -> Result<(), TreeError> {
-    worktree.put(
-        BStr::from(path),
-        new_node(alloc, kind, b"foo", 3, Some(STAGED))?,
-    )
-}
-
 #[test]
 fn nodes_are_put_and_removed(rt: HostRuntime) -> Result<(), Fail> {
-    let mut worktree = small(rt.alloc())?;
-    for (path, want) in [
-        ("a//b", Some(TreeError::BadPath)),
-        ("f/x", Some(TreeError::InTheWay)),
-        ("d", Some(TreeError::InTheWay)),
-        ("d/x", None),
-    ] {
-        let refused = put(&mut worktree, rt.alloc(), path, Link).err();
-        assert!(rt; refused == want, "at {path}");
-    }
-    assert!(rt; kind_at(&worktree, "d/x") == Ok(Link));
-    let removed = worktree.remove(BStr::from("d/x"));
+    let (mut worktree, path) = (small(rt.alloc())?, BStr::from("d/x"));
+    let link = new_node(rt.alloc(), Link, b"foo", 3, Some(STAGED))?;
+    worktree.put(path, link)?;
+    let removed = worktree.remove(path);
     assert!(rt; matches!(&removed, Some(node) if node.kind == Link));
-    assert!(rt; worktree.node(BStr::from("d/x")).is_none());
+    assert!(rt; worktree.node(path).is_none());
     assert!(rt; kind_at(&worktree, "d") == Err(Fault::NotFound));
     Ok(())
 }

@@ -1,11 +1,9 @@
-//! Which entries make a conflict, also in lists that aren't a valid index, and where a piece with a conflict ends.
+//! Which entries make a conflict, also in lists that aren't a valid index.
 
 use crate::support::prelude::*;
 use Mode::{File, FileExecutable, Symlink};
 use gix_status::index::{Entry, PathStorage};
 use gix_status::index_as_worktree::Conflict;
-use status_call::index_as_worktree::considered::Considered;
-use status_call::index_as_worktree::piece::piece_end;
 
 /// A conflict, how many entries follow its first, and the modes of stage 1, 2 and 3.
 type Found = (Conflict, usize, Option<Mode>, Option<Mode>, Option<Mode>);
@@ -40,7 +38,7 @@ const ROWS: [Row; 3] = [
 fn index_of(alloc: Global, stages: &[(&str, u32, Mode)]) -> Result<State, Fail> {
     let mut entries = Vec::new(alloc);
     for (path, stage, mode) in stages {
-        entries.push((*path, *stage, *mode, Content::Foo))?;
+        entries.push((*path, *stage, *mode, FOO))?;
     }
     Ok(index(alloc, &entries)?)
 }
@@ -93,38 +91,5 @@ fn the_last_of_a_stage_is_kept_among_three_entries(rt: HostRuntime) -> Result<()
     let found = conflict_at(&entries, index.path_backing(), 0);
     let (ours, theirs) = (Some(FileExecutable), Some(File));
     assert!(rt; found == Some((Conflict::BothAdded, 2, None, ours, theirs)));
-    Ok(())
-}
-
-/// Returns where a piece of `piece_len` entries ends that begins at `from`. None if no entry is there.
-fn end_at(index: &State, from: usize, piece_len: usize) -> Option<usize> {
-    let considered = Considered::of(index, BStr::new(b""));
-    let count = considered.end - considered.start;
-    if from < count {
-        Some(piece_end(&considered, from, piece_len))
-    } else {
-        None
-    }
-}
-
-/// An entry, the three stages of a path, and another entry.
-const FIVE: [(&str, u32, Mode); 5] = [
-    ("a", 0, File),
-    ("f", 1, File),
-    ("f", 2, File),
-    ("f", 3, File),
-    ("g", 0, File),
-];
-
-#[test]
-fn a_piece_is_lengthened_only_by_stages_of_its_last_path(rt: HostRuntime) -> Result<(), Fail> {
-    let index = index_of(rt.alloc(), &FIVE)?;
-    assert_eq!(rt; end_at(&index, 0, 2), Some(4));
-    assert_eq!(rt; end_at(&index, 4, 2), Some(5));
-    let index = index_of(
-        rt.alloc(),
-        &[("f", 0, File), ("f", 1, File), ("f", 3, File)],
-    )?;
-    assert_eq!(rt; end_at(&index, 0, 1), Some(3));
     Ok(())
 }

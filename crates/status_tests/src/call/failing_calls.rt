@@ -42,34 +42,34 @@ const UNTIMED: NodeRow<'static> = ("b", File, b"bar", 3, None);
 
 const CLEAN: NodeRow<'static> = ("b", File, b"foo", 3, Some(STAGED));
 
-const BAR: Option<Says> = Some(Says::Changed(Content::Bar));
+const TO_BAR: Option<Says> = Some(Says::Changed(BAR));
 
-const BA: Option<Says> = Some(Says::Changed(Content::Ba));
+const TO_BA: Option<Says> = Some(Says::Changed(BA));
 
-const BARS: Option<Says> = Some(Says::Changed(Content::Bars));
+const TO_BARS: Option<Says> = Some(Says::Changed(BARS));
 
 /// The node at the second path, a fault there, how the status ends, and how often the second file is opened. `lstat` is
 /// called on it once. On the third `lstat` and `open` are called once, but not after a failure.
 type Row = (NodeRow<'static>, Planted, End, usize);
 
 const ROWS: [Row; 9] = [
-    (CHANGED, None, Reports(BAR, 3, 9), 1),
+    (CHANGED, None, Reports(TO_BAR, 3, 9), 1),
     (CHANGED, LSTAT, Fails(Fault::Interrupted), 0),
     // It is gone before it is opened.
     (CHANGED, GONE, Fails(Fault::NotFound), 1),
     (CHANGED, READ, Fails(Fault::Interrupted), 1),
     // It has fewer bytes than its length, or more, which aren't read.
     (LONGER, None, Fails(Fault::UnexpectedEnd), 1),
-    (SHORTER, None, Reports(BA, 3, 8), 1),
+    (SHORTER, None, Reports(TO_BA, 3, 8), 1),
     // A link's target is read once, and the link isn't opened.
-    (LINK, None, Reports(BARS, 3, 10), 0),
+    (LINK, None, Reports(TO_BARS, 3, 10), 0),
     (UNTIMED, None, LacksTime, 0),
     // A clean file is never opened.
     (CLEAN, LOCKED, Reports(None, 2, 6), 0),
 ];
 
 fn is_ended(report: &StatusReport<'_, ObjectId, ()>, end: End) -> bool {
-    let changed = Says::Changed(Content::Bar);
+    let changed = Says::Changed(BAR);
     let (first, third) = ((0, "a", changed), (2, "c", changed));
     match end {
         Reports(Some(second), files, bytes) => {
@@ -95,7 +95,7 @@ fn is_right<R: AllocGlobal + Threads + Wait>(rt: &R, row: &Row) -> Result<bool, 
     } else {
         Mode::File
     };
-    let entries = [foo_entry("a"), ("b", 0, mode, Content::Foo), foo_entry("c")];
+    let entries = [foo_entry("a"), ("b", 0, mode, FOO), foo_entry("c")];
     let index = index(rt.alloc(), &entries)?;
     let nodes = [later_file("a", b"bar"), node, later_file("c", b"bar")];
     let mut files = worktree(rt.alloc(), &nodes)?;

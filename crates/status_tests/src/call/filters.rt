@@ -56,13 +56,13 @@ fn is_converted<R: AllocGlobal + Threads + Wait>(
 
 #[test]
 fn what_a_filter_stores_is_compared_and_counted(rt: HostRuntime) -> Result<(), Fail> {
-    let line = ("a", 0, Mode::File, Content::Line);
+    let line = ("a", 0, Mode::File, A_LINE);
     let file = later_file("a", b"a\r\n");
     let (says, took) = ((0, "a", Says::Updated), updated(1, read(1, 1, 2)));
     assert!(rt; is_converted(&rt, &[line], &[file], &[says], took)?);
     let entries = [line, foo_entry("b"), foo_entry("c")];
     let nodes = [file, later_file("b", b"bars"), later_file("c", b"foo")];
-    let bars = (1, "b", Says::Changed(Content::Bars));
+    let bars = (1, "b", Says::Changed(BARS));
     let wanted = [says, bars, (2, "c", Says::Updated)];
     let took = updated(2, read(3, 3, 9));
     assert!(rt; is_converted(&rt, &entries, &nodes, &wanted, took)?);

@@ -28,7 +28,7 @@ const RECORDS: [Wanted<'static>; 4] = [
     (0, "Test.txt", Says::Removed),
     (1, "gone", Says::Removed),
     (2, "subdir", Says::Removed),
-    (3, "subdir/nested.txt", Says::Changed(Content::Bars)),
+    (3, "subdir/nested.txt", Says::Changed(BARS)),
 ];
 
 // Returns whether a folder has the expected status, with listings or without, and `lstat` is called on entries' paths

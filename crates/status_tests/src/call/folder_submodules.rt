@@ -89,7 +89,7 @@ fn is_right<R: AllocGlobal + Files + Sync + Threads + Wait>(
     fill(rt, root, adds)?;
     let mut submodules = Vec::new(rt.alloc());
     for path in paths {
-        submodules.push((*path, 0, Mode::Commit, Content::Foo))?;
+        submodules.push((*path, 0, Mode::Commit, FOO))?;
     }
     let superproject = index(rt.alloc(), &submodules)?;
     let own_index = foos(rt.alloc(), entries)?;

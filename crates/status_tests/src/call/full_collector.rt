@@ -8,9 +8,9 @@ use status_callers::collectors::Full;
 use status_callers::statuses::{plain_request, report_to};
 
 const ALL: [Wanted<'static>; 3] = [
-    (0, "a", Says::Changed(Content::Bar)),
-    (1, "b", Says::Changed(Content::Bar)),
-    (2, "c", Says::Changed(Content::Bar)),
+    (0, "a", Says::Changed(BAR)),
+    (1, "b", Says::Changed(BAR)),
+    (2, "c", Says::Changed(BAR)),
 ];
 
 /// Returns whether a collector with memory for `room` of the three records holds these. Without memory for all of them

@@ -1,11 +1,13 @@
-//! Listings of directories, which replace calls of `lstat`.
+//! Listings of directories, which replace calls of `lstat`, and how often a directory is listed and `lstat` called on it.
 
 use crate::call::reports::{is_taken, read};
 use crate::call::statuses::listed_status;
 use crate::support::prelude::*;
+use crate::support::side_effects::CountingLister;
 use crate::support::stats::LISTED_FILE;
 use gix_status::fscache::Stat;
-use gix_status::index_as_worktree::{Capabilities, Change, EntryStatus, Options, Outcome};
+use gix_status::index_as_worktree::{Capabilities, Change, EntryStatus, Error, Options, Outcome};
+use gix_status::worktree::Point;
 use status_callers::listers::{Directories, Directory};
 use status_callers::statuses::options;
 
@@ -107,7 +109,7 @@ fn is_right<R: AllocGlobal + Threads + Wait>(
     };
     let mut entries = Vec::new(alloc);
     for path in paths {
-        entries.push((*path, 0, mode, Content::Foo))?;
+        entries.push((*path, 0, mode, FOO))?;
     }
     let (index, calls) = (index(alloc, &entries)?, Calls::new());
     let worktree = counted(files(alloc)?, *first, &calls);
@@ -147,5 +149,55 @@ fn listings_replace_lstat(rt: HostRuntime) -> Result<(), Fail> {
             assert!(rt; is_right(&rt, row, fscache)?, "{:?}, {fscache}", row.0);
         }
     }
+    Ok(())
+}
+
+/// The directory `d` lists two files.
+const TWO_FILES: [Directory<'static>; 1] = [("d", Some(&[("x", LISTED_FILE), ("y", LISTED_FILE)]))];
+
+/// Returns how often a status with one worker calls the lister, with three entries in `d`, one of which is gone. It has
+/// to report that one, or to fail if `lstat` of `d` is interrupted, and has to call `lstat` on `d` once.
+fn lists<R: AllocGlobal + Threads + Wait>(
+    rt: &R,
+    fscache: bool,
+    interrupted: bool,
+) -> Result<Option<usize>, Fail> {
+    let alloc = rt.alloc();
+    let index = foos(alloc, &["d/gone", "d/x", "d/y"])?;
+    let mut files = worktree(alloc, &NODES)?;
+    if interrupted {
+        files.plant(BStr::from("d"), Point::Lstat, Fault::Interrupted)?;
+    }
+    let (calls, lists) = (Calls::new(), AtomicUsize::new(0));
+    let worktree = counted(files, "d", &calls);
+    let directories = &TWO_FILES;
+    let lister = CountingLister {
+        lister: Directories { alloc, directories },
+        calls: &lists,
+        refuses: None,
+    };
+    let options = Options {
+        fscache,
+        chunk_size: 1,
+        thread_limit: Some(1),
+        ..options()
+    };
+    let report = listed_status(rt, &index, &worktree, lister, options);
+    let is_reported = match &report.answer {
+        Ok(_) => !interrupted && report.records.len() == 1,
+        Err(Error::Io(Fault::Interrupted)) => interrupted && report.records.is_empty(),
+        Err(_) => false,
+    };
+    let is_right = is_reported && calls.made() == (1, 0);
+    Ok(is_right.then_some(lists.load(Ordering::SeqCst)))
+}
+
+#[test]
+fn one_lstat_and_one_listing_of_a_directory_serve_its_entries(rt: HostRuntime) -> Result<(), Fail> {
+    assert_eq!(rt; lists(&rt, true, false)?, Some(1));
+    // Without the option the lister isn't called.
+    assert_eq!(rt; lists(&rt, false, false)?, Some(0));
+    // An `lstat` that is interrupted isn't made again.
+    assert_eq!(rt; lists(&rt, false, true)?, Some(0));
     Ok(())
 }

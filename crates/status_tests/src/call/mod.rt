@@ -2,9 +2,7 @@
 //!
 //! Begin at `failing_calls`. `statuses` and `reports` have what several tests use.
 
-mod cloned_reports;
 mod conflicts;
-mod directory_calls;
 mod failing_calls;
 mod file_reads;
 mod filters;
@@ -15,7 +13,7 @@ mod listings;
 mod orders;
 mod planted;
 mod refused_threads;
-mod reports;
+pub mod reports;
 mod runs;
 mod sizes_and_blobs;
 mod statuses;

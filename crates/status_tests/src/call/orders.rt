@@ -25,9 +25,9 @@ fn are_ascending<T: Ord>(values: &[T]) -> bool {
 }
 
 /// Returns what a conflict keeps of an entry.
-fn kept(content: Content, stage: u32, mode: Mode) -> ConflictIndexEntry {
+fn kept(id: ObjectId, stage: u32, mode: Mode) -> ConflictIndexEntry {
     ConflictIndexEntry {
-        id: content.id(),
+        id,
         flags: Flags::from_stage(stage),
         mode,
     }
@@ -44,10 +44,10 @@ fn words_are_ordered_as_they_are_declared(rt: HostRuntime) {
 #[test]
 fn kept_entries_are_ordered_by_id_flags_and_mode(rt: HostRuntime) {
     let entries = [
-        kept(Content::Foo, 1, Mode::File),
-        kept(Content::Foo, 1, Mode::Symlink),
-        kept(Content::Foo, 2, Mode::File),
-        kept(Content::Bar, 1, Mode::File),
+        kept(FOO, 1, Mode::File),
+        kept(FOO, 1, Mode::Symlink),
+        kept(FOO, 2, Mode::File),
+        kept(BAR, 1, Mode::File),
     ];
     assert!(rt; are_ascending(&entries));
 }
@@ -104,7 +104,7 @@ fn change_at(place: usize) -> Change<u32, u32> {
 fn conflict(summary: Conflict, stage: usize) -> EntryStatus<u32, u32> {
     let mut entries = [None, None, None];
     if 0 < stage && stage < 4 {
-        entries[stage - 1] = Some(kept(Content::Foo, 1, Mode::File));
+        entries[stage - 1] = Some(kept(FOO, 1, Mode::File));
     }
     EntryStatus::Conflict { summary, entries }
 }

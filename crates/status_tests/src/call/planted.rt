@@ -1,13 +1,25 @@
 //! Each fault at each call on each path: three entries, two sizes of pieces, two numbers of workers.
 
 use crate::call::reports::{Says, Wanted, is_report, read, status_by_pieces};
-use crate::support::faults::FAULTS;
 use crate::support::prelude::*;
 use gix_status::index_as_worktree::Outcome;
 use gix_status::worktree::{Point, TreeError};
 
 /// Sizes of pieces and numbers of workers.
 const WAYS: [(usize, usize); 4] = [(1, 1), (1, 3), (2, 1), (2, 3)];
+
+/// Every fault.
+const FAULTS: [Fault; 9] = [
+    Fault::NotFound,
+    Fault::NotADirectory,
+    Fault::PermissionDenied,
+    Fault::Interrupted,
+    Fault::IllformedUtf8,
+    Fault::UnexpectedEnd,
+    Fault::NotNormal,
+    Fault::Memory,
+    Fault::Other(5),
+];
 
 /// The folder above the second entry.
 const FOLDER: &str = "d";
@@ -27,16 +39,16 @@ const POINTS: [Point; 9] = [
 
 /// The path of an entry, the content of its file or link, which was changed after the entry was staged, its length, and
 /// whether it is a link.
-type Site = (&'static str, Content, u64, bool);
+type Site = (&'static str, ObjectId, u64, bool);
 
 const SITES: [Site; 3] = [
-    ("a", Content::Bar, 3, false),
-    ("d/l", Content::Bars, 4, true),
-    ("z", Content::Bars, 4, false),
+    ("a", BAR, 3, false),
+    ("d/l", BARS, 4, true),
+    ("z", BARS, 4, false),
 ];
 
 fn entries(alloc: Global) -> Result<State, IndexError> {
-    let link = ("d/l", 0, Mode::Symlink, Content::Foo);
+    let link = ("d/l", 0, Mode::Symlink, FOO);
     index(alloc, &[foo_entry("a"), link, foo_entry("z")])
 }
 

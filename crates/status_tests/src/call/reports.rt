@@ -36,7 +36,7 @@ pub enum Says {
     /// No file is there.
     Removed,
     /// The file has another content.
-    Changed(Content),
+    Changed(ObjectId),
     /// The file has the same content of three bytes, and was written after the entry was staged.
     Updated,
     /// The file has the same content of three bytes, and was written when the entry was staged.
@@ -68,7 +68,7 @@ pub fn is_at<T, U>(record: &Record<'_, T, U>, place: usize, path: &str) -> bool 
 pub fn is_said(status: &EntryStatus<ObjectId, ()>, says: Says) -> bool {
     match (says, status) {
         (Says::Removed, EntryStatus::Change(Change::Removed)) => true,
-        (Says::Changed(content), _) => is_changed(status, &content.id()),
+        (Says::Changed(content), _) => is_changed(status, &content),
         (Says::Updated, EntryStatus::NeedsUpdate(found)) => *found == stat(LATER),
         (Says::Racy, EntryStatus::NeedsUpdate(found)) => *found == stat(STAGED),
         _ => false,

@@ -161,7 +161,7 @@ fn is_ended(answer: &Result<Outcome, Error>, row: &Row) -> bool {
 // Returns whether there is a record of each entry that is processed.
 fn are_records(records: &[Record<'_, ObjectId, ()>], row: &Row) -> bool {
     let says = match row.1 {
-        Changed => Says::Changed(Content::Bar),
+        Changed => Says::Changed(BAR),
         Gone | Below => Says::Removed,
     };
     for (at, record) in records.iter().enumerate() {

@@ -32,10 +32,7 @@ fn sizes_are_compared_by_their_low_32_bits(rt: HostRuntime) -> Result<(), Fail> 
 }
 
 /// The entries `a` and `b`, of other contents.
-const ENTRIES: [EntryRow<'static>; 2] = [
-    ("a", 0, Mode::File, Content::Foo),
-    ("b", 0, Mode::File, Content::Bar),
-];
+const ENTRIES: [EntryRow<'static>; 2] = [("a", 0, Mode::File, FOO), ("b", 0, Mode::File, BAR)];
 
 /// Returns whether a status by the lengths of blobs has so many records, each of a file of four bytes. It reads the
 /// blob of each entry, of three bytes, or fails because a blob is missing.
@@ -72,7 +69,7 @@ fn has_lengths<R: AllocGlobal + Threads + Wait, O: Find + Send>(
 #[test]
 fn a_comparer_may_read_the_blob(rt: HostRuntime) -> Result<(), Fail> {
     let mut objects = MemoryObjects::new(rt.alloc());
-    objects.put(Content::Foo.id(), b"foo")?;
+    objects.put(FOO, b"foo")?;
     assert!(rt; has_lengths(&rt, &ENTRIES[..1], objects, 1, false)?);
     let objects = MemoryObjects::new(rt.alloc());
     assert!(rt; has_lengths(&rt, &ENTRIES[..1], objects, 0, true)?);

@@ -14,7 +14,7 @@ fn is_submodule_reported<R: AllocGlobal + Threads + Wait>(
     answer: Result<Option<u32>, &[u8]>,
 ) -> Result<bool, Fail> {
     let alloc = rt.alloc();
-    let index = index(alloc, &[("sub", 0, Mode::Commit, Content::Foo)])?;
+    let index = index(alloc, &[("sub", 0, Mode::Commit, FOO)])?;
     let directory = ("sub", NodeKind::Directory, b"".as_slice(), 0, Some(STAGED));
     let worktree = worktree(alloc, &[directory])?;
     let (submodule, objects) = (Alike { alloc, answer }, MemoryObjects::new(alloc));

@@ -1,7 +1,7 @@
 //! Statuses in the caller's thread alone. They have no rounds: the flag is checked before each entry and after each piece,
 //! whose records are reported before the next piece.
 
-use crate::call::reports::{Says, Wanted, by_pieces, is_report, read, status_by_pieces, updated};
+use crate::call::reports::{Says, Wanted, by_pieces, is_report, read, status_by_pieces};
 use crate::call::statuses::FlagSetter;
 use crate::support::prelude::*;
 use crate::support::side_effects::{OnLstat, WatchedWorktree};
@@ -12,61 +12,21 @@ use gix_status::index_as_worktree::{
 use gix_status::worktree::Point;
 use status_callers::statuses::StatusReport;
 
-/// The records of the five entries. The submodule at `d` has none.
-const RECORDS: [Wanted<'static>; 4] = [
+/// The files of `a` and `c` are gone, and `b` was changed.
+const RECORDS: [Wanted<'static>; 3] = [
     (0, "a", Says::Removed),
-    (1, "b", Says::Changed(Content::Bar)),
-    (2, "c", Says::Updated),
-    (4, "e", Says::Racy),
+    (1, "b", Says::Changed(BAR)),
+    (2, "c", Says::Removed),
 ];
 
 /// Numbers of entries of a piece: one, two, more than there are, and the usual number.
 const CHUNK_SIZES: [usize; 4] = [1, 2, 6, 0];
 
-/// Returns the index of the five entries. It was written in the second in which they were staged.
-fn five_entries(alloc: Global) -> Result<State, Fail> {
-    let submodule = ("d", 0, Mode::Commit, Content::Foo);
-    let (a, b, c, e) = (
-        foo_entry("a"),
-        foo_entry("b"),
-        foo_entry("c"),
-        foo_entry("e"),
-    );
-    let mut index = index(alloc, &[a, b, c, submodule, e])?;
-    index.set_timestamp(Moment {
-        secs: STAGED,
-        nsecs: 0,
-    });
-    Ok(index)
-}
-
-/// Returns a worktree in which `a` is gone, `b` was changed, `c` was written again with the same content, `d` is a
-/// directory, and `e` is unchanged.
-fn four_nodes(alloc: Global) -> Result<MemoryWorktree, Fail> {
-    let directory = ("d", NodeKind::Directory, b"".as_slice(), 0, Some(STAGED));
-    let clean = ("e", NodeKind::File, b"foo".as_slice(), 3, Some(STAGED));
-    let nodes = [
-        later_file("b", b"bar"),
-        later_file("c", b"foo"),
-        directory,
-        clean,
-    ];
-    Ok(worktree(alloc, &nodes)?)
-}
-
-/// Returns the outcome of a status of the five entries: `b`, `c` and `e` are read.
-fn whole() -> Outcome {
-    Outcome {
-        racy_clean: 1,
-        ..updated(2, read(5, 3, 9))
-    }
-}
-
-/// Returns the outcome of a status that is interrupted after none of the five entries, or after `a`, or after `b` too.
+/// Returns the outcome of a status that is interrupted after none of the entries, after `a`, or after `b` too.
 fn interrupted_after(entries: usize) -> Outcome {
     let (files, bytes) = if entries < 2 { (0, 0) } else { (1, 3) };
     Outcome {
-        entries_to_process: 5,
+        entries_to_process: 3,
         interrupted: true,
         ..read(entries, files, bytes)
     }
@@ -129,8 +89,9 @@ fn status_without_threads<'index, W: Worktree>(
 fn a_status_without_threads_reports_what_one_with_four_workers_does(
     rt: HostRuntime,
 ) -> Result<(), Fail> {
-    let (alloc, end) = (rt.alloc(), Ok(whole()));
-    let (index, worktree) = (five_entries(alloc)?, four_nodes(alloc)?);
+    let (alloc, end) = (rt.alloc(), Ok(read(3, 1, 3)));
+    let index = foos(alloc, &["a", "b", "c"])?;
+    let worktree = worktree(alloc, &[later_file("b", b"bar")])?;
     let alone = status_without_threads(alloc, &index, &worktree, 1, None, None);
     assert!(rt; is_report(&alone, &RECORDS, &end));
     let shared = status_by_pieces(&rt, &index, &worktree, 1, 4);
@@ -155,9 +116,9 @@ fn is_interrupted(
 ) -> Result<bool, Fail> {
     let flag = AtomicBool::new(matches!(set_by, SetBy::Caller));
     let called = AtomicBool::new(false);
-    let index = five_entries(alloc)?;
+    let index = foos(alloc, &["a", "b", "c"])?;
     let worktree = WatchedWorktree {
-        worktree: four_nodes(alloc)?,
+        worktree: worktree(alloc, &[later_file("b", b"bar")])?,
         on_lstat: match set_by {
             SetBy::Lstat => OnLstat::SetsFlag("b"),
             SetBy::Caller | SetBy::Collector => OnLstat::Nothing,
@@ -200,24 +161,23 @@ fn a_flag_ends_a_status_without_threads(rt: HostRuntime) -> Result<(), Fail> {
     Ok(())
 }
 
-/// Returns whether a status without threads ends with a fault at the third entry, after the records before it, and
-/// makes no call on the last.
-fn is_failed_at_third(alloc: Global, chunk_size: usize) -> Result<bool, Fail> {
-    let (index, mut files) = (five_entries(alloc)?, four_nodes(alloc)?);
-    let fault = Fault::PermissionDenied;
-    files.plant(BStr::from("c"), Point::Open, fault)?;
-    let calls = Calls::new();
-    let worktree = counted(files, "e", &calls);
-    let report = status_without_threads(alloc, &index, &worktree, chunk_size, None, None);
-    Ok(is_report(&report, &RECORDS[..2], &Err(fault)) && calls.made() == (0, 0))
-}
-
 #[test]
-fn a_fault_ends_a_status_without_threads_after_the_records_before_it(
+fn a_fault_ends_a_status_without_threads_before_the_next_entry(
     rt: HostRuntime,
 ) -> Result<(), Fail> {
+    let (alloc, fault) = (rt.alloc(), Fault::PermissionDenied);
+    let index = foos(alloc, &["a", "b", "c"])?;
     for chunk_size in CHUNK_SIZES {
-        assert!(rt; is_failed_at_third(rt.alloc(), chunk_size)?, "{chunk_size}");
+        let mut files = worktree(alloc, &[later_file("b", b"bar")])?;
+        files.plant(BStr::from("b"), Point::Open, fault)?;
+        let calls = Calls::new();
+        let worktree = counted(files, "c", &calls);
+        let report = status_without_threads(alloc, &index, &worktree, chunk_size, None, None);
+        assert!(rt;
+            is_report(&report, &RECORDS[..1], &Err(fault)),
+            "{chunk_size}"
+        );
+        assert!(rt; calls.made() == (0, 0), "{chunk_size}");
     }
     Ok(())
 }

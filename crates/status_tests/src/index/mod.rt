@@ -1,8 +1,6 @@
-//! Tests of an index in memory, and of ids, stats, modes and flags.
+//! Tests of an index in memory, and of ids, modes and flags.
 //!
 //! Begin at `values`.
 
-mod node_modes;
 mod states;
-mod stats;
 mod values;

@@ -9,7 +9,7 @@ use WalkKind::Passes;
 use status_callers::joined::walks::{B, C, Found, UNTRACKED};
 use status_walk::Status;
 
-const ENTRY_C: EntryRow<'static> = ("c", 0, Mode::File, Content::Foo);
+const ENTRY_C: EntryRow<'static> = ("c", 0, Mode::File, FOO);
 
 const FOUND_A: Found<'static> = Found {
     path: "a",
@@ -37,7 +37,7 @@ const BACKWARDS: Row<'static> = Row {
 
 /// A submodule with a file.
 const IN_SUBMODULE: Row<'static> = Row {
-    entries: &[("sub", 0, Mode::Commit, Content::Foo)],
+    entries: &[("sub", 0, Mode::Commit, FOO)],
     nodes: &[("sub/x", File, b"foo", 3, Some(STAGED))],
     end: "0 nodes",
     ..PLAIN
@@ -61,7 +61,7 @@ static ROWS: [Row; 6] = [
     // A submodule reports a type of the caller's.
     Row {
         submodules: Some(Some(7)),
-        lines: "0 Modified sub\n",
+        lines: "0 Some(7) sub\n",
         ..IN_SUBMODULE
     },
     BACKWARDS,

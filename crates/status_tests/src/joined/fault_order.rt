@@ -1,17 +1,14 @@
-//! Which of several faults the joined call returns, and pairs that break a rule.
+//! Which of several faults the joined call returns.
 
 use crate::joined::interfaces::{TrackerKind, WalkKind};
-use crate::joined::rows::{A, FILE_B, FILE_C, REWRITTEN, Row, is_right};
+use crate::joined::rows::{A, REWRITTEN, Row, is_right};
 use crate::support::prelude::*;
 use NodeKind::{File, Link};
-use TrackerKind::{Answers, Refuses};
+use TrackerKind::Refuses;
 use WalkKind::Passes;
 use status_callers::joined::broken::Point;
-use status_callers::joined::trackers::PlannedPair::Renamed;
 use status_callers::joined::walks::{Found, UNTRACKED};
 use status_walk::Kind;
-
-const ENTRY_B: EntryRow<'static> = ("b", 0, Mode::File, Content::Foo);
 
 const LATER_A: NodeRow<'static> = ("a", File, b"bar", 3, Some(LATER));
 
@@ -97,33 +94,6 @@ fn of_several_faults_the_first_in_order_is_returned(rt: HostRuntime) -> Result<(
         assert!(rt; fails_by(&rt, &FAULTS[2..], sorted, of_node)?);
         assert!(rt; fails_by(&rt, &FAULTS[3..], sorted, "ReadLink(Other(4))")?);
         assert!(rt; fails_by(&rt, &[], sorted, "RewriteTracker(Refused(5))")?);
-    }
-    Ok(())
-}
-
-static BAD_PAIRS: [Row; 2] = [
-    // A modified file is not renamed.
-    Row {
-        entries: &[A],
-        nodes: &[LATER_A, FILE_B],
-        tracker: Answers(&[Renamed(0, 1)]),
-        end: "RewriteTracker(BadPair { at: 0 })",
-        ..REWRITTEN
-    },
-    // Two files are not renamed to one.
-    Row {
-        entries: &[A, ENTRY_B],
-        nodes: &[FILE_C],
-        tracker: Answers(&[Renamed(0, 2), Renamed(1, 2)]),
-        end: "RewriteTracker(BadPair { at: 1 })",
-        ..REWRITTEN
-    },
-];
-
-#[test]
-fn a_pair_that_breaks_a_rule_ends_the_status(rt: HostRuntime) -> Result<(), Fail> {
-    for row in &BAD_PAIRS {
-        assert!(rt; is_right(&rt, row)?, "{}", row.end);
     }
     Ok(())
 }

@@ -3,12 +3,11 @@
 //! Begin at `rows`: a row has a small index, a worktree, the arguments of the call, and its report. Its parts are in
 //! `interfaces` and `record_lines`. Tables of rows are `entries_and_nodes`, `rewrites` and `fault_order`.
 
-mod cloned_records;
 mod entries_and_nodes;
 mod fault_order;
 mod folder_renames;
 mod interfaces;
-mod record_lines;
+pub mod record_lines;
 mod rewrites;
-mod rows;
+pub mod rows;
 mod threads;

@@ -1,11 +1,13 @@
 //! Reports as lines of text.
 
 use crate::support::prelude::*;
+use status_call::index_as_worktree::{Change, EntryStatus};
 use status_joined::index_as_worktree_with_renames::{Entry, Error, Outcome};
+use std::fmt::Debug;
 
-/// Returns a line for each record, in order: its index position or `-`, its summary, the status of an untracked file, and
-/// its path. A rename or a copy has both paths.
-pub fn lines_of<U>(
+/// Returns a line for each record, in order: its index position or `-`, its summary or the change of a submodule, the status
+/// of an untracked file, and its path. A rename or a copy has both paths.
+pub fn lines_of<U: Debug>(
     alloc: Global,
     records: &[Entry<'_, ObjectId, U>],
 ) -> Result<String, AllocError> {
@@ -16,13 +18,18 @@ pub fn lines_of<U>(
     Ok(text)
 }
 
-fn line<U>(alloc: Global, record: &Entry<'_, ObjectId, U>) -> Result<String, AllocError> {
+fn line<U: Debug>(alloc: Global, record: &Entry<'_, ObjectId, U>) -> Result<String, AllocError> {
     let word = match record.summary() {
         Some(summary) => format!(in alloc; "{summary:?}")?,
         None => String::from_str(alloc, "none")?,
     };
     let (source, destination) = (record.source_rela_path(), record.destination_rela_path());
     match record {
+        Entry::Modification {
+            entry_index,
+            status: EntryStatus::Change(Change::SubmoduleModification(change)),
+            ..
+        } => format!(in alloc; "{entry_index} {change:?} {source}\n"),
         Entry::Modification { entry_index, .. } => {
             format!(in alloc; "{entry_index} {word} {source}\n")
         }

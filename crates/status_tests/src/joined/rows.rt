@@ -3,7 +3,6 @@
 use crate::joined::interfaces::{RowSubmodules, RowTracker, RowWalk, TrackerKind, WalkKind};
 use crate::joined::record_lines::{end_of, lines_of};
 use crate::support::prelude::*;
-use status_call::index_as_worktree::{Change, EntryStatus};
 use status_callers::joined::broken::{Broken, Point};
 use status_callers::joined::statuses::{JoinedRequest, options, report_to};
 use status_joined::index_as_worktree_with_renames::{Entry, Error, Options, Outcome, Recorder};
@@ -11,7 +10,7 @@ use status_rewrites::{Rewrites, Tracker};
 use status_walk::Walk;
 
 /// The plain entry `a`.
-pub const A: EntryRow<'static> = ("a", 0, Mode::File, Content::Foo);
+pub const A: EntryRow<'static> = ("a", 0, Mode::File, FOO);
 
 /// The files `b` and `c`, of the content `foo`.
 pub const FILE_B: NodeRow<'static> = ("b", NodeKind::File, b"foo", 3, Some(STAGED));
@@ -118,25 +117,6 @@ where
     }
 }
 
-// Returns whether each submodule of a report has this change.
-fn are_submodules(
-    records: &[Entry<'_, ObjectId, Option<u64>>],
-    change: Option<Option<u64>>,
-) -> bool {
-    for record in records {
-        if let Entry::Modification {
-            status: EntryStatus::Change(Change::SubmoduleModification(found)),
-            ..
-        } = record
-        {
-            if Some(*found) != change {
-                return false;
-            }
-        }
-    }
-    true
-}
-
 /// Returns whether the call has the report of a row.
 pub fn is_right<R: AllocGlobal + Threads + Wait>(rt: &R, row: &Row<'_>) -> Result<bool, Fail> {
     let alloc = rt.alloc();
@@ -169,7 +149,6 @@ pub fn is_right<R: AllocGlobal + Threads + Wait>(rt: &R, row: &Row<'_>) -> Resul
     Ok(
         lines.as_str() == row.lines
             && end.as_str() == row.end
-            && are_submodules(&report.records, row.submodules)
             && (row.called.is_none() || row.called == Some(called)),
     )
 }

@@ -124,7 +124,7 @@ fn is_right<R: AllocGlobal + Threads + Wait>(rt: &R, row: &Row) -> Result<bool, 
     let (on_lstat, is_passed, rewrites, workers, lines, end) = *row;
     let alloc = rt.alloc();
     let (called, flag) = (AtomicBool::new(false), AtomicBool::new(false));
-    let index = index(alloc, &[A, ("e", 0, Mode::File, Content::Foo)])?;
+    let index = index(alloc, &[A, ("e", 0, Mode::File, FOO)])?;
     let worktree = WatchedWorktree {
         worktree: worktree(alloc, &[FILE_B, FILE_C])?,
         on_lstat,

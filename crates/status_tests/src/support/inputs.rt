@@ -1,35 +1,36 @@
 //! Short forms for indexes and worktrees.
 
-use crate::support::contents::Content;
+use crate::support::contents::{EMPTY, FOO};
 use crate::support::nodes::new_node;
 use crate::support::stats::{LATER, STAGED, WRITTEN, stat};
 use bstr::BStr;
-use gix_status::index::{Flags, IndexError, Mode, Stat, State};
+use gix_status::index::{Flags, IndexError, Mode, ObjectId, Stat, State};
 use gix_status::worktree::{MemoryWorktree, NodeKind, TreeError};
 use std::alloc::Global;
 
-/// The path of an entry, its stage, its mode, and the content that it was staged with.
-pub type EntryRow<'a> = (&'a str, u32, Mode, Content);
+/// The path of an entry, its stage, its mode, and the id of its content.
+pub type EntryRow<'a> = (&'a str, u32, Mode, ObjectId);
 
 /// Returns a plain entry of the content `foo`.
 pub fn foo_entry(path: &str) -> EntryRow<'_> {
-    (path, 0, Mode::File, Content::Foo)
+    (path, 0, Mode::File, FOO)
 }
 
 /// Returns the index of these entries, each of which has a size of three bytes unless its content is empty.
 pub fn index(alloc: Global, entries: &[EntryRow<'_>]) -> Result<State, IndexError> {
     let mut index = State::new(alloc, WRITTEN);
-    for (path, stage, mode, content) in entries {
-        let stat = match content {
-            Content::Empty => Stat {
+    for (path, stage, mode, id) in entries {
+        let stat = if *id == EMPTY {
+            Stat {
                 size: 0,
                 ..stat(STAGED)
-            },
-            _ => stat(STAGED),
+            }
+        } else {
+            stat(STAGED)
         };
         index.push_entry(
             stat,
-            content.id(),
+            *id,
             Flags::from_stage(*stage),
             *mode,
             BStr::from(*path),

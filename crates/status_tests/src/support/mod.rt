@@ -1,11 +1,10 @@
 //! What tests of several layers use: indexes and worktrees, contents with their ids, stats and times, folders of the
-//! disk, faults.
+//! disk.
 //!
 //! Begin at `inputs`.
 
 pub mod calls;
 pub mod contents;
-pub mod faults;
 pub mod folders;
 pub mod inputs;
 pub mod nodes;
@@ -13,5 +12,4 @@ pub mod pieces;
 pub mod prelude;
 pub mod side_effects;
 pub mod stats;
-pub mod texts;
 pub mod turns;

@@ -1,7 +1,7 @@
 //! The names that most tests use.
 
 pub use crate::support::calls::{Calls, counted};
-pub use crate::support::contents::Content;
+pub use crate::support::contents::{A_LINE, BA, BAR, BARS, EMPTY, FOO, LONG};
 pub use crate::support::folders::{FolderNode, fill, own_folder};
 pub use crate::support::inputs::{EntryRow, NodeRow, foo_entry, foos, index, later_file, worktree};
 pub use crate::support::stats::{LATER, STAGED};

@@ -40,11 +40,11 @@ static NODES: [(&str, FolderNode); 29] = [
 ];
 
 static ENTRIES: [EntryRow; 5] = [
-    ("a", 0, Mode::File, Content::Foo),
-    ("a/t", 0, Mode::File, Content::Foo),
-    ("s", 0, Mode::File, Content::Foo),
-    ("sub", 0, Mode::Commit, Content::Foo),
-    ("t", 0, Mode::File, Content::Foo),
+    ("a", 0, Mode::File, FOO),
+    ("a/t", 0, Mode::File, FOO),
+    ("s", 0, Mode::File, FOO),
+    ("sub", 0, Mode::Commit, FOO),
+    ("t", 0, Mode::File, FOO),
 ];
 
 const ALL: &str =
