@@ -105,7 +105,7 @@ fn errors_of_a_status_have_words(rt: HostRuntime) {
     assert!(rt; is_status_error(alloc, StatusError::Memory, MEMORY));
     assert!(rt; is_status_error(alloc, Io(Fault::NotFound), io));
     assert!(rt; is_status_error(alloc, Find(FindError::Missing), find));
-    // In the joined call there is one error for any want of memory.
+    // In the joined call there is one error for each allocation that fails.
     assert!(rt; is_error(alloc, Error::from(Io(Fault::Memory)), MEMORY));
     assert!(rt; is_error(alloc, Error::from(Find(FindError::Memory)), MEMORY));
     assert!(rt; is_error(alloc, Error::from(AllocError), MEMORY));

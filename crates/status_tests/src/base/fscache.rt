@@ -63,7 +63,7 @@ const ROWS: [Row; 7] = [
     (&[("..", Some(None))], 1, 1),
     // There is no file name, so nothing to be listed.
     (&[("d/", Some(None)), ("", Some(None))], 0, 0),
-    // What was listed is known after a refusal. The refused listing is asked for again.
+    // Listings stay known after a refusal. The refused listing is asked for again.
     (&[NESTED, REFUSED, NESTED], 2, 1),
     (&[NESTED, REFUSED, TEST], 3, 2),
 ];

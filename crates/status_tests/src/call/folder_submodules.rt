@@ -19,7 +19,7 @@ enum Verdict {
     Fails,
 }
 
-/// What is put into the folder first, the submodules, the entries of each submodule's own index, how many workers there
+/// The nodes that are put into the folder first, the submodules, the entries of each submodule's own index, how many workers there
 /// are at most, and what is reported.
 type Row = (
     &'static [(&'static str, FolderNode<'static>)],

@@ -41,7 +41,7 @@ fn line<U: Debug>(alloc: Global, record: &Entry<'_, ObjectId, U>) -> Result<Stri
 }
 
 /// Returns the line of a call's result: how many entries were processed, if the call was interrupted, how many nodes the
-/// walk passed, if there was one, and how many renames and copies there are, if they were looked for; or the error.
+/// walk passed, if there was one, and how many renames and copies there are, if they were searched for; or the error.
 pub fn end_of(alloc: Global, answer: &Result<Outcome, Error>) -> Result<String, AllocError> {
     let outcome = match answer {
         Ok(outcome) => outcome,

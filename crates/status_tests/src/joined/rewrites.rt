@@ -34,7 +34,7 @@ static ROWS: [Row; 4] = [
         end: "1 nodes; 1 renames, 0 copies",
         ..REWRITTEN
     },
-    // What was copied is reported by itself too.
+    // The copied file is reported by itself too.
     Row {
         entries: &[A],
         nodes: &[LATER_A, FILE_B],

@@ -59,7 +59,7 @@ impl<'a, W: Worktree> Walk<W> for SetsFlag<'a> {
     }
 }
 
-/// What `lstat` waits for, whether the walk's flag is passed to the call, whether renames are looked for, how many
+/// What `lstat` waits for, whether the walk's flag is passed to the call, whether renames are searched for, how many
 /// workers there are at most, the lines of the report, and the end.
 type Row = (
     OnLstat,
@@ -85,7 +85,7 @@ const CUT_END: &str = "cut after 1, 1; 2 nodes, cancelled";
 
 static ROWS: [Row; 5] = [
     (HALVES, false, None, None, ALL, "3 nodes"),
-    // What was found before the flag was seen is reported, also with renames.
+    // The nodes that were found before the flag was seen are reported, also with renames.
     (HALVES, true, None, None, CUT, CUT_END),
     (
         HALVES,
