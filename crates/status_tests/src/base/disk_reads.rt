@@ -9,45 +9,19 @@ use std::fs;
 use std::fs::{Metadata, OpenFile, OpenOptions};
 use std::io::{self, Read, Seek, SeekFrom, Write};
 
-// Returns the id of the first `len` bytes of the file `a`, and the result of one more read.
-fn read_to<W: Worktree>(
-    worktree: &W,
-    len: u64,
-) -> Result<(Result<ObjectId, Fault>, Result<usize, Fault>), Fault> {
-    let mut file = worktree.open(BStr::new(b"a"))?;
-    let hashed = compute_stream_hash(HashKind::Sha1, &mut file, len);
-    Ok((hashed, file.read_bytes(&mut [0; 8])))
-}
-
-// Writes a file of this many bytes `x`.
-fn write_long<R: Files + AllocGlobal>(rt: &R, path: &str, len: u64) -> io::Result<()>
-where
-    R::File: Drop,
-{
-    let content = Vec::from_elem(rt.alloc(), b'x', len as usize)?;
-    fs::write(rt, path, content.as_slice())
-}
-
-// Removes bytes at the end of a file, so that this many are left.
-fn shorten<R: Files>(rt: &R, path: &str, len: u64) -> io::Result<()>
-where
-    R::File: Drop,
-{
-    writer(rt, path)?.set_len(len)
-}
-
-// Returns the id of a file that is shortened after it is opened, or the fault.
-fn read_shortened<R: Files, W: Worktree>(
+// Returns the id of the first 200,000 bytes of the file `a`. After it is opened, the file gets this length.
+fn read_at_length<R: Files, W: Worktree>(
     rt: &R,
     worktree: &W,
     path: &str,
+    len: u64,
 ) -> Result<Result<ObjectId, Fault>, Fail>
 where
     R::File: Drop,
 {
     let mut file = worktree.open(BStr::new(b"a"))?;
-    shorten(rt, path, 70000)?;
-    Ok(compute_stream_hash(HashKind::Sha1, &mut file, 200000))
+    writer(rt, path)?.set_len(len)?;
+    Ok(compute_stream_hash(HashKind::Sha1, &mut file, 200_000))
 }
 
 // Asserts how the file `a` is read from a folder. The file is at `path`.
@@ -59,12 +33,12 @@ fn assert_pieces<R: Files + AllocGlobal + Abort>(
 where
     R::File: Drop,
 {
+    let content = Vec::from_elem(rt.alloc(), b'x', 200_000)?;
+    fs::write(rt, path, content.as_slice())?;
     let worktree = DiskWorktree::new(rt, Path::new(folder))?;
-    write_long(rt, path, 200000)?;
-    let read = read_to(&worktree, 200000);
-    assert_eq!(rt; read, Ok((Ok(LONG), Ok(0))));
-    let read = read_shortened(rt, &worktree, path)?;
-    assert_eq!(rt; read, Err(Fault::UnexpectedEnd));
+    assert_eq!(rt; read_at_length(rt, &worktree, path, 200_000)?, Ok(LONG));
+    let shortened = read_at_length(rt, &worktree, path, 70_000)?;
+    assert_eq!(rt; shortened, Err(Fault::UnexpectedEnd));
     Ok(())
 }
 

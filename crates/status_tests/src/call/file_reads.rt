@@ -4,7 +4,6 @@ ghost use Rattle.std.specs.Prelude.{false, Err};
 ghost use Rattle.status_index.specs.declared.fault.Fault.TheVariants.{NotFound};
 
 use crate::call::reports::{Says, Wanted, is_report, read, status_by_pieces};
-use crate::support::nodes::metadata;
 use crate::support::pieces::Piece;
 use crate::support::prelude::*;
 use crate::support::stats::time;
@@ -48,7 +47,12 @@ impl<'a> Worktree for Everywhere<'a> {
             len: self.len,
             mtime: Some(time(LATER)),
             ctime: Some(time(STAGED)),
-            ..metadata(NodeKind::File)
+            kind: NodeKind::File,
+            executable: false,
+            dev: 0,
+            ino: 0,
+            uid: 0,
+            gid: 0,
         })
     }
 

@@ -126,7 +126,7 @@ pub fn is_taken(answer: &Result<Outcome, Error>, wanted: &Outcome) -> bool {
 }
 
 /// Returns whether a status failed by this fault of a worktree or a filter. Two faults have errors of their own.
-pub fn is_failed_by(answer: &Result<Outcome, Error>, fault: Fault) -> bool {
+fn is_failed_by(answer: &Result<Outcome, Error>, fault: Fault) -> bool {
     match answer {
         Err(Error::IllformedUtf8) => fault == Fault::IllformedUtf8,
         Err(Error::Memory) => fault == Fault::Memory,

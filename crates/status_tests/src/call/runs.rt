@@ -205,16 +205,8 @@ fn is_right<R: AllocGlobal + Threads + Wait>(rt: &R, row: &Row) -> Result<bool, 
 }
 
 #[test]
-fn a_flag_ends_a_status(rt: HostRuntime) -> Result<(), Fail> {
-    for (at, row) in FLAGS.iter().enumerate() {
-        assert!(rt; is_right(&rt, row)?, "row {at}");
-    }
-    Ok(())
-}
-
-#[test]
-fn workers_report_what_one_would(rt: HostRuntime) -> Result<(), Fail> {
-    for (at, row) in WORKERS.iter().enumerate() {
+fn a_flag_or_a_fault_ends_a_status_with_any_workers(rt: HostRuntime) -> Result<(), Fail> {
+    for (at, row) in FLAGS.iter().chain(&WORKERS).enumerate() {
         assert!(rt; is_right(&rt, row)?, "row {at}");
     }
     Ok(())

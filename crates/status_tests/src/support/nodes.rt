@@ -1,7 +1,7 @@
 //! Nodes of worktrees in memory.
 
 use crate::support::stats::{STAGED, time};
-use gix_status::worktree::{Metadata, Node, NodeKind};
+use gix_status::worktree::{Node, NodeKind};
 use std::alloc::{AllocError, Global};
 
 /// Returns a node of this kind with these bytes, the length that `lstat` reports, and the second of its last change, if
@@ -28,19 +28,4 @@ pub fn new_node(
         uid: 0,
         gid: 0,
     })
-}
-
-/// Returns what `lstat` reports of a node of this kind whose other fields don't count.
-pub fn metadata(kind: NodeKind) -> Metadata {
-    Metadata {
-        kind,
-        len: 0,
-        executable: false,
-        mtime: None,
-        ctime: None,
-        dev: 0,
-        ino: 0,
-        uid: 0,
-        gid: 0,
-    }
 }

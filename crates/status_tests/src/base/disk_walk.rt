@@ -1,8 +1,8 @@
 //! The walk over a folder of the disk.
 
+use crate::base::walk_lines::assert_walk;
 use crate::support::folders::within;
 use crate::support::prelude::*;
-use crate::walk::walk_lines::assert_walk;
 use FolderNode::{File, Folder, Link};
 use gix_status::worktree::Point;
 use std::{fs, io};
