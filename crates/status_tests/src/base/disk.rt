@@ -1,6 +1,5 @@
 //! Nodes and faults of folders of the disk.
 
-use crate::base::looks::{Look, assert_found, assert_looks};
 use crate::support::folders::within;
 use crate::support::prelude::*;
 use FolderNode::{Changed, File, Folder, Link, Mode};
@@ -99,7 +98,9 @@ fn nodes_and_faults_are_named(rt: HostRuntime) -> Result<(), Fail> {
         nothing(&[b'x'; 5000], "other 0"),
     ];
     let folder = own_folder(&rt, "nodes_and_faults")?;
-    assert_found(&rt, folder.as_str(), &nodes, &looks)?;
+    fill(&rt, folder.as_str(), &nodes)?;
+    assert_looks(&rt, folder.as_str(), &looks)?;
+    fs::remove_dir_all(&rt, folder.as_str())?;
     assert_looks(&rt, folder.as_str(), &[nothing(b"a", "not found")])?;
     assert_looks(
         &rt,
@@ -119,7 +120,10 @@ fn long_paths_lead_below_the_folder(rt: HostRuntime) -> Result<(), Fail> {
     let nodes = [(name.as_str(), Folder), (path.as_str(), File("foo"))];
     let look = (path.as_str().as_bytes(), "File of 3", "3 bytes", "other 0");
     let folder = own_folder(&rt, "long_paths")?;
-    assert_found(&rt, folder.as_str(), &nodes, &[look])
+    fill(&rt, folder.as_str(), &nodes)?;
+    assert_looks(&rt, folder.as_str(), &[look])?;
+    fs::remove_dir_all(&rt, folder.as_str())?;
+    Ok(())
 }
 
 // Asserts the results for a file and a folder that may not be read. The system lets root read everything, so root gets
@@ -172,4 +176,76 @@ fn errors_of_the_system_have_faults(rt: HostRuntime) {
     ] {
         assert_eq!(rt; fault_of(error), fault);
     }
+}
+
+// Returns the kind of a node and its length, if it isn't a directory, or the fault.
+fn node_text<W: Worktree>(
+    alloc: Global,
+    worktree: &W,
+    path: BStr<'_>,
+) -> Result<String, AllocError> {
+    match worktree.lstat(path) {
+        Ok(found) if found.kind == NodeKind::Directory => format!(in alloc; "{:?}", found.kind),
+        Ok(found) => format!(in alloc; "{:?} of {}", found.kind, found.len),
+        Err(fault) => format!(in alloc; "{fault}"),
+    }
+}
+
+// Returns how many bytes the first read of a file returns, of at most eight, or the fault of the read or of opening.
+fn read_text<W: Worktree>(
+    alloc: Global,
+    worktree: &W,
+    path: BStr<'_>,
+) -> Result<String, AllocError> {
+    match worktree.open(path) {
+        Ok(mut file) => match file.read_bytes(&mut [0; 8]) {
+            Ok(count) => format!(in alloc; "{count} bytes"),
+            Err(fault) => format!(in alloc; "unread, {fault}"),
+        },
+        Err(fault) => format!(in alloc; "{fault}"),
+    }
+}
+
+// Returns the target of a link, or the fault. The bytes in the buffer are replaced, by nothing if there is a fault.
+fn target_text<W: Worktree>(
+    alloc: Global,
+    worktree: &W,
+    path: BStr<'_>,
+) -> Result<String, AllocError> {
+    let mut buffer = Vec::from_slice(alloc, b"before")?;
+    let read = worktree.read_link(path, &mut buffer);
+    let target = BStr::new(buffer.as_slice());
+    match read {
+        Ok(()) => format!(in alloc; "to {target}"),
+        Err(fault) => format!(in alloc; "{fault}{target}"),
+    }
+}
+
+// A path, and the results of `lstat`, of a read and of reading the link there.
+type Look<'a> = (&'a [u8], &'a str, &'a str, &'a str);
+
+// Returns whether the calls on a path have these results.
+fn is_met<W: Worktree>(alloc: Global, worktree: &W, look: &Look<'_>) -> Result<bool, AllocError> {
+    let (path, node, read, target) = *look;
+    let path = BStr::new(path);
+    let is_node = node_text(alloc, worktree, path)?.as_str() == node;
+    let is_read = read_text(alloc, worktree, path)?.as_str() == read;
+    Ok(is_node && is_read && target_text(alloc, worktree, path)?.as_str() == target)
+}
+
+// Asserts the results at these paths of a folder.
+fn assert_looks<R: Files + AllocGlobal + Abort>(
+    rt: &R,
+    folder: &str,
+    looks: &[Look<'_>],
+) -> Result<(), Fail> {
+    let worktree = DiskWorktree::new(rt, Path::new(folder))?;
+    for look in looks {
+        assert!(rt;
+            is_met(rt.alloc(), &worktree, look)?,
+            "at {}",
+            BStr::new(look.0)
+        );
+    }
+    Ok(())
 }

@@ -1,6 +1,6 @@
-//! A worktree in memory: its nodes, and the faults that are planted in it.
+//! A worktree in memory.
 
-use crate::support::nodes::new_node;
+use crate::support::inputs::new_node;
 use crate::support::prelude::*;
 use NodeKind::{Directory, File, Link};
 use gix_status::worktree::{Point, TreeError};
@@ -71,26 +71,5 @@ fn nodes_are_put_and_removed(rt: HostRuntime) -> Result<(), Fail> {
     assert!(rt; matches!(&removed, Some(node) if node.kind == Link));
     assert!(rt; worktree.node(path).is_none());
     assert!(rt; kind_at(&worktree, "d") == Err(Fault::NotFound));
-    Ok(())
-}
-
-// Reads up to two bytes of an open file. Returns how many.
-fn read_two<F: ReadBytes>(file: &mut F) -> Result<usize, Fault> {
-    file.read_bytes(&mut [0u8; 2])
-}
-
-// The file has three bytes, so the second fault comes in place of the end.
-#[test]
-fn a_planted_fault_comes_at_its_point_until_it_is_cleared(rt: HostRuntime) -> Result<(), Fail> {
-    let (mut worktree, path) = (small(rt.alloc())?, BStr::from("f"));
-    worktree.plant(path, Point::Lstat, Fault::PermissionDenied)?;
-    worktree.plant(path, Point::Read(9), Fault::Other(9))?;
-    assert!(rt; kind_at(&worktree, "f") == Err(Fault::PermissionDenied));
-    let mut file = worktree.open(path)?;
-    assert!(rt; read_two(&mut file) == Ok(2));
-    assert!(rt; read_two(&mut file) == Ok(1));
-    assert!(rt; read_two(&mut file) == Err(Fault::Other(9)));
-    worktree.clear(path);
-    assert!(rt; kind_at(&worktree, "f") == Ok(File));
     Ok(())
 }

@@ -3,7 +3,7 @@
 ghost use Rattle.std.specs.Prelude.{◌≡◌, IfOk};
 ghost use Rattle.status_board.specs.Seats.{fresh};
 
-use crate::board::seats::{give_back, opened, seat_of};
+use crate::board::two_seats::{give_back, opened, seat_of};
 use crate::support::prelude::*;
 use status_board::board::{Board, Seat, Tally};
 use std::thread;

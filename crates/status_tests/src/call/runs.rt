@@ -2,10 +2,9 @@
 
 use crate::call::reports::{Says, by_pieces, is_said, read};
 use crate::call::statuses::interruptible_status;
-use crate::support::nodes::new_node;
+use crate::support::inputs::new_node;
 use crate::support::prelude::*;
-use crate::support::side_effects::{OnLstat, WatchedWorktree};
-use crate::support::turns::MANY_TURNS;
+use crate::support::side_effects::{MANY_TURNS, OnLstat, WatchedWorktree};
 use End::{Cut, Denied, Ended, Whole};
 use Event::{Caller, Collector, Lstat, Never};
 use Files::{Below, Changed, Gone};
@@ -74,7 +73,7 @@ const MEETING: Event = Lstat(Meets("0000", "0001", MANY_TURNS));
 
 const LINK: Event = Lstat(FindsLink("d"));
 
-static FLAGS: [Row; 11] = [
+static ROWS: [Row; 17] = [
     // A flag that is set from the start ends it at once.
     (2, Changed, 0, None, Caller, 0, Cut, (0, 0, 0)),
     // A piece ends after the entry at which the flag is seen.
@@ -92,9 +91,6 @@ static FLAGS: [Row; 11] = [
     // A flag that stays unset interrupts nothing.
     (20, Gone, 1, ONE, Never, 20, Whole, (19, 1, 0)),
     (20, Gone, 1, THREE, Never, 20, Whole, (19, 1, 0)),
-];
-
-static WORKERS: [Row; 6] = [
     // The first fault ends it, whichever workers meet another one.
     (5, Changed, 1, ONE, Never, 3, Denied, (3, 1, 1)),
     (5, Changed, 1, Some(8), Never, 3, Denied, (3, 1, 1)),
@@ -206,7 +202,7 @@ fn is_right<R: AllocGlobal + Threads + Wait>(rt: &R, row: &Row) -> Result<bool, 
 
 #[test]
 fn a_flag_or_a_fault_ends_a_status_with_any_workers(rt: HostRuntime) -> Result<(), Fail> {
-    for (at, row) in FLAGS.iter().chain(&WORKERS).enumerate() {
+    for (at, row) in ROWS.iter().enumerate() {
         assert!(rt; is_right(&rt, row)?, "row {at}");
     }
     Ok(())

@@ -1,12 +1,37 @@
 //! Short forms for indexes and worktrees.
 
 use crate::support::contents::{EMPTY, FOO};
-use crate::support::nodes::new_node;
-use crate::support::stats::{LATER, STAGED, WRITTEN, stat};
+use crate::support::stats::{LATER, STAGED, WRITTEN, stat, time};
 use bstr::BStr;
 use gix_status::index::{Flags, IndexError, Mode, ObjectId, Stat, State};
-use gix_status::worktree::{MemoryWorktree, NodeKind, TreeError};
-use std::alloc::Global;
+use gix_status::worktree::{MemoryWorktree, Node, NodeKind, TreeError};
+use std::alloc::{AllocError, Global};
+
+/// Returns a node of this kind with these bytes, the length that `lstat` reports, and the second of its last change, if
+/// that is known.
+pub fn new_node(
+    alloc: Global,
+    kind: NodeKind,
+    bytes: &[u8],
+    len: u64,
+    mtime: Option<u32>,
+) -> Result<Node, AllocError> {
+    Ok(Node {
+        kind,
+        bytes: Vec::from_slice(alloc, bytes)?,
+        len,
+        executable: false,
+        mtime: match mtime {
+            Some(secs) => Some(time(secs)),
+            None => None,
+        },
+        ctime: Some(time(STAGED)),
+        dev: 0,
+        ino: 0,
+        uid: 0,
+        gid: 0,
+    })
+}
 
 /// The path of an entry, its stage, its mode, and the id of its content.
 pub type EntryRow<'a> = (&'a str, u32, Mode, ObjectId);

@@ -3,13 +3,27 @@
 ghost use Rattle.std.specs.Prelude.{None, false, Err, refl};
 ghost use Rattle.status_index.specs.declared.fault.Fault.TheVariants.{NotFound};
 
-use crate::support::turns::comes;
 use bstr::BStr;
 use gix_status::worktree::{
     Fault, Lister, Listing, MemoryFile, MemoryWorktree, Metadata, NodeKind, Worktree,
 };
 use std::alloc::AllocError;
 use std::sync::atomic::{AtomicBool, AtomicUsize, Ordering};
+use std::thread;
+
+/// How many turns a call waits for an event that has to come.
+pub const MANY_TURNS: u64 = 100_000_000;
+
+/// Returns whether a flag is set within so many turns.
+pub fn comes(flag: &AtomicBool, turns: u64) -> bool {
+    for _ in 0..turns {
+        if flag.load(Ordering::SeqCst) {
+            return true;
+        }
+        thread::yield_now();
+    }
+    false
+}
 
 /// The side effect of a call of `lstat`.
 #[derive(Clone, Copy)]

@@ -1,6 +1,0 @@
-//! Tests of histories and of the stored index.
-//!
-//! Begin at `histories`.
-
-mod histories;
-mod stored;
