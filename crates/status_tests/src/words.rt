@@ -43,7 +43,7 @@ fn faults_have_words(rt: HostRuntime) {
 }
 
 #[test]
-fn errors_of_an_index_have_words(rt: HostRuntime) {
+fn errors_of_indexes_worktrees_and_blobs_have_words(rt: HostRuntime) {
     for (error, want) in [
         (IndexError::EmptyPath { at: 3 }, "empty path at 3"),
         (IndexError::NotAscending { at: 0 }, "not ascending at 0"),
@@ -53,10 +53,6 @@ fn errors_of_an_index_have_words(rt: HostRuntime) {
         assert!(rt; is_shown(rt.alloc(), &error, want), "{want}");
     }
     assert!(rt; is_shown(rt.alloc(), &TimeError, CLOCK));
-}
-
-#[test]
-fn errors_of_worktrees_and_blobs_have_words(rt: HostRuntime) {
     for (error, want) in [
         (TreeError::BadPath, "bad path"),
         (TreeError::InTheWay, "in the way"),

@@ -1,8 +1,8 @@
 //! Listings of directories, and attributes and times of files by Windows.
 
+use crate::support::inputs::LISTED_FILE;
 use crate::support::prelude::*;
 use crate::support::side_effects::CountingLister;
-use crate::support::stats::LISTED_FILE;
 use status_base::fscache::{FsCache, Stat, filetime_to_unix, type_flags_from_attributes};
 use status_base::worktree::Lister;
 use status_callers::listers::{Directories, Directory};

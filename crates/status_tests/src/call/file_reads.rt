@@ -4,9 +4,9 @@ ghost use Rattle.std.specs.Prelude.{false, Err};
 ghost use Rattle.status_index.specs.declared.fault.Fault.TheVariants.{NotFound};
 
 use crate::call::reports::{Says, Wanted, is_report, read, status_by_pieces};
+use crate::support::inputs::time;
 use crate::support::pieces::Piece;
 use crate::support::prelude::*;
-use crate::support::stats::time;
 use gix_status::index_as_worktree::Outcome;
 
 /// A file that counts its reads.

@@ -2,9 +2,9 @@
 
 use crate::call::reports::{is_taken, read};
 use crate::call::statuses::listed_status;
+use crate::support::inputs::LISTED_FILE;
 use crate::support::prelude::*;
 use crate::support::side_effects::CountingLister;
-use crate::support::stats::LISTED_FILE;
 use gix_status::fscache::Stat;
 use gix_status::index_as_worktree::{Capabilities, Change, EntryStatus, Error, Options, Outcome};
 use gix_status::worktree::Point;

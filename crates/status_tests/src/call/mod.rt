@@ -17,4 +17,3 @@ mod sizes_and_blobs;
 mod statuses;
 mod streams;
 mod submodules;
-mod without_threads;

@@ -1,7 +1,7 @@
 //! Statuses by ids, and checks of their reports.
 
+use crate::support::inputs::stat;
 use crate::support::prelude::*;
-use crate::support::stats::stat;
 use gix_status::index_as_worktree::traits::HashEq;
 use gix_status::index_as_worktree::{Change, EntryStatus, Error, Options, Outcome, Record};
 use status_callers::statuses::{StatusReport, options, request_with, status_of};

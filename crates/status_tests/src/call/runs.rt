@@ -102,6 +102,18 @@ static ROWS: [Row; 17] = [
     (40, Below, 1, THREE, LINK, 40, Ended, (40, 0, 0)),
 ];
 
+/// Without threads there are no rounds: the flag is checked before each entry and after each piece, whose records are
+/// reported before the next piece.
+static SERIAL: [Row; 7] = [
+    (2, Changed, 0, None, Caller, 0, Cut, (0, 0, 0)),
+    (5, Changed, 5, None, AT_2, 3, Cut, (2, 1, 1)),
+    (4, Changed, 1, None, AT_0, 1, Cut, (2, 0, 0)),
+    (5, Changed, 1, None, Collector, 1, Cut, (1, 0, 0)),
+    (5, Gone, 4, None, Collector, 4, Cut, (4, 0, 0)),
+    (5, Changed, 2, Some(0), Never, 3, Denied, (4, 0, 0)),
+    (5, Changed, 2, Some(64), Never, 5, Whole, (4, 1, 1)),
+];
+
 // Returns the path of an entry.
 fn path_of(alloc: Global, files: Files, number: usize) -> Result<String, AllocError> {
     let front = if matches!(files, Below) { "d/" } else { "" };
@@ -168,8 +180,12 @@ fn are_records(records: &[Record<'_, ObjectId, ()>], row: &Row) -> bool {
     records.len() == row.5
 }
 
-// Returns whether a status gets as far as its row says.
-fn is_right<R: AllocGlobal + Threads + Wait>(rt: &R, row: &Row) -> Result<bool, Fail> {
+// Returns whether a status with threads or without gets as far as its row says.
+fn is_right<R: AllocGlobal + Threads + Wait>(
+    rt: &R,
+    row: &Row,
+    is_serial: bool,
+) -> Result<bool, Fail> {
     let (count, kind, chunk_size, limit, event, _, _, (number, looks, opens)) = *row;
     let alloc = rt.alloc();
     let mut paths = Vec::new(alloc);
@@ -195,7 +211,15 @@ fn is_right<R: AllocGlobal + Threads + Wait>(rt: &R, row: &Row) -> Result<bool, 
     let worktree = counted(watched, path.as_str(), &calls);
     let of_collector = matches!(event, Collector).then_some(&flag);
     let options = by_pieces(chunk_size, limit);
-    let report = interruptible_status(rt, &index, &worktree, options, of_collector, &flag);
+    let report = interruptible_status(
+        rt,
+        &index,
+        &worktree,
+        options,
+        is_serial,
+        of_collector,
+        &flag,
+    );
     let is_counted = calls.made() == (looks, opens);
     Ok(is_counted && are_records(&report.records, row) && is_ended(&report.answer, row))
 }
@@ -203,7 +227,15 @@ fn is_right<R: AllocGlobal + Threads + Wait>(rt: &R, row: &Row) -> Result<bool, 
 #[test]
 fn a_flag_or_a_fault_ends_a_status_with_any_workers(rt: HostRuntime) -> Result<(), Fail> {
     for (at, row) in ROWS.iter().enumerate() {
-        assert!(rt; is_right(&rt, row)?, "row {at}");
+        assert!(rt; is_right(&rt, row, false)?, "row {at}");
+    }
+    Ok(())
+}
+
+#[test]
+fn a_flag_or_a_fault_ends_a_status_without_threads(rt: HostRuntime) -> Result<(), Fail> {
+    for (at, row) in SERIAL.iter().enumerate() {
+        assert!(rt; is_right(&rt, row, true)?, "row {at}");
     }
     Ok(())
 }

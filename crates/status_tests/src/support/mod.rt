@@ -10,4 +10,3 @@ pub mod inputs;
 pub mod pieces;
 pub mod prelude;
 pub mod side_effects;
-pub mod stats;

@@ -3,8 +3,9 @@
 pub use crate::support::calls::{Calls, counted};
 pub use crate::support::contents::{A_LINE, BA, BAR, BARS, EMPTY, FOO, LONG};
 pub use crate::support::folders::{FolderNode, fill, own_folder};
-pub use crate::support::inputs::{EntryRow, NodeRow, foo_entry, foos, index, later_file, worktree};
-pub use crate::support::stats::{LATER, STAGED};
+pub use crate::support::inputs::{
+    EntryRow, LATER, NodeRow, STAGED, foo_entry, foos, index, later_file, worktree,
+};
 pub use bstr::{BStr, BString};
 pub use gix_status::index::{IndexError, Mode, Moment, ObjectId, State};
 pub use gix_status::worktree::{
