@@ -1,8 +1,8 @@
 //! Tests of what no clause states, and the example of docs/GUIDE.md.
 //!
-//! Begin at `example`. Each folder tests a layer, from the bottom up: `board`, `base` (with the index and walks), `call`,
-//! `joined` (with renames and copies) and `world` (with the stored index). Its `mod.rt` says where to begin. `words` has
-//! the texts of errors of all layers, and `clones` copies of values. `support` has what several of them use.
+//! Begin at `example`. Each folder tests a layer, from the bottom up: `board`, `base` (with the index and walks), `call`
+//! and `joined` (with renames and copies). Its `mod.rt` says where to begin. `world` has histories and the stored index,
+//! `words` the texts of errors of all layers, and `clones` copies of values. `support` has what several of them use.
 #![tactic(auto)]
 
 #[cfg(test)]
