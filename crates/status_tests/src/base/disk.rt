@@ -140,8 +140,7 @@ where
         ("d", Mode(0)),
     ];
     fill(rt, folder, &nodes)?;
-    let path = within(rt, folder, "d/b")?;
-    let denied = "permission denied";
+    let (path, denied) = (within(rt, folder, "d/b")?, "permission denied");
     let (node, read, target) = match fs::symlink_metadata(rt, path.as_str()) {
         Ok(_) => ("File of 3", "3 bytes", "other 0"),
         Err(_) => (denied, denied, denied),

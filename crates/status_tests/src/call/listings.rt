@@ -90,6 +90,18 @@ fn files(alloc: Global) -> Result<MemoryWorktree, Fail> {
     Ok(files)
 }
 
+// Returns options by which executability counts, or not, and listings are used, or not.
+fn options_by(executable_bit: bool, fscache: bool) -> Options {
+    Options {
+        fs: Capabilities {
+            symlink: true,
+            executable_bit,
+        },
+        fscache,
+        ..options()
+    }
+}
+
 // Returns whether a status has the result of its row, with listings or without, and calls `lstat` and `open` on the
 // first path as often.
 fn is_right<R: AllocGlobal + Threads + Wait>(
@@ -117,15 +129,7 @@ fn is_right<R: AllocGlobal + Threads + Wait>(
         alloc,
         directories: &DIRECTORIES,
     };
-    let fs = Capabilities {
-        symlink: true,
-        executable_bit,
-    };
-    let options = Options {
-        fs,
-        fscache,
-        ..options()
-    };
+    let options = options_by(executable_bit, fscache);
     let report = listed_status(rt, &index, &worktree, lister, options);
     for record in &report.records {
         if status != Some(&record.status) {
